@@ -1,0 +1,7 @@
+pub mod Tests
+pub mod Order
+pub mod Counts
+pub mod Every
+pub mod Update
+pub mod Lay
+pub mod BigEndian
