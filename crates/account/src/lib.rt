@@ -2,7 +2,7 @@
 ghost use mathlib.Core.Path.{_≡_};
 ghost use Prim.Native.Nat.{ℕ, _-_};
 ghost use Rattle.account.specs.Tariff as tariffs;
-ghost use Rattle.account.specs.Range.{Ranged, costsInRange, inRange};
+ghost use Rattle.account.specs.Range.{Ranged, withinRange, costsInRange, inRange};
 ghost use Rattle.account.specs.Serve as serves;
 ghost use Rattle.account.specs.Serve.{scoreOf, switchedOf, stayedOf};
 ghost use Rattle.account.specs.Fair.{Fair};
@@ -85,6 +85,17 @@ pub fn tariff_of(
     }
 }
 
+// Whether a tariff number is at least the least one allowed and at most a million.
+fn within(least: u32, number: u32) -> bool
+    ensures { λ r. ⌜ r ≡ withinRange least number ⌝ }
+{
+    if least <= number {
+        number <= 1000000
+    } else {
+        false
+    }
+}
+
 impl Costs {
     // What a request costs by these costs.
     pub fn cost(self, request: Request) -> u32
@@ -101,11 +112,19 @@ impl Costs {
     pub fn in_range(self) -> bool
         ensures { λ r. ⌜ r ≡ costsInRange self ⌝ }
     {
-        self.read <= 1000000
-            && self.edit <= 1000000
-            && self.rewrite <= 1000000
-            && 1 <= self.enter
-            && self.enter <= 1000000
+        if within(0, self.read) {
+        } else {
+            return false;
+        }
+        if within(0, self.edit) {
+        } else {
+            return false;
+        }
+        if within(0, self.rewrite) {
+        } else {
+            return false;
+        }
+        within(1, self.enter)
     }
 }
 
@@ -147,9 +166,11 @@ impl Tariff {
     pub fn in_range(self) -> bool
         ensures { λ r. ⌜ r ≡ inRange self ⌝ }
     {
-        let log = self.log;
-        let disk = self.disk;
-        log.in_range() && disk.in_range()
+        if self.log.in_range() {
+            self.disk.in_range()
+        } else {
+            false
+        }
     }
 }
 

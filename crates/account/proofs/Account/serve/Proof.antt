@@ -1,40 +1,43 @@
+-- The score is compared with the limit T as the definition compares it; a score below the limit fits 32 bits. Assumes nothing.
+use mathlib.Core.Path.{sym, _∙_}
+use Prim.Native.Nat.{_≤_, _<_}
+use native.Mathlib.Omega.{arith}
 use borrow.Author.Needs.{needs}
+use Rattle.account.specs.Tariff.{limit}
+use Rattle.account.specs.Serve.{scoreOf, stayedOf}
+use Rattle.account.specs.Fair.{serve-switched, serve-stayed, serve-fair}
 use Rattle.account.proofs.Account.serve.Statement.{statement}
 use Rattle.account.proofs.Account.serve.Tie as tie
-use Rattle.account.proofs.Account.serve.Reads as reads
-use Rattle.account.proofs.Account.serve.Lts as lts
-use Rattle.account.proofs.Account.scored.Reads as scored-reads
-use Rattle.account.proofs.Account.stayed.Reads as stayed-reads
-use Rattle.account.proofs.Account.switched.Reads as switched-reads
-use Rattle.account.proofs.Tariff.limit.Reads as limit-reads
 
--- src/lib.rt:216:13
 scored-requires : tie.Need-scored-requires
 scored-requires c κs = search needs
 
--- src/lib.rt:217:12
 limit-requires : tie.Need-limit-requires
 limit-requires c κs = search needs
 
--- src/lib.rt:218:13
 switched-requires : tie.Need-switched-requires
 switched-requires c κs = search needs
 
--- src/lib.rt:220:42
 cast-stayed : tie.Need-cast-stayed
 cast-stayed c = search needs
 
--- src/lib.rt:220:13
 stayed-requires : tie.Need-stayed-requires
 stayed-requires c κs = search needs
 
--- src/lib.rt:212:5
 returns : tie.Need-returns
-returns c = ?
+returns c =
+    let g = c .before .before .before .before in
+    let h = rw (c .before .before .limit .ensures, c .before .before .before .scored .ensures) at (c .before .if1 .taken) in
+    serve-fair _ _ _ (g .pre)
+    (c .switched .ensures ∙ sym (serve-switched (g .args .tariff) (g .args .self) (g .args .request) h))
 
--- src/lib.rt:212:5
 returns-2 : tie.Need-returns-2
-returns-2 c = ?
+returns-2 c =
+    let g = c .before .before .before .before in
+    let h = rw (c .before .before .limit .ensures, c .before .before .before .scored .ensures) at (c .before .if1 .left) in
+    serve-fair _ _ _ (g .pre)
+    (c .stayed .ensures ∙
+    rw (c .before .before .before .scored .ensures) (sym (serve-stayed (g .args .tariff) (g .args .self) (g .args .request) h)))
 
 pub serve-spec : {M : Type 1} → statement M
 serve-spec =
