@@ -1,0 +1,4 @@
+pub mod Tariff
+pub mod Range
+pub mod Serve
+pub mod Fair

@@ -1,0 +1,52 @@
+-- The score is compared with the limit T as the definition compares it; a score below the limit fits 32 bits. Assumes nothing.
+use mathlib.Core.Path.{sym, _∙_}
+use Prim.Native.Nat.{_≤_, _<_}
+use native.Mathlib.Omega.{arith}
+use borrow.Author.Needs.{needs}
+use Rattle.account.specs.Tariff.{limit}
+use Rattle.account.specs.Serve.{scoreOf, stayedOf}
+use Rattle.account.specs.Fair.{serve-switched, serve-stayed, serve-fair}
+use Rattle.account.proofs.Account.serve.Statement.{statement}
+use Rattle.account.proofs.Account.serve.Tie as tie
+
+scored-requires : tie.Need-scored-requires
+scored-requires c κs = search needs
+
+limit-requires : tie.Need-limit-requires
+limit-requires c κs = search needs
+
+switched-requires : tie.Need-switched-requires
+switched-requires c κs = search needs
+
+cast-stayed : tie.Need-cast-stayed
+cast-stayed c = search needs
+
+stayed-requires : tie.Need-stayed-requires
+stayed-requires c κs = search needs
+
+returns : tie.Need-returns
+returns c =
+    let g = c .before .before .before .before in
+    let h = rw (c .before .before .limit .ensures, c .before .before .before .scored .ensures) at (c .before .if1 .taken) in
+    serve-fair _ _ _ (g .pre)
+    (c .switched .ensures ∙ sym (serve-switched (g .args .tariff) (g .args .self) (g .args .request) h))
+
+returns-2 : tie.Need-returns-2
+returns-2 c =
+    let g = c .before .before .before .before in
+    let h = rw (c .before .before .limit .ensures, c .before .before .before .scored .ensures) at (c .before .if1 .left) in
+    serve-fair _ _ _ (g .pre)
+    (c .stayed .ensures ∙
+    rw (c .before .before .before .scored .ensures) (sym (serve-stayed (g .args .tariff) (g .args .self) (g .args .request) h)))
+
+pub serve-spec : {M : Type 1} → statement M
+serve-spec =
+    tie.close
+    (tie.spec
+    scored-requires
+    limit-requires
+    switched-requires
+    cast-stayed
+    stayed-requires
+    returns
+    returns-2)
