@@ -1,0 +1,11 @@
+pub mod Table
+pub mod NodeRequest
+pub mod Get
+pub mod Put
+pub mod Delete
+pub mod Scan
+pub mod Fit
+pub mod Tree
+pub mod Spells
+pub mod Sound
+pub mod Worked
