@@ -9,4 +9,7 @@ pub mod Run
 pub mod Serve
 pub mod Checkpoint
 pub mod Reopen
+pub mod ItemLaws
+pub mod ViewLaws
+pub mod Steps
 pub mod Worked
