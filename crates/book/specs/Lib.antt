@@ -1,0 +1,4 @@
+pub mod Book
+pub mod Command
+pub mod Batch
+pub mod OrderedMap

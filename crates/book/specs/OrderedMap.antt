@@ -1,0 +1,40 @@
+-- The plain ordered map that demand 2 compares with: what each command answers, and the map after it. Of the book it is told one thing
+-- only: which puts were refused with 9. Assumes nothing.
+use mathlib.Core.Bool.{Bool, true, false}
+use mathlib.Core.List.{List, [], _∷_}
+use mathlib.Core.Option.{Option, none, some}
+use Prim.Native.Nat.{ℕ}
+use Rattle.laws.specs.Tests.{choose}
+use lib.Dec.{ltb}
+use Rattle.pairs.specs.Pairs.{Pair, lookup, insert, delete, range}
+use Rattle.account.specs.declared.Tariff.{Tariff}
+use Rattle.command.specs.declared.Command.{Command}
+use Rattle.command.specs.declared.Command.the-variants.{Get, Put, Delete, Scan}
+use Rattle.command.specs.Answer.{Answer, listed}
+use Rattle.book.specs.Book.{Book}
+use Rattle.book.specs.Command.{gotten, putBack, deleted, refuses}
+use Rattle.book.specs.Batch.{doneBook}
+
+-- "The first `most` of them", ascending, from low to high; "low above high: an empty list".
+unfoldable pub mapAnswer : Bool → Command → List Pair → Answer
+mapAnswer refused (Get k) ps = gotten (lookup k ps)
+mapAnswer refused (Put k v) ps = putBack refused (lookup k ps)
+mapAnswer refused (Delete k) ps = deleted (lookup k ps)
+mapAnswer refused (Scan low high most) ps = listed (choose (ltb high low) [] (range low high most ps))
+
+unfoldable pub mapAfter : Bool → Command → List Pair → List Pair
+mapAfter refused (Get k) ps = ps
+mapAfter refused (Put k v) ps = choose refused ps (insert k v ps)
+mapAfter refused (Delete k) ps = delete k ps
+mapAfter refused (Scan low high most) ps = ps
+
+-- A batch.
+module _ (limit : ℕ) (t : Tariff) where
+  abbrev pub mapAnswers : List Command → Book → List Pair → List Answer
+  mapAnswers [] b ps = []
+  mapAnswers (c ∷ cs) b ps =
+      mapAnswer (refuses limit c b) c ps ∷ mapAnswers cs (doneBook limit t c b) (mapAfter (refuses limit c b) c ps)
+
+  abbrev pub mapRun : List Command → Book → List Pair → List Pair
+  mapRun [] b ps = ps
+  mapRun (c ∷ cs) b ps = mapRun cs (doneBook limit t c b) (mapAfter (refuses limit c b) c ps)

@@ -1,0 +1,4 @@
+pub mod State
+pub mod Batch
+pub mod Mount
+pub mod Prepare

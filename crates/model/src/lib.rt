@@ -1,0 +1,1 @@
+// Mount, prepare and batch as definitions stand in specs/; there is no code here.
