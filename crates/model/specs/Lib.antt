@@ -2,3 +2,4 @@ pub mod State
 pub mod Batch
 pub mod Mount
 pub mod Prepare
+pub mod Worked
