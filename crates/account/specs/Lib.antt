@@ -5,3 +5,6 @@ pub mod Schedule
 pub mod Fair
 pub mod Potential
 pub mod Bound
+pub mod Events
+pub mod Nodes
+pub mod Worked

@@ -23,6 +23,9 @@ use Rattle.account.specs.Schedule.{moveCost, payFor}
 abbrev pub allowance : Tariff → Mode → ℕ
 allowance t m = switchTo t m - switchTo t (other m)
 
+pub allowance-le : (t : Tariff) (m : Mode) → allowance t m ≤ switchTo t m
+allowance-le t m = omega arith
+
 -- The potential in numbers: `home` is the switch into the account's mode and `away` the one out of it, `apart` says whether the
 -- schedule has the node in the other mode.
 abbrev pub weigh : Bool → ℕ → ℕ → ℕ → ℕ
@@ -99,6 +102,7 @@ module _ (t : Tariff) (a : Account) (low : a .score < limit t) where
     where
       l : a .score < both t (a .score) (a .mode)
       l = omega (arith, limit-both t (a .mode))
+
       go : (limit t ≤ scoreOf t a q) ⊎ (scoreOf t a q < limit t) → Step t (a .score) q (a .mode) now (serveOf t a q)
       go (inl h) = rw (serve-switched t a q h) (leaves t (a .score) q (a .mode) now l (omega (arith, limit-both t (a .mode))))
       go (inr h) = rw (serve-stayed t a q h) (stays t (a .score) q (a .mode) now l (omega (arith, limit-both t (a .mode))))
