@@ -1,4 +1,10 @@
 pub mod Tariff
 pub mod Range
 pub mod Serve
+pub mod Schedule
 pub mod Fair
+pub mod Potential
+pub mod Bound
+pub mod Events
+pub mod Nodes
+pub mod Worked

@@ -112,16 +112,13 @@ impl Costs {
     pub fn in_range(self) -> bool
         ensures { λ r. ⌜ r ≡ costsInRange self ⌝ }
     {
-        if within(0, self.read) {
-        } else {
+        if within(0, self.read) {} else {
             return false;
         }
-        if within(0, self.edit) {
-        } else {
+        if within(0, self.edit) {} else {
             return false;
         }
-        if within(0, self.rewrite) {
-        } else {
+        if within(0, self.rewrite) {} else {
             return false;
         }
         within(1, self.enter)
