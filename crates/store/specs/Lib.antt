@@ -12,4 +12,6 @@ pub mod Reopen
 pub mod ItemLaws
 pub mod ViewLaws
 pub mod Steps
+pub mod Changes
+pub mod PoolLaws
 pub mod Worked
