@@ -14,4 +14,6 @@ pub mod ViewLaws
 pub mod Steps
 pub mod Changes
 pub mod PoolLaws
+pub mod LiveLaws
+pub mod AllocateLaws
 pub mod Worked
