@@ -16,4 +16,6 @@ pub mod Changes
 pub mod PoolLaws
 pub mod LiveLaws
 pub mod AllocateLaws
+pub mod BlockRules
+pub mod Placing
 pub mod Worked
