@@ -18,4 +18,6 @@ pub mod LiveLaws
 pub mod AllocateLaws
 pub mod BlockRules
 pub mod Placing
+pub mod Versions
+pub mod Passed
 pub mod Worked
