@@ -20,4 +20,6 @@ pub mod BlockRules
 pub mod Placing
 pub mod Versions
 pub mod Passed
+pub mod Contents
+pub mod Good
 pub mod Worked
