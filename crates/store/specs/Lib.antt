@@ -22,4 +22,5 @@ pub mod Versions
 pub mod Passed
 pub mod Contents
 pub mod Good
+pub mod Keeps
 pub mod Worked
