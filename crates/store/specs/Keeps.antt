@@ -80,7 +80,7 @@ makeRoom-nodes k run = go (leb (k + length (run .now .buffer)) mostEntries)
     go true = refl
     go false = refl
 
-writeGroup-nodes : (n : ℕ) (x : Node) (run : Run) → writeGroup n x run .nodes ≡ max (run .nodes) (suc n)
+pub writeGroup-nodes : (n : ℕ) (x : Node) (run : Run) → writeGroup n x run .nodes ≡ max (run .nodes) (suc n)
 unfolding writeGroup
 writeGroup-nodes n x run = ap (λ z. max z (suc n)) (makeRoom-nodes (length (changesOf x)) run)
 

@@ -23,4 +23,5 @@ pub mod Passed
 pub mod Contents
 pub mod Good
 pub mod Keeps
+pub mod Numbers
 pub mod Worked
