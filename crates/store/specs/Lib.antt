@@ -12,4 +12,16 @@ pub mod Reopen
 pub mod ItemLaws
 pub mod ViewLaws
 pub mod Steps
+pub mod Changes
+pub mod PoolLaws
+pub mod LiveLaws
+pub mod AllocateLaws
+pub mod BlockRules
+pub mod Placing
+pub mod Versions
+pub mod Passed
+pub mod Contents
+pub mod Good
+pub mod Keeps
+pub mod Numbers
 pub mod Worked
