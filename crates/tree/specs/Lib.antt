@@ -8,4 +8,9 @@ pub mod Fit
 pub mod Tree
 pub mod Spells
 pub mod Sound
+pub mod Children
+pub mod Ids
+pub mod Standing
+pub mod Size
+pub mod LeafOfKey
 pub mod Worked
