@@ -13,4 +13,6 @@ pub mod Ids
 pub mod Standing
 pub mod Size
 pub mod LeafOfKey
+pub mod Halves
+pub mod Growth
 pub mod Worked
