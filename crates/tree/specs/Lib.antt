@@ -15,4 +15,6 @@ pub mod Size
 pub mod LeafOfKey
 pub mod Halves
 pub mod Growth
+pub mod Requests
+pub mod Written
 pub mod Worked
