@@ -8,4 +8,13 @@ pub mod Fit
 pub mod Tree
 pub mod Spells
 pub mod Sound
+pub mod Children
+pub mod Ids
+pub mod Standing
+pub mod Size
+pub mod LeafOfKey
+pub mod Halves
+pub mod Growth
+pub mod Requests
+pub mod Written
 pub mod Worked

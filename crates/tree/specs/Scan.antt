@@ -6,15 +6,10 @@ use Prim.Native.Nat.{ℕ, zero, suc, _-_}
 use lib.Dec.{eqb, ltb, leb}
 use lib.ListN.{length}
 use Rattle.layout.specs.Layout.{noLeaf}
-use Rattle.pairs.specs.Pairs.{Pair, range}
+use Rattle.pairs.specs.Pairs.{Pair, range, hasAbove}
 use Rattle.node.specs.Node.{Node, pairsOf, linkOf}
 use Rattle.tree.specs.Table.{Table, path, leafFor}
 use Rattle.tree.specs.NodeRequest.{NodeRequest, read}
-
--- Has a list of pairs a key above the high one?
-unfoldable pub hasAbove : ℕ → List Pair → Bool
-hasAbove high [] = false
-hasAbove high (p ∷ ps) = ltb high (p .0) || hasAbove high ps
 
 -- A scan stops in a leaf at the first key above the high one or at `most` pairs, or after the last leaf.
 unfoldable pub stopsIn : ℕ → ℕ → Node → List Pair → Bool

@@ -8,7 +8,7 @@ use Prim.Native.Nat.{ℕ, zero, suc, _+_}
 use lib.ListN.{length}
 use Rattle.laws.specs.Update.{update}
 use Rattle.layout.specs.Layout.{noLeaf}
-use Rattle.pairs.specs.Pairs.{Pair, lookup, insert, delete, range}
+use Rattle.pairs.specs.Pairs.{Pair, lookup, insert, delete, range, hasAbove}
 use Rattle.node.specs.declared.Kind.{Kind}
 use Rattle.node.specs.declared.Kind.the-variants.{Leaf, Branch}
 use Rattle.node.specs.Node.{Node, node, pairsOf}
@@ -30,7 +30,7 @@ use Rattle.tree.specs.Put.{
   putRequests,
 }
 use Rattle.tree.specs.Delete.{deleteRequests}
-use Rattle.tree.specs.Scan.{hasAbove, stopsIn, pairsFrom, leavesAfter, scanRequests, scanAnswer}
+use Rattle.tree.specs.Scan.{stopsIn, pairsFrom, leavesAfter, scanRequests, scanAnswer}
 use Rattle.tree.specs.Spells.{joinPointers, pairsOfNode, pairsBelow, mapOf}
 use Rattle.tree.specs.Sound.{
   ascends,
