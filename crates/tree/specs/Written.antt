@@ -254,7 +254,13 @@ module _ (limit d : ℕ) (table : Table) (count k : ℕ) (f : List Pair → List
           (settle-whole _ next (pending-whole limit d table count c lo hi nx (f (pairsIn d c)) rs next edits oc g (leb-true size mostKeys e)))
       go false e = rw (e, settle) (settle-parted rs next edits g (leb-false size mostKeys e))
 
--- Along the whole path.
+-- Along the whole path, a node at a time.
+pub work-step : (table : Table) (k : ℕ) (c : Change) (count fuel id child : ℕ) →
+    work table k c count (id ∷ path fuel table k child) ≡ settle table k id child (work table k c count (path fuel table k child))
+unfolding work path
+work-step table k c count zero id child = refl
+work-step table k c count (suc fuel) id child = refl
+
 module _ (limit : ℕ) (table : Table) (count k : ℕ) (c : Change) (f : List Pair → List Pair) (local : LocalEdit k f)
     (does : (ps : List Pair) (l : ℕ) → change c (node Leaf ps l) ≡ node Leaf (f ps) l) where
   work-leaf : (t : Tree zero) (low high link : ℕ) → low ≤ k → k < high → high ≤ bound32 → Once zero count t → Stands zero table t low high link →
@@ -281,12 +287,6 @@ module _ (limit : ℕ) (table : Table) (count k : ℕ) (c : Change) (f : List Pa
         neat = λ l. (neat-within low high (change c (table (t .0))) bound (rw top w) l, tt)
       }
 
-  work-step : (fuel id child : ℕ) →
-      work table k c count (id ∷ path fuel table k child) ≡ settle table k id child (work table k c count (path fuel table k child))
-  unfolding work path
-  work-step zero id child = refl
-  work-step (suc fuel) id child = refl
-
   pub work-good : (d fuel : ℕ) (t : Tree d) (low high link : ℕ) → low ≤ k → k < high → high ≤ bound32 → d ≤ fuel → Once d count t →
       Stands d table t low high link → Good limit d table count t low high link (f (pairsIn d t)) (work table k c count (path fuel table k (rootOf d t)))
   unfolding work rootOf
@@ -300,7 +300,7 @@ module _ (limit : ℕ) (table : Table) (count k : ℕ) (c : Change) (f : List Pa
       let u = child-leads d table count k f local t low high link a b o h in
       rw
       (path-step table k fuel (rootOf (suc d) t) (rootOf d x) (childFor-branch d table t low high link mostKeys k (table (rootOf (suc d) t)) h),
-      work-step fuel (rootOf (suc d) t) (rootOf d x))
+      work-step table k c count fuel (rootOf (suc d) t) (rootOf d x))
       (settle-good limit d table count k f local t low high link a b o h bound _
       (work-good d fuel x _ _ _ (u .from) (u .to) (omega (arith, u .under)) (omega arith) (once-child d count t j o)
       (child-stands d table count k f local t low high link a b o h)))
