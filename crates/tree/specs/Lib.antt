@@ -17,4 +17,5 @@ pub mod Halves
 pub mod Growth
 pub mod Requests
 pub mod Written
+pub mod IdsNeeded
 pub mod Worked

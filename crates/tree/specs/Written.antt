@@ -9,6 +9,7 @@ use borrow.Author.Tests.{leb-true, leb-false}
 use lib.Dec.{eqb, ltb, leb}
 use lib.ListN.{length}
 use Rattle.laws.specs.Counts.{bit}
+use Rattle.laws.specs.Every.{Every}
 use Rattle.laws.specs.Update.{update, update-same, update-other}
 use Rattle.layout.specs.Layout.{mostKeys, noLeaf, bound32}
 use Rattle.pairs.specs.Pairs.{Pair, insert, Within}
@@ -20,7 +21,7 @@ use Rattle.node.specs.declared.Kind.the-variants.{Leaf, Branch}
 use Rattle.node.specs.Node.{Node, node, pairsOf, Neat}
 use Rattle.node.specs.Change.{Change, put, change}
 use Rattle.tree.specs.Table.{Table, slot, childFor, path}
-use Rattle.tree.specs.NodeRequest.{NodeRequest, edit, rewrite, create, applyAll, countAfterAll, changeAll}
+use Rattle.tree.specs.NodeRequest.{NodeRequest, read, edit, rewrite, create, applyAll, countAfterAll, changeAll}
 use Rattle.tree.specs.Fit.{Fits}
 use Rattle.tree.specs.Get.{readsTo}
 use Rattle.tree.specs.Put.{
@@ -200,19 +201,27 @@ module _ (limit d : ℕ) (table : Table) (count k : ℕ) (f : List Pair → List
         rw becomes
         (rises-parted d table count k f local t low high link a b o h (applyAll made table) (suc next) (middleKey full) next parted)
 
+    -- the branch has one key more
+    pub two-long : length (pairsOf (changeAll two (table (t .0)))) ≡ suc (length (pairsOf (table (t .0))))
+    unfolding Holds rootOf
+    two-long =
+        let p = parted .halves in
+        ap (λ (n : Node). length (pairsOf n)) becomes ∙
+        (length-keysOf (rootOf d) (splitChild (t .1) j (p .lower) (middleKey full) (p .upper)) ∙
+        (length-split (t .1) j (p .lower) (middleKey full) (p .upper) ∙
+        ap suc (sym (ap (λ (n : Node). length (pairsOf n)) (h .0) ∙ length-keysOf (rootOf d) (t .1)))))
+
     two-neat : length (pairsOf (changeAll two (table (t .0)))) ≤ mostKeys → NeatAll two (table (t .0))
     unfolding Holds rootOf
     two-neat s =
         let ks = keysOf (rootOf d) (t .1) in
         let m = middleKey full in
         let p = parted .halves in
-        let long : length (pairsOf (changeAll two (table (t .0)))) ≡ suc (length (t .1)) =
-            ap (λ (n : Node). length (pairsOf n)) becomes ∙ (length-keysOf (rootOf d) (splitChild (t .1) j (p .lower) m (p .upper)) ∙ length-split (t .1) j (p .lower) m (p .upper)) in
         let w : Within low high (insert m (rootOf d c) ks) =
             within-insert m (rootOf d c) low high ks (omega (arith, p .above, lowAt-le (rootOf d) (t .1) low high j (h .1)))
             (omega (arith, p .under, child-leads d table count k f local t low high link a b o h .under)) (h .1) in
         let size : length (insert m (rootOf d c) ks) ≤ mostKeys =
-            omega (arith, long, s, length-insert m (rootOf d c) ks, length-keysOf (rootOf d) (t .1)) in
+            omega (arith, two-long, s, length-insert m (rootOf d c) ks, ap (λ (n : Node). length (pairsOf n)) (h .0)) in
         (rw (h .0) (neat-within low high (node Branch (insert m (rootOf d c) ks) _) bound w size),
         (neat-within low high (changeAll two (table (t .0))) bound
         (holds-keys (suc d) (applyAll made table) (risen .tree) low high link (suc mostKeys) (changeAll two (table (t .0))) (risen .holds)) s,
@@ -245,7 +254,13 @@ module _ (limit d : ℕ) (table : Table) (count k : ℕ) (f : List Pair → List
           (settle-whole _ next (pending-whole limit d table count c lo hi nx (f (pairsIn d c)) rs next edits oc g (leb-true size mostKeys e)))
       go false e = rw (e, settle) (settle-parted rs next edits g (leb-false size mostKeys e))
 
--- Along the whole path.
+-- Along the whole path, a node at a time.
+pub work-step : (table : Table) (k : ℕ) (c : Change) (count fuel id child : ℕ) →
+    work table k c count (id ∷ path fuel table k child) ≡ settle table k id child (work table k c count (path fuel table k child))
+unfolding work path
+work-step table k c count zero id child = refl
+work-step table k c count (suc fuel) id child = refl
+
 module _ (limit : ℕ) (table : Table) (count k : ℕ) (c : Change) (f : List Pair → List Pair) (local : LocalEdit k f)
     (does : (ps : List Pair) (l : ℕ) → change c (node Leaf ps l) ≡ node Leaf (f ps) l) where
   work-leaf : (t : Tree zero) (low high link : ℕ) → low ≤ k → k < high → high ≤ bound32 → Once zero count t → Stands zero table t low high link →
@@ -272,12 +287,6 @@ module _ (limit : ℕ) (table : Table) (count k : ℕ) (c : Change) (f : List Pa
         neat = λ l. (neat-within low high (change c (table (t .0))) bound (rw top w) l, tt)
       }
 
-  work-step : (fuel id child : ℕ) →
-      work table k c count (id ∷ path fuel table k child) ≡ settle table k id child (work table k c count (path fuel table k child))
-  unfolding work path
-  work-step zero id child = refl
-  work-step (suc fuel) id child = refl
-
   pub work-good : (d fuel : ℕ) (t : Tree d) (low high link : ℕ) → low ≤ k → k < high → high ≤ bound32 → d ≤ fuel → Once d count t →
       Stands d table t low high link → Good limit d table count t low high link (f (pairsIn d t)) (work table k c count (path fuel table k (rootOf d t)))
   unfolding work rootOf
@@ -291,12 +300,16 @@ module _ (limit : ℕ) (table : Table) (count k : ℕ) (c : Change) (f : List Pa
       let u = child-leads d table count k f local t low high link a b o h in
       rw
       (path-step table k fuel (rootOf (suc d) t) (rootOf d x) (childFor-branch d table t low high link mostKeys k (table (rootOf (suc d) t)) h),
-      work-step fuel (rootOf (suc d) t) (rootOf d x))
+      work-step table k c count fuel (rootOf (suc d) t) (rootOf d x))
       (settle-good limit d table count k f local t low high link a b o h bound _
       (work-good d fuel x _ _ _ (u .from) (u .to) (omega (arith, u .under)) (omega arith) (once-child d count t j o)
       (child-stands d table count k f local t low high link a b o h)))
 
--- The root takes its edits: whole, or in two new nodes below it.
+-- The root takes its edits: whole, or in two new nodes below it. The count after that:
+unfoldable pub finalCount : Table → Work → ℕ
+finalCount table (finished rs next) = next
+finalCount table (pending rs next edits) = elim (fitsNode (changeAll edits (table 0))) [ true ↦ next | false ↦ suc (suc next) ]
+
 pub record Written (limit : ℕ) (table : Table) (count : ℕ) (pairs : List Pair) (rs : List NodeRequest) (final : ℕ) : Type 0 where
   pub spells : Spells (applyAll rs table) final pairs
   pub fits : final ≤ limit → Fits limit rs table count final
@@ -410,24 +423,71 @@ module _ (limit d : ℕ) (table : Table) (count : ℕ) (t : Tree d) (pairs : Lis
                 ((omega arith, neat-within 0 bound32 crown (omega arith) (omega arith, p .under, tt) (omega arith)), refl)))
         }
 
-  -- the requests that finish the work, and the count after them
   pub finish-good : (w : Work) → Good limit d table count t 0 bound32 noLeaf pairs w →
-      (final : ℕ) × Written limit table count pairs (finish table w) final
-  unfolding finish
-  finish-good (finished rs next) g = (next, finish-whole rs next g)
+      Written limit table count pairs (finish table w) (finalCount table w)
+  unfolding finish finalCount
+  finish-good (finished rs next) g = finish-whole rs next g
   finish-good (pending rs next edits) g = go (fitsNode (changeAll edits (table 0))) refl
     where
       here : length (pairsOf (changeAll edits (table (rootOf d t)))) ≡ length (pairsOf (changeAll edits (table 0)))
       here = ap (λ (i : ℕ). length (pairsOf (changeAll edits (table i)))) root
       size : ℕ
       size = length (pairsOf (changeAll edits (table 0)))
-      go : (x : Bool) → fitsNode (changeAll edits (table 0)) ≡ x → (final : ℕ) × Written limit table count pairs (finish table (pending rs next edits)) final
+      go : (x : Bool) → fitsNode (changeAll edits (table 0)) ≡ x →
+          Written limit table count pairs (finish table (pending rs next edits)) (finalCount table (pending rs next edits))
       go true e =
-          rw (e, finish)
-          (next,
-          rw root at
+          rw (e, finish, finalCount)
+          (rw root at
           (finish-whole _ next
           (pending-whole limit d table count t 0 bound32 noLeaf pairs rs next edits once g (omega (arith, here, leb-true size mostKeys e)))))
       go false e =
-          rw (e, finish)
-          (suc (suc next), rw root at (finish-halves rs next edits g (omega (arith, here, leb-false size mostKeys e))))
+          rw (e, finish, finalCount)
+          (rw root at (finish-halves rs next edits g (omega (arith, here, leb-false size mostKeys e))))
+
+-- A change at a key on a table that spells a map.
+module _ (table : Table) (count : ℕ) (pairs : List Pair) (s : Spells table count pairs) (k : ℕ) (small : k < bound32) (c : Change)
+    (f : List Pair → List Pair) (local : LocalEdit k f) (does : (ps : List Pair) (l : ℕ) → change c (node Leaf ps l) ≡ node Leaf (f ps) l) where
+  abbrev pub workOf : Work
+  workOf = work table k c count (path count table k 0)
+
+  written : (limit : ℕ) → Written limit table count (f pairs) (finish table workOf) (finalCount table workOf)
+  written limit =
+      let d = s .depth in
+      let t = s .tree in
+      finish-good limit d table count t (f pairs) (s .root) (s .ids) workOf
+      (rw (s .root, s .spelled) at
+      (work-good limit table count k c f local does d count t 0 bound32 noLeaf (omega arith) small (omega arith)
+      (omega (arith, depth-count table count pairs s)) (spells-once table count pairs s) (s .stands)))
+
+  final-count : countAfterAll (finish table workOf) count ≡ finalCount table workOf
+  final-count =
+      fits-count (finalCount table workOf) (finish table workOf) table count (finalCount table workOf)
+      (written (finalCount table workOf) .fits (omega arith))
+
+  reads-used : Every (λ i. i < count) (path count table k 0)
+  reads-used =
+      rw (s .root) at
+      (path-used (s .depth) count table count k (s .tree) 0 bound32 noLeaf (omega arith) small (omega (arith, depth-count table count pairs s))
+      (spells-once table count pairs s) (s .stands) .0)
+
+  -- the table after all requests of the change
+  pub write-table : applyAll (writeRequests count table k c) table ≡ applyAll (finish table workOf) table
+  write-table =
+      applyAll-append (readsTo count table k) (finish table workOf) table ∙
+      ap (applyAll (finish table workOf)) (applyAll-reads (path count table k 0) table)
+
+  pub write-count : countAfterAll (writeRequests count table k c) count ≡ finalCount table workOf
+  write-count = reads-count (path count table k 0) ∙ final-count
+    where
+      reads-count : (ids : List ℕ) → countAfterAll (map read ids ++ finish table workOf) count ≡ countAfterAll (finish table workOf) count
+      reads-count [] = refl
+      reads-count (i ∷ ids) = reads-count ids
+
+  pub write-spells : Spells (applyAll (writeRequests count table k c) table) (finalCount table workOf) (f pairs)
+  write-spells = rw write-table (written 0 .spells)
+
+  pub write-fits : (limit : ℕ) → finalCount table workOf ≤ limit → Fits limit (writeRequests count table k c) table count (finalCount table workOf)
+  write-fits limit l =
+      fits-append limit (readsTo count table k) (finish table workOf) table count count (finalCount table workOf)
+      (fits-reads limit (path count table k 0) table count reads-used)
+      (rw (applyAll-reads (path count table k 0) table) (written limit .fits l))
