@@ -3,8 +3,7 @@ use mathlib.Core.List.{List, [], _∷_}
 use Prim.Native.Nat.{ℕ, _+_, _-_}
 use lib.Dec.{leb}
 use Rattle.laws.specs.Tests.{choose}
-use Rattle.account.specs.declared.Mode.{Mode}
-use Rattle.account.specs.declared.Mode.the-variants.{Log, Disk}
+use Rattle.account.specs.declared.Mode.the-variants.{Log}
 use Rattle.account.specs.declared.Request.{Request}
 use Rattle.account.specs.declared.Tariff.{Tariff}
 use Rattle.account.specs.declared.Account.{Account}

@@ -74,7 +74,8 @@ numbersOf t =
     []
 
 -- The two are inverse to each other.
-pub numbers-tariff : (a b c d e f g h : ℕ) → numbersOf (tariffOf a b c d e f g h) ≡ a ∷ b ∷ c ∷ d ∷ e ∷ f ∷ g ∷ h ∷ []
+pub numbers-tariff : (a b c d e f g h : ℕ) →
+    numbersOf (tariffOf a b c d e f g h) ≡ a ∷ b ∷ c ∷ d ∷ e ∷ f ∷ g ∷ h ∷ []
 numbers-tariff a b c d e f g h = refl
 
 pub tariff-numbers : (t : Tariff) →
