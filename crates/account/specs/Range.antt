@@ -28,7 +28,7 @@ unfoldable pub costsInRange : Costs → Bool
 costsInRange c =
     withinRange 0 (c .read) && withinRange 0 (c .edit) && withinRange 0 (c .rewrite) && withinRange 1 (c .enter)
 
--- "Is each tariff number in range?"
+-- Question 10: whether every number of the tariff is in range.
 unfoldable pub inRange : Tariff → Bool
 inRange t = costsInRange (t .log) && costsInRange (t .disk)
 
