@@ -1,6 +1,5 @@
 -- One node: what it is charged is at most three times what any schedule pays, and an allowance that does not grow with the list.
 -- Each theorem is an instance of the first, at the potential of its start. Assumes nothing.
-use mathlib.Core.Path.{_≡_, refl}
 use mathlib.Core.List.{List, [], _∷_}
 use Prim.Native.Nat.{ℕ, suc, _+_, _-_, _*_, _≤_, _<_}
 use native.Mathlib.Omega.{arith}
@@ -18,7 +17,8 @@ use Rattle.account.specs.Potential.{potential, allowance, potential-step
 module _ (t : Tariff) (plan : Schedule) where
   -- From any account whose score is below the limit T, and any mode of the schedule: charges and the potential at the end.
   pub charges-from : (qs : List Request) (i : ℕ) (a : Account) (before : Mode) → a .score < limit t →
-      chargesOf t qs a + potential t (accountAfter t qs a) (endOf plan qs i before) ≤ 3 * paid t plan qs i before + potential t a before
+      chargesOf t qs a + potential t (accountAfter t qs a) (endOf plan qs i before) ≤
+      3 * paid t plan qs i before + potential t a before
   charges-from [] i a before low = omega arith
   charges-from (q ∷ qs) i a before low =
       omega (

@@ -34,7 +34,7 @@ accountsServed t accounts id q = update accounts id (serveOf t (accounts id) q .
 abbrev pub accountsMade : (ℕ → Account) → ℕ → ℕ → Account
 accountsMade accounts nodes = update accounts nodes fresh
 
--- What all nodes are charged. "Creates are free."
+-- What all nodes are charged; that a node is made costs nothing.
 abbrev pub chargesAll : Tariff → List Event → ℕ → (ℕ → Account) → ℕ
 chargesAll t [] nodes accounts = 0
 chargesAll t (asks id q ∷ es) nodes accounts =
@@ -42,7 +42,7 @@ chargesAll t (asks id q ∷ es) nodes accounts =
 chargesAll t (makes ∷ es) nodes accounts = chargesAll t es (suc nodes) (accountsMade accounts nodes)
 
 -- What a schedule pays for all nodes: it names a mode for every request, by the request's index in the whole list, and a node's
--- mode before is "log at first".
+-- mode before its first request is log.
 abbrev pub paidAll : Tariff → Schedule → List Event → ℕ → ℕ → (ℕ → Mode) → ℕ
 paidAll t plan [] i nodes modes = 0
 paidAll t plan (asks id q ∷ es) i nodes modes =

@@ -1,12 +1,10 @@
 -- What a caller of `serve` goes by: the result is the definition's, its score is below the limit T again, and its charge is at
 -- most two million: a switch and a request, each at most a million. Assumes nothing.
-use mathlib.Core.Path.{_≡_, refl, ap}
-use mathlib.Core.Bool.{Bool, true, false}
+use mathlib.Core.Path.{_≡_}
 use mathlib.Core.List.{List, [], _∷_}
 use mathlib.Core.Logic.{_⊎_, inl, inr}
-use Prim.Native.Nat.{ℕ, _+_, _*_, _≤_, _<_}
+use Prim.Native.Nat.{ℕ, _*_, _≤_, _<_}
 use native.Mathlib.Omega.{arith}
-use lib.Dec.{leb}
 use lib.ListN.{length}
 use borrow.Author.Tests.{le-leb, lt-leb}
 use Rattle.laws.specs.Order.{le-or}
@@ -14,13 +12,13 @@ use Rattle.account.specs.declared.Request.{Request}
 use Rattle.account.specs.declared.Tariff.{Tariff}
 use Rattle.account.specs.declared.Account.{Account}
 use Rattle.account.specs.declared.Served.{Served}
-use Rattle.account.specs.Tariff.{other, cost, switchTo, limit, costs}
+use Rattle.account.specs.Tariff.{other, limit}
 use Rattle.account.specs.Range.{mostCost, Ranged, costs-bounded, costOf-le, limit-some}
 use Rattle.account.specs.Serve.{scoreOf, switchedOf, stayedOf, serveOf, chargesOf, accountAfter}
 
 -- The most that one request is charged.
 abbrev pub mostCharge : ℕ
-mostCharge = 2000000
+mostCharge = 2 * mostCost
 
 pub record Fair (t : Tariff) (a : Account) (q : Request) (r : Served) : Type 0 where
   pub is : r ≡ serveOf t a q

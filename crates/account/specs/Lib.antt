@@ -8,3 +8,4 @@ pub mod Bound
 pub mod Events
 pub mod Nodes
 pub mod Worked
+pub mod Tight

@@ -1,6 +1,6 @@
 -- Many nodes: the potentials of all nodes are summed. A request changes one term of the sum, by no more than its own step, and a new
 -- node adds its allowance. So charges are at most three times any schedule and one allowance for each node made. Assumes nothing.
-use mathlib.Core.Path.{_≡_, refl, sym, ap, ap₂, _∙_}
+use mathlib.Core.Path.{_≡_, refl, ap₂, _∙_}
 use mathlib.Core.List.{List, [], _∷_}
 use mathlib.Core.Logic.{_⊎_, inl, inr}
 use Prim.Native.Nat.{ℕ, suc, _+_, _-_, _*_, _≤_, _<_}
@@ -10,7 +10,7 @@ use lib.ListN.{length}
 use Rattle.laws.specs.Order.{eq-or}
 use Rattle.laws.specs.Update.{update, update-same, update-other, sumBelow, sumBelow-ext, sumBelow-change}
 use Rattle.account.specs.declared.Mode.{Mode}
-use Rattle.account.specs.declared.Mode.the-variants.{Log, Disk}
+use Rattle.account.specs.declared.Mode.the-variants.{Log}
 use Rattle.account.specs.declared.Request.{Request}
 use Rattle.account.specs.declared.Tariff.{Tariff}
 use Rattle.account.specs.declared.Account.{Account}
@@ -35,7 +35,8 @@ module _ (t : Tariff) (accounts : ℕ → Account) (modes : ℕ → Mode) where
     potentials-same : potentials t (update accounts n a) (update modes n m) n ≡ potential t a m
     potentials-same = ap₂ (potential t) (update-same accounts n a n refl) (update-same modes n m n refl)
 
-    potentials-other : (k : ℕ) → (k ≡ n → ⊥) → potentials t (update accounts n a) (update modes n m) k ≡ potentials t accounts modes k
+    potentials-other : (k : ℕ) → (k ≡ n → ⊥) →
+        potentials t (update accounts n a) (update modes n m) k ≡ potentials t accounts modes k
     potentials-other k e = ap₂ (potential t) (update-other accounts n a k e) (update-other modes n m k e)
 
   -- One request of one node among many, which the schedule serves in the mode `now`.
@@ -73,7 +74,8 @@ module _ (t : Tariff) (accounts : ℕ → Account) (modes : ℕ → Mode) where
 
 -- Scores stay below the limit T.
 module _ (t : Tariff) (some : 0 < limit t) (nodes : ℕ) (accounts : ℕ → Account) (low : Low t nodes accounts) where
-  low-update : (n : ℕ) (a : Account) → a .score < limit t → (k : ℕ) → (k ≡ n) ⊎ (k < nodes) → update accounts n a k .score < limit t
+  low-update : (n : ℕ) (a : Account) → a .score < limit t → (k : ℕ) → (k ≡ n) ⊎ (k < nodes) →
+      update accounts n a k .score < limit t
   low-update n a h k (inl e) = rw (update-same accounts n a k e) h
   low-update n a h k (inr l) = go (eq-or k n)
     where

@@ -1,7 +1,7 @@
 -- The potential: how far the charges may still run ahead of three times a schedule. It never is below 0, a schedule's switch raises
 -- it by at most three times the switch, and a request served raises charge and potential together by at most three times what
 -- the schedule pays for it. So charges are at most three times the schedule and the potential at the start. Assumes nothing.
-use mathlib.Core.Path.{_≡_, refl}
+use mathlib.Core.Path.{_≡_}
 use mathlib.Core.Bool.{Bool, true, false}
 use mathlib.Core.Logic.{_⊎_, inl, inr}
 use Prim.Native.Nat.{ℕ, _+_, _-_, _*_, _≤_, _<_}
@@ -14,7 +14,7 @@ use Rattle.account.specs.declared.Tariff.{Tariff}
 use Rattle.account.specs.declared.Account.{Account}
 use Rattle.account.specs.declared.Served.{Served}
 use Rattle.account.specs.Tariff.{other, differ, cost, switchTo, limit, limit-both}
-use Rattle.account.specs.Serve.{scoreOf, switchedOf, stayedOf, serveOf, fresh}
+use Rattle.account.specs.Serve.{scoreOf, switchedOf, stayedOf, serveOf}
 use Rattle.account.specs.Fair.{serve-switched, serve-stayed}
 use Rattle.account.specs.Schedule.{moveCost, payFor}
 
@@ -26,8 +26,8 @@ allowance t m = switchTo t m - switchTo t (other m)
 pub allowance-le : (t : Tariff) (m : Mode) → allowance t m ≤ switchTo t m
 allowance-le t m = omega arith
 
--- The potential in numbers: `home` is the switch into the account's mode and `away` the one out of it, `apart` says whether the
--- schedule has the node in the other mode.
+-- The potential in numbers: `home` is the switch into the account's mode and `away` the one out of it; the test says whether the
+-- schedule has the node in the other mode. With the score below `home + away` no difference after a sum comes to its floor.
 abbrev pub weigh : Bool → ℕ → ℕ → ℕ → ℕ
 weigh false home away score = 2 * score + (home - away)
 weigh true home away score = 3 * away + (home - away) - score
@@ -47,16 +47,19 @@ module _ (home away score : ℕ) (low : score < home + away) where
     stays-together : here + weigh false home away (score + here - there) ≤ 3 * here + weigh false home away score
     stays-together = omega arith
 
-    stays-apart : score + here - there < home + away → here + weigh true home away (score + here - there) ≤ 3 * there + weigh true home away score
+    stays-apart : score + here - there < home + away →
+        here + weigh true home away (score + here - there) ≤ 3 * there + weigh true home away score
     stays-apart h = omega arith
 
-    leaves-together : home + away ≤ score + here - there → away + there + weigh true away home 0 ≤ 3 * here + weigh false home away score
+    leaves-together : home + away ≤ score + here - there →
+        away + there + weigh true away home 0 ≤ 3 * here + weigh false home away score
     leaves-together h = omega arith
 
-    leaves-apart : home + away ≤ score + here - there → away + there + weigh false away home 0 ≤ 3 * there + weigh true home away score
+    leaves-apart : home + away ≤ score + here - there →
+        away + there + weigh false away home 0 ≤ 3 * there + weigh true home away score
     leaves-apart h = omega arith
 
--- The same of an account in any mode, with the schedule in any mode.
+-- The same of an account in any mode, with the schedule in any mode: each case is one of the six.
 module _ (t : Tariff) (score : ℕ) where
   abbrev in-mode : Mode → Account
   in-mode k = record { mode = k; score = score }
@@ -64,7 +67,8 @@ module _ (t : Tariff) (score : ℕ) where
   abbrev both : Mode → ℕ
   both k = switchTo t k + switchTo t (other k)
 
-  moves : (k before now : Mode) → score < both k → potential t (in-mode k) now ≤ 3 * moveCost t before now + potential t (in-mode k) before
+  moves : (k before now : Mode) → score < both k →
+      potential t (in-mode k) now ≤ 3 * moveCost t before now + potential t (in-mode k) before
   moves Log Log Log l = omega arith
   moves Log Log Disk l = parts _ _ score l
   moves Log Disk Log l = joins _ _ score l
@@ -85,7 +89,8 @@ module _ (t : Tariff) (score : ℕ) where
     leaves Disk Log l h = leaves-apart _ _ score l _ _ h
     leaves Disk Disk l h = leaves-together _ _ score l _ _ h
 
-    stays : (k now : Mode) → score < both k → scoreOf t (in-mode k) q < both k → Step k now (stayedOf t (in-mode k) q (scoreOf t (in-mode k) q))
+    stays : (k now : Mode) → score < both k → scoreOf t (in-mode k) q < both k →
+        Step k now (stayedOf t (in-mode k) q (scoreOf t (in-mode k) q))
     stays Log Log l h = stays-together _ _ score l _ _
     stays Log Disk l h = stays-apart _ _ score l _ _ h
     stays Disk Log l h = stays-apart _ _ score l _ _ h

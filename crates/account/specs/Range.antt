@@ -1,12 +1,12 @@
 -- The ranges of a tariff's numbers (document 01, "Account", first sentence, and question 10): a test, and the facts that it
 -- stands for. Assumes nothing.
-use mathlib.Core.Path.{_≡_, refl}
-use mathlib.Core.Bool.{Bool, true, false, _&&_}
+use mathlib.Core.Path.{_≡_}
+use mathlib.Core.Bool.{Bool, true, _&&_}
 use Prim.Native.Nat.{ℕ, _*_, _≤_, _<_}
 use native.Mathlib.Omega.{arith}
 use lib.Dec.{leb}
 use borrow.Author.Tests.{leb-true, le-leb}
-use Rattle.laws.specs.Tests.{and-left, and-right, and-both}
+use Rattle.laws.specs.Tests.{and-left, and-right}
 use Rattle.account.specs.declared.Mode.{Mode}
 use Rattle.account.specs.declared.Mode.the-variants.{Log, Disk}
 use Rattle.account.specs.declared.Request.{Request}
@@ -28,7 +28,7 @@ unfoldable pub costsInRange : Costs → Bool
 costsInRange c =
     withinRange 0 (c .read) && withinRange 0 (c .edit) && withinRange 0 (c .rewrite) && withinRange 1 (c .enter)
 
--- "Is each tariff number in range?"
+-- Question 10: whether every number of the tariff is in range.
 unfoldable pub inRange : Tariff → Bool
 inRange t = costsInRange (t .log) && costsInRange (t .disk)
 

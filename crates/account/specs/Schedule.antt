@@ -7,7 +7,7 @@ use Rattle.account.specs.declared.Request.{Request}
 use Rattle.account.specs.declared.Tariff.{Tariff}
 use Rattle.account.specs.Tariff.{differ, cost, switchTo}
 
--- "A schedule names a mode for every node request of the list": the mode for the request of each index.
+-- A schedule: a mode for the node request of each index of a list.
 abbrev pub Schedule : Type 0
 Schedule = ℕ → Mode
 
@@ -15,7 +15,7 @@ Schedule = ℕ → Mode
 abbrev pub moveCost : Tariff → Mode → Mode → ℕ
 moveCost t before now = choose (differ before now) (switchTo t now) 0
 
--- "It pays the request in that mode, and the switch where the node's mode before was the other."
+-- What it pays for a request: that, and what the request costs in the mode it named.
 abbrev pub payFor : Tariff → Mode → Mode → Request → ℕ
 payFor t before now q = moveCost t before now + cost t now q
 

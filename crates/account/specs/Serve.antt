@@ -3,15 +3,14 @@ use mathlib.Core.List.{List, [], _∷_}
 use Prim.Native.Nat.{ℕ, _+_, _-_}
 use lib.Dec.{leb}
 use Rattle.laws.specs.Tests.{choose}
-use Rattle.account.specs.declared.Mode.{Mode}
-use Rattle.account.specs.declared.Mode.the-variants.{Log, Disk}
+use Rattle.account.specs.declared.Mode.the-variants.{Log}
 use Rattle.account.specs.declared.Request.{Request}
 use Rattle.account.specs.declared.Tariff.{Tariff}
 use Rattle.account.specs.declared.Account.{Account}
 use Rattle.account.specs.declared.Served.{Served}
 use Rattle.account.specs.Tariff.{other, cost, switchTo, limit}
 
--- "New nodes start in log mode, score 0."
+-- A node just made is in log mode and has no score yet.
 abbrev pub fresh : Account
 fresh = record { mode = Log; score = 0 }
 
@@ -20,7 +19,7 @@ fresh = record { mode = Log; score = 0 }
 abbrev pub scoreOf : Tariff → Account → Request → ℕ
 scoreOf t a q = a .score + cost t (a .mode) q - cost t (other (a .mode)) q
 
--- "Switch first, charge switch and t, score 0."
+-- Served after a switch: the switch is charged beside what the request costs in the other mode, and the score begins again at 0.
 abbrev pub switchedOf : Tariff → Account → Request → Served
 switchedOf t a q =
     record {
@@ -28,7 +27,7 @@ switchedOf t a q =
       charge = switchTo t (other (a .mode)) + cost t (other (a .mode)) q;
     }
 
--- "Else charge h, score s."
+-- Served without one: what the request costs here is charged, and the score is the one that it led to.
 abbrev pub stayedOf : Tariff → Account → Request → ℕ → Served
 stayedOf t a q s = record { account = record { mode = a .mode; score = s }; charge = cost t (a .mode) q }
 

@@ -12,7 +12,7 @@ use Rattle.account.specs.declared.Request.the-variants.{Read, Edit, Rewr
 use Rattle.account.specs.declared.Costs.{Costs}
 use Rattle.account.specs.declared.Tariff.{Tariff}
 
--- "The other mode": the one that a node is not in.
+-- The other mode: the one that a node is not in.
 abbrev pub other : Mode → Mode
 other Log = Disk
 other Disk = Log
@@ -43,7 +43,7 @@ cost t m q = costOf (costs t m) q
 abbrev pub switchTo : Tariff → Mode → ℕ
 switchTo t m = costs t m .enter
 
--- "Limit T is the sum of the two switches."
+-- The limit T of scores: both switches together.
 abbrev pub limit : Tariff → ℕ
 limit t = switchTo t Disk + switchTo t Log
 
@@ -52,7 +52,8 @@ pub limit-both : (t : Tariff) (m : Mode) → limit t ≡ switchTo t m + switchTo
 limit-both t Log = omega arith
 limit-both t Disk = omega arith
 
--- "The tariff, in order": read, edit and rewrite in log mode, the same in disk mode, then the switches to disk and to log.
+-- The tariff from its eight numbers, in document 01's order: read, edit and rewrite in log mode, the three in disk mode, then what
+-- it costs to switch to disk, and to log.
 abbrev pub tariffOf : ℕ → ℕ → ℕ → ℕ → ℕ → ℕ → ℕ → ℕ → Tariff
 tariffOf logRead logEdit logRewrite diskRead diskEdit diskRewrite toDisk toLog =
     record {
@@ -74,7 +75,8 @@ numbersOf t =
     []
 
 -- The two are inverse to each other.
-pub numbers-tariff : (a b c d e f g h : ℕ) → numbersOf (tariffOf a b c d e f g h) ≡ a ∷ b ∷ c ∷ d ∷ e ∷ f ∷ g ∷ h ∷ []
+pub numbers-tariff : (a b c d e f g h : ℕ) →
+    numbersOf (tariffOf a b c d e f g h) ≡ a ∷ b ∷ c ∷ d ∷ e ∷ f ∷ g ∷ h ∷ []
 numbers-tariff a b c d e f g h = refl
 
 pub tariff-numbers : (t : Tariff) →

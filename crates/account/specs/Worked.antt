@@ -5,7 +5,7 @@ use Prim.Native.Nat.{ℕ}
 use Rattle.account.specs.declared.Mode.{Mode}
 use Rattle.account.specs.declared.Mode.the-variants.{Log, Disk}
 use Rattle.account.specs.declared.Request.{Request}
-use Rattle.account.specs.declared.Request.the-variants.{Read, Edit, Rewrite}
+use Rattle.account.specs.declared.Request.the-variants.{Read, Edit}
 use Rattle.account.specs.declared.Tariff.{Tariff}
 use Rattle.account.specs.declared.Account.{Account}
 use Rattle.account.specs.declared.Served.{Served}

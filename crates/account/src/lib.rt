@@ -85,12 +85,15 @@ pub fn tariff_of(
     }
 }
 
+// No number of a tariff is more than a million.
+const MOST_COST: u32 = 1000000;
+
 // Whether a tariff number is at least the least one allowed and at most a million.
 fn within(least: u32, number: u32) -> bool
     ensures { λ r. ⌜ r ≡ withinRange least number ⌝ }
 {
     if least <= number {
-        number <= 1000000
+        number <= MOST_COST
     } else {
         false
     }

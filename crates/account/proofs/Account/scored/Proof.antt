@@ -34,7 +34,15 @@ floored-requires : tie.Need-floored-requires
 floored-requires c κs = search needs
 
 returns : tie.Need-returns
-returns c = rw (c .floored .ensures, c .before .before .cost2 .ensures, c .before .before .before .costs2 .ensures, c .before .before .before .before .other .ensures, c .before .before .before .before .before .cost .ensures, c .before .before .before .before .before .before .costs .ensures)
+returns c =
+    rw (
+      c .floored .ensures,
+      c .before .before .cost2 .ensures,
+      c .before .before .before .costs2 .ensures,
+      c .before .before .before .before .other .ensures,
+      c .before .before .before .before .before .cost .ensures,
+      c .before .before .before .before .before .before .costs .ensures,
+    )
 
 pub scored-spec : {M : Type 1} → statement M
 scored-spec =

@@ -1,10 +1,6 @@
 -- The score is compared with the limit T as the definition compares it; a score below the limit fits 32 bits. Assumes nothing.
 use mathlib.Core.Path.{sym, _∙_}
-use Prim.Native.Nat.{_≤_, _<_}
-use native.Mathlib.Omega.{arith}
 use borrow.Author.Needs.{needs}
-use Rattle.account.specs.Tariff.{limit}
-use Rattle.account.specs.Serve.{scoreOf, stayedOf}
 use Rattle.account.specs.Fair.{serve-switched, serve-stayed, serve-fair}
 use Rattle.account.proofs.Account.serve.Statement.{statement}
 use Rattle.account.proofs.Account.serve.Tie as tie
@@ -26,18 +22,21 @@ stayed-requires c κs = search needs
 
 returns : tie.Need-returns
 returns c =
-    let g = c .before .before .before .before in
-    let h = rw (c .before .before .limit .ensures, c .before .before .before .scored .ensures) at (c .before .if1 .taken) in
-    serve-fair _ _ _ (g .pre)
-    (c .switched .ensures ∙ sym (serve-switched (g .args .tariff) (g .args .self) (g .args .request) h))
+    let start = c .before .before .before .before in
+    let over =
+    rw (c .before .before .limit .ensures, c .before .before .before .scored .ensures) at (c .before .if1 .taken) in
+    serve-fair _ _ _ (start .pre)
+    (c .switched .ensures ∙
+    sym (serve-switched (start .args .tariff) (start .args .self) (start .args .request) over))
 
 returns-2 : tie.Need-returns-2
 returns-2 c =
-    let g = c .before .before .before .before in
-    let h = rw (c .before .before .limit .ensures, c .before .before .before .scored .ensures) at (c .before .if1 .left) in
-    serve-fair _ _ _ (g .pre)
+    let start = c .before .before .before .before in
+    let score = c .before .before .before .scored .ensures in
+    let below = rw (c .before .before .limit .ensures, score) at (c .before .if1 .left) in
+    serve-fair _ _ _ (start .pre)
     (c .stayed .ensures ∙
-    rw (c .before .before .before .scored .ensures) (sym (serve-stayed (g .args .tariff) (g .args .self) (g .args .request) h)))
+    rw score (sym (serve-stayed (start .args .tariff) (start .args .self) (start .args .request) below)))
 
 pub serve-spec : {M : Type 1} → statement M
 serve-spec =

@@ -16,21 +16,44 @@ within-requires-2 c κs = search needs
 
 returns-2 : tie.Need-returns-2
 unfolding costsInRange
-returns-2 c = rw (← c .before .before .before .within .ensures, c .before .before .if1 .taken, ← c .before .within2 .ensures, c .if2 .left)
+returns-2 c =
+    rw (
+      ← c .before .before .before .within .ensures,
+      c .before .before .if1 .taken,
+      ← c .before .within2 .ensures,
+      c .if2 .left,
+    )
 
 within-requires-3 : tie.Need-within-requires-3
 within-requires-3 c κs = search needs
 
 returns-3 : tie.Need-returns-3
 unfolding costsInRange
-returns-3 c = rw (← c .before .before .before .before .before .within .ensures, c .before .before .before .before .if1 .taken, ← c .before .before .before .within2 .ensures, c .before .before .if2 .taken, ← c .before .within3 .ensures, c .if3 .left)
+returns-3 c =
+    rw (
+      ← c .before .before .before .before .before .within .ensures,
+      c .before .before .before .before .if1 .taken,
+      ← c .before .before .before .within2 .ensures,
+      c .before .before .if2 .taken,
+      ← c .before .within3 .ensures,
+      c .if3 .left,
+    )
 
 within-requires-4 : tie.Need-within-requires-4
 within-requires-4 c κs = search needs
 
 returns-4 : tie.Need-returns-4
 unfolding costsInRange
-returns-4 c = rw (← c .before .before .before .before .before .before .within .ensures, c .before .before .before .before .before .if1 .taken, ← c .before .before .before .before .within2 .ensures, c .before .before .before .if2 .taken, ← c .before .before .within3 .ensures, c .before .if3 .taken, c .within4 .ensures)
+returns-4 c =
+    rw (
+      ← c .before .before .before .before .before .before .within .ensures,
+      c .before .before .before .before .before .if1 .taken,
+      ← c .before .before .before .before .within2 .ensures,
+      c .before .before .before .if2 .taken,
+      ← c .before .before .within3 .ensures,
+      c .before .if3 .taken,
+      c .within4 .ensures,
+    )
 
 pub in-range-spec : {M : Type 1} → statement M
 in-range-spec =
