@@ -18,8 +18,8 @@ use Rattle.pairs.specs.Sizes.{length-insert}
 use Rattle.pairs.specs.LocalEdit.{LocalEdit}
 use Rattle.node.specs.declared.Kind.{Kind}
 use Rattle.node.specs.declared.Kind.the-variants.{Leaf, Branch}
-use Rattle.node.specs.Node.{Node, node, pairsOf, Neat}
-use Rattle.node.specs.Change.{Change, put, change}
+use Rattle.node.specs.Node.{Node, node, kindOf, pairsOf, Neat}
+use Rattle.node.specs.Change.{Change, put, Suits, change}
 use Rattle.tree.specs.Table.{Table, slot, childFor, path}
 use Rattle.tree.specs.NodeRequest.{NodeRequest, read, edit, rewrite, create, applyAll, countAfterAll, changeAll}
 use Rattle.tree.specs.Fit.{Fits}
@@ -29,6 +29,7 @@ use Rattle.tree.specs.Put.{
   upperHalf,
   middleKey,
   parentEdits,
+  renamed,
   fitsNode,
   Work,
   finished,
@@ -72,6 +73,7 @@ use Rattle.tree.specs.Requests.{
   fits-reads,
   NeatAll,
   fits-edits,
+  leaf-suits,
 }
 
 stands-top-neat : (d : ℕ) (table : Table) (t : Tree d) (low high link : ℕ) → high ≤ bound32 → Stands d table t low high link → Neat (table (rootOf d t))
@@ -211,6 +213,18 @@ module _ (limit d : ℕ) (table : Table) (count k : ℕ) (f : List Pair → List
         (length-split (t .1) j (p .lower) (middleKey full) (p .upper) ∙
         ap suc (sym (ap (λ (n : Node). length (pairsOf n)) (h .0) ∙ length-keysOf (rootOf d) (t .1)))))
 
+    -- the second edit sets a link of the branch's own kind, if any
+    two-suits : Suits (renamed (slot k (pairsOf (table (t .0)))) (pairsOf (table (t .0))) next) (change (put (middleKey full) (rootOf d c)) (table (t .0)))
+    unfolding renamed Holds rootOf
+    two-suits = go (ltb (slot k (pairsOf (table (t .0)))) (length (pairsOf (table (t .0))))) refl
+      where
+        kind : Branch ≡ kindOf (change (put (middleKey full) (rootOf d c)) (table (t .0)))
+        kind = sym (ap (λ (n : Node). kindOf (change (put (middleKey full) (rootOf d c)) n)) (h .0))
+        go : (b : Bool) → ltb (slot k (pairsOf (table (t .0)))) (length (pairsOf (table (t .0)))) ≡ b →
+            Suits (renamed (slot k (pairsOf (table (t .0)))) (pairsOf (table (t .0))) next) (change (put (middleKey full) (rootOf d c)) (table (t .0)))
+        go true e = rw (e, renamed) tt
+        go false e = rw (e, renamed) kind
+
     two-neat : length (pairsOf (changeAll two (table (t .0)))) ≤ mostKeys → NeatAll two (table (t .0))
     unfolding Holds rootOf
     two-neat s =
@@ -222,9 +236,9 @@ module _ (limit d : ℕ) (table : Table) (count k : ℕ) (f : List Pair → List
             (omega (arith, p .under, child-leads d table count k f local t low high link a b o h .under)) (h .1) in
         let size : length (insert m (rootOf d c) ks) ≤ mostKeys =
             omega (arith, two-long, s, length-insert m (rootOf d c) ks, ap (λ (n : Node). length (pairsOf n)) (h .0)) in
-        (rw (h .0) (neat-within low high (node Branch (insert m (rootOf d c) ks) _) bound w size),
-        (neat-within low high (changeAll two (table (t .0))) bound
-        (holds-keys (suc d) (applyAll made table) (risen .tree) low high link (suc mostKeys) (changeAll two (table (t .0))) (risen .holds)) s,
+        ((tt, rw (h .0) (neat-within low high (node Branch (insert m (rootOf d c) ks) _) bound w size)),
+        ((two-suits, neat-within low high (changeAll two (table (t .0))) bound
+        (holds-keys (suc d) (applyAll made table) (risen .tree) low high link (suc mostKeys) (changeAll two (table (t .0))) (risen .holds)) s),
         tt))
 
     settle-parted : Pending limit (suc d) table count t low high link (f (pairsIn (suc d) t)) made (suc next) two
@@ -284,7 +298,7 @@ module _ (limit : ℕ) (table : Table) (count k : ℕ) (c : Change) (f : List Pa
             };
         fits = λ m. refl;
         own = refl;
-        neat = λ l. (neat-within low high (change c (table (t .0))) bound (rw top w) l, tt)
+        neat = λ l. ((rw (h .0) (leaf-suits c f does (t .1) link), neat-within low high (change c (table (t .0))) bound (rw top w) l), tt)
       }
 
   pub work-good : (d fuel : ℕ) (t : Tree d) (low high link : ℕ) → low ≤ k → k < high → high ≤ bound32 → d ≤ fuel → Once d count t →

@@ -1,0 +1,1 @@
+// The demands are theorems; they stand in specs/, and there is no code here.
