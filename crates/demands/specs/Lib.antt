@@ -1,2 +1,4 @@
 pub mod Says
 pub mod Step
+pub mod Commands
+pub mod Run

@@ -1,0 +1,163 @@
+-- A batch: its commands one after another. After every node request the run over the store says what the reference model says, and
+-- the answers are the ordered map's. Assumes nothing.
+use mathlib.Core.Path.{_≡_, refl, sym, ap, ap₂, _∙_, subst}
+use mathlib.Core.List.{List, [], _∷_, _++_, map}
+use Prim.Native.Nat.{ℕ, suc, _+_, _≤_, _<_}
+use native.Mathlib.Omega.{arith}
+use Rattle.layout.specs.Layout.{nodeLimit, bound32, noLeaf}
+use Rattle.account.specs.declared.Tariff.{Tariff}
+use Rattle.pairs.specs.Pairs.{Pair}
+use Rattle.command.specs.declared.Command.{Command}
+use Rattle.command.specs.Answer.{Answer}
+use Rattle.tree.specs.Table.{Table}
+use Rattle.tree.specs.NodeRequest.{NodeRequest, apply, applyAll, countAfter, countAfterAll}
+use Rattle.tree.specs.Fit.{Fit, Fits}
+use Rattle.tree.specs.Requests.{fits-append, fits-count}
+use Rattle.tree.specs.Spells.{Spells}
+use Rattle.book.specs.Book.{Book}
+use Rattle.book.specs.Book as Book
+use Rattle.book.specs.Command.{requests, answer, refuses}
+use Rattle.book.specs.Batch.{doneBook, runBook, booksPassed, chargeBook, requestsBook}
+use Rattle.book.specs.OrderedMap.{mapAnswer, mapAfter, mapAnswers, mapRun}
+use Rattle.model.specs.State.{State, bookOf, serve, serveAll, afterEach, charges}
+use Rattle.model.specs.Batch.{done, run, statesPassed, chargeOf, answers}
+use Rattle.demands.specs.Says.{Sound, Says}
+use Rattle.demands.specs.Step.{serve-says}
+use Rattle.demands.specs.Commands.{Valid, ValidAll, Does, does}
+
+-- The reference model's table and count change as the tree's requests say.
+pub serveAll-table : (t : Tariff) (rs : List NodeRequest) (b : Book) → Book.serveAll t rs b .table ≡ applyAll rs (b .table)
+unfolding Book.serve
+serveAll-table t [] b = refl
+serveAll-table t (r ∷ rs) b = serveAll-table t rs (Book.serve t r b)
+
+pub serveAll-count : (t : Tariff) (rs : List NodeRequest) (b : Book) → Book.serveAll t rs b .count ≡ countAfterAll rs (b .count)
+unfolding Book.serve
+serveAll-count t [] b = refl
+serveAll-count t (r ∷ rs) b = serveAll-count t rs (Book.serve t r b)
+
+-- A list of node requests.
+pub record Served (blocks : ℕ) (t : Tariff) (rs : List NodeRequest) (s : State) : Type 0 where
+  pub says : Says blocks (serveAll t rs s) (Book.serveAll t rs (bookOf s))
+  pub charge : charges t rs s ≡ Book.charges t rs (bookOf s)
+  pub passed : map bookOf (afterEach t rs s) ≡ Book.afterEach t rs (bookOf s)
+
+pub serveAll-served : (blocks : ℕ) (t : Tariff) (rs : List NodeRequest) (s : State) (final : ℕ) → Sound blocks s →
+    Fits (nodeLimit blocks) rs (bookOf s .table) (bookOf s .count) final → Served blocks t rs s
+unfolding Book.serve
+serveAll-served blocks t [] s final v f = record { says = record { sound = v; is = refl }; charge = refl; passed = refl }
+serveAll-served blocks t (r ∷ rs) s final v f =
+    let one = serve-says t s v r (f .0) in
+    let rest =
+          serveAll-served blocks t rs (serve t r s) final (one .sound)
+          (subst (λ (z : Book). Fits (nodeLimit blocks) rs (z .table) (z .count) final) (sym (one .is)) (f .1)) in
+    record {
+      says = record { sound = rest .says .sound; is = rest .says .is ∙ ap (Book.serveAll t rs) (one .is) };
+      charge = ap (λ (n : ℕ). Book.charge t r (bookOf s) + n) (rest .charge ∙ ap (Book.charges t rs) (one .is));
+      passed = ap₂ {B = List Book} _∷_ (one .is) (rest .passed ∙ ap (Book.afterEach t rs) (one .is));
+    }
+
+-- Lists of requests one behind the other, in the reference model.
+pub serveAll-append : (t : Tariff) (rs ss : List NodeRequest) (b : Book) →
+    Book.serveAll t (rs ++ ss) b ≡ Book.serveAll t ss (Book.serveAll t rs b)
+serveAll-append t [] ss b = refl
+serveAll-append t (r ∷ rs) ss b = serveAll-append t rs ss (Book.serve t r b)
+
+pub charges-append : (t : Tariff) (rs ss : List NodeRequest) (b : Book) →
+    Book.charges t (rs ++ ss) b ≡ Book.charges t rs b + Book.charges t ss (Book.serveAll t rs b)
+charges-append t [] ss b = omega arith
+charges-append t (r ∷ rs) ss b = omega (arith, charges-append t rs ss (Book.serve t r b))
+
+-- A batch in the reference model is all its node requests in a row.
+pub runBook-requests : (limit : ℕ) (t : Tariff) (cs : List Command) (b : Book) →
+    runBook limit t cs b ≡ Book.serveAll t (requestsBook limit t cs b) b
+runBook-requests limit t [] b = refl
+runBook-requests limit t (c ∷ cs) b =
+    runBook-requests limit t cs (doneBook limit t c b) ∙
+    sym (serveAll-append t (requests limit c b) (requestsBook limit t cs (doneBook limit t c b)) b)
+
+pub chargeBook-requests : (limit : ℕ) (t : Tariff) (cs : List Command) (b : Book) →
+    chargeBook limit t cs b ≡ Book.charges t (requestsBook limit t cs b) b
+chargeBook-requests limit t [] b = refl
+chargeBook-requests limit t (c ∷ cs) b =
+    omega (
+      arith,
+      chargeBook-requests limit t cs (doneBook limit t c b),
+      charges-append t (requests limit c b) (requestsBook limit t cs (doneBook limit t c b)) b,
+    )
+
+pub map-append : {A C : Type 0} (f : A → C) (xs ys : List A) → map f (xs ++ ys) ≡ map f xs ++ map f ys
+map-append f [] ys = refl
+map-append {C = C} f (x ∷ xs) ys = ap {B = List C} (λ z. f x ∷ z) (map-append f xs ys)
+
+-- A book that spells a map, within the limit of nodes.
+pub record Holds (limit : ℕ) (b : Book) (ps : List Pair) : Type 0 where
+  pub spells : Spells (b .table) (b .count) ps
+  pub most : b .count ≤ limit
+
+module _ (limit : ℕ) (t : Tariff) (small : limit < noLeaf) where
+  -- A command keeps it so.
+  command-holds : (c : Command) (b : Book) (ps : List Pair) → Valid c → Holds limit b ps →
+      Holds limit (doneBook limit t c b) (mapAfter (refuses limit c b) c ps)
+  command-holds c b ps valid h =
+      let d = does limit small c b ps valid (h .spells) (h .most) in
+      let n : Book.serveAll t (requests limit c b) b .count ≡ d .final =
+            serveAll-count t (requests limit c b) b ∙ fits-count limit (requests limit c b) (b .table) (b .count) (d .final) (d .fits) in
+      record {
+        spells = rw (serveAll-table t (requests limit c b) b, n) (d .spells);
+        most = omega (arith, n, d .most);
+      }
+
+-- A BATCH.
+pub record Batched (blocks : ℕ) (t : Tariff) (cs : List Command) (s : State) (ps : List Pair) : Type 0 where
+  pub says : Says blocks (run (nodeLimit blocks) t cs s) (runBook (nodeLimit blocks) t cs (bookOf s))
+  pub charge : chargeOf (nodeLimit blocks) t cs s ≡ chargeBook (nodeLimit blocks) t cs (bookOf s)
+  pub passed : map bookOf (statesPassed (nodeLimit blocks) t cs s) ≡ booksPassed (nodeLimit blocks) t cs (bookOf s)
+  pub answers : answers (nodeLimit blocks) t cs s ≡ mapAnswers (nodeLimit blocks) t cs (bookOf s) ps
+  pub holds : Holds (nodeLimit blocks) (runBook (nodeLimit blocks) t cs (bookOf s)) (mapRun (nodeLimit blocks) t cs (bookOf s) ps)
+  pub fits :
+      Fits (nodeLimit blocks) (requestsBook (nodeLimit blocks) t cs (bookOf s)) (bookOf s .table) (bookOf s .count)
+      (runBook (nodeLimit blocks) t cs (bookOf s) .count)
+
+module _ (blocks : ℕ) (t : Tariff) (small : nodeLimit blocks < noLeaf) where
+  abbrev limit : ℕ
+  limit = nodeLimit blocks
+
+  pub batch-batched : (cs : List Command) (s : State) (ps : List Pair) → ValidAll cs → Sound blocks s → Holds limit (bookOf s) ps →
+      Batched blocks t cs s ps
+  batch-batched [] s ps valid v h =
+      record { says = record { sound = v; is = refl }; charge = refl; passed = refl; answers = refl; holds = h; fits = refl }
+  batch-batched (c ∷ cs) s ps valid v h =
+      let b = bookOf s in
+      let rs = requests limit c b in
+      let d = does limit small c b ps (valid .0) (h .spells) (h .most) in
+      let one = serveAll-served blocks t rs s (d .final) v (d .fits) in
+      let e : bookOf (done limit t c s) ≡ doneBook limit t c b = one .says .is in
+      let ps′ = mapAfter (refuses limit c b) c ps in
+      let rest =
+            batch-batched cs (done limit t c s) ps′ (valid .1) (one .says .sound)
+            (subst (λ (z : Book). Holds limit z ps′) (sym e) (command-holds limit t small c b ps (valid .0) h)) in
+      let n : doneBook limit t c b .count ≡ d .final =
+            serveAll-count t rs b ∙ fits-count limit rs (b .table) (b .count) (d .final) (d .fits) in
+      record {
+        says = record { sound = rest .says .sound; is = rest .says .is ∙ ap (runBook limit t cs) e };
+        charge = ap₂ _+_ (one .charge) (rest .charge ∙ ap (chargeBook limit t cs) e);
+        passed =
+            map-append bookOf (afterEach t rs s) (statesPassed limit t cs (done limit t c s)) ∙
+            ap₂ {B = List Book} _++_ (one .passed) (rest .passed ∙ ap (booksPassed limit t cs) e);
+        answers = ap₂ {B = List Answer} _∷_ (d .answers) (rest .answers ∙ ap (λ (z : Book). mapAnswers limit t cs z ps′) e);
+        holds = subst (λ (z : Book). Holds limit (runBook limit t cs z) (mapRun limit t cs z ps′)) e (rest .holds);
+        fits =
+            fits-append limit rs (requestsBook limit t cs (doneBook limit t c b)) (b .table) (b .count) (d .final)
+            (runBook limit t cs (doneBook limit t c b) .count) (d .fits)
+            (subst
+            (λ (z : Table).
+              Fits limit (requestsBook limit t cs (doneBook limit t c b)) z (d .final) (runBook limit t cs (doneBook limit t c b) .count))
+            (serveAll-table t rs b)
+            (subst
+            (λ (k : ℕ).
+              Fits limit (requestsBook limit t cs (doneBook limit t c b)) (doneBook limit t c b .table) k
+              (runBook limit t cs (doneBook limit t c b) .count))
+            n
+            (subst (λ (z : Book). Fits limit (requestsBook limit t cs z) (z .table) (z .count) (runBook limit t cs z .count)) e (rest .fits))));
+      }
