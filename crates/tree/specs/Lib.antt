@@ -18,4 +18,8 @@ pub mod Growth
 pub mod Requests
 pub mod Written
 pub mod IdsNeeded
+pub mod Served
+pub mod GetLaws
+pub mod PutLaws
+pub mod DeleteLaws
 pub mod Worked
