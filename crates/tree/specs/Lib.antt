@@ -22,4 +22,7 @@ pub mod Served
 pub mod GetLaws
 pub mod PutLaws
 pub mod DeleteLaws
+pub mod LeafChain
+pub mod ScanLaws
+pub mod SoundLaws
 pub mod Worked
