@@ -18,4 +18,11 @@ pub mod Growth
 pub mod Requests
 pub mod Written
 pub mod IdsNeeded
+pub mod Served
+pub mod GetLaws
+pub mod PutLaws
+pub mod DeleteLaws
+pub mod LeafChain
+pub mod ScanLaws
+pub mod SoundLaws
 pub mod Worked

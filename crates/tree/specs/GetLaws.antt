@@ -1,0 +1,51 @@
+-- A get is a lookup in the map that the table spells, and its requests are reads of nodes that are there, at most as many as
+-- nodes. Assumes nothing.
+use mathlib.Core.Path.{_≡_, refl, sym, ap, _∙_}
+use mathlib.Core.List.{List, [], _∷_, _++_, map}
+use mathlib.Core.Option.{Option, none, some}
+use Prim.Native.Nat.{ℕ, zero, suc, _+_, _≤_, _<_}
+use native.Mathlib.Omega.{arith}
+use lib.ListN.{length}
+use Rattle.laws.specs.Every.{Every}
+use Rattle.layout.specs.Layout.{mostKeys, noLeaf, bound32}
+use Rattle.pairs.specs.Pairs.{Pair, lookup}
+use Rattle.node.specs.Node.{Node, pairsOf, Neat}
+use Rattle.tree.specs.Table.{Table, path, leafFor}
+use Rattle.tree.specs.NodeRequest.{NodeRequest, read}
+use Rattle.tree.specs.Get.{getRequests, getAnswer}
+use Rattle.tree.specs.Tree.{Tree, rootOf, pairsIn}
+use Rattle.tree.specs.Spells.{Spells}
+use Rattle.tree.specs.Ids.{used-in}
+use Rattle.tree.specs.Standing.{stands-neat}
+use Rattle.tree.specs.Size.{spells-once, depth-count}
+use Rattle.tree.specs.LeafOfKey.{LeafOf, leaf-of, lookup-leaf, path-used}
+use Rattle.tree.specs.Served.{Served, served-reads}
+
+module _ (table : Table) (count : ℕ) (pairs : List Pair) (s : Spells table count pairs) where
+  -- every node of a sound table is neat
+  pub node-neat : (i : ℕ) → i < count → Neat (table i)
+  node-neat i l =
+      stands-neat (s .depth) table (s .tree) 0 bound32 noLeaf (omega arith) (s .stands) i (omega (arith, s .ids i, used-in count i l))
+
+  module _ (k : ℕ) (small : k < bound32) where
+    pub leaf-found : LeafOf (s .depth) table (s .tree) k 0 bound32 (leafFor count table k 0)
+    leaf-found =
+        rw (s .root) at
+        (leaf-of (s .depth) count table k (s .tree) 0 bound32 noLeaf (omega arith) small (omega (arith, depth-count table count pairs s)) (s .stands))
+
+    pub get-answer : getAnswer count table k ≡ lookup k pairs
+    unfolding getAnswer
+    get-answer =
+        sym (lookup-leaf (s .depth) table (s .tree) k 0 bound32 (leafFor count table k 0) leaf-found) ∙ ap (lookup k) (s .spelled)
+
+    pub path-found : Every (λ i. i < count) (path count table k 0) × (length (path count table k 0) ≡ suc (s .depth))
+    path-found =
+        rw (s .root) at
+        (path-used (s .depth) count table count k (s .tree) 0 bound32 noLeaf (omega arith) small (omega (arith, depth-count table count pairs s))
+        (spells-once table count pairs s) (s .stands))
+
+    pub get-served : (limit : ℕ) → count ≤ limit → Served limit table count (getRequests count table k) pairs
+    get-served limit l = served-reads limit table count pairs (path count table k 0) l s (path-found .0)
+
+    pub path-count : length (path count table k 0) ≤ count
+    path-count = omega (arith, path-found .1, depth-count table count pairs s)
