@@ -24,4 +24,5 @@ pub mod Contents
 pub mod Good
 pub mod Keeps
 pub mod Numbers
+pub mod CellLaws
 pub mod Worked
