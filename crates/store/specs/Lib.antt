@@ -25,4 +25,5 @@ pub mod Good
 pub mod Keeps
 pub mod Numbers
 pub mod CellLaws
+pub mod BlockTests
 pub mod Worked
