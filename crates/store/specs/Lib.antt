@@ -26,4 +26,5 @@ pub mod Keeps
 pub mod Numbers
 pub mod CellLaws
 pub mod BlockTests
+pub mod PageTests
 pub mod Worked
