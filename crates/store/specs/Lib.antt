@@ -27,4 +27,5 @@ pub mod Numbers
 pub mod CellLaws
 pub mod BlockTests
 pub mod PageTests
+pub mod Opening
 pub mod Worked
