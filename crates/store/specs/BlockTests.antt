@@ -92,7 +92,7 @@ greatestOf-le k (p ∷ b) e = go (le-or (sequence p) k) (greatestOf-le k b (omeg
     go (inl l) r = omega arith
     go (inr l) r = absurd (omega (arith, ap bit (lt-ltb k (sequence p) l)))
 
-newest-le : (k : ℕ) (bs : Blocks) → tally (above k) bs ≡ 0 → newest bs ≤ k
+pub newest-le : (k : ℕ) (bs : Blocks) → tally (above k) bs ≡ 0 → newest bs ≤ k
 newest-le k [] e = omega arith
 newest-le k (b ∷ bs) e = omega (arith, greatestOf-le k b (omega arith), newest-le k bs (omega arith))
 
@@ -104,7 +104,7 @@ le-greatestOf k (p ∷ b) l = go (eq-or (sequence p) k) (λ q. le-greatestOf k b
     go (inl q) r = omega arith
     go (inr q) r = omega (arith, r (omega (arith, ap bit (ne-eqb (sequence p) k q))))
 
-le-newest : (k : ℕ) (bs : Blocks) → 0 < tally (numbered k) bs → k ≤ newest bs
+pub le-newest : (k : ℕ) (bs : Blocks) → 0 < tally (numbered k) bs → k ≤ newest bs
 le-newest k [] l = absurd (omega arith)
 le-newest k (b ∷ bs) l = go (le-or 1 (count (numbered k) b)) (λ q. le-newest k bs q)
   where

@@ -28,4 +28,5 @@ pub mod CellLaws
 pub mod BlockTests
 pub mod PageTests
 pub mod Opening
+pub mod SheetLaws
 pub mod Worked

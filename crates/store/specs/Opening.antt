@@ -50,8 +50,8 @@ use Rattle.store.specs.BlockTests.{
   passing,
   passing-true,
   passing-rules,
-  rules-newest,
-  rules-positive,
+  newest-le,
+  le-newest,
   rules-current,
   rules-blocks,
   rules-passing,
@@ -253,10 +253,11 @@ own-passes {B} {st = st} v r =
     (rw (rules-blocks (v .rules)) (rules-pages st (v .rules .fromOne) r))
 
 -- AFTER A PAGE OF THE LAST NUMBER, and with the buffer empty, the next call finds this very store
-pub reopen : {B N : ℕ} {closing : Page → Bool} {st : Store} (v : Invariant B N closing st) → v .rules .newest ≡ st .last → st .buffer ≡ [] →
-    reopened B (poolOf st) ≡ st
+pub reopen : {B N : ℕ} {closing : Page → Bool} {st : Store} (v : Invariant B N closing st) → 0 < tally (numbered (st .last)) (st .blocks) →
+    st .buffer ≡ [] → reopened B (poolOf st) ≡ st
 unfolding reopened
-reopen {B} {st = st} v n e =
-    let top : newest (st .blocks) ≡ st .last = sym (rules-newest (v .rules)) ∙ n in
+reopen {B} {st = st} v h e =
+    let top : newest (st .blocks) ≡ st .last =
+          omega (arith, newest-le (st .last) (st .blocks) (v .rules .within), le-newest (st .last) (st .blocks) h) in
     let at : blockOf (st .last) (st .blocks) ≡ st .current = ap (λ z. blockOf z (st .blocks)) (sym top) ∙ rules-current (v .rules) in
     rw (rules-blocks (v .rules), top, at) (λ i. record { blocks = st .blocks; current = st .current; buffer = sym e i; last = st .last })
