@@ -24,4 +24,9 @@ pub mod Contents
 pub mod Good
 pub mod Keeps
 pub mod Numbers
+pub mod CellLaws
+pub mod BlockTests
+pub mod PageTests
+pub mod Opening
+pub mod SheetLaws
 pub mod Worked

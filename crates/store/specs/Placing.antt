@@ -222,6 +222,15 @@ module _ {B N : ℕ} {closing : Page → Bool} {st : Store} (v : Invariant B N c
         (omega (arith, found-ready .size, found-ready .inside))
       )
 
+  pub place-has : (f : Page → Bool) (c : Content) (rest : List Entry) → bit (f (next st c)) ≤ tally f (place closing N c rest st .blocks)
+  unfolding place
+  place-has f c rest =
+      omega (
+        arith,
+        addTo-tally f (found closing N st .blocks) (found closing N st .current) (next st c)
+        (omega (arith, found-ready .size, found-ready .inside))
+      )
+
   pub place-invariant : (c : Content) (rest : List Entry) → tally closing (st .blocks) + bit (closing (next st c)) ≤ mostSheets →
       ((n : ℕ) → greatestIn n (itemsOf (next st c)) ≤ suc (st .last)) → ((n : ℕ) → greatestIn n (map entryItem rest) ≤ suc (st .last)) →
       Lean N (view (place closing N c rest st)) → Invariant B N closing (place closing N c rest st)
