@@ -5,7 +5,6 @@ use mathlib.Core.List.{List, [], _∷_}
 use mathlib.Core.Option.{Option, none, some}
 use Prim.Native.Nat.{ℕ}
 use Rattle.laws.specs.Tests.{choose}
-use lib.Dec.{ltb}
 use Rattle.pairs.specs.Pairs.{Pair, lookup, insert, delete, range}
 use Rattle.account.specs.declared.Tariff.{Tariff}
 use Rattle.command.specs.declared.Command.{Command}
@@ -15,12 +14,11 @@ use Rattle.book.specs.Book.{Book}
 use Rattle.book.specs.Command.{gotten, putBack, deleted, refuses}
 use Rattle.book.specs.Batch.{doneBook}
 
--- "The first `most` of them", ascending, from low to high; "low above high: an empty list".
 unfoldable pub mapAnswer : Bool → Command → List Pair → Answer
 mapAnswer refused (Get k) ps = gotten (lookup k ps)
 mapAnswer refused (Put k v) ps = putBack refused (lookup k ps)
 mapAnswer refused (Delete k) ps = deleted (lookup k ps)
-mapAnswer refused (Scan low high most) ps = listed (choose (ltb high low) [] (range low high most ps))
+mapAnswer refused (Scan low high most) ps = listed (range low high most ps)
 
 unfoldable pub mapAfter : Bool → Command → List Pair → List Pair
 mapAfter refused (Get k) ps = ps

@@ -10,12 +10,16 @@ use Rattle.layout.specs.Layout.{bound32, noLeaf}
 use Rattle.pairs.specs.Pairs.{Pair}
 use Rattle.command.specs.declared.Command.{Command}
 use Rattle.command.specs.declared.Command.the-variants.{Get, Put, Delete, Scan}
-use Rattle.command.specs.Answer.{Answer}
-use Rattle.tree.specs.NodeRequest.{NodeRequest, applyAll}
-use Rattle.tree.specs.Fit.{Fits}
+use Rattle.command.specs.Answer.{Answer, listed}
+use Rattle.tree.specs.Put.{putRefused}
 use Rattle.tree.specs.Spells.{Spells}
+use Rattle.tree.specs.Served.{Served}
+use Rattle.tree.specs.GetLaws.{get-answer, get-served}
+use Rattle.tree.specs.PutLaws.{put-refused, put-served}
+use Rattle.tree.specs.DeleteLaws.{delete-served}
+use Rattle.tree.specs.ScanLaws.{scan-answer, scan-served}
 use Rattle.book.specs.Book.{Book}
-use Rattle.book.specs.Command.{requests, answer, refuses}
+use Rattle.book.specs.Command.{requests, answer, refuses, gotten, putBack, deleted}
 use Rattle.book.specs.OrderedMap.{mapAnswer, mapAfter}
 
 -- Keys are 32-bit numbers.
@@ -31,11 +35,53 @@ ValidAll (c ∷ cs) = Valid c × ValidAll cs
 
 pub record Does (limit : ℕ) (c : Command) (b : Book) (ps : List Pair) : Type 0 where
   pub answers : answer limit c b ≡ mapAnswer (refuses limit c b) c ps
-  pub final : ℕ
-  pub most : final ≤ limit
-  pub fits : Fits limit (requests limit c b) (b .table) (b .count) final
-  pub spells : Spells (applyAll (requests limit c b) (b .table)) final (mapAfter (refuses limit c b) c ps)
+  pub served : Served limit (b .table) (b .count) (requests limit c b) (mapAfter (refuses limit c b) c ps)
 
-pub does : (limit : ℕ) → limit < noLeaf → (c : Command) (b : Book) (ps : List Pair) → Valid c → Spells (b .table) (b .count) ps → b .count ≤ limit →
-    Does limit c b ps
-does limit small c b ps valid s l = ?
+module _ (limit : ℕ) (small : limit < noLeaf) (b : Book) (ps : List Pair) (s : Spells (b .table) (b .count) ps) (l : b .count ≤ limit) where
+  get-does : (k : ℕ) → k < bound32 → Does limit (Get k) b ps
+  unfolding answer mapAnswer mapAfter requests
+  get-does k h =
+      record {
+        answers = ap gotten (get-answer (b .table) (b .count) ps s k h);
+        served = get-served (b .table) (b .count) ps s k h limit l;
+      }
+
+  put-does : (k v : ℕ) → k < bound32 → Does limit (Put k v) b ps
+  unfolding answer mapAnswer mapAfter requests refuses
+  put-does k v h = go (putRefused limit (b .count) (b .table) k) refl
+    where
+      go : (refused : Bool) → putRefused limit (b .count) (b .table) k ≡ refused → Does limit (Put k v) b ps
+      go true e =
+          record {
+            answers = rw e refl;
+            served =
+                rw (put-refused (b .table) (b .count) ps s k v h limit l e, e)
+                (record { kept = l; fits = refl; spells = s });
+          }
+      go false e =
+          record {
+            answers = ap (putBack (putRefused limit (b .count) (b .table) k)) (get-answer (b .table) (b .count) ps s k h);
+            served = rw e (put-served (b .table) (b .count) ps s k v h limit l e);
+          }
+
+  delete-does : (k : ℕ) → k < bound32 → Does limit (Delete k) b ps
+  unfolding answer mapAnswer mapAfter requests
+  delete-does k h =
+      record {
+        answers = ap deleted (get-answer (b .table) (b .count) ps s k h);
+        served = delete-served (b .table) (b .count) ps s k h limit l;
+      }
+
+  scan-does : (low high most : ℕ) → low < bound32 → Does limit (Scan low high most) b ps
+  unfolding answer mapAnswer mapAfter requests
+  scan-does low high most h =
+      record {
+        answers = ap listed (scan-answer (b .table) (b .count) ps s low high most (omega arith) h);
+        served = scan-served (b .table) (b .count) ps s low high most (omega arith) h limit l;
+      }
+
+  pub does : (c : Command) → Valid c → Does limit c b ps
+  does (Get k) h = get-does k h
+  does (Put k v) h = put-does k v h
+  does (Delete k) h = delete-does k h
+  does (Scan low high most) h = scan-does low high most h

@@ -12,7 +12,7 @@ use Rattle.command.specs.Answer.{Answer}
 use Rattle.tree.specs.Table.{Table}
 use Rattle.tree.specs.NodeRequest.{NodeRequest, apply, applyAll, countAfter, countAfterAll}
 use Rattle.tree.specs.Fit.{Fit, Fits}
-use Rattle.tree.specs.Requests.{fits-append, fits-count}
+use Rattle.tree.specs.Requests.{fits-append}
 use Rattle.tree.specs.Spells.{Spells}
 use Rattle.book.specs.Book.{Book}
 use Rattle.book.specs.Book as Book
@@ -100,12 +100,10 @@ module _ (limit : ℕ) (t : Tariff) (small : limit < noLeaf) where
   command-holds : (c : Command) (b : Book) (ps : List Pair) → Valid c → Holds limit b ps →
       Holds limit (doneBook limit t c b) (mapAfter (refuses limit c b) c ps)
   command-holds c b ps valid h =
-      let d = does limit small c b ps valid (h .spells) (h .most) in
-      let n : Book.serveAll t (requests limit c b) b .count ≡ d .final =
-            serveAll-count t (requests limit c b) b ∙ fits-count limit (requests limit c b) (b .table) (b .count) (d .final) (d .fits) in
+      let d = does limit small b ps (h .spells) (h .most) c valid .served in
       record {
-        spells = rw (serveAll-table t (requests limit c b) b, n) (d .spells);
-        most = omega (arith, n, d .most);
+        spells = rw (serveAll-table t (requests limit c b) b, serveAll-count t (requests limit c b) b) (d .spells);
+        most = rw (serveAll-count t (requests limit c b) b) (d .kept);
       }
 
 -- A BATCH.
@@ -130,15 +128,14 @@ module _ (blocks : ℕ) (t : Tariff) (small : nodeLimit blocks < noLeaf) where
   batch-batched (c ∷ cs) s ps valid v h =
       let b = bookOf s in
       let rs = requests limit c b in
-      let d = does limit small c b ps (valid .0) (h .spells) (h .most) in
-      let one = serveAll-served blocks t rs s (d .final) v (d .fits) in
+      let d = does limit small b ps (h .spells) (h .most) c (valid .0) in
+      let final = countAfterAll rs (b .count) in
+      let one = serveAll-served blocks t rs s final v (d .served .fits) in
       let e : bookOf (done limit t c s) ≡ doneBook limit t c b = one .says .is in
       let ps′ = mapAfter (refuses limit c b) c ps in
       let rest =
             batch-batched cs (done limit t c s) ps′ (valid .1) (one .says .sound)
             (subst (λ (z : Book). Holds limit z ps′) (sym e) (command-holds limit t small c b ps (valid .0) h)) in
-      let n : doneBook limit t c b .count ≡ d .final =
-            serveAll-count t rs b ∙ fits-count limit rs (b .table) (b .count) (d .final) (d .fits) in
       record {
         says = record { sound = rest .says .sound; is = rest .says .is ∙ ap (runBook limit t cs) e };
         charge = ap₂ _+_ (one .charge) (rest .charge ∙ ap (chargeBook limit t cs) e);
@@ -148,16 +145,16 @@ module _ (blocks : ℕ) (t : Tariff) (small : nodeLimit blocks < noLeaf) where
         answers = ap₂ {B = List Answer} _∷_ (d .answers) (rest .answers ∙ ap (λ (z : Book). mapAnswers limit t cs z ps′) e);
         holds = subst (λ (z : Book). Holds limit (runBook limit t cs z) (mapRun limit t cs z ps′)) e (rest .holds);
         fits =
-            fits-append limit rs (requestsBook limit t cs (doneBook limit t c b)) (b .table) (b .count) (d .final)
-            (runBook limit t cs (doneBook limit t c b) .count) (d .fits)
+            fits-append limit rs (requestsBook limit t cs (doneBook limit t c b)) (b .table) (b .count) final
+            (runBook limit t cs (doneBook limit t c b) .count) (d .served .fits)
             (subst
             (λ (z : Table).
-              Fits limit (requestsBook limit t cs (doneBook limit t c b)) z (d .final) (runBook limit t cs (doneBook limit t c b) .count))
+              Fits limit (requestsBook limit t cs (doneBook limit t c b)) z final (runBook limit t cs (doneBook limit t c b) .count))
             (serveAll-table t rs b)
             (subst
             (λ (k : ℕ).
               Fits limit (requestsBook limit t cs (doneBook limit t c b)) (doneBook limit t c b .table) k
               (runBook limit t cs (doneBook limit t c b) .count))
-            n
+            (serveAll-count t rs b)
             (subst (λ (z : Book). Fits limit (requestsBook limit t cs z) (z .table) (z .count) (runBook limit t cs z .count)) e (rest .fits))));
       }
