@@ -16,16 +16,19 @@ use Rattle.tree.specs.Get.{getRequests, getAnswer}
 use Rattle.tree.specs.Tree.{Tree, rootOf, pairsIn}
 use Rattle.tree.specs.Spells.{Spells}
 use Rattle.tree.specs.Ids.{used-in}
-use Rattle.tree.specs.Standing.{stands-neat}
+use Rattle.tree.specs.Standing.{Proper, stands-proper}
 use Rattle.tree.specs.Size.{spells-once, depth-count}
 use Rattle.tree.specs.LeafOfKey.{LeafOf, leaf-of, lookup-leaf, path-used}
 use Rattle.tree.specs.Served.{Served, served-reads}
 
 module _ (table : Table) (count : ℕ) (pairs : List Pair) (s : Spells table count pairs) where
-  -- every node of a sound table is neat
+  -- every node of a sound table is neat, and a branch among them has a key
+  pub node-proper : (i : ℕ) → i < count → Proper (table i)
+  node-proper i l =
+      stands-proper (s .depth) table (s .tree) 0 bound32 noLeaf (omega arith) (s .stands) i (omega (arith, s .ids i, used-in count i l))
+
   pub node-neat : (i : ℕ) → i < count → Neat (table i)
-  node-neat i l =
-      stands-neat (s .depth) table (s .tree) 0 bound32 noLeaf (omega arith) (s .stands) i (omega (arith, s .ids i, used-in count i l))
+  node-neat i l = node-proper i l .neat
 
   module _ (k : ℕ) (small : k < bound32) where
     pub leaf-found : LeafOf (s .depth) table (s .tree) k 0 bound32 (leafFor count table k 0)

@@ -13,7 +13,8 @@ use Rattle.layout.specs.Layout.{mostKeys, bound32}
 use Rattle.pairs.specs.Pairs.{Pair, Within}
 use Rattle.pairs.specs.Bounds.{within-weaken, within-tail}
 use Rattle.node.specs.declared.Kind.{Kind}
-use Rattle.node.specs.Node.{Node, node, pairsOf, Neat}
+use Rattle.node.specs.declared.Kind.the-variants.{Leaf, Branch}
+use Rattle.node.specs.Node.{Node, node, kindOf, pairsOf, Neat}
 use Rattle.tree.specs.Table.{Table, slot}
 use Rattle.tree.specs.Tree.{keysOf, firstOf, joinOf, sumOf, EachChild, Tree, rootOf, firstLeaf, pairsIn, reached, Holds, Stands}
 use Rattle.tree.specs.Children.{length-keysOf, joinOf-within, each-keep, childAt, sumOf-childAt}
@@ -96,7 +97,7 @@ holds-most (suc d) table t low high next most top h = rw (h .0) (omega (arith, l
 pub neat-within : (low high : ℕ) (n : Node) → high ≤ bound32 → Within low high (pairsOf n) → length (pairsOf n) ≤ mostKeys → Neat n
 neat-within low high n l w s = record { keys = within-weaken low 0 high bound32 (pairsOf n) (omega arith) l w; size = s }
 
--- Every node that a standing tree reaches is neat.
+-- What holds of every node that a standing tree reaches.
 module _ {X : Type 0} (idOf first : X → ℕ) (reach : X → ℕ → ℕ) (S : X → ℕ → ℕ → ℕ → Type 0) (P : ℕ → Type 0)
     (child : (x : X) (low high next : ℕ) → high ≤ bound32 → S x low high next → (i : ℕ) → 1 ≤ reach x i → P i) where
   each-reached : (xs : List (X × ℕ)) (last : X) (low high next : ℕ) → high ≤ bound32 → Within low high (keysOf idOf xs) →
@@ -111,21 +112,41 @@ module _ {X : Type 0} (idOf first : X → ℕ) (reach : X → ℕ → ℕ) (S : 
       go (inl r) rest = child (x .0) low (x .1) (firstOf first xs last) (omega arith) (e .0) i r
       go (inr r) rest = rest (omega arith)
 
-pub stands-neat : (d : ℕ) (table : Table) (t : Tree d) (low high next : ℕ) → high ≤ bound32 → Stands d table t low high next →
-    (i : ℕ) → 1 ≤ reached d t i → Neat (table i)
+-- A node of a sound tree: neat, and a branch has "at least one key".
+pub record Proper (n : Node) : Type 0 where
+  pub neat : Neat n
+  pub keyed : kindOf n ≡ Branch → 1 ≤ length (pairsOf n)
+
+leaf-no-branch : Leaf ≡ Branch → ⊥
+leaf-no-branch e = let z : _≡_ {A = ℕ} 0 1 = cc in omega arith
+
+pub stands-proper : (d : ℕ) (table : Table) (t : Tree d) (low high next : ℕ) → high ≤ bound32 → Stands d table t low high next →
+    (i : ℕ) → 1 ≤ reached d t i → Proper (table i)
 unfolding Holds reached rootOf
-stands-neat zero table t low high next b h i l = go (eq-or i (t .0))
+stands-proper zero table t low high next b h i l = go (eq-or i (t .0))
   where
-    go : (i ≡ t .0) ⊎ (i ≡ t .0 → ⊥) → Neat (table i)
-    go (inl e) = rw (e, h .0) (neat-within low high (node _ (t .1) next) b (h .1) (h .2))
+    go : (i ≡ t .0) ⊎ (i ≡ t .0 → ⊥) → Proper (table i)
+    go (inl e) =
+        rw (e, h .0)
+        (record { neat = neat-within low high (node Leaf (t .1) next) b (h .1) (h .2); keyed = λ k. absurd (leaf-no-branch k) })
     go (inr e) = absurd (omega (arith, id-other i (t .0) e))
-stands-neat (suc d) table t low high next b h i l = go (eq-or i (t .0)) (stands-neat d table)
+stands-proper (suc d) table t low high next b h i l = go (eq-or i (t .0)) (stands-proper d table)
   where
     go : (i ≡ t .0) ⊎ (i ≡ t .0 → ⊥) →
-        ((c : Tree d) (low high next : ℕ) → high ≤ bound32 → Stands d table c low high next → (i : ℕ) → 1 ≤ reached d c i → Neat (table i)) →
-        Neat (table i)
+        ((c : Tree d) (low high next : ℕ) → high ≤ bound32 → Stands d table c low high next → (i : ℕ) → 1 ≤ reached d c i → Proper (table i)) →
+        Proper (table i)
     go (inl e) r =
-        rw (e, h .0) (neat-within low high (node _ (keysOf (rootOf d) (t .1)) _) b (h .1) (omega (arith, length-keysOf (rootOf d) (t .1), h .2)))
+        rw (e, h .0)
+        (record {
+          neat =
+              neat-within low high (node Branch (keysOf (rootOf d) (t .1)) _) b (h .1)
+              (omega (arith, length-keysOf (rootOf d) (t .1), h .2));
+          keyed = λ k. omega (arith, length-keysOf (rootOf d) (t .1), h .3);
+        })
     go (inr e) r =
-        each-reached (rootOf d) (firstLeaf d) (reached d) (Stands d table) (λ i. Neat (table i)) r (t .1) (t .2) low high next b (h .1) (h .4) i
+        each-reached (rootOf d) (firstLeaf d) (reached d) (Stands d table) (λ i. Proper (table i)) r (t .1) (t .2) low high next b (h .1) (h .4) i
         (omega (arith, id-other i (t .0) e))
+
+pub stands-neat : (d : ℕ) (table : Table) (t : Tree d) (low high next : ℕ) → high ≤ bound32 → Stands d table t low high next →
+    (i : ℕ) → 1 ≤ reached d t i → Neat (table i)
+stands-neat d table t low high next b h i l = stands-proper d table t low high next b h i l .neat
