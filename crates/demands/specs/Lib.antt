@@ -2,3 +2,4 @@ pub mod Says
 pub mod Step
 pub mod Commands
 pub mod Run
+pub mod Mount
