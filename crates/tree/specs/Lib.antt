@@ -27,4 +27,5 @@ pub mod ScanLaws
 pub mod SoundLaws
 pub mod Narrow
 pub mod NarrowLaws
+pub mod Pointers
 pub mod Worked
