@@ -25,4 +25,7 @@ pub mod DeleteLaws
 pub mod LeafChain
 pub mod ScanLaws
 pub mod SoundLaws
+pub mod Narrow
+pub mod NarrowLaws
+pub mod Pointers
 pub mod Worked

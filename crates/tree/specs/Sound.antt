@@ -78,8 +78,12 @@ unfoldable pub complete : Option Walk → Bool
 complete none = false
 complete (some w) = eqb (w .awaited) noLeaf && allMarked (w .marks)
 
+-- No id reached yet.
+abbrev pub noMarks : ℕ → List ℕ
+noMarks count = replicate count 0
+
 unfoldable pub walkFrom : ℕ → Table → Leftmost → Option Walk
-walkFrom count table l = visit (l .depth) table 0 0 bound32 (record { awaited = l .leaf; marks = replicate count 0 })
+walkFrom count table l = visit (l .depth) table 0 0 bound32 (record { awaited = l .leaf; marks = noMarks count })
 
 -- Sound: the limit kept, and a walk from the root for all 32-bit keys that is complete.
 unfoldable pub sound : ℕ → ℕ → Table → Bool

@@ -5,6 +5,7 @@ use mathlib.Core.Bool.{Bool, true, false, _&&_}
 use mathlib.Core.List.{List, [], _∷_, _++_}
 use mathlib.Core.Option.{Option, none, some}
 use Prim.Native.Nat.{ℕ, zero, suc, _+_, _≤_, _<_}
+use native.Mathlib.Nat.{zero-add}
 use native.Mathlib.Omega.{arith}
 use borrow.Author.Tests.{leb-true, le-leb, ltb-true, lt-ltb, eqb-true, eq-eqb}
 use lib.Dec.{eqb, ltb, leb}
@@ -33,6 +34,7 @@ use Rattle.tree.specs.Sound.{
   Leftmost,
   leftmost,
   allMarked,
+  noMarks,
   complete,
   walkFrom,
   sound,
@@ -270,3 +272,142 @@ visit-passes (suc d) table t low high next marks h f =
       added = λ i. omega (arith, mark-adds marks id i u e, r .added i);
       size = r .size ∙ length-set marks id 1
     }
+
+-- The depth and the first leaf by first pointers.
+childAt-first : {X : Type 0} (first : X → ℕ) (xs : List (X × ℕ)) (last : X) → first (childAt xs last 0) ≡ firstOf first xs last
+childAt-first first [] last = refl
+childAt-first first (x ∷ xs) last = refl
+
+leftmost-leaf : (fuel : ℕ) (table : Table) (depth id : ℕ) (ps : List Pair) (next : ℕ) → table id ≡ node Leaf ps next →
+    leftmost fuel table depth id ≡ record { depth = depth; leaf = id }
+unfolding leftmost
+leftmost-leaf zero table depth id ps next e = refl
+leftmost-leaf (suc fuel) table depth id ps next e = rw (e, leftmost)
+
+leftmost-branch : (fuel : ℕ) (table : Table) (depth id : ℕ) (ks : List Pair) (last : ℕ) → table id ≡ node Branch ks last →
+    leftmost (suc fuel) table depth id ≡ leftmost fuel table (suc depth) (pointerAt ks last 0)
+unfolding leftmost
+leftmost-branch fuel table depth id ks last e = rw (e, leftmost)
+
+leftmost-is : (d fuel : ℕ) (table : Table) (t : Tree d) (low high next depth : ℕ) → d ≤ fuel → Stands d table t low high next →
+    leftmost fuel table depth (rootOf d t) ≡ record { depth = depth + d; leaf = firstLeaf d t }
+unfolding Holds rootOf firstLeaf
+leftmost-is zero fuel table t low high next depth l h =
+    let e : depth + 0 ≡ depth = omega arith in rw e (leftmost-leaf fuel table depth (t .0) (t .1) next (h .0))
+leftmost-is (suc d) zero table t low high next depth l h = absurd (omega arith)
+leftmost-is (suc d) (suc fuel) table t low high next depth l h =
+    let xs = t .1 in
+    let last = t .2 in
+    let e : depth + suc d ≡ suc depth + d = omega arith in
+    rw (e, ← childAt-first (firstLeaf d) xs last)
+    (leftmost-branch fuel table depth (t .0) (keysOf (rootOf d) xs) (rootOf d last) (h .0) ∙
+    (ap (leftmost fuel table (suc depth)) (pointerAt-keysOf (rootOf d) xs last 0) ∙
+    leftmost-is d fuel table (childAt xs last 0) _ _ _ (suc depth) (omega arith)
+    (each-childAt (firstLeaf d) (Stands d table) xs last low high next 0 (h .4))))
+
+allMarked-get : (marks : List ℕ) (i : ℕ) → allMarked marks ≡ true → i < length marks → getD marks i 0 ≡ 1
+unfolding allMarked
+allMarked-get [] i e l = absurd (omega arith)
+allMarked-get (m ∷ ms) zero e l = eqb-true m 1 (and-left (eqb m 1) (allMarked ms) e)
+allMarked-get (m ∷ ms) (suc i) e l = allMarked-get ms i (and-right (eqb m 1) (allMarked ms) e) (omega arith)
+
+get-allMarked : (marks : List ℕ) → ((i : ℕ) → i < length marks → getD marks i 0 ≡ 1) → allMarked marks ≡ true
+unfolding allMarked
+get-allMarked [] h = refl
+get-allMarked (m ∷ ms) h = and-both _ _ (eq-eqb m 1 (h 0 (omega arith))) (get-allMarked ms (λ i l. h (suc i) (omega arith)))
+
+unmarked : (count i : ℕ) → getD (noMarks count) i 0 ≡ 0
+unmarked count i = go (le-or count i)
+  where
+    go : (count ≤ i) ⊎ (i < count) → getD (noMarks count) i 0 ≡ 0
+    go (inl l) = List·getD-eq-default (noMarks count) 0 (omega (arith, length-replicate {A = ℕ} count 0))
+    go (inr l) = getD-replicate count i 0 0 l
+
+-- All marked: each id below the count is reached once, and no other.
+all-reached : (count : ℕ) (marks : List ℕ) (adds : ℕ → ℕ) → length marks ≡ count → allMarked marks ≡ true →
+    ((i : ℕ) → getD marks i 0 ≡ getD (noMarks count) i 0 + adds i) → (i : ℕ) → adds i ≡ bit (ltb i count)
+all-reached count marks adds size all h i = go (le-or count i)
+  where
+    go : (count ≤ i) ⊎ (i < count) → adds i ≡ bit (ltb i count)
+    go (inl l) = omega (arith, h i, unmarked count i, used-out count i l, List·getD-eq-default marks 0 {n = i} (omega arith))
+    go (inr l) = omega (arith, h i, unmarked count i, used-in count i l, allMarked-get marks i all (omega arith))
+
+record Spelled (table : Table) (count : ℕ) : Type 0 where
+  pairs : List Pair
+  spells : Spells table count pairs
+
+walk-spells : (table : Table) (count : ℕ) (l : Leftmost) (o : Option Walk) → walkFrom count table l ≡ o → complete o ≡ true → Spelled table count
+unfolding complete walkFrom
+walk-spells table count l none f e = let z : _≡_ {A = ℕ} 0 1 = cc in absurd (omega arith)
+walk-spells table count l (some w) f e =
+    let s = visit-seen (l .depth) table 0 0 bound32 (walk (l .leaf) (noMarks count)) w f in
+    let x = eqb (w .awaited) noLeaf in
+    record {
+      pairs = pairsIn (l .depth) (s .tree);
+      spells =
+          record {
+            depth = l .depth;
+            tree = s .tree;
+            stands = rw (← eqb-true (w .awaited) noLeaf (and-left x (allMarked (w .marks)) e)) (s .stands);
+            root = s .root;
+            ids =
+                all-reached count (w .marks) (reached (l .depth) (s .tree)) (s .size ∙ length-replicate count 0)
+                (and-right x (allMarked (w .marks)) e) (s .marks);
+            spelled = refl
+          }
+    }
+
+-- The map that a table spells is the one computed: so there is only one.
+module _ {X : Type 0} (below : ℕ → List Pair) (idOf first : X → ℕ) (pairs : X → List Pair) (S : X → ℕ → ℕ → ℕ → Type 0)
+    (child : (x : X) (low high next : ℕ) → S x low high next → below (idOf x) ≡ pairs x) where
+  join-is : (xs : List (X × ℕ)) (last : X) (low high next : ℕ) → EachChild first S xs last low high next →
+      joinPointers below (keysOf idOf xs) (idOf last) ≡ joinOf pairs xs last
+  unfolding joinPointers
+  join-is [] last low high next e = child last low high next e
+  join-is (x ∷ xs) last low high next e = rw (child (x .0) low (x .1) (firstOf first xs last) (e .0), join-is xs last (x .1) high next (e .1))
+
+pairsBelow-is : (d fuel : ℕ) (table : Table) (t : Tree d) (low high next : ℕ) → d < fuel → Stands d table t low high next →
+    pairsBelow fuel table (rootOf d t) ≡ pairsIn d t
+unfolding Holds rootOf pairsIn pairsBelow pairsOfNode
+pairsBelow-is d zero table t low high next l h = absurd (omega arith)
+pairsBelow-is zero (suc fuel) table t low high next l h = rw (h .0)
+pairsBelow-is (suc d) (suc fuel) table t low high next l h =
+    rw (h .0)
+    (join-is (pairsBelow fuel table) (rootOf d) (firstLeaf d) (pairsIn d) (Stands d table)
+    (λ x low high next s. pairsBelow-is d fuel table x low high next (omega arith) s) (t .1) (t .2) low high next (h .4))
+
+pub map-unique : (table : Table) (count : ℕ) (pairs : List Pair) → Spells table count pairs → mapOf count table ≡ pairs
+map-unique table count pairs s =
+    rw (s .root) at (pairsBelow-is (s .depth) count table (s .tree) 0 bound32 noLeaf (depth-count table count pairs s) (s .stands)) ∙ s .spelled
+
+-- The test passes: the limit is kept, and the table spells its map.
+module _ (limit count : ℕ) (table : Table) where
+  pub sound-limit : sound limit count table ≡ true → count ≤ limit
+  unfolding sound
+  sound-limit e = leb-true count limit (and-left (leb count limit) _ e)
+
+  pub sound-spells : sound limit count table ≡ true → Spells table count (mapOf count table)
+  unfolding sound
+  sound-spells e =
+      let l = leftmost count table 0 0 in
+      let s = walk-spells table count l (walkFrom count table l) refl (and-right (leb count limit) _ e) in
+      rw (map-unique table count (s .pairs) (s .spells)) (s .spells)
+
+  -- and the other way
+  pub spells-sound : (pairs : List Pair) → Spells table count pairs → count ≤ limit → sound limit count table ≡ true
+  unfolding sound complete walkFrom
+  spells-sound pairs s keeps =
+      and-both (leb count limit) _ (le-leb count limit keeps)
+      (rw (rw (s .root) at (leftmost-is (s .depth) count table (s .tree) 0 bound32 noLeaf 0 (omega (arith, depth-count table count pairs s)) (s .stands)))
+      (passes-complete (walkFrom count table (record { depth = 0 + s .depth; leaf = firstLeaf (s .depth) (s .tree) }))
+      (rw zero-add
+      (rw (s .root) at
+      (visit-passes (s .depth) table (s .tree) 0 bound32 noLeaf (noMarks count) (s .stands)
+      (λ i. rw (length-replicate {A = ℕ} count 0) (omega (arith, unmarked count i, s .ids i))))))))
+    where
+      passes-complete : (o : Option Walk) → Passes o noLeaf (noMarks count) (reached (s .depth) (s .tree)) → complete o ≡ true
+      passes-complete o p =
+          rw (p .is)
+          (and-both (eqb noLeaf noLeaf) (allMarked (p .after)) refl
+          (get-allMarked (p .after)
+          (λ i l. omega (arith, p .added i, unmarked count i, s .ids i, used-in count i (omega (arith, p .size, length-replicate {A = ℕ} count 0))))))
