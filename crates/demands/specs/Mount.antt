@@ -23,12 +23,13 @@ use Rattle.node.specs.Node.{Node, Neat}
 use Rattle.node.specs.Replay.{Draft, unlinked, made, broken}
 use Rattle.page.specs.Page.{Score}
 use Rattle.tree.specs.Table.{Table}
-use Rattle.tree.specs.Spells.{Spells}
+use Rattle.tree.specs.Spells.{Spells, mapOf}
 use Rattle.tree.specs.Sound.{sound}
 use Rattle.tree.specs.SoundLaws.{sound-spells, sound-limit}
 use Rattle.tree.specs.Standing.{Proper}
 use Rattle.tree.specs.GetLaws.{node-proper}
 use Rattle.store.specs.View.{pages}
+use Rattle.store.specs.Pool.{find}
 use Rattle.store.specs.Store.{Store, view, draftOf, nodeIn, nodeOf, modeOf, noNode}
 use Rattle.store.specs.Run.{Run}
 use Rattle.store.specs.Keeps.{Keeps, Holds}
@@ -111,11 +112,12 @@ pub record Ready (blocks : ℕ) (t : Tariff) (s : State) (b : Book) (ps : List P
 three-each : (n : ℕ) (st : Store) → threePages n st ≡ true → (k : ℕ) → k < n → pages (view st) k ≤ mostLogPages
 unfolding threePages
 three-each zero st e k l = absurd (omega arith)
-three-each (suc n) st e k l = go (le-suc-or (suc k) n l)
+three-each (suc n) st e k l =
+    go (le-suc-or (suc k) n l) (three-each n st (and-right (leb (pages (view st) n) mostLogPages) (threePages n st) e) k)
   where
-    go : (suc k ≤ n) ⊎ (suc k ≡ suc n) → pages (view st) k ≤ mostLogPages
-    go (inl h) = three-each n st (and-right (leb (pages (view st) n) mostLogPages) (threePages n st) e) k h
-    go (inr h) =
+    go : (suc k ≤ n) ⊎ (suc k ≡ suc n) → (k < n → pages (view st) k ≤ mostLogPages) → pages (view st) k ≤ mostLogPages
+    go (inl h) r = r h
+    go (inr h) r =
         let m : k ≡ n = omega arith in
         rw m (leb-true (pages (view st) n) mostLogPages (and-left (leb (pages (view st) n) mostLogPages) (threePages n st) e))
 
@@ -173,7 +175,7 @@ module _ {blocks : ℕ} {c : Cells} {t : Tariff} (four : fewestBlocks ≤ blocks
   ranged : Ranged t
   ranged = inRange-ranged t (and-left (inRange t) _ range-tests)
 
-  spelled : (ps : List Pair) × Spells (bookOf s .table) (bookOf s .count) ps
+  spelled : Spells (bookOf s .table) (bookOf s .count) (mapOf (bookOf s .count) (bookOf s .table))
   spelled = sound-spells (nodeLimit blocks) (bookOf s .count) (bookOf s .table) sound-test
 
   kept : bookOf s .count ≤ nodeLimit blocks
@@ -183,18 +185,19 @@ module _ {blocks : ℕ} {c : Cells} {t : Tariff} (four : fewestBlocks ≤ blocks
   unfolding stateOf
   proper n l =
       subst Proper (bookOf-table s n l)
-      (node-proper (bookOf s .table) (bookOf s .count) (spelled .0) (spelled .1) n (omega (arith, count-is)))
+      (node-proper (bookOf s .table) (bookOf s .count) (mapOf (bookOf s .count) (bookOf s .table)) spelled n (omega (arith, count-is)))
 
   -- A complete checkpoint lies on a page.
   some-page : 0 < newest (blocksIn pagesInBlock blocks c)
+  unfolding complete checkpointOf collect reopened
   some-page = go (newest (blocksIn pagesInBlock blocks c)) refl
     where
       go : (k : ℕ) → newest (blocksIn pagesInBlock blocks c) ≡ k → 0 < newest (blocksIn pagesInBlock blocks c)
       go (suc k) e = rw e (omega arith)
-      go zero e = absurd (test-clash (complete (checkpointOf st)) (m .complete) (ap complete (no-set e)))
-        where
-          no-set : newest (blocksIn pagesInBlock blocks c) ≡ 0 → checkpointOf st ≡ []
-          no-set e = ?
+      go zero e =
+          absurd
+          (test-clash (complete (checkpointOf st)) (m .complete)
+          (ap (λ (k : ℕ). complete (collect (λ s. find s (blocksIn pagesInBlock blocks c)) k [])) e))
 
   opens : Opens blocks N c
   opens =
@@ -207,26 +210,25 @@ module _ {blocks : ℕ} {c : Cells} {t : Tariff} (four : fewestBlocks ≤ blocks
       }
 
   sound-state : Sound blocks s
-  unfolding bookOf stateOf
+  unfolding bookOf stateOf nodeOf
   sound-state =
       keeps-same (λ n l. sym (bookOf-table s n l)) (λ n l. ap (λ (a : Account). a .mode) (sym (bookOf-account s n l)))
       (opened-keeps opens (λ n l. made-content n l) (λ n l. proper n l .neat))
     where
       made-content : (n : ℕ) → n < N → draftOf st n ≡ made (nodeOf st n)
-      made-content n l = ?
+      made-content n l = proper-made (draftOf st n) (proper n l)
 
   -- ANY POOL THAT PASSES opens as a book that spells a map.
-  pub mounts-ready : (ps : List Pair) × Ready blocks t s (bookOf s) ps
+  pub mounts-ready : Ready blocks t s (bookOf s) (mapOf (bookOf s .count) (bookOf s .table))
   unfolding stateOf
   mounts-ready =
-      (spelled .0,
       record {
         says = record { sound = sound-state; is = refl };
-        holds = record { spells = spelled .1; most = kept };
+        holds = record { spells = spelled; most = kept };
         ranged = ranged;
         scored =
             λ n l.
               rw (bookOf-account s n (omega (arith, bookOf-count s)))
               (score-below (limit t) n (scoresIn (checkpointOf st)) (limit-some ranged)
               (and-right (inRange t) (scoresBelow (limit t) (scoresIn (checkpointOf st))) range-tests));
-      })
+      }

@@ -54,24 +54,18 @@ treeSound blocks t st =
 abbrev pub numbersLeft : Store → Bool
 numbersLeft st = leb (st .last) lastSequence
 
+-- A question: where its test fails, its number is the refusal.
+abbrev pub ask : ℕ → Bool → Mounted → Mounted
+ask number true rest = rest
+ask number false rest = refused number
+
 -- Questions 7 and 8 of a complete checkpoint, whose first page has the tariff.
 abbrev pub mountTree : ℕ → Store → Option Tariff → Mounted
 mountTree blocks st none = refused 6
-mountTree blocks st (some t) =
-    elim (treeSound blocks t st) [
-      | false ↦ refused 7
-      | true ↦ elim (numbersLeft st) [ false ↦ refused 8 | true ↦ opened t (stateOf st) ]
-    ]
+mountTree blocks st (some t) = ask 7 (treeSound blocks t st) (ask 8 (numbersLeft st) (opened t (stateOf st)))
 
--- Questions 5, of all pages together, and 6.
+-- Question 5, of all pages together, and question 6.
 unfoldable pub mountCells : ℕ → Cells → Mounted
 mountCells blocks c =
     let st = reopened blocks c in
-    elim (pagesPass blocks c) [
-      | false ↦ refused 5
-      | true ↦
-          elim (complete (checkpointOf st)) [
-            | false ↦ refused 6
-            | true ↦ mountTree blocks st (tariffIn (checkpointOf st))
-          ]
-    ]
+    ask 5 (pagesPass blocks c) (ask 6 (complete (checkpointOf st)) (mountTree blocks st (tariffIn (checkpointOf st))))
