@@ -30,4 +30,5 @@ pub mod PageTests
 pub mod Opening
 pub mod SheetLaws
 pub mod Closing
+pub mod Compaction
 pub mod Worked

@@ -149,7 +149,7 @@ module _ {B N : ℕ} {closing : Page → Bool} {st : Store} (v : Invariant B N c
   unfolding found
   found-how = spot-how (live (view st) closing N) (v .rules) (live-fits v)
 
-  found-pruned : Pruned N (view st) (view (found closing N st))
+  pub found-pruned : Pruned N (view st) (view (found closing N st))
   unfolding found
   found-pruned = go found-how
     where

@@ -235,7 +235,8 @@ module _ {N : ℕ} {w w′ : View} (r : Pruned N w w′) (n : ℕ) (l : n < N) w
             ap (greatestIn n) (pruned-kept (b .number) (omega arith) (omega (arith, b .is)))
           )
 
-  pruned-at : (s : ℕ) → piecesIn n (greatest w′ n) (w′ .at s) ≡ piecesIn n (greatest w n) (w .at s)
+  -- on every page there is of it what there was
+  pub pruned-at : (s : ℕ) → piecesIn n (greatest w′ n) (w′ .at s) ≡ piecesIn n (greatest w n) (w .at s)
   pruned-at s = rw pruned-greatest (go (r .each s))
     where
       go : Fate N w w′ s → piecesIn n (greatest w n) (w′ .at s) ≡ piecesIn n (greatest w n) (w .at s)
