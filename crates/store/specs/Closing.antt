@@ -84,15 +84,14 @@ pub record Left (B : ℕ) (closing : Page → Bool) (run run′ : Run) : Type 0 
 
 left-trans : {B : ℕ} {closing : Page → Bool} {a b c : Run} → Left B closing a b → Left B closing b c → Left B closing a c
 left-trans p q =
-    record
-      {
-        nodes = q .nodes ∙ p .nodes;
-        invariant = q .invariant;
-        versions = q .versions;
-        buffer = q .buffer ∙ p .buffer;
-        passed = q .passed;
-        keep = λ m l. keep-trans (p .keep m l) (q .keep m (omega (arith, p .nodes)))
-      }
+    record {
+      nodes = q .nodes ∙ p .nodes;
+      invariant = q .invariant;
+      versions = q .versions;
+      buffer = q .buffer ∙ p .buffer;
+      passed = q .passed;
+      keep = λ m l. keep-trans (p .keep m l) (q .keep m (omega (arith, p .nodes)));
+    }
 
 -- the run with one sheet written
 abbrev writeSheet : (Page → Bool) → Sheet → Run → Run
@@ -106,23 +105,21 @@ module _ {B : ℕ} {closing : Page → Bool} (run : Run) (v : Invariant B (run .
       let st = run .now in
       let c = sheetContent x in
       let w = silent-invariant v c refl l in
-      record
-        {
-          nodes = refl;
-          invariant = w;
-          versions = silent-versions v c refl (λ u. refl) r;
-          buffer = refl;
-          passed = every-append p (every-map (moment (run .nodes)) (written-lean v c (st .buffer) (w .lean)));
-          keep =
+      record {
+        nodes = refl;
+        invariant = w;
+        versions = silent-versions v c refl (λ u. refl) r;
+        buffer = refl;
+        passed = every-append p (every-map (moment (run .nodes)) (written-lean v c (st .buffer) (w .lean)));
+        keep =
             λ m k.
-              let o = silent-same v c refl m k in
-              record
-                {
-                  greatest = o .greatest;
-                  pieces = o .pieces;
-                  mode = λ y h. place-mode v m y c (st .buffer) k (o .greatest) h
-                }
-        }
+            let o = silent-same v c refl m k in
+            record {
+              greatest = o .greatest;
+              pieces = o .pieces;
+              mode = λ y h. place-mode v m y c (st .buffer) k (o .greatest) h;
+            };
+      }
 
   -- it stands under the next number, and every page of the checkpoint stays
   writeSheet-find : find (suc (last run)) (writeSheet closing x run .now .blocks) ≡ some (page (suc (last run)) (sheetContent x))
@@ -188,12 +185,11 @@ writeSheets-stand [] run v r p l c = tt
 writeSheets-stand {closing = closing} (x ∷ xs) run v r p l c =
     let a = writeSheet-left run v x r p (omega arith) in
     let few = writeSheet-tally run v x (length xs) l in
-    let e = write-last closing (sheetContent x) (run .now .buffer) run in
-    (
+    let e = write-last closing (sheetContent x) (run .now .buffer) run in (
       writeSheets-stays xs (writeSheet closing x run) (a .invariant) (a .versions) (a .passed) few (suc (last run))
-      (page (suc (last run)) (sheetContent x)) (writeSheet-find run v x) (c (suc (last run)) x (omega arith)) (omega arith),
+          (page (suc (last run)) (sheetContent x)) (writeSheet-find run v x) (c (suc (last run)) x (omega arith)) (omega arith),
       subst (λ k. Stand (writeSheets closing xs (writeSheet closing x run) .now .blocks) k xs) e
-      (writeSheets-stand xs (writeSheet closing x run) (a .invariant) (a .versions) (a .passed) few (λ s y h. c s y (omega arith)))
+          (writeSheets-stand xs (writeSheet closing x run) (a .invariant) (a .versions) (a .passed) few (λ s y h. c s y (omega arith))),
     )
 
 pub writeSheets-last : (closing : Page → Bool) (xs : List Sheet) (run : Run) → last (writeSheets closing xs run) ≡ last run + length xs
@@ -248,32 +244,30 @@ closing-none {st = st} v =
     omega (
       arith,
       v .rules .within,
-      tally-mono (closingSince (st .last)) (above (st .last)) (st .blocks) (λ p. and-right (isCheckpoint p) (above (st .last) p))
+      tally-mono (closingSince (st .last)) (above (st .last)) (st .blocks) (λ p. and-right (isCheckpoint p) (above (st .last) p)),
     )
 
 closing-begins : {B N : ℕ} {st : Store} → Invariant B N noClosing st → Invariant B N (closingSince (st .last)) st
 closing-begins v =
-    record
-      {
-        blocks = v .blocks;
-        nodes = v .nodes;
-        sheets = omega (arith, closing-none v);
-        rules = v .rules;
-        fit = v .fit;
-        lean = v .lean
-      }
+    record {
+      blocks = v .blocks;
+      nodes = v .nodes;
+      sheets = omega (arith, closing-none v);
+      rules = v .rules;
+      fit = v .fit;
+      lean = v .lean;
+    }
 
 closing-over : {B N : ℕ} {closing : Page → Bool} {st : Store} → Invariant B N closing st → Invariant B N noClosing st
 closing-over {st = st} v =
-    record
-      {
-        blocks = v .blocks;
-        nodes = v .nodes;
-        sheets = omega (arith, none-closing (st .blocks));
-        rules = v .rules;
-        fit = v .fit;
-        lean = v .lean
-      }
+    record {
+      blocks = v .blocks;
+      nodes = v .nodes;
+      sheets = omega (arith, none-closing (st .blocks));
+      rules = v .rules;
+      fit = v .fit;
+      lean = v .lean;
+    }
 
 closing-new : (k s : ℕ) (x : Sheet) → k < s → closingSince k (page s (sheetContent x)) ≡ true
 unfolding closingSince above
@@ -337,26 +331,24 @@ module _ {B N : ℕ} {table : ℕ → Node} {modes : ℕ → Mode} {run : Run} (
 
   close-good : Good B (close t score run)
   close-good =
-      record
-        {
-          invariant = closing-over (left .invariant);
-          versions = left .versions;
-          small = rw close-empty (omega arith);
-          passed = left .passed
-        }
+      record {
+        invariant = closing-over (left .invariant);
+        versions = left .versions;
+        small = rw close-empty (omega arith);
+        passed = left .passed;
+      }
 
   close-keeps : Keeps B N table modes (close t score run)
   close-keeps =
-      record
-        {
-          good = close-good;
-          nodes = left .nodes ∙ d .nodes ∙ v .nodes;
-          holds =
+      record {
+        good = close-good;
+        nodes = left .nodes ∙ d .nodes ∙ v .nodes;
+        holds =
             λ n l.
-              keep-holds
-              (keep-trans (d .keep n (omega (arith, v .nodes))) (left .keep n (omega (arith, v .nodes, d .nodes)))) (v .holds n l);
-          neat = v .neat
-        }
+            keep-holds
+            (keep-trans (d .keep n (omega (arith, v .nodes))) (left .keep n (omega (arith, v .nodes, d .nodes)))) (v .holds n l);
+        neat = v .neat;
+      }
 
   close-checkpoint : checkpointOf (close t score run .now) ≡ sheets t scores
   unfolding checkpointOf close closing scores
@@ -374,19 +366,18 @@ module _ {B N : ℕ} {table : ℕ → Node} {modes : ℕ → Mode} {run : Run} (
   pub close-closed : Closed B N table modes t score run (close t score run)
   close-closed =
       let set : checkpointOf (close t score run .now) ≡ sheets t (scoresFrom 0 N score) = close-checkpoint ∙ ap (sheets t) scores-are in
-      record
-        {
-          keeps = close-keeps;
-          passes = own-passes (left .invariant) (left .versions);
-          again = reopen (left .invariant) close-has close-empty;
-          checkpoint = set;
-          complete = ap complete set ∙ sheets-complete t N score;
-          tariff = ap tariffIn set ∙ tariffIn-sheets t (scoresFrom 0 N score);
-          count = ap countIn set ∙ countIn-sheets t (scoresFrom 0 N score) ∙ length-scoresFrom 0 N score;
-          scores =
+      record {
+        keeps = close-keeps;
+        passes = own-passes (left .invariant) (left .versions);
+        again = reopen (left .invariant) close-has close-empty;
+        checkpoint = set;
+        complete = ap complete set ∙ sheets-complete t N score;
+        tariff = ap tariffIn set ∙ tariffIn-sheets t (scoresFrom 0 N score);
+        count = ap countIn set ∙ countIn-sheets t (scoresFrom 0 N score) ∙ length-scoresFrom 0 N score;
+        scores =
             λ n l.
-              ap (λ z. scoreIn (scoresIn z) n) set ∙
-              ap (λ z. scoreIn z n) (scoresIn-sheets t (scoresFrom 0 N score)) ∙
-              scoreIn-scoresFrom 0 N score n (omega arith) (omega arith);
-          number = omega (arith, close-last, few, d .number)
-        }
+            ap (λ z. scoreIn (scoresIn z) n) set ∙
+            ap (λ z. scoreIn z n) (scoresIn-sheets t (scoresFrom 0 N score)) ∙
+            scoreIn-scoresFrom 0 N score n (omega arith) (omega arith);
+        number = omega (arith, close-last, few, d .number);
+      }

@@ -41,22 +41,22 @@ module _ {B N : ℕ} {closing : Page → Bool} {st : Store} (v : Invariant B N c
   unfolding carries found
   found-mode n l Log h =
       let same = found-same v n l .greatest in
-      record
-        {
-          none = rw same (omega (arith, how-tally (numbered (greatest (view st) n)) (found-how v), h .none));
-          some = rw same (h .some)
-        }
+      record {
+        none = rw same (omega (arith, how-tally (numbered (greatest (view st) n)) (found-how v), h .none));
+        some = rw same (h .some);
+      }
   found-mode n l Disk h =
-      record
-        {
-          node = h .node;
-          page = subst (λ u. find u (found closing N st .blocks) ≡ some (page u (whole n (h .node)))) (sym (found-same v n l .greatest)) kept
-        }
+      record {
+        node = h .node;
+        page = subst (λ u. find u (found closing N st .blocks) ≡ some (page u (whole n (h .node)))) (sym (found-same v n l .greatest)) kept;
+      }
     where
       u : ℕ
       u = greatest (view st) n
+
       carried : carries (view st) n (page (greatest (view st) n) (whole n (h .node))) ≡ true
       carried = rw (eq-eqb n n refl, eq-eqb (greatest (view st) n) (greatest (view st) n) refl) refl
+
       kept : find (greatest (view st) n) (found closing N st .blocks) ≡ some (page (greatest (view st) n) (whole n (h .node)))
       kept = found-live v u (page u (whole n (h .node))) (h .page) (live-carries (view st) closing N (page u (whole n (h .node))) n l carried)
 

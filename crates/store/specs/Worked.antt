@@ -29,22 +29,19 @@ use Rattle.store.specs.Reopen.{cellsIn, poolOf, pagesPass, blocksPass}
 
 abbrev tariff : Tariff
 tariff =
-    record
-      {
-        log = record { read = 3; edit = 1; rewrite = 2; enter = 2 };
-        disk = record { read = 1; edit = 4; rewrite = 4; enter = 3 }
-      }
+    record {
+      log = record { read = 3; edit = 1; rewrite = 2; enter = 2 };
+      disk = record { read = 1; edit = 4; rewrite = 4; enter = 3 };
+    }
 
 -- The pool of a prepare, four blocks.
 abbrev fresh : Run
 fresh =
-    record
-      {
-        nodes = 1;
-        now =
-          record
-            {
-              blocks =
+    record {
+      nodes = 1;
+      now =
+          record {
+            blocks =
                 (page 2 (log (record { id = 0; version = 1; change = link Leaf noLeaf } ∷ [])) ∷
                 page 3 (checkpoint (some tariff) (record { id = 0; score = 0 } ∷ []) (some 1)) ∷
                 []) ∷
@@ -52,12 +49,12 @@ fresh =
                 [] ∷
                 [] ∷
                 [];
-              current = 0;
-              buffer = [];
-              last = 3
-            };
-        passed = []
-      }
+            current = 0;
+            buffer = [];
+            last = 3;
+          };
+      passed = [];
+    }
 
 abbrev edits : ℕ → Run
 edits zero = fresh
@@ -94,9 +91,16 @@ sizes (page s (whole n x) ∷ ps) = (s, 0) ∷ sizes ps
 sizes (page s (checkpoint t scores n) ∷ ps) = (s, length scores) ∷ sizes ps
 
 -- Disk mode writes a page a change.
-abbrev rewrites : ℕ → Run
-rewrites zero = serve Disk 0 read fresh
-rewrites (suc k) = serve Disk 0 (rewrite (node Leaf ((k, k) ∷ []) noLeaf)) (rewrites k)
+abbrev rewrites : ℕ → Run → Run
+rewrites zero run = run
+rewrites (suc k) run = serve Disk 0 (rewrite (node Leaf ((k, k) ∷ []) noLeaf)) (rewrites k run)
+
+-- A node made and moved to disk mode, then changes of node 0 behind it: a live page at the head of each of three full blocks.
+abbrev behind : ℕ → ℕ → Run → Run
+behind n k run = rewrites k (serve Disk n read (create n (node Leaf ((n, n) ∷ []) noLeaf) run))
+
+abbrev spread : Run
+spread = behind 3 31 (behind 2 31 (behind 1 28 fresh))
 
 abbrev lengths : List (List Page) → List ℕ
 lengths [] = []
@@ -106,36 +110,30 @@ pub record Ran : Type 0 where
   -- 27 edits fill the buffer, the 28th forces a page out, the 55th another: the node lies on three pages then and is written whole, so
   -- that it lies on none; and so on
   pub three : pagesAfter (27 ∷ 28 ∷ 54 ∷ 55 ∷ 80 ∷ 81 ∷ 107 ∷ 108 ∷ []) ≡ 1 ∷ 2 ∷ 2 ∷ 0 ∷ 0 ∷ 1 ∷ 1 ∷ 2 ∷ []
-
   -- the first group forces page 4 out and has version 5; the second fits exactly, version 6; the third forces page 7 out and has
   -- version 8; the end writes the buffer, page 9, then the checkpoint, page 10
   pub groups : sizes (block (closed .now .blocks) 0) ≡ (2, 1) ∷ (3, 1) ∷ (4, 24) ∷ (7, 27) ∷ (9, 2) ∷ (10, 3) ∷ []
   pub lower : nodeOf (closed .now) 1 ≡ node Leaf (keys 0 12) 2
   pub upper : nodeOf (closed .now) 2 ≡ node Leaf (keys 12 13) noLeaf
   pub root : nodeOf (closed .now) 0 ≡ node Branch ((12, 1) ∷ []) 2
-
   -- the pool passes the tests, and gives the scores back
   pub passes : pagesPass 4 (poolOf (closed .now)) ≡ true
   pub scores : scoresIn (checkpointOf (closed .now)) ≡ scoresFrom 0 3 (λ n. n)
-
-  -- three of four blocks full, the last one blank: the next page compacts block 0, in which nothing is live, and goes on in block 3
-  pub full : lengths (rewrites 93 .now .blocks) ≡ 32 ∷ 32 ∷ 32 ∷ 0 ∷ []
-  pub compacted : lengths (rewrites 94 .now .blocks) ≡ 0 ∷ 32 ∷ 32 ∷ 1 ∷ []
-  pub disk : modeOf (rewrites 94 .now) 0 ≡ Disk
+  -- three of four blocks full, one live page in each of blocks 0 and 1, two in block 2: block 0 is compacted, its page copied, and the new page goes behind it
+  pub copied : lengths (rewrites 1 spread .now .blocks) ≡ 0 ∷ 32 ∷ 32 ∷ 2 ∷ []
+  pub moved : nodeOf (rewrites 1 spread .now) 1 ≡ node Leaf ((1, 1) ∷ []) noLeaf
 
 pub ran : Ran
 unfolding above greatest pages pieces draftOf nodeOf modeOf carries closingSince spot found place enter start written write makeRoom writeGroup writeEdit serve create sheets close collect checkpointOf cellsIn blocksPass pagesPass Pairs.insert redo redoPiece replayFrom replay
 ran =
-    record
-      {
-        three = refl;
-        groups = refl;
-        lower = refl;
-        upper = refl;
-        root = refl;
-        passes = refl;
-        scores = refl;
-        full = refl;
-        compacted = refl;
-        disk = refl
-      }
+    record {
+      three = refl;
+      groups = refl;
+      lower = refl;
+      upper = refl;
+      root = refl;
+      passes = refl;
+      scores = refl;
+      copied = refl;
+      moved = refl;
+    }
