@@ -54,9 +54,11 @@ module _ (live : Page → Bool) (b : List Page) (bs : Blocks) where
       first : count live b ≤ few → Least live (b ∷ bs) 0 (count live b)
       first c zero l q = omega arith
       first c (suc j) l q = omega (arith, h .3 j (le-of-suc-le-suc l) q)
+
       other : few < count live b → Least live (b ∷ bs) (suc i) few
       other c zero l q = omega arith
       other c (suc j) l q = let a = h .3 j (le-of-suc-le-suc l) q in (a .0, λ x. suc-le-suc (a .1 x))
+
       pick : (t : Bool) → leb (count live b) few ≡ t → Chosen live (b ∷ bs) (better t (count live b) i few)
       pick true q = (omega arith, e, refl, first (leb-true _ _ q))
       pick false q = (omega arith, h .1, h .2, other (leb-false _ _ q))
@@ -87,17 +89,17 @@ victim-room width live bs t = go (fewest live bs) refl (fewest-chosen live bs)
         (width ≤ few) ⊎ (few < width) → few < width
     fits few h (inl l) = absurd (omega (arith, pigeonhole live width bs (λ j lj q. le-trans l (h j lj q))))
     fits few h (inr l) = l
+
     go : (c : Choice) → fewest live bs ≡ c → Chosen live bs c → HasRoom width live bs
     go nothing e h =
         let none-of : width * occupied bs ≡ width * 0 = ap (λ k. width * k) (occupied-none bs h) in
         absurd (omega arith)
     go (taken i few) e h =
-        record
-          {
-            inside = rw e (h .0);
-            written = rw e (h .1);
-            room = rw (e, h .2) (fits few (λ j lj q. h .3 j lj q .0) (le-or width few))
-          }
+        record {
+          inside = rw e (h .0);
+          written = rw e (h .1);
+          room = rw (e, h .2) (fits few (λ j lj q. h .3 j lj q .0) (le-or width few));
+        }
 
 -- Blank and written blocks are all the blocks.
 pub blanks-occupied : (bs : Blocks) → blanks bs + occupied bs ≡ length bs
@@ -141,13 +143,12 @@ another-blank (b ∷ bs) (suc j) h = go (empty b) refl (λ q. another-blank bs j
     go true e r = record { number = 0; inside = omega arith; other = omega arith; blank = empty-nil b e }
     go false e r =
         let x = r (omega (arith, ap bit e)) in
-        record
-          {
-            number = suc (x .number);
-            inside = omega (arith, x .inside);
-            other = λ q. x .other (omega arith);
-            blank = x .blank
-          }
+        record {
+          number = suc (x .number);
+          inside = omega (arith, x .inside);
+          other = λ q. x .other (omega arith);
+          blank = x .blank;
+        }
 
 -- The next blank block is the first from k on.
 abbrev First : ℕ → Blocks → Option ℕ → Type 0

@@ -76,20 +76,19 @@ above-suc k bs =
 -- a number goes to a version
 pub rules-later : {width B : ℕ} {bs : Blocks} {current k : ℕ} → BlockRules width B bs current k → BlockRules width B bs current (suc k)
 rules-later {bs = bs} {k = k} r =
-    record
-      {
-        size = r .size;
-        inside = r .inside;
-        most = r .most;
-        spare = r .spare;
-        whole = r .whole;
-        newest = r .newest;
-        newestHere = r .newestHere;
-        noneNewer = r .noneNewer;
-        once = r .once;
-        fromOne = r .fromOne;
-        within = omega (arith, above-suc k bs, r .within)
-      }
+    record {
+      size = r .size;
+      inside = r .inside;
+      most = r .most;
+      spare = r .spare;
+      whole = r .whole;
+      newest = r .newest;
+      newestHere = r .newestHere;
+      noneNewer = r .noneNewer;
+      once = r .once;
+      fromOne = r .fromOne;
+      within = omega (arith, above-suc k bs, r .within);
+    }
 
 -- A page of the next number is written.
 module _ {width B : ℕ} {bs : Blocks} {current k : ℕ} (p : Page) (e : sequence p ≡ suc k) (r : Ready width B bs current k) where
@@ -112,14 +111,14 @@ module _ {width B : ℕ} {bs : Blocks} {current k : ℕ} (p : Page) (e : sequenc
         arith,
         addTo-tally (numbered s) bs current p inside,
         numbered-none k bs (r .within) s (omega arith),
-        ap bit (eq-eqb (sequence p) s (omega arith))
+        ap bit (eq-eqb (sequence p) s (omega arith)),
       )
   added-once s (inr q) =
       omega (
         arith,
         addTo-tally (numbered s) bs current p inside,
         r .once s,
-        ap bit (ne-eqb (sequence p) s (λ z. q (sym z ∙ e)))
+        ap bit (ne-eqb (sequence p) s (λ z. q (sym z ∙ e))),
       )
 
   added-above : tally (above (suc k)) (addTo bs current p) ≡ 0
@@ -130,36 +129,34 @@ module _ {width B : ℕ} {bs : Blocks} {current k : ℕ} (p : Page) (e : sequenc
         addTo-tally (above (suc k)) bs current p inside,
         r .within,
         ap bit (le-ltb (suc k) (sequence p) (omega arith)),
-        above-suc k bs
+        above-suc k bs,
       )
 
   pub written-rules : BlockRules width B (addTo bs current p) current (suc k)
   written-rules =
-      record
-        {
-          size = length-set bs current _ ∙ r .size;
-          inside = r .inside;
-          most = λ i. added-most i (eq-or i current);
-          spare =
-            record
-              {
-                number = r .spare .number;
-                inside = rw (length-set bs current (block bs current ++ (p ∷ []))) (r .spare .inside);
-                other = tt;
-                blank = added-other (r .spare .number) (r .spare .other) ∙ r .spare .blank
-              };
-          whole = λ i q. rw (added-other i q) (r .whole i q);
-          newest = suc k;
-          newestHere =
+      record {
+        size = length-set bs current _ ∙ r .size;
+        inside = r .inside;
+        most = λ i. added-most i (eq-or i current);
+        spare =
+            record {
+              number = r .spare .number;
+              inside = rw (length-set bs current (block bs current ++ (p ∷ []))) (r .spare .inside);
+              other = tt;
+              blank = added-other (r .spare .number) (r .spare .other) ∙ r .spare .blank;
+            };
+        whole = λ i q. rw (added-other i q) (r .whole i q);
+        newest = suc k;
+        newestHere =
             rw added-current
             (omega (arith, count-append (numbered (suc k)) (block bs current) (p ∷ []), ap bit (eq-eqb (sequence p) (suc k) e)));
-          noneNewer = added-above;
-          once = λ s. added-once s (eq-or s (suc k));
-          fromOne =
+        noneNewer = added-above;
+        once = λ s. added-once s (eq-or s (suc k));
+        fromOne =
             addTo-tally (numbered 0) bs current p inside ∙
             omega (arith, r .fromOne, ap bit (ne-eqb (sequence p) 0 (λ q. omega arith)));
-          within = added-above
-        }
+        within = added-above;
+      }
 
 -- A compaction, where every block is blank or full: its copies leave room, and the old block is blank.
 module _ {width B : ℕ} {bs : Blocks} {current k : ℕ} (keep : Page → Bool) (r : BlockRules width B bs current k) {i j : ℕ} (m : Moves bs i j)
@@ -180,6 +177,7 @@ module _ {width B : ℕ} {bs : Blocks} {current k : ℕ} (keep : Page → Bool) 
       whole-most : (b : List Page) → Whole width b → length b ≤ width
       whole-most b (inl e) = rw e (omega arith)
       whole-most b (inr e) = omega arith
+
       go : (x ≡ j) ⊎ (x ≡ j → ⊥) → length (block (compact keep bs i j) x) ≤ width
       go (inl q) = rw q (omega (arith, compact-free))
       go (inr q) = whole-most (block (compact keep bs i j) x) (compact-whole x q)
@@ -189,19 +187,18 @@ module _ {width B : ℕ} {bs : Blocks} {current k : ℕ} (keep : Page → Bool) 
 
   compact-ready : Ready width B (compact keep bs i j) j k
   compact-ready =
-      record
-        {
-          size = compact-size ∙ r .size;
-          inside = omega (arith, m .to, r .size);
-          most = compact-most;
-          free = compact-free;
-          spare =
+      record {
+        size = compact-size ∙ r .size;
+        inside = omega (arith, m .to, r .size);
+        most = compact-most;
+        free = compact-free;
+        spare =
             record { number = i; inside = omega (arith, m .from, compact-size); other = m .apart; blank = compact-from keep m };
-          whole = compact-whole;
-          once = λ s. le-trans (compact-tally-le keep m (numbered s)) (r .once s);
-          fromOne = omega (arith, compact-tally-le keep m (numbered 0), r .fromOne);
-          within = omega (arith, compact-tally-le keep m (above k), r .within)
-        }
+        whole = compact-whole;
+        once = λ s. le-trans (compact-tally-le keep m (numbered s)) (r .once s);
+        fromOne = omega (arith, compact-tally-le keep m (numbered 0), r .fromOne);
+        within = omega (arith, compact-tally-le keep m (above k), r .within);
+      }
 
 product-positive : (x y t : ℕ) → t < x * y → 0 < x
 product-positive zero y t h = omega arith
@@ -225,18 +222,16 @@ module _ {width B : ℕ} {bs : Blocks} {current k : ℕ} (keep : Page → Bool) 
   pub spot-moves : leb 2 (blanks bs) ≡ false → Moves bs (victim keep bs) (nextBlank bs current) × (count keep (block bs (victim keep bs)) < width)
   spot-moves e =
       let one : blanks bs ≡ 1 =
-            omega (arith, blanks-positive bs (r .spare .number) (r .spare .inside) (r .spare .blank), leb-false 2 (blanks bs) e) in
+      omega (arith, blanks-positive bs (r .spare .number) (r .spare .inside) (r .spare .blank), leb-false 2 (blanks bs) e) in
       let others : occupied bs ≡ B - 1 = omega (arith, blanks-occupied bs, r .size) in
-      let v = victim-room width keep bs (rw others bound) in
-      (
-        record
-          {
-            from = v .inside;
-            to = next-blank .0;
-            apart = λ q. test-clash (empty (block bs (victim keep bs))) (rw q (ap empty (next-blank .1))) (v .written);
-            blank = next-blank .1
-          },
-        v .room
+      let v = victim-room width keep bs (rw others bound) in (
+        record {
+          from = v .inside;
+          to = next-blank .0;
+          apart = λ q. test-clash (empty (block bs (victim keep bs))) (rw q (ap empty (next-blank .1))) (v .written);
+          blank = next-blank .1;
+        },
+        v .room,
       )
 
   all-whole : ltb (length (block bs current)) width ≡ false → (i : ℕ) → Whole width (block bs i)
@@ -259,38 +254,35 @@ module _ {width B : ℕ} {bs : Blocks} {current k : ℕ} (keep : Page → Bool) 
       go : (a : Bool) → ltb (length (block bs current)) width ≡ a → (b : Bool) → leb 2 (blanks bs) ≡ b →
           Ready width B (spotBy a b keep bs current .blocks) (spotBy a b keep bs current .current) k
       go true ea b eb =
-          record
-            {
-              size = r .size;
-              inside = r .inside;
-              most = r .most;
-              free = ltb-true (length (block bs current)) width ea;
-              spare =
-                record
-                  {
-                    number = r .spare .number;
-                    inside = r .spare .inside;
-                    other = current-written (r .spare .number) (r .spare .blank);
-                    blank = r .spare .blank
-                  };
-              whole = r .whole;
-              once = r .once;
-              fromOne = r .fromOne;
-              within = r .within
-            }
+          record {
+            size = r .size;
+            inside = r .inside;
+            most = r .most;
+            free = ltb-true (length (block bs current)) width ea;
+            spare =
+                record {
+                  number = r .spare .number;
+                  inside = r .spare .inside;
+                  other = current-written (r .spare .number) (r .spare .blank);
+                  blank = r .spare .blank;
+                };
+            whole = r .whole;
+            once = r .once;
+            fromOne = r .fromOne;
+            within = r .within;
+          }
       go false ea true eb =
-          record
-            {
-              size = r .size;
-              inside = omega (arith, next-blank .0, r .size);
-              most = r .most;
-              free = rw (next-blank .1) (product-positive width (B - 1) (tally keep bs) bound);
-              spare = another-blank bs (nextBlank bs current) (leb-true 2 (blanks bs) eb);
-              whole = λ i q. all-whole ea i;
-              once = r .once;
-              fromOne = r .fromOne;
-              within = r .within
-            }
+          record {
+            size = r .size;
+            inside = omega (arith, next-blank .0, r .size);
+            most = r .most;
+            free = rw (next-blank .1) (product-positive width (B - 1) (tally keep bs) bound);
+            spare = another-blank bs (nextBlank bs current) (leb-true 2 (blanks bs) eb);
+            whole = λ i q. all-whole ea i;
+            once = r .once;
+            fromOne = r .fromOne;
+            within = r .within;
+          }
       go false ea false eb = let x = spot-moves eb in compact-ready keep r (x .0) (x .1) (all-whole ea)
 
   pub spot-how : How keep bs (spot width keep bs current .blocks)

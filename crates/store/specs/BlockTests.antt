@@ -47,8 +47,10 @@ differIn-once s (p ∷ b) bs e h = go (eq-or (sequence p) s) (differIn-once s b 
   where
     own : Bool
     own = eqb (count (numbered (sequence p)) b + tally (numbered (sequence p)) bs) 0
+
     alone : count (numbered (sequence p)) b + tally (numbered (sequence p)) bs ≡ 0
     alone = eqb-true _ 0 (and-left own (differIn b bs) e)
+
     go : (sequence p ≡ s) ⊎ (sequence p ≡ s → ⊥) → count (numbered s) b + tally (numbered s) bs ≤ 1 →
         bit (numbered s p) + count (numbered s) b + tally (numbered s) bs ≤ 1
     go (inl q) r =
@@ -64,8 +66,8 @@ once-differIn : (b : List Page) (bs : Blocks) → ((s : ℕ) → count (numbered
 once-differIn [] bs h = refl
 once-differIn (p ∷ b) bs h =
     rw (
-      eq-eqb (count (numbered (sequence p)) b + tally (numbered (sequence p)) bs) 0
-      (omega (arith, h (sequence p), ap bit (eq-eqb (sequence p) (sequence p) refl)))
+    eq-eqb (count (numbered (sequence p)) b + tally (numbered (sequence p)) bs) 0
+    (omega (arith, h (sequence p), ap bit (eq-eqb (sequence p) (sequence p) refl)))
     )
     (once-differIn b bs (λ s. omega (arith, h s)))
 
@@ -178,14 +180,13 @@ passing width k c e =
     let b = and-right (eqb (length c) (width * k)) (allFilled width k c && (differ bs && (leb 1 (blanks bs) && full))) e in
     let d = and-right (allFilled width k c) (differ bs && (leb 1 (blanks bs) && full)) b in
     let f = and-right (differ bs) (leb 1 (blanks bs) && full) d in
-    record
-      {
-        size = eqb-true _ _ (and-left (eqb (length c) (width * k)) _ e);
-        filled = and-left (allFilled width k c) _ b;
-        differ = and-left (differ bs) _ d;
-        spare = leb-true 1 (blanks bs) (and-left (leb 1 (blanks bs)) full f);
-        full = and-right (leb 1 (blanks bs)) full f
-      }
+    record {
+      size = eqb-true _ _ (and-left (eqb (length c) (width * k)) _ e);
+      filled = and-left (allFilled width k c) _ b;
+      differ = and-left (differ bs) _ d;
+      spare = leb-true 1 (blanks bs) (and-left (leb 1 (blanks bs)) full f);
+      full = and-right (leb 1 (blanks bs)) full f;
+    }
 
 pub passing-true : (width k : ℕ) (c : Cells) → Passing width k c → blocksPass width k c ≡ true
 unfolding blocksPass
@@ -196,26 +197,27 @@ passing-true width k c p =
 pub passing-rules : (width k : ℕ) (c : Cells) → Passing width k c → tally (numbered 0) (blocksIn width k c) ≡ 0 → 0 < newest (blocksIn width k c) →
     BlockRules width k (blocksIn width k c) (blockOf (newest (blocksIn width k c)) (blocksIn width k c)) (newest (blocksIn width k c))
 passing-rules width k c p z l =
-    record
-      {
-        size = length-blocksIn width k c;
-        inside = omega (arith, here .0, length-blocksIn width k c);
-        most = block-blocksIn width k c;
-        spare = a-blank bs (p .spare);
-        whole = λ i q. whole i q (empty (block bs i)) refl (eqb (length (block bs i)) width) refl (fullOr-at width (newest bs) bs (p .full) i);
-        newest = newest bs;
-        newestHere = here .1;
-        noneNewer = newest-above (newest bs) bs (omega arith);
-        once = differ-once bs (p .differ);
-        fromOne = z;
-        within = newest-above (newest bs) bs (omega arith)
-      }
+    record {
+      size = length-blocksIn width k c;
+      inside = omega (arith, here .0, length-blocksIn width k c);
+      most = block-blocksIn width k c;
+      spare = a-blank bs (p .spare);
+      whole = λ i q. whole i q (empty (block bs i)) refl (eqb (length (block bs i)) width) refl (fullOr-at width (newest bs) bs (p .full) i);
+      newest = newest bs;
+      newestHere = here .1;
+      noneNewer = newest-above (newest bs) bs (omega arith);
+      once = differ-once bs (p .differ);
+      fromOne = z;
+      within = newest-above (newest bs) bs (omega arith);
+    }
   where
     bs : Blocks
     bs = blocksIn width k c
+
     here : (blockOf (newest (blocksIn width k c)) (blocksIn width k c) < length (blocksIn width k c)) ×
         (0 < count (numbered (newest (blocksIn width k c))) (block (blocksIn width k c) (blockOf (newest (blocksIn width k c)) (blocksIn width k c))))
     here = blockOf-has (newest bs) bs (newest-in (newest bs) bs l refl)
+
     whole : (i : ℕ) → (i ≡ blockOf (newest bs) bs → ⊥) → (t : Bool) → empty (block bs i) ≡ t → (u : Bool) → eqb (length (block bs i)) width ≡ u →
         (t || (u || ltb 0 (count (numbered (newest bs)) (block bs i)))) ≡ true → Whole width (block bs i)
     whole i q true e u d h = inl (empty-nil (block bs i) e)
@@ -227,7 +229,7 @@ passing-rules width k c p z l =
           ltb-true 0 (count (numbered (newest bs)) (block bs i)) h,
           here .1,
           two-blocks (numbered (newest bs)) bs i (blockOf (newest bs) bs) q,
-          differ-once bs (p .differ) (newest bs)
+          differ-once bs (p .differ) (newest bs),
         ))
 
 -- Where the rules hold: the newest number and its block.
@@ -252,6 +254,7 @@ module _ {width B : ℕ} {bs : Blocks} {current last : ℕ} (r : BlockRules widt
     where
       there : (blockOf s bs < length bs) × (0 < count (numbered s) (block bs (blockOf s bs)))
       there = blockOf-has s bs (le-trans h (tally-at (numbered s) bs current))
+
       go : (blockOf s bs ≡ current) ⊎ (blockOf s bs ≡ current → ⊥) → blockOf s bs ≡ current
       go (inl q) = q
       go (inr q) = absurd (omega (arith, there .1, two-blocks (numbered s) bs (blockOf s bs) current q, r .once s))
@@ -268,7 +271,7 @@ module _ {width B : ℕ} {bs : Blocks} {current last : ℕ} (r : BlockRules widt
         q,
         ← rules-newest,
         lt-ltb 0 (count (numbered (r .newest)) (block bs current)) (r .newestHere),
-        or-true (eqb (length (block bs current)) width)
+        or-true (eqb (length (block bs current)) width),
       )
       (or-true (empty (block bs current)))
   rules-full i (inr q) = go (r .whole i q)
@@ -280,11 +283,10 @@ module _ {width B : ℕ} {bs : Blocks} {current last : ℕ} (r : BlockRules widt
   -- OUR OWN POOL PASSES
   pub rules-passing : Passing width B (cells width bs)
   rules-passing =
-      record
-        {
-          size = length-cells width bs ∙ omega (arith, ap (λ z. width * z) (r .size));
-          filled = subst (λ (z : ℕ). allFilled width z (cells width bs) ≡ true) (r .size) (allFilled-cells width bs);
-          differ = rw rules-blocks (once-differ bs (r .once));
-          spare = rw rules-blocks (blanks-positive bs (r .spare .number) (r .spare .inside) (r .spare .blank));
-          full = rw rules-blocks (fullOr-all width (newest bs) bs (λ i l. rules-full i (eq-or i current)))
-        }
+      record {
+        size = length-cells width bs ∙ omega (arith, ap (λ z. width * z) (r .size));
+        filled = subst (λ (z : ℕ). allFilled width z (cells width bs) ≡ true) (r .size) (allFilled-cells width bs);
+        differ = rw rules-blocks (once-differ bs (r .once));
+        spare = rw rules-blocks (blanks-positive bs (r .spare .number) (r .spare .inside) (r .spare .blank));
+        full = rw rules-blocks (fullOr-all width (newest bs) bs (λ i l. rules-full i (eq-or i current)));
+      }

@@ -58,7 +58,7 @@ allFilled-cells width (b ∷ bs) =
     rw (
       take-at (cellsIn width b) (cells width bs) width (length-cellsIn width b),
       drop-at (cellsIn width b) (cells width bs) width (length-cellsIn width b),
-      filled-cellsIn width b
+      filled-cellsIn width b,
     )
     (allFilled-cells width bs)
 
@@ -122,7 +122,7 @@ cells-addTo width [] i p l f = absurd (not-suc-le-zero l)
 cells-addTo width (b ∷ bs) zero p l f =
     rw (
       cellsIn-snoc width b p f,
-      ← set-append-left (cellsIn width b) (cells width bs) (length b) (some p) (rw (length-cellsIn width b) f)
+      ← set-append-left (cellsIn width b) (cells width bs) (length b) (some p) (rw (length-cellsIn width b) f),
     )
     (ap (λ z. set (cellsIn width b ++ cells width bs) z (some p)) (omega arith))
 cells-addTo width (b ∷ bs) (suc i) p l f =
@@ -151,6 +151,6 @@ cells-set width (c ∷ bs) (suc i) b l =
     rw (
       take-past (cellsIn width c) (cells width bs) (suc i * width) (i * width) (rw (length-cellsIn width c) (omega arith)),
       drop-past (cellsIn width c) (cells width bs) (suc i * width + width) (i * width + width)
-      (rw (length-cellsIn width c) (omega arith))
+          (rw (length-cellsIn width c) (omega arith)),
     )
     (simp append-assoc)

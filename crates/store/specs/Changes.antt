@@ -44,13 +44,12 @@ pub record Same (w w′ : View) (m : ℕ) : Type 0 where
 
 pub same-trans : {w w′ w″ : View} {m : ℕ} → Same w w′ m → Same w′ w″ m → Same w w″ m
 same-trans a b =
-    record
-      {
-        greatest = b .greatest ∙ a .greatest;
-        pieces = b .pieces ∙ a .pieces;
-        pages = b .pages ∙ a .pages;
-        buffered = b .buffered ∙ a .buffered
-      }
+    record {
+      greatest = b .greatest ∙ a .greatest;
+      pieces = b .pieces ∙ a .pieces;
+      pages = b .pages ∙ a .pages;
+      buffered = b .buffered ∙ a .buffered;
+    }
 
 -- A node has this version and content, lies on so many pages, and has this in the buffer.
 pub record Now (w : View) (n v : ℕ) (xs : List Piece) (k : ℕ) (inBuffer : List Piece) : Type 0 where
@@ -67,13 +66,12 @@ unfolding greatest pieces buffered
 wrote-other {w} {w′} {new} {rest} r m tx sx ty sy =
     let t : greatest w′ m ≡ greatest w m = wrote-greatest r m ∙ omega arith in
     let a = wrote-same r m t in
-    record
-      {
-        greatest = t;
-        pieces = a .0 ∙ rw (sx, sy) refl;
-        pages = a .1 ∙ rw sx (omega arith);
-        buffered = a .2 ∙ sy (greatest w m)
-      }
+    record {
+      greatest = t;
+      pieces = a .0 ∙ rw (sx, sy) refl;
+      pages = a .1 ∙ rw sx (omega arith);
+      buffered = a .2 ∙ sy (greatest w m);
+    }
 
 -- The buffer is written as the next page.
 module _ {w w′ : View} (r : Wrote w w′ (w .buffer) []) (n : ℕ) where
@@ -103,13 +101,12 @@ module _ {w w′ : View} (n : ℕ) (x : Piece) (r : Added w w′ (group n (great
       let t : greatest w′ m ≡ greatest w m = added-greatest r m ∙ omega (arith, greatestIn-group-other m n (greatest w n) (x ∷ []) h) in
       let a = added-same r m t in
       let none = piecesIn-group-other m n (greatest w m) (greatest w n) (x ∷ []) h in
-      record
-        {
-          greatest = t;
-          pieces = a .0 ∙ rw none (append-nil (pieces w m));
-          pages = a .1;
-          buffered = a .2 ∙ rw none (append-nil (buffered w m))
-        }
+      record {
+        greatest = t;
+        pieces = a .0 ∙ rw none (append-nil (pieces w m));
+        pages = a .1;
+        buffered = a .2 ∙ rw none (append-nil (buffered w m));
+      }
 
 -- A fresh start: the next number is the version, and the whole content joins the buffer.
 module _ {w w′ : View} (fit : Fit w) (n : ℕ) (x : Piece) (xs : List Piece)
@@ -120,7 +117,7 @@ module _ {w w′ : View} (fit : Fit w) (n : ℕ) (x : Piece) (xs : List Piece)
       wrote-greatest r n ∙
       rw (
         greatestIn-append n (w .buffer) (group n (suc (w .last)) (x ∷ xs)),
-        greatestIn-group n (suc (w .last)) x xs
+        greatestIn-group n (suc (w .last)) x xs,
       )
       (omega (arith, fit .versions n))
 
@@ -140,8 +137,8 @@ module _ {w w′ : View} (fit : Fit w) (n : ℕ) (x : Piece) (xs : List Piece)
       wrote-other r m refl (λ u. refl)
       (greatestIn-append m (w .buffer) _ ∙ omega (arith, greatestIn-group-other m n (suc (w .last)) (x ∷ xs) h))
       (λ u.
-        piecesIn-append m u (w .buffer) _ ∙
-        rw (piecesIn-group-other m n u (suc (w .last)) (x ∷ xs) h) (append-nil (piecesIn m u (w .buffer))))
+      piecesIn-append m u (w .buffer) _ ∙
+      rw (piecesIn-group-other m n u (suc (w .last)) (x ∷ xs) h) (append-nil (piecesIn m u (w .buffer))))
 
 -- A node page.
 module _ {w w′ : View} (fit : Fit w) (n : ℕ) (x : Piece) (r : Wrote w w′ (group n (suc (w .last)) (x ∷ [])) (w .buffer)) where
@@ -170,22 +167,20 @@ pub wrote-fit : {w w′ : View} {new rest : List Item} (r : Wrote w w′ new res
     ((n : ℕ) → greatestIn n rest ≤ suc (w .last)) → Fit w′
 unfolding greatest
 wrote-fit {w} {w′} {new} {rest} r f hx hy =
-    record
-      {
-        versions = λ n. rw (wrote-greatest r n, r .last) (omega (arith, f .versions n, hx n, hy n));
-        beyond =
+    record {
+      versions = λ n. rw (wrote-greatest r n, r .last) (omega (arith, f .versions n, hx n, hy n));
+      beyond =
           λ s l.
-            let l′ : suc (w .last) < s = rw (r .last) at l in
-            r .old s (λ q. omega arith) ∙ f .beyond s (omega arith)
-      }
+          let l′ : suc (w .last) < s = rw (r .last) at l in
+          r .old s (λ q. omega arith) ∙ f .beyond s (omega arith);
+    }
 
 pub added-fit : {w w′ : View} {new : List Item} (r : Added w w′ new) → Fit w → ((n : ℕ) → greatestIn n new ≤ w .last) → Fit w′
 added-fit {w} {w′} {new} r f hy =
-    record
-      {
-        versions = λ n. rw (added-greatest r n, r .last) (omega (arith, f .versions n, hy n));
-        beyond = λ s l. r .old s ∙ f .beyond s (rw (r .last) at l)
-      }
+    record {
+      versions = λ n. rw (added-greatest r n, r .last) (omega (arith, f .versions n, hy n));
+      beyond = λ s l. r .old s ∙ f .beyond s (rw (r .last) at l);
+    }
 
 -- The three-page rule in the form that each operation keeps: the pages of each node below N, and the one that the buffer is to be.
 pub record Lean (N : ℕ) (w : View) : Type 0 where

@@ -82,7 +82,7 @@ replay-puts kind l low high ps (r ∷ rs) a b h =
     let e : insert (r .0) (r .1) ps ≡ ps ++ (r ∷ []) = insert-last (r .0) (r .1) 0 ps (within-raise 0 low (r .0) ps (b .0) a) in
     let n : length (ps ++ (r ∷ [])) ≡ length ps + 1 = length-append ps (r ∷ []) in
     let w : Within 0 (suc (r .0)) (ps ++ (r ∷ [])) =
-          within-last 0 (r .0) (r .1) ps (omega arith) (within-raise 0 low (r .0) ps (b .0) a) in
+    within-last 0 (r .0) (r .1) ps (omega arith) (within-raise 0 low (r .0) ps (b .0) a) in
     let fits : length (insert (r .0) (r .1) ps) ≤ mostKeys = rw e (omega arith) in
     ap (λ d. replayFrom d (map step (puts rs ++ (link kind l ∷ []))))
     (ifFits-true (insert (r .0) (r .1) ps) (unlinked (insert (r .0) (r .1) ps)) fits ∙ ap unlinked e) ∙

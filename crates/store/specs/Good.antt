@@ -103,24 +103,22 @@ module _ {B : ℕ} {run : Run} (v : Good B run) where
   pub flushRun-good : Good B (flushRun run)
   unfolding write flush place
   flushRun-good =
-      record
-        {
-          invariant = flush-invariant (v .invariant) refl;
-          versions = flush-versions (v .invariant) (v .versions);
-          small = omega arith;
-          passed = write-passed (log (run .now .buffer)) [] (flush-invariant (v .invariant) refl .lean)
-        }
+      record {
+        invariant = flush-invariant (v .invariant) refl;
+        versions = flush-versions (v .invariant) (v .versions);
+        small = omega arith;
+        passed = write-passed (log (run .now .buffer)) [] (flush-invariant (v .invariant) refl .lean);
+      }
 
   pub flushRun-keep : (m : ℕ) → m < run .nodes → Keep (run .now) (flushRun run .now) m
   unfolding write flush
   flushRun-keep m l =
       let a = flush-now (v .invariant) m l in
-      record
-        {
-          greatest = a .greatest;
-          pieces = a .pieces;
-          mode = λ x h. place-mode (v .invariant) m x (log (run .now .buffer)) [] l (a .greatest) h
-        }
+      record {
+        greatest = a .greatest;
+        pieces = a .pieces;
+        mode = λ x h. place-mode (v .invariant) m x (log (run .now .buffer)) [] l (a .greatest) h;
+      }
 
   flushRun-pages : (m : ℕ) → m < run .nodes → pages (view (flushRun run .now)) m ≤ suc (pages (view (run .now)) m)
   unfolding write flush
@@ -142,14 +140,13 @@ makeRoom-roomy {B} {run} v k l = go (leb (k + length (run .now .buffer)) mostEnt
   where
     go : (t : Bool) → leb (k + length (run .now .buffer)) mostEntries ≡ t → Roomy B k run (roomBy t run)
     go true e =
-        record
-          {
-            good = v;
-            nodes = refl;
-            fits = leb-true _ _ e;
-            keep = λ m q. keep-refl (run .now) m;
-            pages = λ m q. omega arith
-          }
+        record {
+          good = v;
+          nodes = refl;
+          fits = leb-true _ _ e;
+          keep = λ m q. keep-refl (run .now) m;
+          pages = λ m q. omega arith;
+        }
     go false e =
         record { good = flushRun-good v; nodes = refl; fits = omega arith; keep = flushRun-keep v; pages = flushRun-pages v }
 
@@ -162,63 +159,58 @@ module _ {B : ℕ} {run : Run} (v : Good B run) (n : ℕ) (c : Change) (cs : Lis
   begin-good : Good B (begin n (c ∷ cs) run)
   unfolding start
   begin-good =
-      record
-        {
-          invariant = begin-invariant;
-          versions = start-versions (v .invariant) n (c ∷ cs) (v .versions);
-          small =
+      record {
+        invariant = begin-invariant;
+        versions = start-versions (v .invariant) n (c ∷ cs) (v .versions);
+        small =
             omega (
               arith,
               length-append (run .now .buffer) (entries n (suc (run .now .last)) (c ∷ cs)),
-              length-entries n (suc (run .now .last)) (c ∷ cs)
+              length-entries n (suc (run .now .last)) (c ∷ cs),
             );
-          passed = v .passed
-        }
+        passed = v .passed;
+      }
 
   begin-mode : InLog (start n (c ∷ cs) (run .now)) n
   unfolding start
   begin-mode =
       let now = start-now (v .invariant) n c cs in
-      record
-        {
-          none =
+      record {
+        none =
             ap (λ z. tally (numbered z) (run .now .blocks)) (now .greatest) ∙
             numbered-none (run .now .last) (run .now .blocks) (v .invariant .rules .within) (suc (run .now .last)) (omega arith);
-          some = omega (arith, now .greatest)
-        }
+        some = omega (arith, now .greatest);
+      }
 
   begin-done : Done B n run (begin n (c ∷ cs) run) (map step (c ∷ cs)) Log
   unfolding start
   begin-done =
-      record
-        {
-          good = begin-good;
-          own = start-now (v .invariant) n c cs .pieces;
-          mode = begin-mode;
-          others = λ m k h. omega arith;
-          keep =
+      record {
+        good = begin-good;
+        own = start-now (v .invariant) n c cs .pieces;
+        mode = begin-mode;
+        others = λ m k h. omega arith;
+        keep =
             λ m k h.
-              let o = start-other (v .invariant) n c cs m h in
-              record
-                {
-                  greatest = o .greatest;
-                  pieces = o .pieces;
-                  mode = λ x q. same-mode x (run .now) (start n (c ∷ cs) (run .now)) m (o .greatest) refl q
-                }
-        }
+            let o = start-other (v .invariant) n c cs m h in
+            record {
+              greatest = o .greatest;
+              pieces = o .pieces;
+              mode = λ x q. same-mode x (run .now) (start n (c ∷ cs) (run .now)) m (o .greatest) refl q;
+            };
+      }
 
 -- a write after room was made
 after-room : {B k n : ℕ} {run room run′ : Run} {xs : List Piece} {mode : Mode} → Roomy B k run room → Done B n room run′ xs mode →
     Done B n run run′ xs mode
 after-room r d =
-    record
-      {
-        good = d .good;
-        own = d .own;
-        mode = d .mode;
-        others = λ m k h. omega (arith, r .nodes, d .others m k h);
-        keep = λ m k h. keep-trans (r .keep m k) (d .keep m (omega (arith, r .nodes)) h)
-      }
+    record {
+      good = d .good;
+      own = d .own;
+      mode = d .mode;
+      others = λ m k h. omega (arith, r .nodes, d .others m k h);
+      keep = λ m k h. keep-trans (r .keep m k) (d .keep m (omega (arith, r .nodes)) h);
+    }
 
 -- A GROUP: the whole content of x under a new version
 pub writeGroup-done : {B : ℕ} {run : Run} (v : Good B run) (n : ℕ) (x : Node) → length (changesOf x) ≤ mostEntries → n ≤ run .nodes →
@@ -230,6 +222,7 @@ writeGroup-done {B} {run} v n x f l b =
   where
     s : Spelled x
     s = spelled x
+
     r : Roomy B (length (spelled x .first ∷ spelled x .rest)) run (makeRoom (length (spelled x .first ∷ spelled x .rest)) run)
     r =
         makeRoom-roomy v (length (spelled x .first ∷ spelled x .rest))
@@ -254,29 +247,26 @@ enter-done : {B : ℕ} {run : Run} (v : Good B run) (n : ℕ) (c : Change) (x : 
     Done B n run (editBy false n c x run) (pieces (view (run .now)) n ++ (step c ∷ [])) Log
 unfolding enter
 enter-done {B} {run} v n c x f l lg p =
-    record
-      {
-        good =
-          record
-            {
-              invariant = enter-invariant (v .invariant) n c p;
-              versions = enter-versions (v .invariant) n c lg (v .versions);
-              small = omega (arith, length-append (run .now .buffer) (entries n (greatest (view (run .now)) n) (c ∷ [])));
-              passed = v .passed
-            };
-        own = now .pieces;
-        mode = same-mode Log (run .now) (enter n c (run .now)) n (now .greatest) refl lg;
-        others = λ m k h. k;
-        keep =
+    record {
+      good =
+          record {
+            invariant = enter-invariant (v .invariant) n c p;
+            versions = enter-versions (v .invariant) n c lg (v .versions);
+            small = omega (arith, length-append (run .now .buffer) (entries n (greatest (view (run .now)) n) (c ∷ [])));
+            passed = v .passed;
+          };
+      own = now .pieces;
+      mode = same-mode Log (run .now) (enter n c (run .now)) n (now .greatest) refl lg;
+      others = λ m k h. k;
+      keep =
           λ m k h.
-            let o = enter-other (v .invariant) n c m h in
-            record
-              {
-                greatest = o .greatest;
-                pieces = o .pieces;
-                mode = λ y q. same-mode y (run .now) (enter n c (run .now)) m (o .greatest) refl q
-              }
-      }
+          let o = enter-other (v .invariant) n c m h in
+          record {
+            greatest = o .greatest;
+            pieces = o .pieces;
+            mode = λ y q. same-mode y (run .now) (enter n c (run .now)) m (o .greatest) refl q;
+          };
+    }
   where
     now : Now (view (enter n c (run .now))) n (greatest (view (run .now)) n) (pieces (view (run .now)) n ++ (step c ∷ []))
         (pages (view (run .now)) n) (buffered (view (run .now)) n ++ (step c ∷ []))
@@ -292,6 +282,7 @@ writeEdit-done {B} {run} v n c x f l lg = go (leb mostLogPages (pages (view (mak
   where
     r : Roomy B 1 run (makeRoom 1 run)
     r = makeRoom-roomy v 1 (omega arith)
+
     go : (t : Bool) → leb mostLogPages (pages (view (makeRoom 1 run .now)) n) ≡ t →
         Done B n run (editBy t n c x (makeRoom 1 run)) (pieces (view (run .now)) n ++ (step c ∷ [])) Log ⊎
         Done B n run (editBy t n c x (makeRoom 1 run)) (map step (changesOf x)) Log
@@ -309,31 +300,29 @@ pub writeNode-done : {B : ℕ} {run : Run} (v : Good B run) (n : ℕ) (x : Node)
     Done B n run (writeNode n x run) (Replay.whole x ∷ []) Disk
 unfolding write nodePage place
 writeNode-done {B} {run} v n x l =
-    record
-      {
-        good =
-          record
-            {
-              invariant = page-invariant (v .invariant) n x refl;
-              versions = page-versions (v .invariant) n x (v .versions);
-              small = rest-small;
-              passed = write-passed v (whole n x) (run .now .buffer) (page-invariant (v .invariant) n x refl .lean)
-            };
-        own = now .pieces;
-        mode = record { node = x; page = rw (now .greatest) (place-find (v .invariant) (whole n x) (run .now .buffer)) };
-        others = λ m k h. k;
-        keep =
+    record {
+      good =
+          record {
+            invariant = page-invariant (v .invariant) n x refl;
+            versions = page-versions (v .invariant) n x (v .versions);
+            small = rest-small;
+            passed = write-passed v (whole n x) (run .now .buffer) (page-invariant (v .invariant) n x refl .lean);
+          };
+      own = now .pieces;
+      mode = record { node = x; page = rw (now .greatest) (place-find (v .invariant) (whole n x) (run .now .buffer)) };
+      others = λ m k h. k;
+      keep =
           λ m k h.
-            let o = page-other (v .invariant) n x m k h in
-            record
-              {
-                greatest = o .greatest;
-                pieces = o .pieces;
-                mode = λ y q. place-mode (v .invariant) m y (whole n x) (run .now .buffer) k (o .greatest) q
-              }
-      }
+          let o = page-other (v .invariant) n x m k h in
+          record {
+            greatest = o .greatest;
+            pieces = o .pieces;
+            mode = λ y q. place-mode (v .invariant) m y (whole n x) (run .now .buffer) k (o .greatest) q;
+          };
+    }
   where
     now : Now (view (place noClosing (run .nodes) (whole n x) (run .now .buffer) (run .now))) n (suc (run .now .last)) (Replay.whole x ∷ []) 1 []
     now = page-now (v .invariant) n x
+
     rest-small : length (place noClosing (run .nodes) (whole n x) (run .now .buffer) (run .now) .buffer) ≤ mostEntries
     rest-small = v .small

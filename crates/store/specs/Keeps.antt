@@ -60,6 +60,7 @@ done-keeps {B} {N} {n} {table} {modes} {run} {run′} {xs} {m} {x} N′ v d e h 
   where
     there : (k : ℕ) → k < N′ → (k ≡ n → ⊥) → k < N
     there k l q = omega (arith, v .nodes, d .others k (omega (arith, c)) (λ z. q (sym z)))
+
     go : (k : ℕ) → k < N′ → (k ≡ n) ⊎ (k ≡ n → ⊥) → Holds (run′ .now) k (update table n x k) (update modes n m k)
     go k l (inl q) =
         rw (update-same table n x k q, update-same modes n m k q)
@@ -67,6 +68,7 @@ done-keeps {B} {N} {n} {table} {modes} {run} {run′} {xs} {m} {x} N′ v d e h 
     go k l (inr q) =
         rw (update-other table n x k q, update-other modes n m k q)
         (keep-holds (d .keep k (omega (arith, v .nodes, there k l q)) (λ z. q (sym z))) (v .holds k (there k l q)))
+
     tidy : (k : ℕ) → k < N′ → (k ≡ n) ⊎ (k ≡ n → ⊥) → Neat (update table n x k)
     tidy k l (inl q) = rw (update-same table n x k q) h
     tidy k l (inr q) = rw (update-other table n x k q) (v .neat k (there k l q))
@@ -122,13 +124,17 @@ module _ {B N : ℕ} {table : ℕ → Node} {modes : ℕ → Mode} {run : Run} (
     where
       x : Node
       x = change c (table n)
+
       old : Holds (run .now) n (table n) (modes n)
       old = v .holds n l
+
       counted : writeEdit n c x run .nodes ≡ N
       counted = writeEdit-nodes n c x run (omega (arith, v .nodes)) ∙ v .nodes
+
       one-more : replay (pieces (view (run .now)) n ++ (step c ∷ [])) ≡ made (change c (table n))
       one-more =
           replay-snoc (pieces (view (run .now)) n) c ∙ ap (λ z. redo z c) (old .content) ∙ redo-made c (table n) s h
+
       go : Done B n run (writeEdit n c x run) (pieces (view (run .now)) n ++ (step c ∷ [])) Log ⊎
           Done B n run (writeEdit n c x run) (map step (changesOf x)) Log →
           Keeps B N (update table n (change c (table n))) (update modes n Log) (writeEdit n c (change c (table n)) run)
@@ -178,20 +184,18 @@ module _ {B N : ℕ} {table : ℕ → Node} {modes : ℕ → Mode} {run : Run} (
 
 note-keeps : {B N : ℕ} {table : ℕ → Node} {modes : ℕ → Mode} {run : Run} → Keeps B N table modes run → Keeps B N table modes (note run)
 note-keeps v =
-    record
-      {
-        good =
-          record
-            {
-              invariant = v .good .invariant;
-              versions = v .good .versions;
-              small = v .good .small;
-              passed = every-append (v .good .passed) (both (v .good .invariant .lean) none)
-            };
-        nodes = v .nodes;
-        holds = v .holds;
-        neat = v .neat
-      }
+    record {
+      good =
+          record {
+            invariant = v .good .invariant;
+            versions = v .good .versions;
+            small = v .good .small;
+            passed = every-append (v .good .passed) (both (v .good .invariant .lean) none);
+          };
+      nodes = v .nodes;
+      holds = v .holds;
+      neat = v .neat;
+    }
 
 -- ONE REQUEST, served in a mode: its node has the new content and that mode, every other node what it had
 pub serve-keeps : {B N : ℕ} {table : ℕ → Node} {modes : ℕ → Mode} {run : Run} → Keeps B N table modes run → (n : ℕ) → n < N → (m : Mode) (w : Work) →

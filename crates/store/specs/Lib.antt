@@ -29,4 +29,6 @@ pub mod BlockTests
 pub mod PageTests
 pub mod Opening
 pub mod SheetLaws
+pub mod Closing
+pub mod Compaction
 pub mod Worked

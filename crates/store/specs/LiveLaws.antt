@@ -38,6 +38,7 @@ live-dead w closing (suc k) p e n l = go (eq-or n k) (λ h. live-dead w closing 
   where
     own : piecesIn k (greatest w k) (itemsOf p) ≡ []
     own = empty-nil (piecesIn k (greatest w k) (itemsOf p)) (not-false _ (or-left (carries w k p) (live w closing k p) e))
+
     go : (n ≡ k) ⊎ (n ≡ k → ⊥) → (n < k → piecesIn n (greatest w n) (itemsOf p) ≡ []) → piecesIn n (greatest w n) (itemsOf p) ≡ []
     go (inl q) r = rw q own
     go (inr q) r = r (omega arith)
@@ -64,8 +65,10 @@ compact-pruned closing N {bs} buffer last {i} {j} m once =
   where
     w : View
     w = seen bs buffer last
+
     keep : Page → Bool
     keep = live w closing N
+
     go : (s : ℕ) → Found keep (find s bs) (find s (compact keep bs i j)) → Fate N w (seen (compact keep bs i j) buffer last) s
     go s (stays e) = Steps.stays (ap itemsAt e)
     go s (goes p e a d) =
@@ -83,6 +86,7 @@ count-number f s (p ∷ b) l = go (numbered s p) refl (f p) refl (λ h. count-nu
   where
     rest : count (λ p. f p && numbered s p) b ≤ count (numbered s) b
     rest = count-mono (λ p. f p && numbered s p) (numbered s) b (λ x. and-right (f x) (numbered s x))
+
     go : (t : Bool) → numbered s p ≡ t → (u : Bool) → f p ≡ u →
         (count (numbered s) b ≤ 1 → count (λ p. f p && numbered s p) b ≤ bit (test f (pageIn s b))) →
         bit (f p && numbered s p) + count (λ p. f p && numbered s p) b ≤ bit (test f (choose (numbered s p) (some p) (pageIn s b)))
@@ -99,6 +103,7 @@ tally-number f s (b ∷ bs) l = go (le-or (count (numbered s) b) 0) (tally-numbe
     left : (o r : Option Page) → bit (test f o) ≤ bit (test f (orElse o r))
     left none r = omega arith
     left (some p) r = omega arith
+
     go : (count (numbered s) b ≤ 0) ⊎ (0 < count (numbered s) b) → tally (λ p. f p && numbered s p) bs ≤ bit (test f (find s bs)) →
         count (λ p. f p && numbered s p) b + tally (λ p. f p && numbered s p) bs ≤ bit (test f (orElse (pageIn s b) (find s bs)))
     go (inl h) r =
@@ -109,7 +114,7 @@ tally-number f s (b ∷ bs) l = go (le-or (count (numbered s) b) 0) (tally-numbe
           arith,
           count-number f s b (omega arith),
           tally-mono (λ p. f p && numbered s p) (numbered s) bs (λ x. and-right (f x) (numbered s x)),
-          left (pageIn s b) (find s bs)
+          left (pageIn s b) (find s bs),
         )
 
 -- the pages that pass, number by number
@@ -123,7 +128,7 @@ tally-upTo f bs once z zero =
     omega (
       arith,
       tally-mono (λ p. f p && upTo 0 p) (numbered 0) bs
-      (λ p e. eq-eqb (sequence p) 0 (omega (arith, leb-true (sequence p) 0 (and-right (f p) (upTo 0 p) e))))
+          (λ p e. eq-eqb (sequence p) 0 (omega (arith, leb-true (sequence p) 0 (and-right (f p) (upTo 0 p) e)))),
     )
 tally-upTo f bs once z (suc k) =
     omega (
@@ -131,7 +136,7 @@ tally-upTo f bs once z (suc k) =
       tally-upTo f bs once z k,
       tally-number f (suc k) bs (once (suc k)),
       tally-mono (λ p. f p && upTo (suc k) p) (λ p. (f p && upTo k p) || (f p && numbered (suc k) p)) bs (λ p. step (f p) p),
-      tally-or (λ p. f p && upTo k p) (λ p. f p && numbered (suc k) p) bs
+      tally-or (λ p. f p && upTo k p) (λ p. f p && numbered (suc k) p) bs,
     )
   where
     step : (t : Bool) (p : Page) → (t && upTo (suc k) p) ≡ true → ((t && upTo k p) || (t && numbered (suc k) p)) ≡ true
@@ -150,7 +155,7 @@ tally-all f bs k once z o =
       arith,
       tally-upTo f bs once z k,
       tally-mono f (λ p. (f p && upTo k p) || above k p) bs (λ p. step (f p) p),
-      tally-or (λ p. f p && upTo k p) (above k) bs
+      tally-or (λ p. f p && upTo k p) (above k) bs,
     )
   where
     step : (t : Bool) (p : Page) → t ≡ true → ((t && upTo k p) || above k p) ≡ true
@@ -171,11 +176,12 @@ module _ (bs : Blocks) (buffer : List Entry) (last : ℕ) (once : (s : ℕ) → 
         arith,
         tally-all (carries w n) bs last once z o,
         sumTo-ext (λ s. bit (test (carries w n) (find s bs))) (λ s. some? (piecesIn n (greatest w n) (itemsAt (find s bs)))) last
-        (λ s l. ap bit (go (find s bs)))
+            (λ s l. ap bit (go (find s bs))),
       )
     where
       w : View
       w = seen bs buffer last
+
       go : (x : Option Page) → test (carries (seen bs buffer last) n) x ≡ not (empty (piecesIn n (greatest (seen bs buffer last) n) (itemsAt x)))
       go none = refl
       go (some p) = refl
@@ -190,5 +196,5 @@ module _ (bs : Blocks) (buffer : List Entry) (last : ℕ) (once : (s : ℕ) → 
         live-bound closing most n (λ m l. h m (omega arith)),
         h n (omega arith),
         carries-pages n,
-        tally-or (carries (seen bs buffer last) n) (live (seen bs buffer last) closing n) bs
+        tally-or (carries (seen bs buffer last) n) (live (seen bs buffer last) closing n) bs,
       )

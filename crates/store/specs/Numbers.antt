@@ -71,13 +71,13 @@ switch-edit-last : {B N : ℕ} {table : ℕ → Node} {modes : ℕ → Mode} {ru
 switch-edit-last {B} {N} {table} {modes} {run} v n l c x =
     let h = v .neat n l in
     let d : Good B (writeGroup n (table n) run) =
-          writeGroup-done (v .good) n (table n) (neat-fits (table n) h) (omega (arith, v .nodes)) (omega (arith, v .nodes, v .good .invariant .nodes)) .good in
+    writeGroup-done (v .good) n (table n) (neat-fits (table n) h) (omega (arith, v .nodes)) (omega (arith, v .nodes, v .good .invariant .nodes)) .good in
     let there : n < writeGroup n (table n) run .nodes = more n (table n) run in
     let r = makeRoom-roomy d 1 (omega arith) .pages n there in
     omega (
       arith,
       writeEdit-entry n c x (writeGroup n (table n) run) (omega (arith, r, writeGroup-pages (v .good) n (table n) (neat-fits (table n) h))),
-      writeGroup-last n (table n) run
+      writeGroup-last n (table n) run,
     )
   where
     more : (n : ℕ) (x : Node) (run : Run) → n < writeGroup n x run .nodes

@@ -12,7 +12,6 @@ use lib.Dec.{eqb}
 use Rattle.laws.specs.Tests.{choose, and-left, and-right, and-both}
 use Rattle.laws.specs.Order.{eq-or, le-or}
 use Rattle.laws.specs.Counts.{bit, consIf, count, tally}
-
 use Rattle.laws.specs.Every as Every
 use Rattle.layout.specs.Layout.{pagesInBlock, fewestBlocks, nodeLimit, mostLogPages}
 use Rattle.account.specs.declared.Mode.{Mode}
@@ -113,22 +112,20 @@ module _ {B N : ℕ} {c : Cells} (o : Opens B N c) where
   unfolding reopened
   opened-good =
       let bs = blocksIn pagesInBlock B c in
-      record
-        {
-          invariant =
-            record
-              {
-                blocks = o .blocks;
-                nodes = o .nodes;
-                sheets = omega (arith, none-closing bs);
-                rules = passing-rules pagesInBlock B c (passing pagesInBlock B c opens-blocks) (passing-numbers bs opens-pages) (o .some);
-                fit = passing-fit bs opens-pages;
-                lean = opened-lean
-              };
-          versions = passing-versions bs opens-pages;
-          small = omega arith;
-          passed = Every.none
-        }
+      record {
+        invariant =
+            record {
+              blocks = o .blocks;
+              nodes = o .nodes;
+              sheets = omega (arith, none-closing bs);
+              rules = passing-rules pagesInBlock B c (passing pagesInBlock B c opens-blocks) (passing-numbers bs opens-pages) (o .some);
+              fit = passing-fit bs opens-pages;
+              lean = opened-lean;
+            };
+        versions = passing-versions bs opens-pages;
+        small = omega arith;
+        passed = Every.none;
+      }
 
 -- nothing has version 0
 piecesIn-zero : (n s : ℕ) (bs : Blocks) (es : List Entry) → versionsPass s bs es ≡ true → piecesIn n 0 (map entryItem es) ≡ []
@@ -138,6 +135,7 @@ piecesIn-zero n s bs (e ∷ es) h =
   where
     fits : VersionFits s bs (e .version)
     fits = version-fits s bs e (and-left (versionPasses s bs e) (versionsPass s bs es) h)
+
     go : (b : Bool) → piecesIn n 0 (map entryItem es) ≡ [] → consIf (b && false) (entryItem e .piece) (piecesIn n 0 (map entryItem es)) ≡ []
     go true r = r
     go false r = r
@@ -179,13 +177,12 @@ module _ (bs : Blocks) (h : everyPage (pagePasses bs) bs ≡ true) (n : ℕ) whe
 
   on-page : (s s′ m : ℕ) (x : Node) → find s bs ≡ some (page s′ (whole m x)) → s′ ≡ s → s′ ≡ u → m ≡ n → OnPage (storeOf bs) n
   on-page s s′ m x a p q r =
-      record
-        {
-          node = x;
-          page =
+      record {
+        node = x;
+        page =
             subst (λ z. find z bs ≡ some (page z (whole n x))) (sym p ∙ q)
-            (subst (λ k. find s bs ≡ some (page s (whole k x))) r (subst (λ z. find s bs ≡ some (page z (whole m x))) p a))
-        }
+            (subst (λ k. find s bs ≡ some (page s (whole k x))) r (subst (λ z. find s bs ≡ some (page z (whole m x))) p a));
+      }
 
   found-mode : (s : ℕ) (o : Option Page) → find s bs ≡ o → Passes (pagePasses bs) s o → 0 < u → greatestIn n (itemsAt o) ≡ u →
       InLog (storeOf bs) n ⊎ OnPage (storeOf bs) n
@@ -205,11 +202,13 @@ module _ (bs : Blocks) (h : everyPage (pagePasses bs) bs ≡ true) (n : ℕ) whe
     where
       f : ℕ → ℕ
       f s = greatestIn n (itemsAt (find s bs))
+
       bare : u ≡ 0 → InLog (storeOf bs) n ⊎ OnPage (storeOf bs) n
       bare z = let q : unlinked [] ≡ made x = ap replay (sym (no-pieces z)) ∙ e in absurd (clash q)
         where
           clash : unlinked [] ≡ made x → ⊥
           clash q = let z : _≡_ {A = ℕ} 0 1 = cc in omega arith
+
       go : (1 ≤ greatestTo f (newest bs)) ⊎ (greatestTo f (newest bs) < 1) → (greatestTo f (newest bs) ≡ 0) ⊎ Reached f (newest bs) →
           InLog (storeOf bs) n ⊎ OnPage (storeOf bs) n
       go (inl k) (inl z) = absurd (omega arith)
@@ -230,19 +229,17 @@ pub opened-keeps : {B N : ℕ} {c : Cells} → Opens B N c → ((n : ℕ) → n 
     Keeps B N (nodeOf (reopened B c)) (modeOf (reopened B c)) (opened B N c)
 unfolding reopened
 opened-keeps {B} {N} {c} o d t =
-    record
-      {
-        good = opened-good o;
-        nodes = refl;
-        holds =
+    record {
+      good = opened-good o;
+      nodes = refl;
+      holds =
           λ n l.
-            record
-              {
-                content = d n l;
-                mode = opened-mode (blocksIn pagesInBlock B c) (opens-pages o) n (nodeOf (storeOf (blocksIn pagesInBlock B c)) n) (d n l)
-              };
-        neat = t
-      }
+          record {
+            content = d n l;
+            mode = opened-mode (blocksIn pagesInBlock B c) (opens-pages o) n (nodeOf (storeOf (blocksIn pagesInBlock B c)) n) (d n l);
+          };
+      neat = t;
+    }
 
 -- OUR OWN POOL PASSES the tests, in every good state
 pub own-passes : {B N : ℕ} {closing : Page → Bool} {st : Store} → Invariant B N closing st → VersionRules st → pagesPass B (poolOf st) ≡ true
@@ -258,6 +255,6 @@ pub reopen : {B N : ℕ} {closing : Page → Bool} {st : Store} (v : Invariant B
 unfolding reopened
 reopen {B} {st = st} v h e =
     let top : newest (st .blocks) ≡ st .last =
-          omega (arith, newest-le (st .last) (st .blocks) (v .rules .within), le-newest (st .last) (st .blocks) h) in
+    omega (arith, newest-le (st .last) (st .blocks) (v .rules .within), le-newest (st .last) (st .blocks) h) in
     let at : blockOf (st .last) (st .blocks) ≡ st .current = ap (λ z. blockOf z (st .blocks)) (sym top) ∙ rules-current (v .rules) in
     rw (rules-blocks (v .rules), top, at) (λ i. record { blocks = st .blocks; current = st .current; buffer = sym e i; last = st .last })

@@ -36,12 +36,11 @@ pub version-fits : (s : ℕ) (bs : Blocks) (e : Entry) → versionPasses s bs e 
 version-fits s bs e h =
     let v = e .version in
     let r = and-right (leb 1 v) (ltb v s && eqb (tally (numbered v) bs) 0) h in
-    record
-      {
-        fromOne = leb-true 1 v (and-left (leb 1 v) (ltb v s && eqb (tally (numbered v) bs) 0) h);
-        below = ltb-true v s (and-left (ltb v s) (eqb (tally (numbered v) bs) 0) r);
-        apart = eqb-true _ 0 (and-right (ltb v s) (eqb (tally (numbered v) bs) 0) r)
-      }
+    record {
+      fromOne = leb-true 1 v (and-left (leb 1 v) (ltb v s && eqb (tally (numbered v) bs) 0) h);
+      below = ltb-true v s (and-left (ltb v s) (eqb (tally (numbered v) bs) 0) r);
+      apart = eqb-true _ 0 (and-right (ltb v s) (eqb (tally (numbered v) bs) 0) r);
+    }
 
 fits-version : (s : ℕ) (bs : Blocks) (e : Entry) → VersionFits s bs (e .version) → versionPasses s bs e ≡ true
 fits-version s bs e f =
@@ -70,7 +69,7 @@ passing-greatestIn n s bs (e ∷ es) h =
       arith,
       first-fits s bs e es h .below,
       passing-greatestIn n s bs es (rest-pass s bs e es h),
-      chosen (eqb (e .id) n)
+      chosen (eqb (e .id) n),
     )
   where
     chosen : (b : Bool) → choose b (e .version) 0 ≤ e .version
@@ -83,7 +82,7 @@ passing-early s bs (e ∷ es) h =
     omega (
       arith,
       ap bit (lt-leb s (e .version) (first-fits s bs e es h .below)),
-      passing-early s bs es (rest-pass s bs e es h)
+      passing-early s bs es (rest-pass s bs e es h),
     )
 
 passing-fromOne : (s : ℕ) (bs : Blocks) (es : List Entry) → versionsPass s bs es ≡ true → count (versionIs 0) es ≡ 0
@@ -92,7 +91,7 @@ passing-fromOne s bs (e ∷ es) h =
     omega (
       arith,
       ap bit (ne-eqb (e .version) 0 (λ z. omega (arith, first-fits s bs e es h .fromOne))),
-      passing-fromOne s bs es (rest-pass s bs e es h)
+      passing-fromOne s bs es (rest-pass s bs e es h),
     )
 
 -- One page.
@@ -147,7 +146,7 @@ everyPage-none f g h (b ∷ bs) e =
     omega (
       arith,
       every-none f g h b (and-left (every f b) (everyPage f bs) e),
-      everyPage-none f g h bs (and-right (every f b) (everyPage f bs) e)
+      everyPage-none f g h bs (and-right (every f b) (everyPage f bs) e),
     )
 
 -- The page that is found passes, and has the number.
@@ -180,18 +179,17 @@ passing-numbers bs e =
 pub passing-fit : (bs : Blocks) → everyPage (pagePasses bs) bs ≡ true → Fit (seen bs [] (newest bs))
 unfolding greatest
 passing-fit bs e =
-    record
-      {
-        versions =
+    record {
+      versions =
           λ n.
-            omega (
-              arith,
-              greatestTo-le (λ s. greatestIn n (itemsAt (find s bs))) (newest bs) (newest bs)
-              (λ s p l. le-trans (go n s (find s bs) (find-passes (pagePasses bs) s bs e)) l)
-            );
-        beyond =
-          λ s l. ap itemsAt (find-none s bs (numbered-none (newest bs) bs (newest-above (newest bs) bs (omega arith)) s l))
-      }
+          omega (
+            arith,
+            greatestTo-le (λ s. greatestIn n (itemsAt (find s bs))) (newest bs) (newest bs)
+                (λ s p l. le-trans (go n s (find s bs) (find-passes (pagePasses bs) s bs e)) l),
+          );
+      beyond =
+          λ s l. ap itemsAt (find-none s bs (numbered-none (newest bs) bs (newest-above (newest bs) bs (omega arith)) s l));
+    }
   where
     go : (n s : ℕ) (o : Option Page) → Passes (pagePasses bs) s o → greatestIn n (itemsAt o) ≤ s
     go n s none h = omega arith
@@ -204,6 +202,7 @@ says-in v bs (p ∷ b) e h =
   where
     wider : (s : ℕ) → VersionFits s bs v → s ≤ max (sequence p) (greatestOf b) → VersionFits (max (sequence p) (greatestOf b)) bs v
     wider s f l = record { fromOne = f .fromOne; below = omega (arith, f .below); apart = f .apart }
+
     go : (1 ≤ bit (says v p)) ⊎ (bit (says v p) < 1) → (0 < count (says v) b → VersionFits (greatestOf b) bs v) →
         VersionFits (max (sequence p) (greatestOf b)) bs v
     go (inl q) r = wider (sequence p) (page-says v bs p (and-left (pagePasses bs p) (every (pagePasses bs) b) e) q) (omega arith)
@@ -216,6 +215,7 @@ says-all v bs (c ∷ cs) e h =
   where
     wider : (s : ℕ) → VersionFits s bs v → s ≤ max (greatestOf c) (newest cs) → VersionFits (max (greatestOf c) (newest cs)) bs v
     wider s f l = record { fromOne = f .fromOne; below = omega (arith, f .below); apart = f .apart }
+
     go : (1 ≤ count (says v) c) ⊎ (count (says v) c < 1) → (0 < tally (says v) cs → VersionFits (newest cs) bs v) →
         VersionFits (max (greatestOf c) (newest cs)) bs v
     go (inl q) r = wider (greatestOf c) (says-in v bs c (and-left (every (pagePasses bs) c) (everyPage (pagePasses bs) cs) e) q) (omega arith)
@@ -224,13 +224,12 @@ says-all v bs (c ∷ cs) e h =
 pub passing-versions : (bs : Blocks) → everyPage (pagePasses bs) bs ≡ true → VersionRules (storeOf bs)
 unfolding said
 passing-versions bs e =
-    record
-      {
-        early = everyPage-none (pagePasses bs) late (page-early bs) bs e;
-        fromOne = omega (arith, everyPage-none (pagePasses bs) (says 0) (page-saysZero bs) bs e);
-        apart = λ v h. says-all v bs bs e (omega arith) .apart;
-        within = λ v l. go v l (le-or 1 (tally (says v) bs))
-      }
+    record {
+      early = everyPage-none (pagePasses bs) late (page-early bs) bs e;
+      fromOne = omega (arith, everyPage-none (pagePasses bs) (says 0) (page-saysZero bs) bs e);
+      apart = λ v h. says-all v bs bs e (omega arith) .apart;
+      within = λ v l. go v l (le-or 1 (tally (says v) bs));
+    }
   where
     go : (v : ℕ) → newest bs < v → (1 ≤ tally (says v) bs) ⊎ (tally (says v) bs < 1) → tally (says v) bs + 0 ≡ 0
     go v l (inl q) = absurd (omega (arith, says-all v bs bs e q .below))
@@ -251,17 +250,17 @@ counts-versions s all [] l z a = refl
 counts-versions s all (e ∷ es) l z a =
     and-both (versionPasses s all e) (versionsPass s all es)
     (fits-version s all e
-    (record
-      {
-        fromOne = positiveVersion (eq-or (e .version) 0);
-        below = early (le-or s (e .version));
-        apart = a (e .version) (omega (arith, ap bit (eq-eqb (e .version) (e .version) refl)))
-      }))
+    (record {
+      fromOne = positiveVersion (eq-or (e .version) 0);
+      below = early (le-or s (e .version));
+      apart = a (e .version) (omega (arith, ap bit (eq-eqb (e .version) (e .version) refl)));
+    }))
     (counts-versions s all es (omega arith) (omega arith) (λ v h. a v (omega arith)))
   where
     positiveVersion : (e .version ≡ 0) ⊎ (e .version ≡ 0 → ⊥) → 1 ≤ e .version
     positiveVersion (inl q) = absurd (omega (arith, z, ap bit (eq-eqb (e .version) 0 q)))
     positiveVersion (inr q) = omega arith
+
     early : (s ≤ e .version) ⊎ (e .version < s) → e .version < s
     early (inl q) = absurd (omega (arith, l, ap bit (le-leb s (e .version) q)))
     early (inr q) = q
@@ -277,6 +276,7 @@ counts-page all (page s c) n l z a = go c l z a
         pos : (s ≡ 0) ⊎ (s ≡ 0 → ⊥) → 1 ≤ s
         pos (inl q) = absurd (omega (arith, n, ap bit (eq-eqb s 0 q)))
         pos (inr q) = omega arith
+
     go : (c : Content) → bit (late (page s c)) ≡ 0 → bit (says 0 (page s c)) ≡ 0 → ((v : ℕ) → 0 < bit (says v (page s c)) → tally (numbered v) all ≡ 0) →
         pagePasses all (page s c) ≡ true
     go (log es) l z a =

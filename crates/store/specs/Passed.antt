@@ -26,13 +26,12 @@ use Rattle.store.specs.Placing.{Invariant, live-fits}
 copying-same : (keep : Page → Bool) (st : Store) {i j : ℕ} (q : ℕ) → ((s : ℕ) → tally (numbered s) (st .blocks) ≤ 1) → Moves (st .blocks) i j →
     (n : ℕ) → Same (view st) (view (copying keep st i j q)) n
 copying-same keep st {i} {j} q once m n =
-    record
-      {
-        greatest = pruned-greatest p n (omega arith);
-        pieces = pruned-pieces p n (omega arith);
-        pages = pruned-pages p n (omega arith);
-        buffered = pruned-buffered p n (omega arith)
-      }
+    record {
+      greatest = pruned-greatest p n (omega arith);
+      pieces = pruned-pieces p n (omega arith);
+      pages = pruned-pages p n (omega arith);
+      buffered = pruned-buffered p n (omega arith);
+    }
   where
     p : Pruned (suc n) (view st) (view (copying keep st i j q))
     p = record { last = refl; buffer = refl; each = λ s. stays (ap itemsAt (find-copying keep m s q (once s))) }
@@ -50,6 +49,7 @@ written-lean {N = N} {closing} {st} v c rest t =
   where
     keep : Page → Bool
     keep = live (view st) closing N
+
     go : (a b : Bool) → leb 2 (blanks (st .blocks)) ≡ b → Every (λ s. Lean N (view s)) (copiesBy a b (live (view st) closing N) st)
     go true b eb = none
     go false true eb = none

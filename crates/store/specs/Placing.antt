@@ -96,7 +96,7 @@ module _ {width B : ℕ} {bs : Blocks} {current k : ℕ} (p : Page) (e : sequenc
         gone,
         addTo-tally (numbered (suc k)) bs current p inside,
         ap (count (numbered (suc k))) here,
-        count-append (numbered (suc k)) (block bs current) (p ∷ [])
+        count-append (numbered (suc k)) (block bs current) (p ∷ []),
       )) ∙
       ap (pageIn (suc k)) here ∙
       pageIn-snoc (suc k) (block bs current) p (omega (arith, gone, tally-at (numbered (suc k)) bs current)) own
@@ -110,13 +110,12 @@ find-added-other bs current k p e s h =
 added-wrote : {width B : ℕ} {bs : Blocks} {current k : ℕ} (buffer rest : List Entry) (p : Page) → sequence p ≡ suc k → Ready width B bs current k →
     Wrote (seen bs buffer k) (seen (addTo bs current p) rest (suc k)) (itemsOf p) (map entryItem rest)
 added-wrote {bs = bs} {current} {k} buffer rest p e r =
-    record
-      {
-        last = refl;
-        page = ap itemsAt (find-added p e r);
-        old = λ s h. ap itemsAt (find-added-other bs current k p e s h);
-        buffer = refl
-      }
+    record {
+      last = refl;
+      page = ap itemsAt (find-added p e r);
+      old = λ s h. ap itemsAt (find-added-other bs current k p e s h);
+      buffer = refl;
+    }
 
 -- THE INVARIANT of a store with B blocks and N nodes, while `closing` tells the checkpoint being written.
 pub record Invariant (B N : ℕ) (closing : Page → Bool) (st : Store) : Type 0 where
@@ -134,10 +133,10 @@ live-fits {B} {N} {closing} {st} v =
     omega (
       arith,
       live-bound (st .blocks) (st .buffer) (st .last) (v .rules .once) (v .rules .fromOne) (v .rules .within) closing mostLogPages N
-      (λ n l. le-trans (omega arith) (v .lean .each n l)),
+          (λ n l. le-trans (omega arith) (v .lean .each n l)),
       v .nodes,
       v .sheets,
-      v .blocks
+      v .blocks,
     )
 
 module _ {B N : ℕ} {closing : Page → Bool} {st : Store} (v : Invariant B N closing st) where
@@ -149,7 +148,7 @@ module _ {B N : ℕ} {closing : Page → Bool} {st : Store} (v : Invariant B N c
   unfolding found
   found-how = spot-how (live (view st) closing N) (v .rules) (live-fits v)
 
-  found-pruned : Pruned N (view st) (view (found closing N st))
+  pub found-pruned : Pruned N (view st) (view (found closing N st))
   unfolding found
   found-pruned = go found-how
     where
@@ -164,10 +163,12 @@ module _ {B N : ℕ} {closing : Page → Bool} {st : Store} (v : Invariant B N c
     where
       same-page : {a b : Page} → some a ≡ some b → a ≡ b
       same-page x = cc
+
       kept : {after : Option Page} → Found (live (view st) closing N) (find s (st .blocks)) after → after ≡ some q
       kept (PoolLaws.stays x) = x ∙ e
       kept (PoolLaws.goes p x y z) =
           absurd (test-clash (live (view st) closing N q) l (ap (live (view st) closing N) (same-page (sym e ∙ y)) ∙ z))
+
       go : {bs′ : Blocks} → How (live (view st) closing N) (st .blocks) bs′ → find s bs′ ≡ some q
       go BlockRules.stays = e
       go (BlockRules.moves m) = kept (find-compact (live (view st) closing N) m s (v .rules .once s))
@@ -175,13 +176,12 @@ module _ {B N : ℕ} {closing : Page → Bool} {st : Store} (v : Invariant B N c
   -- FINDING A PLACE CHANGES NO NODE
   pub found-same : (n : ℕ) → n < N → Same (view st) (view (found closing N st)) n
   found-same n l =
-      record
-        {
-          greatest = pruned-greatest found-pruned n l;
-          pieces = pruned-pieces found-pruned n l;
-          pages = pruned-pages found-pruned n l;
-          buffered = pruned-buffered found-pruned n l
-        }
+      record {
+        greatest = pruned-greatest found-pruned n l;
+        pieces = pruned-pieces found-pruned n l;
+        pages = pruned-pages found-pruned n l;
+        buffered = pruned-buffered found-pruned n l;
+      }
 
   found-lean : Lean N (view (found closing N st))
   found-lean = same-lean (v .lean) found-same
@@ -219,7 +219,7 @@ module _ {B N : ℕ} {closing : Page → Bool} {st : Store} (v : Invariant B N c
         arith,
         how-tally f found-how,
         addTo-tally f (found closing N st .blocks) (found closing N st .current) (next st c)
-        (omega (arith, found-ready .size, found-ready .inside))
+            (omega (arith, found-ready .size, found-ready .inside)),
       )
 
   pub place-has : (f : Page → Bool) (c : Content) (rest : List Entry) → bit (f (next st c)) ≤ tally f (place closing N c rest st .blocks)
@@ -228,7 +228,7 @@ module _ {B N : ℕ} {closing : Page → Bool} {st : Store} (v : Invariant B N c
       omega (
         arith,
         addTo-tally f (found closing N st .blocks) (found closing N st .current) (next st c)
-        (omega (arith, found-ready .size, found-ready .inside))
+            (omega (arith, found-ready .size, found-ready .inside)),
       )
 
   pub place-invariant : (c : Content) (rest : List Entry) → tally closing (st .blocks) + bit (closing (next st c)) ≤ mostSheets →
@@ -236,15 +236,14 @@ module _ {B N : ℕ} {closing : Page → Bool} {st : Store} (v : Invariant B N c
       Lean N (view (place closing N c rest st)) → Invariant B N closing (place closing N c rest st)
   unfolding place found
   place-invariant c rest l hx hy t =
-      record
-        {
-          blocks = v .blocks;
-          nodes = v .nodes;
-          sheets = le-trans (place-tally closing c rest) l;
-          rules = place-rules c rest;
-          fit = wrote-fit (place-wrote c rest) found-fit hx hy;
-          lean = t
-        }
+      record {
+        blocks = v .blocks;
+        nodes = v .nodes;
+        sheets = le-trans (place-tally closing c rest) l;
+        rules = place-rules c rest;
+        fit = wrote-fit (place-wrote c rest) found-fit hx hy;
+        lean = t;
+      }
 
   -- THE BUFFER AS A PAGE: content and version of every node stay
   flush-wrote : Wrote (view (found closing N st)) (view (flush closing N st)) (view st .buffer) []
@@ -257,13 +256,12 @@ module _ {B N : ℕ} {closing : Page → Bool} {st : Store} (v : Invariant B N c
   flush-now n l =
       let a = flushed flush-wrote n in
       let o = found-same n l in
-      record
-        {
-          greatest = a .greatest ∙ o .greatest;
-          pieces = a .pieces ∙ o .pieces;
-          pages = a .pages ∙ rw (o .pages, o .buffered);
-          buffered = a .buffered
-        }
+      record {
+        greatest = a .greatest ∙ o .greatest;
+        pieces = a .pieces ∙ o .pieces;
+        pages = a .pages ∙ rw (o .pages, o .buffered);
+        buffered = a .buffered;
+      }
 
   pub flush-invariant : closing (next st (log (st .buffer))) ≡ false → Invariant B N closing (flush closing N st)
   unfolding flush found
@@ -297,7 +295,7 @@ module _ {B N : ℕ} {closing : Page → Bool} {st : Store} (v : Invariant B N c
   unfolding found
   silent-same c e m l =
       let wrote : Wrote (view (found closing N st)) (view (place closing N c (st .buffer) st)) [] (view st .buffer) =
-            rw e at (place-wrote c (st .buffer)) in
+      rw e at (place-wrote c (st .buffer)) in
       same-trans (found-same m l) (silent wrote m)
 
   pub silent-invariant : (c : Content) → itemsOf (next st c) ≡ [] → tally closing (st .blocks) < mostSheets →
@@ -323,30 +321,28 @@ module _ {B N : ℕ} {closing : Page → Bool} {st : Store} (v : Invariant B N c
   pub enter-invariant : (n : ℕ) (c : Change) → pages (view st) n < mostLogPages → Invariant B N closing (enter n c st)
   unfolding enter
   enter-invariant n c l =
-      record
-        {
-          blocks = v .blocks;
-          nodes = v .nodes;
-          sheets = v .sheets;
-          rules = v .rules;
-          fit =
+      record {
+        blocks = v .blocks;
+        nodes = v .nodes;
+        sheets = v .sheets;
+        rules = v .rules;
+        fit =
             added-fit (enter-added n c) (v .fit)
             (λ m. le-trans (greatestIn-group-any m n (greatest (view st) n) (step c ∷ [])) (v .fit .versions n));
-          lean = edited-lean n (step c) (enter-added n c) l (v .lean)
-        }
+        lean = edited-lean n (step c) (enter-added n c) l (v .lean);
+      }
 
   -- A FRESH START, of a node that is there or of the next one
   start-wrote : (n : ℕ) (cs : List Change) →
       Wrote (view st) (view (start n cs st)) [] (view st .buffer ++ group n (suc (st .last)) (map step cs))
   unfolding start
   start-wrote n cs =
-      record
-        {
-          last = refl;
-          page = v .fit .beyond (suc (st .last)) (omega arith);
-          old = λ s h. refl;
-          buffer = items-append n (suc (st .last)) (st .buffer) cs
-        }
+      record {
+        last = refl;
+        page = v .fit .beyond (suc (st .last)) (omega arith);
+        old = λ s h. refl;
+        buffer = items-append n (suc (st .last)) (st .buffer) cs;
+      }
 
   pub start-now : (n : ℕ) (c : Change) (cs : List Change) →
       Now (view (start n (c ∷ cs) st)) n (suc (st .last)) (map step (c ∷ cs)) 0 (map step (c ∷ cs))
@@ -360,16 +356,15 @@ module _ {B N : ℕ} {closing : Page → Bool} {st : Store} (v : Invariant B N c
   unfolding start
   start-invariant n c cs N′ g l =
       let xs : List Piece = map step (c ∷ cs) in
-      record
-        {
-          blocks = v .blocks;
-          nodes = l;
-          sheets = v .sheets;
-          rules = rules-later (v .rules);
-          fit =
+      record {
+        blocks = v .blocks;
+        nodes = l;
+        sheets = v .sheets;
+        rules = rules-later (v .rules);
+        fit =
             wrote-fit (start-wrote n (c ∷ cs)) (v .fit) (λ m. omega arith)
             (λ m.
-              rw (greatestIn-append m (view st .buffer) (group n (suc (st .last)) xs))
-              (omega (arith, fit-buffer (v .fit) m, greatestIn-group-any m n (suc (st .last)) xs)));
-          lean = started-lean (v .fit) n (step c) (map step cs) (start-wrote n (c ∷ cs)) N′ g (v .lean)
-        }
+            rw (greatestIn-append m (view st .buffer) (group n (suc (st .last)) xs))
+            (omega (arith, fit-buffer (v .fit) m, greatestIn-group-any m n (suc (st .last)) xs)));
+        lean = started-lean (v .fit) n (step c) (map step cs) (start-wrote n (c ∷ cs)) N′ g (v .lean);
+      }

@@ -142,7 +142,7 @@ module _ (f : Page → Bool) {bs : Blocks} {i j : ℕ} (m : Moves bs i j) where
         tally-set g (copied f bs i j) i [] (lt-length-set bs j _ (m .from)),
         ap (count g) copied-from,
         tally-set g bs j (filter f (block bs i)) (m .to),
-        ap (count g) (m .blank)
+        ap (count g) (m .blank),
       )
 
   pub compact-tally-le : (g : Page → Bool) → tally g (compact f bs i j) ≤ tally g bs
@@ -168,13 +168,16 @@ module _ (f : Page → Bool) {bs : Blocks} {i j : ℕ} (m : Moves bs i j) where
     where
       copies : List Page
       copies = take q (filter f (block bs i))
+
       unseen : pageIn s copies ≡ none → find s (set bs j copies) ≡ find s bs
       unseen e = find-set s bs j copies (e ∙ ap (pageIn s) (sym (m .blank)))
+
       go : (count (numbered s) (block bs i) ≤ 0) ⊎ (0 < count (numbered s) (block bs i)) → find s (set bs j copies) ≡ find s bs
       go (inl l) = taken (pageIn-take s q (filter f (block bs i)))
         where
           gone : pageIn s (filter f (block bs i)) ≡ none
           gone = pageIn-none s (filter f (block bs i)) (omega (arith, count-filter-le (numbered s) f (block bs i)))
+
           taken : (pageIn s copies ≡ pageIn s (filter f (block bs i))) ⊎ (pageIn s copies ≡ none) → find s (set bs j copies) ≡ find s bs
           taken (inl e) = unseen (e ∙ gone)
           taken (inr e) = unseen e
@@ -183,6 +186,7 @@ module _ (f : Page → Bool) {bs : Blocks} {i j : ℕ} (m : Moves bs i j) where
         where
           here : find s bs ≡ pageIn s (block bs i)
           here = find-block s bs i (omega arith)
+
           taken : (pageIn s copies ≡ pageIn s (filter f (block bs i))) ⊎ (pageIn s copies ≡ none) →
               Found f (pageIn s (block bs i)) (pageIn s (filter f (block bs i))) → find s (set bs j copies) ≡ find s bs
           taken (inr e) r = unseen e

@@ -33,13 +33,12 @@ moment nodes st = record { nodes = nodes; state = st }
 -- The store with the first q pages copied of block `from` to block `to`, which is blank.
 abbrev pub copying : (Page → Bool) → Store → ℕ → ℕ → ℕ → Store
 copying keep st from to q =
-    record
-      {
-        blocks = set (st .blocks) to (take q (filter keep (block (st .blocks) from)));
-        current = st .current;
-        buffer = st .buffer;
-        last = st .last
-      }
+    record {
+      blocks = set (st .blocks) to (take q (filter keep (block (st .blocks) from)));
+      current = st .current;
+      buffer = st .buffer;
+      last = st .last;
+    }
 
 abbrev pub oneTo : (ℕ → Store) → ℕ → List Store
 oneTo f zero = []
@@ -64,12 +63,11 @@ written closing nodes c rest st = copies closing nodes st ++ (place closing node
 -- A page written in a run.
 unfoldable pub write : (Page → Bool) → Content → List Entry → Run → Run
 write closing c rest run =
-    record
-      {
-        nodes = run .nodes;
-        now = place closing (run .nodes) c rest (run .now);
-        passed = run .passed ++ map (moment (run .nodes)) (written closing (run .nodes) c rest (run .now))
-      }
+    record {
+      nodes = run .nodes;
+      now = place closing (run .nodes) c rest (run .now);
+      passed = run .passed ++ map (moment (run .nodes)) (written closing (run .nodes) c rest (run .now));
+    }
 
 -- The buffer is written out.
 abbrev pub flushRun : Run → Run

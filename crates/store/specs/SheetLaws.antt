@@ -53,6 +53,7 @@ parts-few (suc most) width (x ∷ xs) p = go (le-or (length (x ∷ xs)) width) (
   where
     rest : List (List Score)
     rest = parts most width (drop width (x ∷ xs))
+
     go : (length (x ∷ xs) ≤ width) ⊎ (width < length (x ∷ xs)) → length rest * width < length (drop width (x ∷ xs)) + width →
         suc (length rest) * width < suc (length xs) + width
     go (inl l) r =
@@ -68,7 +69,7 @@ sheets-few t scores l =
       arith,
       length-laterSheets (length scores) (laterParts scores),
       parts-few (length scores) otherScores (drop firstScores scores) (omega arith),
-      length-drop firstScores scores
+      length-drop firstScores scores,
     )
 
 -- The parts in a row are the list.

@@ -59,7 +59,7 @@ module _ {w w′ : View} {new rest : List Item} (r : Wrote w w′ new rest) (n :
       (omega (
         arith,
         greatestTo-ext (λ s. greatestIn n (w′ .at s)) (λ s. greatestIn n (w .at s)) (w .last)
-        (λ s l. ap (greatestIn n) (r .old s (λ q. omega arith)))
+            (λ s l. ap (greatestIn n) (r .old s (λ q. omega arith))),
       ))
 
   -- with the version held fast
@@ -70,7 +70,7 @@ module _ {w w′ : View} {new rest : List Item} (r : Wrote w w′ new rest) (n :
         r .page,
         r .buffer,
         gather-ext (λ s. piecesIn n v (w′ .at s)) (λ s. piecesIn n v (w .at s)) (w .last)
-        (λ s l. ap (piecesIn n v) (r .old s (λ q. omega arith)))
+            (λ s l. ap (piecesIn n v) (r .old s (λ q. omega arith))),
       )
       (simp append-assoc)
 
@@ -80,7 +80,7 @@ module _ {w w′ : View} {new rest : List Item} (r : Wrote w w′ new rest) (n :
         r .last,
         r .page,
         sumTo-ext (λ s. some? (piecesIn n v (w′ .at s))) (λ s. some? (piecesIn n v (w .at s))) (w .last)
-        (λ s l. ap (λ z. some? (piecesIn n v z)) (r .old s (λ q. omega arith)))
+            (λ s l. ap (λ z. some? (piecesIn n v z)) (r .old s (λ q. omega arith))),
       )
 
   -- the version stays: what was there stays, and what is new is added
@@ -89,12 +89,11 @@ module _ {w w′ : View} {new rest : List Item} (r : Wrote w w′ new rest) (n :
       (pages w′ n ≡ pages w n + some? (piecesIn n (greatest w n) new)) ×
       (buffered w′ n ≡ piecesIn n (greatest w n) rest)
   unfolding pieces pages buffered
-  wrote-same e =
-      (
-        rw e (wrote-piecesAt (greatest w n)),
-        rw e (wrote-pagesAt (greatest w n)),
-        rw e (ap (piecesIn n (greatest w n)) (r .buffer))
-      )
+  wrote-same e = (
+    rw e (wrote-piecesAt (greatest w n)),
+    rw e (wrote-pagesAt (greatest w n)),
+    rw e (ap (piecesIn n (greatest w n)) (r .buffer)),
+  )
 
   -- the version is new: only what is new counts
   pub wrote-fresh : (v : ℕ) → greatest w n < v → greatest w′ n ≡ v →
@@ -102,17 +101,16 @@ module _ {w w′ : View} {new rest : List Item} (r : Wrote w w′ new rest) (n :
       (pages w′ n ≡ some? (piecesIn n v new)) ×
       (buffered w′ n ≡ piecesIn n v rest)
   unfolding pieces pages buffered
-  wrote-fresh v l e =
-      (
-        rw e (wrote-piecesAt v ∙ rw (gather-nil (λ s. piecesIn n v (w .at s)) (w .last) (at-above w n v l)) refl),
-        rw e
+  wrote-fresh v l e = (
+    rw e (wrote-piecesAt v ∙ rw (gather-nil (λ s. piecesIn n v (w .at s)) (w .last) (at-above w n v l)) refl),
+    rw e
         (wrote-pagesAt v ∙
         omega (
           arith,
-          sumTo-zero (λ s. some? (piecesIn n v (w .at s))) (w .last) (λ s p k. ap some? (at-above w n v l s p k))
+          sumTo-zero (λ s. some? (piecesIn n v (w .at s))) (w .last) (λ s p k. ap some? (at-above w n v l s p k)),
         )),
-        rw e (ap (piecesIn n v) (r .buffer))
-      )
+    rw e (ap (piecesIn n v) (r .buffer)),
+  )
 
 -- Entries join the buffer, under a version that stays.
 pub record Added (w w′ : View) (new : List Item) : Type 0 where
@@ -127,7 +125,7 @@ module _ {w w′ : View} {new : List Item} (r : Added w w′ new) (n : ℕ) wher
       rw (r .last, r .buffer, greatestIn-append)
       (omega (
         arith,
-        greatestTo-ext (λ s. greatestIn n (w′ .at s)) (λ s. greatestIn n (w .at s)) (w .last) (λ s l. ap (greatestIn n) (r .old s))
+        greatestTo-ext (λ s. greatestIn n (w′ .at s)) (λ s. greatestIn n (w .at s)) (w .last) (λ s l. ap (greatestIn n) (r .old s)),
       ))
 
   added-piecesAt : (v : ℕ) → piecesAt w′ n v ≡ piecesAt w n v ++ piecesIn n v new
@@ -136,7 +134,7 @@ module _ {w w′ : View} {new : List Item} (r : Added w w′ new) (n : ℕ) wher
         r .last,
         r .buffer,
         piecesIn-append,
-        gather-ext (λ s. piecesIn n v (w′ .at s)) (λ s. piecesIn n v (w .at s)) (w .last) (λ s l. ap (piecesIn n v) (r .old s))
+        gather-ext (λ s. piecesIn n v (w′ .at s)) (λ s. piecesIn n v (w .at s)) (w .last) (λ s l. ap (piecesIn n v) (r .old s)),
       )
       (simp append-assoc)
 
@@ -145,7 +143,7 @@ module _ {w w′ : View} {new : List Item} (r : Added w w′ new) (n : ℕ) wher
       rw (
         r .last,
         sumTo-ext (λ s. some? (piecesIn n v (w′ .at s))) (λ s. some? (piecesIn n v (w .at s))) (w .last)
-        (λ s l. ap (λ z. some? (piecesIn n v z)) (r .old s))
+            (λ s l. ap (λ z. some? (piecesIn n v z)) (r .old s)),
       )
 
   pub added-same : greatest w′ n ≡ greatest w n →
@@ -153,12 +151,11 @@ module _ {w w′ : View} {new : List Item} (r : Added w w′ new) (n : ℕ) wher
       (pages w′ n ≡ pages w n) ×
       (buffered w′ n ≡ buffered w n ++ piecesIn n (greatest w n) new)
   unfolding pieces pages buffered
-  added-same e =
-      (
-        rw e (added-piecesAt (greatest w n)),
-        rw e (added-pagesAt (greatest w n)),
-        rw (e, r .buffer) (piecesIn-append n (greatest w n) (w .buffer) new)
-      )
+  added-same e = (
+    rw e (added-piecesAt (greatest w n)),
+    rw e (added-pagesAt (greatest w n)),
+    rw (e, r .buffer) (piecesIn-append n (greatest w n) (w .buffer) new),
+  )
 
 -- A page goes, or stays; one that goes has nothing of the greatest version of a node below N.
 pub data Fate (N : ℕ) (w w′ : View) (s : ℕ) : Type 0 where
@@ -189,11 +186,10 @@ module _ {N : ℕ} {w w′ : View} (r : Pruned N w w′) (n : ℕ) where
 
 pub pruned-fit : {N : ℕ} {w w′ : View} → Pruned N w w′ → Fit w → Fit w′
 pruned-fit {N} {w} {w′} r f =
-    record
-      {
-        versions = λ n. omega (arith, pruned-greatest-le r n, f .versions n, r .last);
-        beyond = λ s l. go s (r .each s) (f .beyond s (rw (r .last) at l))
-      }
+    record {
+      versions = λ n. omega (arith, pruned-greatest-le r n, f .versions n, r .last);
+      beyond = λ s l. go s (r .each s) (f .beyond s (rw (r .last) at l));
+    }
   where
     go : (s : ℕ) → Fate N w w′ s → w .at s ≡ [] → w′ .at s ≡ []
     go s (stays e) q = e ∙ q
@@ -219,8 +215,10 @@ module _ {N : ℕ} {w w′ : View} (r : Pruned N w w′) (n : ℕ) (l : n < N) w
     where
       f : ℕ → ℕ
       f s = greatestIn n (w .at s)
+
       f′ : ℕ → ℕ
       f′ s = greatestIn n (w′ .at s)
+
       go : (greatestTo f (w .last) ≤ greatestIn n (w .buffer)) ⊎ (greatestIn n (w .buffer) < greatestTo f (w .last)) →
           (greatestTo f (w .last) ≡ 0) ⊎ Reached f (w .last) →
           max (greatestTo f′ (w .last)) (greatestIn n (w .buffer)) ≡ max (greatestTo f (w .last)) (greatestIn n (w .buffer))
@@ -232,10 +230,11 @@ module _ {N : ℕ} {w w′ : View} (r : Pruned N w w′) (n : ℕ) (l : n < N) w
             pruned-down r n,
             le-greatestTo f′ (w .last) (b .number) (b .positive) (b .within),
             b .is,
-            ap (greatestIn n) (pruned-kept (b .number) (omega arith) (omega (arith, b .is)))
+            ap (greatestIn n) (pruned-kept (b .number) (omega arith) (omega (arith, b .is))),
           )
 
-  pruned-at : (s : ℕ) → piecesIn n (greatest w′ n) (w′ .at s) ≡ piecesIn n (greatest w n) (w .at s)
+  -- on every page there is of it what there was
+  pub pruned-at : (s : ℕ) → piecesIn n (greatest w′ n) (w′ .at s) ≡ piecesIn n (greatest w n) (w .at s)
   pruned-at s = rw pruned-greatest (go (r .each s))
     where
       go : Fate N w w′ s → piecesIn n (greatest w n) (w′ .at s) ≡ piecesIn n (greatest w n) (w .at s)

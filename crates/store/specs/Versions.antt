@@ -79,16 +79,16 @@ module _ {B N : ℕ} {closing : Page → Bool} {st : Store} (v : Invariant B N c
       VersionRules (place closing N c rest st)
   unfolding said place
   place-versions c rest e h a =
-      record
-        {
-          early = omega (arith, place-tally v late c rest, ap bit e, a .early);
-          fromOne = omega (arith, less 0, a .fromOne);
-          apart = λ u l. go u l (le-or u (st .last));
-          within = λ u l. omega (arith, less u, a .within u (omega arith))
-        }
+      record {
+        early = omega (arith, place-tally v late c rest, ap bit e, a .early);
+        fromOne = omega (arith, less 0, a .fromOne);
+        apart = λ u l. go u l (le-or u (st .last));
+        within = λ u l. omega (arith, less u, a .within u (omega arith));
+      }
     where
       less : (u : ℕ) → said u (place closing N c rest st) ≤ said u st
       less u = omega (arith, place-tally v (says u) c rest, h u)
+
       go : (u : ℕ) → 0 < said u (place closing N c rest st) → (u ≤ st .last) ⊎ (st .last < u) →
           tally (numbered u) (place closing N c rest st .blocks) ≡ 0
       go u l (inl b) =
@@ -96,7 +96,7 @@ module _ {B N : ℕ} {closing : Page → Bool} {st : Store} (v : Invariant B N c
             arith,
             place-tally v (numbered u) c rest,
             a .apart u (omega (arith, less u)),
-            ap bit (ne-eqb (suc (st .last)) u (λ q. omega arith))
+            ap bit (ne-eqb (suc (st .last)) u (λ q. omega arith)),
           )
       go u l (inr b) = absurd (omega (arith, less u, a .within u b))
 
@@ -145,25 +145,26 @@ module _ {B N : ℕ} {closing : Page → Bool} {st : Store} (v : Invariant B N c
   pub enter-versions : (c : Change) → InLog st n → VersionRules st → VersionRules (enter n c st)
   unfolding said enter
   enter-versions c l a =
-      record
-        {
-          early = a .early;
-          fromOne = omega (arith, count-append (versionIs 0) (st .buffer) new, a .fromOne, entries-other 0 n own (c ∷ []) (λ q. omega (arith, l .some)));
-          apart = λ u h. go u h (eq-or own u);
-          within =
+      record {
+        early = a .early;
+        fromOne = omega (arith, count-append (versionIs 0) (st .buffer) new, a .fromOne, entries-other 0 n own (c ∷ []) (λ q. omega (arith, l .some)));
+        apart = λ u h. go u h (eq-or own u);
+        within =
             λ u h.
-              omega (
-                arith,
-                count-append (versionIs u) (st .buffer) new,
-                a .within u h,
-                entries-other u n own (c ∷ []) (λ q. omega (arith, v .fit .versions n))
-              )
-        }
+            omega (
+              arith,
+              count-append (versionIs u) (st .buffer) new,
+              a .within u h,
+              entries-other u n own (c ∷ []) (λ q. omega (arith, v .fit .versions n)),
+            );
+      }
     where
       own : ℕ
       own = greatest (view st) n
+
       new : List Entry
       new = entries n own (c ∷ [])
+
       go : (u : ℕ) → 0 < tally (says u) (st .blocks) + count (versionIs u) (st .buffer ++ new) → (own ≡ u) ⊎ (own ≡ u → ⊥) →
           tally (numbered u) (st .blocks) ≡ 0
       go u h (inl q) = rw (← q) (l .none)
@@ -173,25 +174,26 @@ module _ {B N : ℕ} {closing : Page → Bool} {st : Store} (v : Invariant B N c
   pub start-versions : (cs : List Change) → VersionRules st → VersionRules (start n cs st)
   unfolding said start
   start-versions cs a =
-      record
-        {
-          early = a .early;
-          fromOne = omega (arith, count-append (versionIs 0) (st .buffer) new, a .fromOne, entries-other 0 n own cs (λ q. omega arith));
-          apart = λ u h. go u h (eq-or own u);
-          within =
+      record {
+        early = a .early;
+        fromOne = omega (arith, count-append (versionIs 0) (st .buffer) new, a .fromOne, entries-other 0 n own cs (λ q. omega arith));
+        apart = λ u h. go u h (eq-or own u);
+        within =
             λ u h.
-              omega (
-                arith,
-                count-append (versionIs u) (st .buffer) new,
-                a .within u (omega arith),
-                entries-other u n own cs (λ q. omega arith)
-              )
-        }
+            omega (
+              arith,
+              count-append (versionIs u) (st .buffer) new,
+              a .within u (omega arith),
+              entries-other u n own cs (λ q. omega arith),
+            );
+      }
     where
       own : ℕ
       own = suc (st .last)
+
       new : List Entry
       new = entries n own cs
+
       go : (u : ℕ) → 0 < tally (says u) (st .blocks) + count (versionIs u) (st .buffer ++ new) → (own ≡ u) ⊎ (own ≡ u → ⊥) →
           tally (numbered u) (st .blocks) ≡ 0
       go u h (inl q) = numbered-none (st .last) (st .blocks) (v .rules .within) u (omega arith)
@@ -201,33 +203,33 @@ module _ {B N : ℕ} {closing : Page → Bool} {st : Store} (v : Invariant B N c
   place-inLog : (c : Content) (rest : List Entry) → greatest (view (place closing N c rest st)) n ≡ greatest (view st) n → InLog st n →
       InLog (place closing N c rest st) n
   place-inLog c rest t l =
-      record
-        {
-          none =
+      record {
+        none =
             rw t
             (omega (
               arith,
               place-tally v (numbered (greatest (view st) n)) c rest,
               l .none,
-              ap bit (ne-eqb (suc (st .last)) (greatest (view st) n) (λ q. omega (arith, v .fit .versions n)))
+              ap bit (ne-eqb (suc (st .last)) (greatest (view st) n) (λ q. omega (arith, v .fit .versions n))),
             ));
-          some = rw t (l .some)
-        }
+        some = rw t (l .some);
+      }
 
   place-onPage : (c : Content) (rest : List Entry) → n < N → greatest (view (place closing N c rest st)) n ≡ greatest (view st) n → OnPage st n →
       OnPage (place closing N c rest st) n
   unfolding carries
   place-onPage c rest l t d =
-      record
-        {
-          node = d .node;
-          page = subst (λ u. find u (place closing N c rest st .blocks) ≡ some (page u (whole n (d .node)))) (sym t) here
-        }
+      record {
+        node = d .node;
+        page = subst (λ u. find u (place closing N c rest st .blocks) ≡ some (page u (whole n (d .node)))) (sym t) here;
+      }
     where
       own : Page
       own = page (greatest (view st) n) (whole n (d .node))
+
       carried : carries (view st) n (page (greatest (view st) n) (whole n (d .node))) ≡ true
       carried = rw (eq-eqb n n refl, eq-eqb (greatest (view st) n) (greatest (view st) n) refl) refl
+
       here : find (greatest (view st) n) (place closing N c rest st .blocks) ≡ some (page (greatest (view st) n) (whole n (d .node)))
       here =
           place-find-live v c rest (greatest (view st) n) own (v .fit .versions n) (d .page) (live-carries (view st) closing N own n l carried)

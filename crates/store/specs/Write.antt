@@ -1,5 +1,5 @@
 -- What is written to the store, one thing at a time: a page in its place, the buffer as a page, one entry, a whole content under
--- a new version, a node page, a checkpoint page. Assumes nothing.
+-- a new version, a node page. A checkpoint page is placed as it is. Assumes nothing.
 use mathlib.Core.Bool.{Bool}
 use mathlib.Core.List.{List, [], _∷_, _++_}
 use mathlib.Core.Option.{Option}
@@ -49,7 +49,3 @@ start n cs st =
 -- "In disk mode every change, and a switch to disk, writes a new disk page."
 unfoldable pub nodePage : (Page → Bool) → ℕ → ℕ → Node → Store → Store
 nodePage closing nodes n x st = place closing nodes (whole n x) (st .buffer) st
-
--- A checkpoint page.
-unfoldable pub checkpointPage : (Page → Bool) → ℕ → Content → Store → Store
-checkpointPage closing nodes c st = place closing nodes c (st .buffer) st
