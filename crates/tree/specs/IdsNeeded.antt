@@ -72,6 +72,13 @@ record Down (table : Table) (run : ℕ) (ids : List ℕ) : Type 0 where
   all : fullRun table ids ≡ length ids → runDown table run ids ≡ run + length ids
   gap : fullRun table ids < length ids → runDown table run ids ≡ fullRun table ids
 
+down-start : (table : Table) (ids : List ℕ) → Down table 0 ids → runDown table 0 ids ≡ fullRun table ids
+down-start table ids d = go (eq-or (fullRun table ids) (length ids))
+  where
+    go : (fullRun table ids ≡ length ids) ⊎ (fullRun table ids ≡ length ids → ⊥) → runDown table 0 ids ≡ fullRun table ids
+    go (inl e) = omega (arith, d .all e)
+    go (inr e) = d .gap (omega (arith, d .most))
+
 down : (table : Table) (run : ℕ) (ids : List ℕ) → Down table run ids
 unfolding runDown fullRun
 down table run [] = record { most = omega arith; all = λ e. omega arith; gap = λ l. absurd (omega arith) }
@@ -101,19 +108,11 @@ down table run (id ∷ ids) = go (le-or mostKeys (sizeAt table id)) (down table 
         record {
           most = omega (arith, f, z .most);
           all = λ g. absurd (omega (arith, f, z .most));
-          gap = λ _. runDown-room table run id ids l ∙ (whole z (eq-or (fullRun table ids) (length ids)) ∙ sym f)
+          gap = λ _. runDown-room table run id ids l ∙ (down-start table ids z ∙ sym f)
         }
-      where
-        whole : Down table 0 ids → (fullRun table ids ≡ length ids) ⊎ (fullRun table ids ≡ length ids → ⊥) → runDown table 0 ids ≡ fullRun table ids
-        whole z (inl e) = omega (arith, z .all e)
-        whole z (inr e) = z .gap (omega (arith, z .most))
 
 pub fullRun-down : (table : Table) (ids : List ℕ) → runDown table 0 ids ≡ fullRun table ids
-fullRun-down table ids = go (eq-or (fullRun table ids) (length ids)) (down table 0 ids)
-  where
-    go : (fullRun table ids ≡ length ids) ⊎ (fullRun table ids ≡ length ids → ⊥) → Down table 0 ids → runDown table 0 ids ≡ fullRun table ids
-    go (inl e) d = omega (arith, d .all e)
-    go (inr e) d = d .gap (omega (arith, d .most))
+fullRun-down table ids = down-start table ids (down table 0 ids)
 
 -- What the work along a path has taken: finished, it met a node with room; pending, all below the node were full.
 abbrev Taken : Table → ℕ → ℕ → List ℕ → Work → Type 0
