@@ -88,7 +88,8 @@ NeatAll (c ∷ cs) n = Neat (change c n) × NeatAll cs (change c n)
 pub fits-edits : (limit : ℕ) (cs : List Change) (id : ℕ) (table : Table) (count : ℕ) (n : Node) → table id ≡ n → id < count → NeatAll cs n →
     Fits limit (map (edit id) cs) table count count
 fits-edits limit [] id table count n e l a = refl
-fits-edits limit (c ∷ cs) id table count n e l a =
-    ((l, rw e (a .0)),
-    fits-edits limit cs id (apply (edit id c) table) count (change c n)
-    (update-same table id (change c (table id)) id refl ∙ ap (change c) e) l (a .1))
+fits-edits limit (c ∷ cs) id table count n e l a = (
+  (l, rw e (a .0)),
+  fits-edits limit cs id (apply (edit id c) table) count (change c n)
+      (update-same table id (change c (table id)) id refl ∙ ap (change c) e) l (a .1),
+)

@@ -89,6 +89,13 @@ putOn b k = putRequests limit (b .count) (b .table) k (100 + k)
 scanOn : Book → ℕ → ℕ → ℕ → List NodeRequest
 scanOn b low high most = scanRequests (b .count) (b .table) low high most
 
+-- A request without its pairs: their number stands for them.
+abbrev outline : NodeRequest → NodeRequest
+outline (read id) = read id
+outline (edit id c) = edit id c
+outline (rewrite id n) = rewrite id (node Leaf [] (length (pairsOf n)))
+outline (create id n) = create id (node Leaf [] (length (pairsOf n)))
+
 record Splits : Type 0 where
   -- M 24 keys: no split. M 25 keys: 12 and 13.
   keys24 : sizes (puts 24) ≡ 24 ∷ []
@@ -109,6 +116,18 @@ record Splits : Type 0 where
       edit 0 (put 24 2) ∷
       edit 0 (link Branch 3) ∷
       []
+  -- a full branch below the root splits with its leaf: 12 keys stay, the 13th rises to the root, 12 go right
+  branchSplit : map outline (putOn (puts 468) 468) ≡
+      read 0 ∷
+      read 28 ∷
+      read 40 ∷
+      rewrite 40 (node Leaf [] 12) ∷
+      create 41 (node Leaf [] 13) ∷
+      rewrite 28 (node Leaf [] 12) ∷
+      create 42 (node Leaf [] 12) ∷
+      edit 0 (put 312 28) ∷
+      edit 0 (link Branch 42) ∷
+      []
   -- the 330 puts: 30 nodes, a sound tree that spells the 330 pairs
   nodes330 : puts 330 .count ≡ 30
   pairs330 : mapOf (puts 330 .count) (puts 330 .table) ≡ run 330 0
@@ -117,7 +136,7 @@ record Splits : Type 0 where
 splits : Splits
 unfolding prepared limit afterPut afterPuts puts sizes putOn putRequests putRefused getAnswer lookup leafFor path fullRun idsNeeded work settle finish insert slot update lowerHalf upperHalf middleKey renamed joinPointers pairsOfNode pairsBelow ascends inOrder visitLeaf visitChildren visitBranch visit leftmost allMarked complete walkFrom sound
 splits =
-    record { keys24 = refl; keys25 = refl; rootSplit = refl; leafSplit = refl; nodes330 = refl; pairs330 = refl; sound330 = refl }
+    record { keys24 = refl; keys25 = refl; rootSplit = refl; leafSplit = refl; branchSplit = refl; nodes330 = refl; pairs330 = refl; sound330 = refl }
 
 -- A leaf splits in the middle: the slot that led to it has a key, and that key's pointer is renamed.
 between : Book
@@ -126,14 +145,14 @@ between =
       count = 4;
       table =
           λ i.
-            elim i [
-              | zero ↦ node Branch ((100, 2) ∷ (200, 1) ∷ []) 3
-              | suc i ↦
+          elim i [
+            | zero ↦ node Branch ((100, 2) ∷ (200, 1) ∷ []) 3
+            | suc i ↦
                 elim i [
                   | zero ↦ node Leaf (run 24 110) 3
                   | suc i ↦ elim i [ zero ↦ node Leaf [] 1 | suc i ↦ node Leaf (run 3 200) noLeaf ]
                 ]
-            ]
+          ];
     }
 
 record Cases : Type 0 where
@@ -188,5 +207,5 @@ cases =
       above = refl;
       empty = refl;
       nothing = refl;
-      pairs = refl
+      pairs = refl;
     }
