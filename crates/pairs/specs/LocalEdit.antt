@@ -80,5 +80,5 @@ delete-local k =
       left = delete-append-left k;
       right = delete-append-right k;
       keeps = λ low high ps a b w. within-delete k low high ps w;
-      grows = λ ps. omega (arith, length-delete k ps)
+      grows = λ ps. omega (arith, length-delete k ps);
     }

@@ -57,6 +57,7 @@ module _ (low high : ℕ) where
     where
       later : p .0 ≤ high → hasAbove high ps ≡ true
       later l = rw (le-ltb high (p .0) l) at e
+
       go : (low ≤ p .0) ⊎ (p .0 < low) → (p .0 ≤ high) ⊎ (high < p .0) →
           (hasAbove high ps ≡ true → range low high (suc most) (ps ++ qs) ≡ range low high (suc most) ps) →
           (hasAbove high ps ≡ true → range low high most (ps ++ qs) ≡ range low high most ps) →
@@ -95,8 +96,10 @@ module _ (low high : ℕ) where
     where
       later : hasAbove high ps ≡ false
       later = or-right (ltb high (p .0)) (hasAbove high ps) e
+
       here : p .0 ≤ high
       here = ltb-false high (p .0) (or-left (ltb high (p .0)) (hasAbove high ps) e)
+
       go : (low ≤ p .0) ⊎ (p .0 < low) →
           range low high (suc most) (ps ++ qs) ≡ range low high (suc most) ps ++ range low high (suc most - length (range low high (suc most) ps)) qs →
           range low high most (ps ++ qs) ≡ range low high most ps ++ range low high (most - length (range low high most ps)) qs →

@@ -107,6 +107,7 @@ module _ {X : Type 0} where
       there l r =
           rw (slot-behind k (x .1, idOf (x .0)) (keysOf idOf xs) l)
           record { above = omega (arith, r .above); from = r .from; to = r .to; under = r .under }
+
       go : Tri k (x .1) → (x .1 ≤ k → Leads k xs (x .1) high (slot k (keysOf idOf xs))) → Leads k (x ∷ xs) low high (slot k (keysOf idOf (x ∷ xs)))
       go (less l) r =
           rw (slot-before k (x .1, idOf (x .0)) (keysOf idOf xs) l)
@@ -290,9 +291,10 @@ module _ {X : Type 0} where
     pub each-keep : (xs : List (X × ℕ)) (last : X) (low high next : ℕ) → ((i : ℕ) → 1 ≤ sumOf (λ c. reach c i) xs last → E i) →
         EachChild first S xs last low high next → EachChild first S′ xs last low high next
     each-keep [] last low high next h e = keep last low high next h e
-    each-keep (x ∷ xs) last low high next h e =
-        (keep (x .0) low (x .1) (firstOf first xs last) (λ i l. h i (omega arith)) (e .0),
-        each-keep xs last (x .1) high next (λ i l. h i (omega arith)) (e .1))
+    each-keep (x ∷ xs) last low high next h e = (
+      keep (x .0) low (x .1) (firstOf first xs last) (λ i l. h i (omega arith)) (e .0),
+      each-keep xs last (x .1) high next (λ i l. h i (omega arith)) (e .1),
+    )
 
     pub each-swap : (xs : List (X × ℕ)) (last : X) (low high next j : ℕ) (c : X) → first c ≡ first (childAt xs last j) →
         ((i : ℕ) → 1 ≤ others (λ c. reach c i) xs last j → E i) → EachChild first S xs last low high next →
@@ -300,9 +302,10 @@ module _ {X : Type 0} where
         EachChild first S′ (swapChild xs j c) (swapLast xs last j c) low high next
     each-swap [] last low high next j c f h e s = s
     each-swap (x ∷ xs) last low high next zero c f h e s = (s, each-keep xs last (x .1) high next h (e .1))
-    each-swap (x ∷ xs) last low high next (suc j) c f h e s =
-        (rw (firstOf-swap first xs last j c f) (keep (x .0) low (x .1) (firstOf first xs last) (λ i l. h i (omega arith)) (e .0)),
-        each-swap xs last (x .1) high next j c f (λ i l. h i (omega arith)) (e .1) s)
+    each-swap (x ∷ xs) last low high next (suc j) c f h e s = (
+      rw (firstOf-swap first xs last j c f) (keep (x .0) low (x .1) (firstOf first xs last) (λ i l. h i (omega arith)) (e .0)),
+      each-swap xs last (x .1) high next j c f (λ i l. h i (omega arith)) (e .1) s,
+    )
 
     pub each-split : (xs : List (X × ℕ)) (last : X) (low high next j : ℕ) (a : X) (m : ℕ) (b : X) → first a ≡ first (childAt xs last j) →
         ((i : ℕ) → 1 ≤ others (λ c. reach c i) xs last j → E i) → EachChild first S xs last low high next →
@@ -310,9 +313,10 @@ module _ {X : Type 0} where
         EachChild first S′ (splitChild xs j a m b) (swapLast xs last j b) low high next
     each-split [] last low high next j a m b f h e s r = (s, r)
     each-split (x ∷ xs) last low high next zero a m b f h e s r = (s, (r, each-keep xs last (x .1) high next h (e .1)))
-    each-split (x ∷ xs) last low high next (suc j) a m b f h e s r =
-        (rw (firstOf-split first xs last j a m b f) (keep (x .0) low (x .1) (firstOf first xs last) (λ i l. h i (omega arith)) (e .0)),
-        each-split xs last (x .1) high next j a m b f (λ i l. h i (omega arith)) (e .1) s r)
+    each-split (x ∷ xs) last low high next (suc j) a m b f h e s r = (
+      rw (firstOf-split first xs last j a m b f) (keep (x .0) low (x .1) (firstOf first xs last) (λ i l. h i (omega arith)) (e .0)),
+      each-split xs last (x .1) high next j a m b f (λ i l. h i (omega arith)) (e .1) s r,
+    )
 
   -- The children cut at a place: the child there is the last of the lower part, and its key stands between the parts.
   pub keysOf-take : (idOf : X → ℕ) (xs : List (X × ℕ)) (j : ℕ) → keysOf idOf (take j xs) ≡ take j (keysOf idOf xs)

@@ -47,10 +47,13 @@ module _ (table : Table) (count : ℕ) (pairs : List Pair) (s : Spells table cou
     where
       does : (ps : List Pair) (l : ℕ) → change (remove k) (node Leaf ps l) ≡ node Leaf (delete k ps) l
       does ps l = refl
+
       n : countAfterAll (writeRequests count table k (remove k)) count ≡ finalCount table (work table k (remove k) count (path count table k 0))
       n = write-count table count pairs s k small (remove k) (delete k) (delete-local k) does
+
       m : finalCount table (work table k (remove k) count (path count table k 0)) ≤ limit
       m = omega (arith, removal-single .1, l)
+
       go : (o : Option ℕ) → lookup k pairs ≡ o → Served limit table count (deleteRequests count table k) (delete k pairs)
       go none e = rw (delete-absent-requests e, delete-absent k pairs e) (get-served table count pairs s k small limit l)
       go (some old) e =
@@ -58,5 +61,5 @@ module _ (table : Table) (count : ℕ) (pairs : List Pair) (s : Spells table cou
           record {
             kept = rw n m;
             fits = rw n (write-fits table count pairs s k small (remove k) (delete k) (delete-local k) does limit m);
-            spells = rw n (write-spells table count pairs s k small (remove k) (delete k) (delete-local k) does)
+            spells = rw n (write-spells table count pairs s k small (remove k) (delete k) (delete-local k) does);
           }

@@ -116,7 +116,7 @@ module _ (d : ℕ) (table after then : Table) (count next : ℕ) (t : Tree d) (l
         spelled = c .spelled;
         ids = c .ids;
         grows = c .grows;
-        kept = λ i l z. rest i (not-root i z) ∙ c .kept i l z
+        kept = λ i l z. rest i (not-root i z) ∙ c .kept i l z;
       }
 
   pub takes-halves : mostKeys < length (pairsOf top) → then (rootOf d t) ≡ lowerHalf top next → then next ≡ upperHalf top →
@@ -124,10 +124,10 @@ module _ (d : ℕ) (table after then : Table) (count next : ℕ) (t : Tree d) (l
       Parted d table then count (suc next) t low high link pairs (middleKey top) next
   takes-halves l own new rest =
       let h =
-          halved d then (c .tree) low high link top (rootOf d t) next
-          (holds-keep d after then (c .tree) low high link (suc mostKeys) top
-          (λ i g. rest i (inner-other i g) (omega (arith, inner-used i (omega arith)))) (c .holds))
-          l own new in
+      halved d then (c .tree) low high link top (rootOf d t) next
+      (holds-keep d after then (c .tree) low high link (suc mostKeys) top
+      (λ i g. rest i (inner-other i g) (omega (arith, inner-used i (omega arith)))) (c .holds))
+      l own new in
       record {
         tree = c .tree;
         halves = h;
@@ -135,7 +135,7 @@ module _ (d : ℕ) (table after then : Table) (count next : ℕ) (t : Tree d) (l
         spelled = h .joined ∙ c .spelled;
         ids = λ i. omega (arith, h .ids i, c .ids i, used-suc next i, ap (λ (n : ℕ). bit (eqb i n)) (c .root));
         grows = omega (arith, c .grows);
-        kept = λ i l z. rest i (not-root i z) (omega (arith, c .grows)) ∙ c .kept i l z
+        kept = λ i l z. rest i (not-root i z) (omega (arith, c .grows)) ∙ c .kept i l z;
       }
 
 -- One level up: the branch over the child that the key leads to.
@@ -198,30 +198,31 @@ module _ (d : ℕ) (table : Table) (count k : ℕ) (f : List Pair → List Pair)
       let c = g .tree in
       record {
         tree = (t .0, swapChild xs place c, swapLast xs last place c);
-        holds =
-            (rw (keysOf-swap (rootOf d) xs last place c (g .root), idOf-swap (rootOf d) xs last place c (g .root))
-            (self-kept after (g .kept) ∙ h .0),
-            rw (keysOf-swap (rootOf d) xs last place c (g .root)) (h .1),
-            rw (length-swap xs place c) (h .2),
-            rw (length-swap xs place c) (h .3),
-            each-swap (firstLeaf d) (reached d) (λ i. after i ≡ table i) (Stands d table) (Stands d after) (stands-keep d table after) xs last low
-            high link place c (g .first) (others-kept after (g .kept)) (h .4) (rw (g .root) (g .holds)));
+        holds = (
+          rw (keysOf-swap (rootOf d) xs last place c (g .root), idOf-swap (rootOf d) xs last place c (g .root))
+              (self-kept after (g .kept) ∙ h .0),
+          rw (keysOf-swap (rootOf d) xs last place c (g .root)) (h .1),
+          rw (length-swap xs place c) (h .2),
+          rw (length-swap xs place c) (h .3),
+          each-swap (firstLeaf d) (reached d) (λ i. after i ≡ table i) (Stands d table) (Stands d after) (stands-keep d table after) xs last low
+              high link place c (g .first) (others-kept after (g .kept)) (h .4) (rw (g .root) (g .holds)),
+        );
         root = refl;
         first = firstOf-swap (firstLeaf d) xs last place c (g .first);
         spelled = rw (joinOf-swap (pairsIn d) xs last place c, g .spelled) join-edit;
         ids =
             λ i.
-              omega
-              (arith, sumOf-swap (λ c. reached d c i) xs last place c, sumOf-childAt (λ c. reached d c i) xs last place, g .ids i);
+            omega
+            (arith, sumOf-swap (λ c. reached d c i) xs last place c, sumOf-childAt (λ c. reached d c i) xs last place, g .ids i);
         grows = g .grows;
-        kept = λ i l z. g .kept i l (omega (arith, sumOf-childAt (λ c. reached d c i) xs last place))
+        kept = λ i l z. g .kept i l (omega (arith, sumOf-childAt (λ c. reached d c i) xs last place));
       }
 
   -- The branch with its child in two, before it takes its edits.
   module _ (after : Table) (next middle right : ℕ)
       (g :
-        Parted d table after count next child (lowAt (t .1) low place) (highAt (t .1) high place)
-        (nextAt (firstLeaf d) (t .1) (t .2) link place) (f (pairsIn d child)) middle right) where
+      Parted d table after count next child (lowAt (t .1) low place) (highAt (t .1) high place)
+      (nextAt (firstLeaf d) (t .1) (t .2) link place) (f (pairsIn d child)) middle right) where
     abbrev pub widened : Node
     widened =
         node Branch (keysOf (rootOf d) (splitChild (t .1) place (g .halves .lower) middle (g .halves .upper)))
@@ -236,22 +237,23 @@ module _ (d : ℕ) (table : Table) (count k : ℕ) (f : List Pair → List Pair)
         let q = g .halves .upper in
         record {
           tree = (t .0, splitChild xs place p middle q, swapLast xs last place q);
-          holds =
-              (refl,
-              within-split (rootOf d) xs low low high place p middle q (omega arith) (g .halves .above) (g .halves .under) (h .1),
-              omega (arith, length-split xs place p middle q, h .2),
-              omega (arith, length-split xs place p middle q),
-              each-split (firstLeaf d) (reached d) (λ i. after i ≡ table i) (Stands d table) (Stands d after) (stands-keep d table after) xs last low
-              high link place p middle q (g .first) (others-kept after (g .kept)) (h .4) (g .halves .standsLower) (g .halves .standsUpper));
+          holds = (
+            refl,
+            within-split (rootOf d) xs low low high place p middle q (omega arith) (g .halves .above) (g .halves .under) (h .1),
+            omega (arith, length-split xs place p middle q, h .2),
+            omega (arith, length-split xs place p middle q),
+            each-split (firstLeaf d) (reached d) (λ i. after i ≡ table i) (Stands d table) (Stands d after) (stands-keep d table after) xs last low
+                high link place p middle q (g .first) (others-kept after (g .kept)) (h .4) (g .halves .standsLower) (g .halves .standsUpper),
+          );
           root = refl;
           first = firstOf-split (firstLeaf d) xs last place p middle q (g .first);
           spelled = rw (joinOf-split (pairsIn d) xs last place p middle q, g .spelled) join-edit;
           ids =
               λ i.
-                omega
-                (arith, sumOf-split (λ c. reached d c i) xs last place p middle q, sumOf-childAt (λ c. reached d c i) xs last place, g .ids i);
+              omega
+              (arith, sumOf-split (λ c. reached d c i) xs last place p middle q, sumOf-childAt (λ c. reached d c i) xs last place, g .ids i);
           grows = g .grows;
-          kept = λ i l z. g .kept i l (omega (arith, sumOf-childAt (λ c. reached d c i) xs last place))
+          kept = λ i l z. g .kept i l (omega (arith, sumOf-childAt (λ c. reached d c i) xs last place));
         }
 
     -- the two edits make that content
@@ -267,14 +269,18 @@ module _ (d : ℕ) (table : Table) (count k : ℕ) (f : List Pair → List Pair)
             (node Branch (insert middle (rootOf d (g .halves .lower)) (keysOf (rootOf d) (t .1))) (rootOf d (t .2))) ≡
             widened
         go (inl l) =
-            rw
-            (le-ltb place (length (keysOf (rootOf d) (t .1))) l, renamed,
-            swapLast-behind (t .1) (t .2) place (g .halves .upper) (omega (arith, length-keysOf (rootOf d) (t .1))),
-            ← insert-split-last (rootOf d) (t .1) low low high place (g .halves .lower) middle (g .halves .upper)
-            (omega (arith, length-keysOf (rootOf d) (t .1))) (g .halves .above) (h .1))
+            rw (
+              le-ltb place (length (keysOf (rootOf d) (t .1))) l,
+              renamed,
+              swapLast-behind (t .1) (t .2) place (g .halves .upper) (omega (arith, length-keysOf (rootOf d) (t .1))),
+              ← insert-split-last (rootOf d) (t .1) low low high place (g .halves .lower) middle (g .halves .upper)
+                  (omega (arith, length-keysOf (rootOf d) (t .1))) (g .halves .above) (h .1),
+            )
         go (inr l) =
-            rw
-            (lt-ltb place (length (keysOf (rootOf d) (t .1))) l, renamed,
-            swapLast-inside (t .1) (t .2) place (g .halves .upper) (omega (arith, length-keysOf (rootOf d) (t .1))),
-            ← insert-split (rootOf d) (t .1) (t .2) low low high place (g .halves .lower) middle (g .halves .upper)
-            (omega (arith, length-keysOf (rootOf d) (t .1))) (g .halves .above) (g .halves .under) (h .1))
+            rw (
+              lt-ltb place (length (keysOf (rootOf d) (t .1))) l,
+              renamed,
+              swapLast-inside (t .1) (t .2) place (g .halves .upper) (omega (arith, length-keysOf (rootOf d) (t .1))),
+              ← insert-split (rootOf d) (t .1) (t .2) low low high place (g .halves .lower) middle (g .halves .upper)
+                  (omega (arith, length-keysOf (rootOf d) (t .1))) (g .halves .above) (g .halves .under) (h .1),
+            )

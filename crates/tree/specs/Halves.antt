@@ -50,7 +50,7 @@ within-cut low high (p ∷ ps) (suc j) l w =
       upper = c .upper;
       beyond = c .beyond;
       far = omega (arith, c .far);
-      near = c .near
+      near = c .near;
     }
 
 -- The halves of a tree, the lower at the id `a` and the upper at the id `b`, with the key `middle` between them.
@@ -87,7 +87,7 @@ halved zero table t low high next top a b h big ea eb =
       rootUpper = refl;
       first = λ e. e;
       joined = take-append-drop keptKeys ps;
-      ids = λ i. omega arith
+      ids = λ i. omega arith;
     }
 halved (suc d) table t low high next top a b h big ea eb =
     let xs = t .1 in
@@ -102,21 +102,23 @@ halved (suc d) table t low high next top a b h big ea eb =
       upper = (b, drop (suc keptKeys) xs, last);
       above = omega (arith, c .far);
       under = c .near;
-      standsLower =
-          (rw (keysOf-take (rootOf d) xs keptKeys, ← pointerAt-keysOf (rootOf d) xs last keptKeys) (ea ∙ ap (λ (n : Node). lowerHalf n b) (h .0)),
-          rw (keysOf-take (rootOf d) xs keptKeys) (c .lower),
-          omega (arith, length-take keptKeys xs),
-          omega (arith, length-take keptKeys xs),
-          e .0);
-      standsUpper =
-          (rw (keysOf-drop (rootOf d) xs (suc keptKeys)) (eb ∙ ap upperHalf (h .0)),
-          rw (keysOf-drop (rootOf d) xs (suc keptKeys)) (within-weaken _ _ high high _ (omega arith) (omega arith) (c .beyond)),
-          omega (arith, length-drop (suc keptKeys) xs, h .2),
-          omega (arith, length-drop (suc keptKeys) xs),
-          e .1);
+      standsLower = (
+        rw (keysOf-take (rootOf d) xs keptKeys, ← pointerAt-keysOf (rootOf d) xs last keptKeys) (ea ∙ ap (λ (n : Node). lowerHalf n b) (h .0)),
+        rw (keysOf-take (rootOf d) xs keptKeys) (c .lower),
+        omega (arith, length-take keptKeys xs),
+        omega (arith, length-take keptKeys xs),
+        e .0,
+      );
+      standsUpper = (
+        rw (keysOf-drop (rootOf d) xs (suc keptKeys)) (eb ∙ ap upperHalf (h .0)),
+        rw (keysOf-drop (rootOf d) xs (suc keptKeys)) (within-weaken _ _ high high _ (omega arith) (omega arith) (c .beyond)),
+        omega (arith, length-drop (suc keptKeys) xs, h .2),
+        omega (arith, length-drop (suc keptKeys) xs),
+        e .1,
+      );
       rootLower = refl;
       rootUpper = refl;
       first = λ _. firstOf-cut (firstLeaf d) xs last keptKeys (omega arith);
       joined = joinOf-cut (pairsIn d) xs last keptKeys (omega arith);
-      ids = λ i. omega (arith, sumOf-cut (λ c. reached d c i) xs last keptKeys (omega arith))
+      ids = λ i. omega (arith, sumOf-cut (λ c. reached d c i) xs last keptKeys (omega arith));
     }

@@ -72,6 +72,13 @@ record Down (table : Table) (run : ℕ) (ids : List ℕ) : Type 0 where
   all : fullRun table ids ≡ length ids → runDown table run ids ≡ run + length ids
   gap : fullRun table ids < length ids → runDown table run ids ≡ fullRun table ids
 
+down-start : (table : Table) (ids : List ℕ) → Down table 0 ids → runDown table 0 ids ≡ fullRun table ids
+down-start table ids d = go (eq-or (fullRun table ids) (length ids))
+  where
+    go : (fullRun table ids ≡ length ids) ⊎ (fullRun table ids ≡ length ids → ⊥) → runDown table 0 ids ≡ fullRun table ids
+    go (inl e) = omega (arith, d .all e)
+    go (inr e) = d .gap (omega (arith, d .most))
+
 down : (table : Table) (run : ℕ) (ids : List ℕ) → Down table run ids
 unfolding runDown fullRun
 down table run [] = record { most = omega arith; all = λ e. omega arith; gap = λ l. absurd (omega arith) }
@@ -84,7 +91,7 @@ down table run (id ∷ ids) = go (le-or mostKeys (sizeAt table id)) (down table 
         record {
           most = omega (arith, f);
           all = λ _. runDown-full table run id ids l ∙ omega (arith, r .all e);
-          gap = λ g. absurd (omega (arith, f))
+          gap = λ g. absurd (omega (arith, f));
         }
     split r l (inr e) =
         let less : fullRun table ids < length ids = omega (arith, r .most) in
@@ -92,8 +99,9 @@ down table run (id ∷ ids) = go (le-or mostKeys (sizeAt table id)) (down table 
         record {
           most = omega (arith, f);
           all = λ g. absurd (omega (arith, f));
-          gap = λ _. runDown-full table run id ids l ∙ (r .gap less ∙ sym f)
+          gap = λ _. runDown-full table run id ids l ∙ (r .gap less ∙ sym f);
         }
+
     go : (mostKeys ≤ sizeAt table id) ⊎ (sizeAt table id < mostKeys) → Down table (suc run) ids → Down table 0 ids → Down table run (id ∷ ids)
     go (inl l) r z = split r l (eq-or (fullRun table ids) (length ids))
     go (inr l) r z =
@@ -101,19 +109,11 @@ down table run (id ∷ ids) = go (le-or mostKeys (sizeAt table id)) (down table 
         record {
           most = omega (arith, f, z .most);
           all = λ g. absurd (omega (arith, f, z .most));
-          gap = λ _. runDown-room table run id ids l ∙ (whole z (eq-or (fullRun table ids) (length ids)) ∙ sym f)
+          gap = λ _. runDown-room table run id ids l ∙ (down-start table ids z ∙ sym f);
         }
-      where
-        whole : Down table 0 ids → (fullRun table ids ≡ length ids) ⊎ (fullRun table ids ≡ length ids → ⊥) → runDown table 0 ids ≡ fullRun table ids
-        whole z (inl e) = omega (arith, z .all e)
-        whole z (inr e) = z .gap (omega (arith, z .most))
 
 pub fullRun-down : (table : Table) (ids : List ℕ) → runDown table 0 ids ≡ fullRun table ids
-fullRun-down table ids = go (eq-or (fullRun table ids) (length ids)) (down table 0 ids)
-  where
-    go : (fullRun table ids ≡ length ids) ⊎ (fullRun table ids ≡ length ids → ⊥) → Down table 0 ids → runDown table 0 ids ≡ fullRun table ids
-    go (inl e) d = omega (arith, d .all e)
-    go (inr e) d = d .gap (omega (arith, d .most))
+fullRun-down table ids = down-start table ids (down table 0 ids)
 
 -- What the work along a path has taken: finished, it met a node with room; pending, all below the node were full.
 abbrev Taken : Table → ℕ → ℕ → List ℕ → Work → Type 0
@@ -139,8 +139,10 @@ module _ (table : Table) (count k : ℕ) (c : Change) (f : List Pair → List Pa
       where
         id : ℕ
         id = rootOf d (childOf d t k)
+
         most : sizeAt table id ≤ mostKeys
         most = holds-most d table (childOf d t k) _ _ _ mostKeys (table id) (child-stands d table count k f local t low high link a b o h)
+
         go : (x : Bool) → fitsNode (changeAll edits (table id)) ≡ x → Taken table count (t .0) (id ∷ ids) (settle table k (t .0) id (pending rs next edits))
         go true e =
             let room = fullRun-room table id ids (omega (arith, m .2, leb-true (length (pairsOf (changeAll edits (table id)))) mostKeys e)) in
@@ -174,14 +176,16 @@ module _ (table : Table) (count k : ℕ) (c : Change) (f : List Pair → List Pa
       let next = childFor-branch d table t low high link mostKeys k (table (rootOf (suc d) t)) h in
       let e = path-step table k fuel (rootOf (suc d) t) (rootOf d x) next in
       let r =
-          work-taken d fuel x _ _ _ (u .from) (u .to) (omega (arith, u .under)) (omega arith) (once-child d count t j o) st
-          (rw (leafFor-step table k fuel (rootOf (suc d) t) (rootOf d x) next) at new) in
+      work-taken d fuel x _ _ _ (u .from) (u .to) (omega (arith, u .under)) (omega arith) (once-child d count t j o) st
+      (rw (leafFor-step table k fuel (rootOf (suc d) t) (rootOf d x) next) at new) in
       let g =
-          work-good 0 table count k c f local does d fuel x _ _ _ (u .from) (u .to) (omega (arith, u .under)) (omega arith)
-          (once-child d count t j o) st in
-      (rootOf d x ∷ r .0, e ∙ ap {B = List ℕ} (t .0 ∷_) (r .1),
-      rw (e, work-step table k c count fuel (rootOf (suc d) t) (rootOf d x))
-      (settle-taken d t low high link a b o h bound (r .0) _ g (r .2)))
+      work-good 0 table count k c f local does d fuel x _ _ _ (u .from) (u .to) (omega (arith, u .under)) (omega arith)
+      (once-child d count t j o) st in (
+        rootOf d x ∷ r .0,
+        e ∙ ap {B = List ℕ} (t .0 ∷_) (r .1),
+        rw (e, work-step table k c count fuel (rootOf (suc d) t) (rootOf d x))
+            (settle-taken d t low high link a b o h bound (r .0) _ g (r .2)),
+      )
 
   -- the root last
   finish-taken : (ids : List ℕ) (w : Work) → sizeAt table 0 ≤ mostKeys → Taken table count 0 ids w → finalCount table w ≡ count + idsNeeded table (0 ∷ ids)
@@ -205,8 +209,8 @@ module _ (table : Table) (count k : ℕ) (c : Change) (f : List Pair → List Pa
       let d = s .depth in
       let t = s .tree in
       let r =
-          work-taken d count t 0 bound32 noLeaf (omega arith) small (omega arith) (omega (arith, depth-count table count pairs s))
-          (spells-once table count pairs s) (s .stands) (rw (s .root) new) in
+      work-taken d count t 0 bound32 noLeaf (omega arith) small (omega arith) (omega (arith, depth-count table count pairs s))
+      (spells-once table count pairs s) (s .stands) (rw (s .root) new) in
       let top : sizeAt table 0 ≤ mostKeys = rw (s .root) at (holds-most d table t 0 bound32 noLeaf mostKeys (table (rootOf d t)) (s .stands)) in
       let e : path count table k 0 ≡ 0 ∷ r .0 = rw (s .root) at (r .1) in
       rw (ap (idsNeeded table) e) (finish-taken (r .0) (work table k c count (path count table k 0)) top (rw (s .root) at (r .2)))
@@ -240,6 +244,7 @@ module _ (table : Table) (k : ℕ) (c : Change) (count : ℕ) where
           settle table k id child (work table k c count (path fuel table k child)) ≡ finished (edit (leafFor fuel table k child) c ∷ []) count
       above child m (inl e) = rw (e .0, e .1, work-leaf-only child) (settle-single id child (rw (e .1) at m))
       above child m (inr e) = rw e (settle-finished id child (edit (leafFor fuel table k child) c ∷ []) count)
+
       go : (o : Option ℕ) → childFor k (table id) ≡ o →
           ((id : ℕ) → length (pairsOf (change c (table (leafFor fuel table k id)))) ≤ mostKeys → Single fuel id) → Single (suc fuel) id
       go none e r = inl (path-leaf table k (suc fuel) id e, leafFor-leaf table k (suc fuel) id e)

@@ -55,7 +55,7 @@ pub record Chained (most : ℕ) (table : Table) (count id : ℕ) (pairs : List P
 -- The children's leaves, one child after another.
 module _ {X : Type 0} (table : Table) (count : ℕ) (first size : X → ℕ) (pairs : X → List Pair) (reach : X → ℕ → ℕ) (S : X → ℕ → ℕ → ℕ → Type 0)
     (child : (x : X) (low high next most : ℕ) (rest : List Pair) → ((i : ℕ) → 1 ≤ reach x i → i < count) → S x low high next →
-      Chained most table count next rest → Chained (size x + most) table count (first x) (pairs x ++ rest)) where
+    Chained most table count next rest → Chained (size x + most) table count (first x) (pairs x ++ rest)) where
   children-chain : (xs : List (X × ℕ)) (last : X) (low high next most : ℕ) (rest : List Pair) →
       ((i : ℕ) → 1 ≤ sumOf (λ c. reach c i) xs last → i < count) → EachChild first S xs last low high next → Chained most table count next rest →
       Chained (sumOf size xs last + most) table count (firstOf first xs last) (joinOf pairs xs last ++ rest)
@@ -63,8 +63,8 @@ module _ {X : Type 0} (table : Table) (count : ℕ) (first size : X → ℕ) (pa
   children-chain (x ∷ xs) last low high next most rest u e c =
       let r = children-chain xs last (x .1) high next most rest (λ i l. u i (omega arith)) (e .1) c in
       let s =
-          child (x .0) low (x .1) (firstOf first xs last) (sumOf size xs last + most) (joinOf pairs xs last ++ rest) (λ i l. u i (omega arith))
-          (e .0) r in
+      child (x .0) low (x .1) (firstOf first xs last) (sumOf size xs last + most) (joinOf pairs xs last ++ rest) (λ i l. u i (omega arith))
+      (e .0) r in
       record { length = s .length; bounded = omega (arith, s .bounded); chain = rw append-assoc (s .chain) }
 
   -- the leaves behind the child at a place
@@ -81,7 +81,7 @@ module _ {X : Type 0} (table : Table) (count : ℕ) (first size : X → ℕ) (pa
       record {
         most′ = sumOf size xs last + most;
         bounded = omega arith;
-        chained = children-chain xs last (x .1) high next most rest (λ i l. u i (omega arith)) (e .1) c
+        chained = children-chain xs last (x .1) high next most rest (λ i l. u i (omega arith)) (e .1) c;
       }
   behind-chain (x ∷ xs) last low high next most rest (suc j) u e c =
       let r = behind-chain xs last (x .1) high next most rest j (λ i l. u i (omega arith)) (e .1) c in
@@ -103,8 +103,8 @@ tree-chain zero table count t low high next most rest u h c =
             content = h .0;
             used = u (t .0) (omega (arith, id-self (t .0)));
             joined = refl;
-            more = c .chain
-          }
+            more = c .chain;
+          };
     }
 tree-chain (suc d) table count t low high next most rest u h c =
     children-chain table count (firstLeaf d) (leaves d) (pairsIn d) (reached d) (Stands d table) (tree-chain d table count) (t .1) (t .2) low high
@@ -136,7 +136,7 @@ onward zero fuel table count k t low high next most rest a b f u h c =
       below = tt;
       joined = refl;
       used = rw e (u (t .0) (omega (arith, id-self (t .0))));
-      chained = rw e (tree-chain zero table count t low high next most rest u h c)
+      chained = rw e (tree-chain zero table count t low high next most rest u h c);
     }
   where
     e : leafFor fuel table k (t .0) ≡ t .0
@@ -148,15 +148,15 @@ onward (suc d) (suc fuel) table count k t low high next most rest a b f u h c =
     let j = slot k (keysOf (rootOf d) xs) in
     let x = childOf d t k in
     let e : leafFor (suc fuel) table k (t .0) ≡ leafFor fuel table k (rootOf d x) =
-        leafFor-step table k fuel (t .0) (rootOf d x) (childFor-branch d table t low high next mostKeys k (table (t .0)) h) in
+    leafFor-step table k fuel (t .0) (rootOf d x) (childFor-branch d table t low high next mostKeys k (table (t .0)) h) in
     let l = slot-leads (rootOf d) k xs low high a b (h .1) in
     let v =
-        behind-chain table count (firstLeaf d) (leaves d) (pairsIn d) (reached d) (Stands d table) (tree-chain d table count) xs last low high next
-        most rest j (λ i y. u i (omega arith)) (h .4) c in
+    behind-chain table count (firstLeaf d) (leaves d) (pairsIn d) (reached d) (Stands d table) (tree-chain d table count) xs last low high next
+    most rest j (λ i y. u i (omega arith)) (h .4) c in
     let r =
-        onward d fuel table count k x _ _ _ (v .most′) (behind (pairsIn d) xs last j ++ rest) (l .from) (l .to) (omega arith)
-        (λ i y. u i (omega (arith, sumOf-childAt (λ c. reached d c i) xs last j)))
-        (each-childAt (firstLeaf d) (Stands d table) xs last low high next j (h .4)) (v .chained) in
+    onward d fuel table count k x _ _ _ (v .most′) (behind (pairsIn d) xs last j ++ rest) (l .from) (l .to) (omega arith)
+    (λ i y. u i (omega (arith, sumOf-childAt (λ c. reached d c i) xs last j)))
+    (each-childAt (firstLeaf d) (Stands d table) xs last low high next j (h .4)) (v .chained) in
     record {
       skipped = before (pairsIn d) xs j ++ r .skipped;
       left = r .left;
@@ -172,5 +172,5 @@ onward (suc d) (suc fuel) table count k t low high next most rest a b f u h c =
       used = rw e (r .used);
       chained =
           rw e
-          record { length = r .chained .length; bounded = omega (arith, r .chained .bounded, v .bounded); chain = r .chained .chain }
+          record { length = r .chained .length; bounded = omega (arith, r .chained .bounded, v .bounded); chain = r .chained .chain };
     }

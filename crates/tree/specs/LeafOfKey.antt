@@ -117,7 +117,7 @@ leaf-of zero fuel table k t low high next a b f h =
       under = omega arith;
       below = tt;
       beyond = tt;
-      joined = sym (append-nil (t .1))
+      joined = sym (append-nil (t .1));
     }
 leaf-of (suc d) zero table k t low high next a b f h = absurd (omega arith)
 leaf-of (suc d) (suc fuel) table k t low high next a b f h =
@@ -146,7 +146,7 @@ leaf-of (suc d) (suc fuel) table k t low high next a b f h =
       beyond =
           within-append (r .top) (highAt (t .1) high j) high (r .later) (behind (pairsIn d) (t .1) (t .2) j) (r .under) (l .under) (r .beyond)
           (behind-within (rootOf d) (firstLeaf d) (pairsIn d) (Stands d table) (stands-within d table) (t .1) (t .2) low high next j (omega arith) (h .1) (h .4));
-      joined = rw (joinOf-childAt (pairsIn d) (t .1) (t .2) j, r .joined) (simp append-assoc)
+      joined = rw (joinOf-childAt (pairsIn d) (t .1) (t .2) j, r .joined) (simp append-assoc);
     }
 
 -- A lookup among all pairs is one in the leaf.
@@ -169,7 +169,7 @@ path-used (suc d) (suc fuel) table count k t low high next a b f o h =
     let c = childOf d t k in
     let l = slot-leads (rootOf d) k (t .1) low high a b (h .1) in
     let r =
-        path-used d fuel table count k c _ _ _ (l .from) (l .to) (omega arith) (once-child d count t j o)
-        (each-childAt (firstLeaf d) (Stands d table) (t .1) (t .2) low high next j (h .4)) in
+    path-used d fuel table count k c _ _ _ (l .from) (l .to) (omega arith) (once-child d count t j o)
+    (each-childAt (firstLeaf d) (Stands d table) (t .1) (t .2) low high next j (h .4)) in
     rw (path-step table k fuel (t .0) (rootOf d c) (childFor-branch d table t low high next mostKeys k (table (t .0)) h))
     (both (root-used (suc d) count t o) (r .0), ap suc (r .1))

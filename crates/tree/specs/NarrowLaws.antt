@@ -133,17 +133,20 @@ module _ (table : Table) (k : ℕ) where
     where
       whole : Node
       whole = changeAll edits (table id)
+
       narrow : Narrow whole
       narrow = changeAll-narrow edits (table id) (w .1) n
+
       go : (x : Bool) → fitsNode (changeAll edits (table id)) ≡ x → NarrowWork (suc bound) (settle table k parent id (pending rs next edits))
       go true e = rw (e, settle) (every-append (w .0) (every-map (edit id) (w .1)), omega arith)
       go false e =
-          rw (e, settle)
-          (every-append (w .0) (both (lowerHalf-narrow whole next (omega arith) narrow) (both (upperHalf-narrow whole narrow) none)),
-          both {x = put (middleKey whole) id} (middleKey-narrow whole narrow, i)
-          (both {x = renamed (slot k (pairsOf (table parent))) (pairsOf (table parent)) next}
-          (renamed-narrow (slot k (pairsOf (table parent))) (pairsOf (table parent)) next (omega arith) (p .pairs)) none),
-          omega arith)
+          rw (e, settle) (
+            every-append (w .0) (both (lowerHalf-narrow whole next (omega arith) narrow) (both (upperHalf-narrow whole narrow) none)),
+            both {x = put (middleKey whole) id} (middleKey-narrow whole narrow, i)
+                (both {x = renamed (slot k (pairsOf (table parent))) (pairsOf (table parent)) next}
+                (renamed-narrow (slot k (pairsOf (table parent))) (pairsOf (table parent)) next (omega arith) (p .pairs)) none),
+            omega arith,
+          )
 
   work-narrow : (c : Change) (next id : ℕ) (ids : List ℕ) → NarrowChange c → next + length ids < bound32 →
       Every (λ i. Narrow (table i) × (i < bound32)) (id ∷ ids) → NarrowWork (next + length ids) (work table k c next (id ∷ ids))
@@ -162,8 +165,10 @@ module _ (table : Table) (k : ℕ) where
     where
       whole : Node
       whole = changeAll edits (table 0)
+
       narrow : Narrow whole
       narrow = changeAll-narrow edits (table 0) (w .1) n
+
       go : (x : Bool) → fitsNode (changeAll edits (table 0)) ≡ x → Every NarrowRequest (finish table (pending rs next edits))
       go true e = rw (e, finish) (every-append (w .0) (every-map (edit 0) (w .1)))
       go false e =

@@ -72,9 +72,10 @@ stands-pointed (suc d) table count t low high next u n h i l = go (eq-or i (t .0
         let c = childAt (t .1) (t .2) j in
         rw (pointerAt-keysOf (rootOf d) (t .1) (t .2) j)
         (u (rootOf d c) (omega (arith, reached-root d c, sumOf-childAt (λ c′. reached d c′ (rootOf d c)) (t .1) (t .2) j)))
+
     go : (i ≡ t .0) ⊎ (i ≡ t .0 → ⊥) →
         ((c : Tree d) (low high next : ℕ) → ((i : ℕ) → 1 ≤ reached d c i → i < count) → Link count next → Stands d table c low high next → (i : ℕ) →
-          1 ≤ reached d c i → Pointed count (table i)) →
+        1 ≤ reached d c i → Pointed count (table i)) →
         Pointed count (table i)
     go (inl e) r = rw (e, h .0) own
     go (inr e) r =

@@ -111,7 +111,7 @@ module _ (table : Table) (count : ℕ) (pairs : List Pair) (s : Spells table cou
         record {
           kept = rw n m;
           fits = rw n (write-fits table count pairs s k small (put k v) (insert k v) (insert-local k v) does limit m);
-          spells = rw n (write-spells table count pairs s k small (put k v) (insert k v) (insert-local k v) does)
+          spells = rw n (write-spells table count pairs s k small (put k v) (insert k v) (insert-local k v) does);
         }
 
 -- How many requests: behind the reads at most two for each node below the root, and three at it.

@@ -82,13 +82,16 @@ module _ (table : Table) (count low high : ℕ) (small : count ≤ noLeaf) where
     where
       got : List Pair
       got = range low high most (c .here)
+
       same-got : taken low high most (table id) ≡ got
       same-got = ap (λ (x : Node). range low high most (pairsOf x)) (c .content)
+
       stopped : Stop high most (table id) (taken low high most (table id)) → got ≡ range low high most (c .here ++ c .later)
       stopped (above e) = sym (range-append-stop low high most (c .here) (c .later) g (rw (c .content) at e))
       stopped (enough e) = sym (range-append-full low high most (c .here) (c .later) (rw same-got at e))
       stopped (ended e) =
           rw (chain-end n (c .link) (c .later) (c .more) (rw (c .content) at e), append-nil (c .here))
+
       go : (b : Bool) → stopsIn high most (table id) (taken low high most (table id)) ≡ b →
           ((m : ℕ) → (c .link ≡ noLeaf → ⊥) → pairsFrom fuel table low high m (c .link) ≡ range low high m (c .later)) →
           pairsFrom (suc fuel) table low high most id ≡ range low high most (c .here ++ c .later)
@@ -109,7 +112,7 @@ module _ (table : Table) (count low high : ℕ) (small : count ≤ noLeaf) where
     where
       go : (b : Bool) → stopsIn high most (table id) (taken low high most (table id)) ≡ b →
           ((m : ℕ) → (c .link ≡ noLeaf → ⊥) →
-            Every (λ i. i < count) (leavesAfter fuel table low high m (c .link)) × (suc (length (leavesAfter fuel table low high m (c .link))) ≤ n)) →
+          Every (λ i. i < count) (leavesAfter fuel table low high m (c .link)) × (suc (length (leavesAfter fuel table low high m (c .link))) ≤ n)) →
           Every (λ i. i < count) (leavesAfter (suc fuel) table low high most id) × (suc (length (leavesAfter (suc fuel) table low high most id)) ≤ suc n)
       go true e r = rw (e, leavesAfter) (none, omega arith)
       go false e r =
@@ -139,6 +142,7 @@ module _ (table : Table) (count : ℕ) (pairs : List Pair) (s : Spells table cou
     where
       o : Onward (s .depth) count table count low (s .tree) 0 0 []
       o = scan-onward
+
       go : (b : Bool) → ltb high low ≡ b → scanAnswer count table low high most ≡ range low high most pairs
       go true e = rw (e, scanAnswer, range-none low high most pairs (ltb-true high low e))
       go false e =
@@ -173,6 +177,7 @@ module _ (table : Table) (count : ℕ) (pairs : List Pair) (s : Spells table cou
       length-map : {A B : Type 0} (f : A → B) (xs : List A) → length (map f xs) ≡ length xs
       length-map f [] = refl
       length-map f (x ∷ xs) = ap suc (length-map f xs)
+
       go : (b : Bool) → ltb high low ≡ b → length (scanRequests count table low high most) ≤ count
       go true e = rw (e, scanRequests) (omega arith)
       go false e =
@@ -180,6 +185,11 @@ module _ (table : Table) (count : ℕ) (pairs : List Pair) (s : Spells table cou
           let q = leavesAfter count table low high most (leafFor count table low 0) in
           let after : suc (length q) ≤ scan-onward .chained .length = rw start-is at (scan-leaves .1) in
           rw (e, scanRequests, length-map read (p ++ q), length-append p q)
-          (omega
-          (arith, path-found table count pairs s low lowSmall .1, after, scan-onward .chained .bounded, depth-leaves (s .depth) (s .tree),
-          size-count table count pairs s))
+          (omega (
+            arith,
+            path-found table count pairs s low lowSmall .1,
+            after,
+            scan-onward .chained .bounded,
+            depth-leaves (s .depth) (s .tree),
+            size-count table count pairs s,
+          ))

@@ -28,5 +28,5 @@ served-reads limit table count pairs ids l s e =
     record {
       kept = rw (count-reads ids count) l;
       fits = rw (count-reads ids count) (fits-reads limit ids table count e);
-      spells = rw (count-reads ids count, applyAll-reads ids table) s
+      spells = rw (count-reads ids count, applyAll-reads ids table) s;
     }

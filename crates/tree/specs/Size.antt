@@ -50,17 +50,23 @@ sum-children : {X : Type 0} (n : ℕ) (size : X → ℕ) (reach : X → ℕ → 
     ((i : ℕ) → sumOf (λ c. reach c i) xs last ≤ bit (ltb i n)) → sumBelow n (λ i. sumOf (λ c. reach c i) xs last) ≡ sumOf size xs last
 sum-children n size reach h [] last o = h last o
 sum-children n size reach h (x ∷ xs) last o =
-    omega
-    (arith, sumBelow-add n (reach (x .0)) (λ i. sumOf (λ c. reach c i) xs last), h (x .0) (λ i. omega (arith, o i)),
-    sum-children n size reach h xs last (λ i. omega (arith, o i)))
+    omega (
+      arith,
+      sumBelow-add n (reach (x .0)) (λ i. sumOf (λ c. reach c i) xs last),
+      h (x .0) (λ i. omega (arith, o i)),
+      sum-children n size reach h xs last (λ i. omega (arith, o i)),
+    )
 
 sum-reached : (d n : ℕ) (t : Tree d) → Once d n t → sumBelow n (reached d t) ≡ size d t
 unfolding reached size rootOf
 sum-reached zero n t o = sumBelow-id n (t .0) (root-used zero n t o)
 sum-reached (suc d) n t o =
-    omega
-    (arith, sumBelow-add n (λ i. bit (eqb i (t .0))) (λ i. sumOf (λ c. reached d c i) (t .1) (t .2)), sumBelow-id n (t .0) (root-used (suc d) n t o),
-    sum-children n (size d) (reached d) (sum-reached d n) (t .1) (t .2) (λ i. omega (arith, o i)))
+    omega (
+      arith,
+      sumBelow-add n (λ i. bit (eqb i (t .0))) (λ i. sumOf (λ c. reached d c i) (t .1) (t .2)),
+      sumBelow-id n (t .0) (root-used (suc d) n t o),
+      sum-children n (size d) (reached d) (sum-reached d n) (t .1) (t .2) (λ i. omega (arith, o i)),
+    )
 
 -- The branches on the way to a leaf are no leaves: the first child on it has d of them, the others have their leaves.
 pub depth-leaves : (d : ℕ) (t : Tree d) → d + leaves d t ≤ size d t

@@ -49,10 +49,11 @@ ascends-within low high [] e = tt
 ascends-within low high (p ∷ ps) e =
     let x = leb low (p .0) in
     let y = ltb (p .0) high in
-    let z = ascends (suc (p .0)) high ps in
-    (leb-true low (p .0) (and-left x (y && z) e),
-    ltb-true (p .0) high (and-left y z (and-right x (y && z) e)),
-    ascends-within (suc (p .0)) high ps (and-right y z (and-right x (y && z) e)))
+    let z = ascends (suc (p .0)) high ps in (
+      leb-true low (p .0) (and-left x (y && z) e),
+      ltb-true (p .0) high (and-left y z (and-right x (y && z) e)),
+      ascends-within (suc (p .0)) high ps (and-right y z (and-right x (y && z) e)),
+    )
 
 within-ascends : (low high : ℕ) (ps : List Pair) → Within low high ps → ascends low high ps ≡ true
 unfolding ascends Within
@@ -81,7 +82,7 @@ order-of id low high ps marks e =
       used = ltb-true id (length marks) (and-left w (x && (y && z)) e);
       fresh = eqb-true (getD marks id 0) 0 (and-left x (y && z) e₁);
       keys = ascends-within low high ps (and-left y z e₂);
-      size = leb-true (length ps) mostKeys (and-right y z e₂)
+      size = leb-true (length ps) mostKeys (and-right y z e₂);
     }
 
 in-order : (id low high : ℕ) (ps : List Pair) (marks : List ℕ) → Ordered id low high ps marks → inOrder id low high ps marks ≡ true
@@ -138,7 +139,7 @@ seen-leaf table id low high w w′ (node Leaf ps next) t e = go (inOrder id low 
           first = sym (eqb-true (w .awaited) id (and-right (inOrder id low high ps (w .marks)) _ f));
           stands = (t, o .keys, o .size);
           marks = λ i. mark-adds (w .marks) id i (o .used) (o .fresh);
-          size = length-set (w .marks) id 1
+          size = length-set (w .marks) id 1;
         }
     go false f = none-some (rw (f, visitLeaf) at e)
 
@@ -156,7 +157,7 @@ module _ (d : ℕ) (table : Table) (child : (id low high : ℕ) (w w′ : Walk) 
         first = s .first;
         each = s .stands;
         marks = s .marks;
-        size = s .size
+        size = s .size;
       }
   seen-children (x ∷ ps) p low high w w′ e = go (visit d table (x .1) low (x .0) w) refl (seen-children ps p (x .0) high)
     where
@@ -175,7 +176,7 @@ module _ (d : ℕ) (table : Table) (child : (id low high : ℕ) (w w′ : Walk) 
             first = s .first;
             each = (rw (rest .first) (s .stands), rest .each);
             marks = λ i. omega (arith, s .marks i, rest .marks i);
-            size = rest .size ∙ s .size
+            size = rest .size ∙ s .size;
           }
 
   seen-branch : (id low high : ℕ) (w w′ : Walk) (n : Node) → table id ≡ n → visitBranch (visit d table) id low high w n ≡ some w′ →
@@ -194,14 +195,15 @@ module _ (d : ℕ) (table : Table) (child : (id low high : ℕ) (w w′ : Walk) 
             tree = (id, s .children, s .last);
             root = refl;
             first = s .first;
-            stands =
-                (rw (s .keys, s .lastRoot) t,
-                rw (s .keys) (o .keys),
-                omega (arith, o .size, long),
-                omega (arith, one, long),
-                s .each);
+            stands = (
+              rw (s .keys, s .lastRoot) t,
+              rw (s .keys) (o .keys),
+              omega (arith, o .size, long),
+              omega (arith, one, long),
+              s .each,
+            );
             marks = λ i. omega (arith, s .marks i, mark-adds (w .marks) id i (o .used) (o .fresh));
-            size = s .size ∙ length-set (w .marks) id 1
+            size = s .size ∙ length-set (w .marks) id 1;
           }
       go false f = none-some (rw (f, visitBranch) at e)
 
@@ -225,7 +227,7 @@ walk next ms = record { awaited = next; marks = ms }
 
 module _ (d : ℕ) (table : Table)
     (child : (t : Tree d) (low high next : ℕ) (marks : List ℕ) → Stands d table t low high next → Free marks (reached d t) →
-      Passes (visit d table (rootOf d t) low high (walk (firstLeaf d t) marks)) next marks (reached d t)) where
+    Passes (visit d table (rootOf d t) low high (walk (firstLeaf d t) marks)) next marks (reached d t)) where
   children-pass : (xs : List (Tree d × ℕ)) (last : Tree d) (low high next : ℕ) (marks : List ℕ) →
       EachChild (firstLeaf d) (Stands d table) xs last low high next → Free marks (λ i. sumOf (λ c. reached d c i) xs last) →
       Passes (visitChildren (visit d table) (keysOf (rootOf d) xs) (rootOf d last) low high (walk (firstOf (firstLeaf d) xs last) marks)) next marks
@@ -239,7 +241,7 @@ module _ (d : ℕ) (table : Table)
         after = b .after;
         is = rw (a .is, visitChildren) (b .is);
         added = λ i. omega (arith, a .added i, b .added i);
-        size = b .size ∙ a .size
+        size = b .size ∙ a .size;
       }
 
 visit-passes : (d : ℕ) (table : Table) (t : Tree d) (low high next : ℕ) (marks : List ℕ) → Stands d table t low high next →
@@ -250,8 +252,8 @@ visit-passes zero table t low high next marks h f =
     let u : id < length marks = used-below (length marks) id (omega (arith, f id, id-self id)) in
     let e : getD marks id 0 ≡ 0 = omega (arith, f id, id-self id, used-le (length marks) id) in
     let k =
-        and-both _ (eqb id id) (in-order id low high (t .1) marks (record { used = u; fresh = e; keys = h .1; size = h .2 }))
-        (eq-eqb id id refl) in
+    and-both _ (eqb id id) (in-order id low high (t .1) marks (record { used = u; fresh = e; keys = h .1; size = h .2 }))
+    (eq-eqb id id refl) in
     record { after = set marks id 1; is = rw (h .0, k, visitLeaf); added = λ i. mark-adds marks id i u e; size = length-set marks id 1 }
 visit-passes (suc d) table t low high next marks h f =
     let id = t .0 in
@@ -260,17 +262,17 @@ visit-passes (suc d) table t low high next marks h f =
     let e : getD marks id 0 ≡ 0 = omega (arith, f id, id-self id, used-le (length marks) id) in
     let long = length-keysOf (rootOf d) (t .1) in
     let k =
-        and-both _ (leb 1 (length ks))
-        (in-order id low high ks marks (record { used = u; fresh = e; keys = h .1; size = omega (arith, long, h .2) }))
-        (le-leb 1 (length ks) (omega (arith, long, h .3))) in
+    and-both _ (leb 1 (length ks))
+    (in-order id low high ks marks (record { used = u; fresh = e; keys = h .1; size = omega (arith, long, h .2) }))
+    (le-leb 1 (length ks) (omega (arith, long, h .3))) in
     let r =
-        children-pass d table (visit-passes d table) (t .1) (t .2) low high next (set marks id 1) (h .4)
-        (λ i. rw (length-set marks id 1) (omega (arith, f i, mark-adds marks id i u e))) in
+    children-pass d table (visit-passes d table) (t .1) (t .2) low high next (set marks id 1) (h .4)
+    (λ i. rw (length-set marks id 1) (omega (arith, f i, mark-adds marks id i u e))) in
     record {
       after = r .after;
       is = rw (h .0, k, visitBranch) (r .is);
       added = λ i. omega (arith, mark-adds marks id i u e, r .added i);
-      size = r .size ∙ length-set marks id 1
+      size = r .size ∙ length-set marks id 1;
     }
 
 -- The depth and the first leaf by first pointers.
@@ -353,8 +355,8 @@ walk-spells table count l (some w) f e =
             ids =
                 all-reached count (w .marks) (reached (l .depth) (s .tree)) (s .size ∙ length-replicate count 0)
                 (and-right x (allMarked (w .marks)) e) (s .marks);
-            spelled = refl
-          }
+            spelled = refl;
+          };
     }
 
 -- The map that a table spells is the one computed: so there is only one.

@@ -40,13 +40,14 @@ pub stands-keep : (d : ℕ) (table table′ : Table) (t : Tree d) (low high next
     Stands d table t low high next → Stands d table′ t low high next
 unfolding Holds reached rootOf
 stands-keep zero table table′ t low high next e h = (e (t .0) (omega (arith, id-self (t .0))) ∙ h .0, h .1, h .2)
-stands-keep (suc d) table table′ t low high next e h =
-    (e (t .0) (omega (arith, id-self (t .0))) ∙ h .0,
-    h .1,
-    h .2,
-    h .3,
-    each-keep (firstLeaf d) (reached d) (λ i. table′ i ≡ table i) (Stands d table) (Stands d table′) (stands-keep d table table′) (t .1) (t .2)
-    low high next (λ i l. e i (omega arith)) (h .4))
+stands-keep (suc d) table table′ t low high next e h = (
+  e (t .0) (omega (arith, id-self (t .0))) ∙ h .0,
+  h .1,
+  h .2,
+  h .3,
+  each-keep (firstLeaf d) (reached d) (λ i. table′ i ≡ table i) (Stands d table) (Stands d table′) (stands-keep d table table′) (t .1) (t .2)
+      low high next (λ i l. e i (omega arith)) (h .4),
+)
 
 -- The same for a tree that is held but for its top.
 pub holds-keep : (d : ℕ) (table table′ : Table) (t : Tree d) (low high next most : ℕ) (top : Node) →
@@ -54,13 +55,14 @@ pub holds-keep : (d : ℕ) (table table′ : Table) (t : Tree d) (low high next 
     Holds d table′ t low high next most top
 unfolding Holds reached rootOf
 holds-keep zero table table′ t low high next most top e h = h
-holds-keep (suc d) table table′ t low high next most top e h =
-    (h .0,
-    h .1,
-    h .2,
-    h .3,
-    each-keep (firstLeaf d) (reached d) (λ i. table′ i ≡ table i) (Stands d table) (Stands d table′) (stands-keep d table table′) (t .1) (t .2)
-    low high next (λ i l. e i (omega arith)) (h .4))
+holds-keep (suc d) table table′ t low high next most top e h = (
+  h .0,
+  h .1,
+  h .2,
+  h .3,
+  each-keep (firstLeaf d) (reached d) (λ i. table′ i ≡ table i) (Stands d table) (Stands d table′) (stands-keep d table table′) (t .1) (t .2)
+      low high next (λ i l. e i (omega arith)) (h .4),
+)
 
 pub holds-size : (d : ℕ) (table : Table) (t : Tree d) (low high next most most′ : ℕ) (top : Node) → length (pairsOf top) ≤ most′ →
     Holds d table t low high next most top → Holds d table t low high next most′ top

@@ -1,5 +1,5 @@
--- Document 01's marked cases of splits, and 330 puts through leaf, branch and root splits, run by the definitions alone.
--- Assumes nothing.
+-- Document 01's marked cases of splits, the requests of each kind of split, scans and their stops, tables of foreign writers, and
+-- 330 puts through leaf, branch and root splits: all run by the definitions alone. Assumes nothing.
 use mathlib.Core.Path.{_≡_, refl}
 use mathlib.Core.Bool.{Bool, true, false}
 use mathlib.Core.List.{List, [], _∷_, _++_, map}
@@ -46,12 +46,7 @@ use Rattle.tree.specs.Sound.{
   sound,
 }
 
--- n pairs from a key on
-abbrev pairsFromKey : ℕ → ℕ → List Pair
-pairsFromKey zero k = []
-pairsFromKey (suc n) k = (k, 100 + k) ∷ pairsFromKey n (suc k)
-
--- A table with its count, as prepare leaves it: one empty leaf.
+-- A table with its count; as prepare leaves it, one empty leaf.
 record Book : Type 0 where
   count : ℕ
   table : Table
@@ -59,6 +54,7 @@ record Book : Type 0 where
 prepared : Book
 prepared = record { count = 1; table = λ i. node Leaf [] noLeaf }
 
+-- The node limit of the largest pool.
 limit : ℕ
 limit = 620
 
@@ -67,71 +63,149 @@ afterPut b k =
     let rs = putRequests limit (b .count) (b .table) k (100 + k) in
     record { count = countAfterAll rs (b .count); table = applyAll rs (b .table) }
 
+-- So many puts of ascending keys, each with the value 100 more.
 afterPuts : ℕ → ℕ → Book → Book
 afterPuts zero k b = b
 afterPuts (suc n) k b = afterPuts n (suc k) (afterPut b k)
 
-sizes : Book → ℕ → List ℕ
-sizes b zero = []
-sizes b (suc i) = length (pairsOf (b .table i)) ∷ sizes b i
+puts : ℕ → Book
+puts n = afterPuts n 0 prepared
 
--- M 24 keys: no split. M 25 keys: 12 and 13, below a root of one key.
-keys-24 : sizes (afterPuts 24 0 prepared) 1 ≡ 24 ∷ []
-unfolding prepared limit afterPut afterPuts sizes putRequests putRefused getAnswer lookup leafFor path fullRun idsNeeded work settle finish insert slot update lowerHalf upperHalf middleKey renamed
-keys-24 = refl
+abbrev run : ℕ → ℕ → List Pair
+run zero k = []
+run (suc n) k = (k, 100 + k) ∷ run n (suc k)
 
-keys-25 : sizes (afterPuts 25 0 prepared) 3 ≡ 13 ∷ 12 ∷ 1 ∷ []
-unfolding prepared limit afterPut afterPuts sizes putRequests putRefused getAnswer lookup leafFor path fullRun idsNeeded work settle finish insert slot update lowerHalf upperHalf middleKey renamed
-keys-25 = refl
+-- How many pairs each node has, the last id first.
+sizes : Book → List ℕ
+sizes b = from (b .count)
+  where
+    from : ℕ → List ℕ
+    from zero = []
+    from (suc i) = length (pairsOf (b .table i)) ∷ from i
 
--- 330 puts: 30 nodes, all sound, and they spell the 330 pairs.
-nodes-330 : afterPuts 330 0 prepared .count ≡ 30
-unfolding prepared limit afterPut afterPuts sizes putRequests putRefused getAnswer lookup leafFor path fullRun idsNeeded work settle finish insert slot update lowerHalf upperHalf middleKey renamed
-nodes-330 = refl
+putOn : Book → ℕ → List NodeRequest
+putOn b k = putRequests limit (b .count) (b .table) k (100 + k)
 
-pairs-330 : (let b = afterPuts 330 0 prepared in mapOf (b .count) (b .table)) ≡ pairsFromKey 330 0
-unfolding prepared limit afterPut afterPuts sizes putRequests putRefused getAnswer lookup leafFor path fullRun idsNeeded work settle finish insert slot update lowerHalf upperHalf middleKey renamed joinPointers pairsOfNode pairsBelow
-pairs-330 = refl
+scanOn : Book → ℕ → ℕ → ℕ → List NodeRequest
+scanOn b low high most = scanRequests (b .count) (b .table) low high most
 
-sound-330 : (let b = afterPuts 330 0 prepared in sound limit (b .count) (b .table)) ≡ true
-unfolding prepared limit afterPut afterPuts sizes putRequests putRefused getAnswer lookup leafFor path fullRun idsNeeded work settle finish insert slot update lowerHalf upperHalf middleKey renamed ascends inOrder visitLeaf visitChildren visitBranch visit leftmost allMarked complete walkFrom sound
-sound-330 = refl
+-- A request without its pairs: their number stands for them.
+abbrev outline : NodeRequest → NodeRequest
+outline (read id) = read id
+outline (edit id c) = edit id c
+outline (rewrite id n) = rewrite id (node Leaf [] (length (pairsOf n)))
+outline (create id n) = create id (node Leaf [] (length (pairsOf n)))
 
--- A scan over leaves: the leaf of 20, then the next two; it stops at the first key above 40.
-scan-330 : (let b = afterPuts 330 0 prepared in scanAnswer (b .count) (b .table) 20 40 32) ≡ pairsFromKey 21 20
-unfolding prepared limit afterPut afterPuts sizes putRequests putRefused getAnswer lookup leafFor path fullRun idsNeeded work settle finish insert slot update lowerHalf upperHalf middleKey renamed range hasAbove stopsIn pairsFrom scanAnswer
-scan-330 = refl
+record Splits : Type 0 where
+  -- M 24 keys: no split. M 25 keys: 12 and 13.
+  keys24 : sizes (puts 24) ≡ 24 ∷ []
+  keys25 : sizes (puts 25) ≡ 13 ∷ 12 ∷ 1 ∷ []
+  -- the root, a leaf, splits: two new nodes, then it is rewritten above them
+  rootSplit : putOn (puts 24) 24 ≡
+      read 0 ∷
+      create 1 (node Leaf (run 12 0) 2) ∷
+      create 2 (node Leaf (run 13 12) noLeaf) ∷
+      rewrite 0 (node Branch ((12, 1) ∷ []) 2) ∷
+      []
+  -- a leaf splits below a parent with room: the parent's two edits, here its last pointer
+  leafSplit : putOn (puts 36) 36 ≡
+      read 0 ∷
+      read 2 ∷
+      rewrite 2 (node Leaf (run 12 12) 3) ∷
+      create 3 (node Leaf (run 13 24) noLeaf) ∷
+      edit 0 (put 24 2) ∷
+      edit 0 (link Branch 3) ∷
+      []
+  -- a full branch below the root splits with its leaf: 12 keys stay, the 13th rises to the root, 12 go right
+  branchSplit : map outline (putOn (puts 468) 468) ≡
+      read 0 ∷
+      read 28 ∷
+      read 40 ∷
+      rewrite 40 (node Leaf [] 12) ∷
+      create 41 (node Leaf [] 13) ∷
+      rewrite 28 (node Leaf [] 12) ∷
+      create 42 (node Leaf [] 12) ∷
+      edit 0 (put 312 28) ∷
+      edit 0 (link Branch 42) ∷
+      []
+  -- the 330 puts: 30 nodes, a sound tree that spells the 330 pairs
+  nodes330 : puts 330 .count ≡ 30
+  pairs330 : mapOf (puts 330 .count) (puts 330 .table) ≡ run 330 0
+  sound330 : sound limit (puts 330 .count) (puts 330 .table) ≡ true
 
--- The 25th put of the first leaf: the root makes two nodes and is rewritten above them.
-requests-25 :
-    (let b = afterPuts 24 0 prepared in putRequests limit (b .count) (b .table) 24 124) ≡
-    read 0 ∷
-    create 1 (node Leaf (pairsFromKey 12 0) 2) ∷
-    create 2 (node Leaf (pairsFromKey 13 12) noLeaf) ∷
-    rewrite 0 (node Branch ((12, 1) ∷ []) 2) ∷
-    []
-unfolding prepared limit afterPut afterPuts sizes putRequests putRefused getAnswer lookup leafFor path fullRun idsNeeded work settle finish insert slot update lowerHalf upperHalf middleKey renamed
-requests-25 = refl
+splits : Splits
+unfolding prepared limit afterPut afterPuts puts sizes putOn putRequests putRefused getAnswer lookup leafFor path fullRun idsNeeded work settle finish insert slot update lowerHalf upperHalf middleKey renamed joinPointers pairsOfNode pairsBelow ascends inOrder visitLeaf visitChildren visitBranch visit leftmost allMarked complete walkFrom sound
+splits =
+    record { keys24 = refl; keys25 = refl; rootSplit = refl; leafSplit = refl; branchSplit = refl; nodes330 = refl; pairs330 = refl; sound330 = refl }
 
--- The next leaf split, at the put of 36, below a root with room: rewrite, create, and the parent's two edits.
-requests-37 :
-    (let b = afterPuts 36 0 prepared in putRequests limit (b .count) (b .table) 36 136) ≡
-    read 0 ∷
-    read 2 ∷
-    rewrite 2 (node Leaf (pairsFromKey 12 12) 3) ∷
-    create 3 (node Leaf (pairsFromKey 13 24) noLeaf) ∷
-    edit 0 (put 24 2) ∷
-    edit 0 (link Branch 3) ∷
-    []
-unfolding prepared limit afterPut afterPuts sizes putRequests putRefused getAnswer lookup leafFor path fullRun idsNeeded work settle finish insert slot update lowerHalf upperHalf middleKey renamed
-requests-37 = refl
+-- A leaf splits in the middle: the slot that led to it has a key, and that key's pointer is renamed.
+between : Book
+between =
+    record {
+      count = 4;
+      table =
+          λ i.
+          elim i [
+            | zero ↦ node Branch ((100, 2) ∷ (200, 1) ∷ []) 3
+            | suc i ↦
+                elim i [
+                  | zero ↦ node Leaf (run 24 110) 3
+                  | suc i ↦ elim i [ zero ↦ node Leaf [] 1 | suc i ↦ node Leaf (run 3 200) noLeaf ]
+                ]
+          ];
+    }
 
--- With a limit of 2 the 25th key is refused, a present one is not, and the refused put serves no request.
-refused-25 : (let b = afterPuts 24 0 prepared in putRefused 2 (b .count) (b .table) 24) ≡ true
-unfolding prepared limit afterPut afterPuts sizes putRequests putRefused getAnswer lookup leafFor path fullRun idsNeeded work settle finish insert slot update lowerHalf upperHalf middleKey renamed
-refused-25 = refl
+record Cases : Type 0 where
+  -- a foreign writer's table, with ids in another order, a thin branch and an empty leaf
+  foreign : sound limit 4 (between .table) ≡ true
+  renames : putOn between 134 ≡
+      read 0 ∷
+      read 1 ∷
+      rewrite 1 (node Leaf (run 12 110) 4) ∷
+      create 4 (node Leaf (run 13 122) 3) ∷
+      edit 0 (put 122 1) ∷
+      edit 0 (put 200 4) ∷
+      []
+  -- an id that no pointer reaches, and a count past the limit
+  lost : sound limit 5 (between .table) ≡ false
+  past : sound 3 4 (between .table) ≡ false
+  -- 9: a new key in a full leaf needs an id; a present key does not, and neither does a leaf with room
+  refused : putRefused 4 4 (between .table) 134 ≡ true
+  silent : putRequests 4 4 (between .table) 134 0 ≡ []
+  replaces : putRequests 4 4 (between .table) 133 0 ≡ read 0 ∷ read 1 ∷ edit 1 (put 133 0) ∷ []
+  fits : putRequests 4 4 (between .table) 7 0 ≡ read 0 ∷ read 2 ∷ edit 2 (put 7 0) ∷ []
+  -- a delete of a present key is one edit, of an absent one reads alone
+  strips : deleteRequests 4 (between .table) 110 ≡ read 0 ∷ read 1 ∷ edit 1 (remove 110) ∷ []
+  absent : deleteRequests 4 (between .table) 7 ≡ read 0 ∷ read 2 ∷ []
+  -- a scan: `most` met at a leaf's end reads no further; one more wanted, or the last key equal to the high one, reads the next
+  -- leaf; an empty leaf is read; low above high reads nothing
+  enough : scanOn between 110 250 24 ≡ read 0 ∷ read 1 ∷ []
+  onward : scanOn between 110 250 25 ≡ read 0 ∷ read 1 ∷ read 3 ∷ []
+  equal : scanOn between 110 133 32 ≡ read 0 ∷ read 1 ∷ read 3 ∷ []
+  above : scanOn between 110 132 32 ≡ read 0 ∷ read 1 ∷ []
+  empty : scanOn between 0 120 32 ≡ read 0 ∷ read 2 ∷ read 1 ∷ []
+  nothing : scanOn between 9 3 32 ≡ []
+  pairs : scanAnswer 4 (between .table) 130 201 32 ≡ run 4 130 ++ run 2 200
 
-replaced-24 :
-    (let b = afterPuts 24 0 prepared in putRequests 1 (b .count) (b .table) 7 0) ≡ read 0 ∷ edit 0 (put 7 0) ∷ []
-unfolding prepared limit afterPut afterPuts sizes putRequests putRefused getAnswer lookup leafFor path fullRun idsNeeded work settle finish insert slot update lowerHalf upperHalf middleKey renamed
-replaced-24 = refl
+cases : Cases
+unfolding between limit putOn scanOn putRequests putRefused getAnswer lookup leafFor path fullRun idsNeeded work settle finish insert slot update lowerHalf upperHalf middleKey renamed deleteRequests range hasAbove stopsIn pairsFrom leavesAfter scanRequests scanAnswer ascends inOrder visitLeaf visitChildren visitBranch visit leftmost allMarked complete walkFrom sound
+cases =
+    record {
+      foreign = refl;
+      renames = refl;
+      lost = refl;
+      past = refl;
+      refused = refl;
+      silent = refl;
+      replaces = refl;
+      fits = refl;
+      strips = refl;
+      absent = refl;
+      enough = refl;
+      onward = refl;
+      equal = refl;
+      above = refl;
+      empty = refl;
+      nothing = refl;
+      pairs = refl;
+    }

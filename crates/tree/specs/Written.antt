@@ -118,8 +118,8 @@ module _ (limit d : ℕ) (table : Table) (count : ℕ) (t : Tree d) (low high li
             (edits-same edits id (applyAll rs table) ∙ ap (changeAll edits) (g .own)) (edits-other edits id (applyAll rs table)));
         fits =
             λ m.
-              fits-append limit rs (map (edit id) edits) table count next next (g .fits m)
-              (fits-edits limit edits id (applyAll rs table) next (table id) (g .own) used (g .neat l))
+            fits-append limit rs (map (edit id) edits) table count next next (g .fits m)
+            (fits-edits limit edits id (applyAll rs table) next (table id) (g .own) used (g .neat l));
       }
 
   abbrev halving : List NodeRequest
@@ -143,15 +143,15 @@ module _ (limit d : ℕ) (table : Table) (count : ℕ) (t : Tree d) (low high li
       let one = update after id (lowerHalf whole next) in
       let z : applyAll (rs ++ halving) table ≡ update one next (upperHalf whole) = applyAll-append rs halving table in
       let lower : applyAll (rs ++ halving) table id ≡ lowerHalf whole next =
-          ap (λ (T : Table). T id) z ∙
-          (update-other one next (upperHalf whole) id (omega (arith, used)) ∙ update-same after id (lowerHalf whole next) id refl) in
+      ap (λ (T : Table). T id) z ∙
+      (update-other one next (upperHalf whole) id (omega (arith, used)) ∙ update-same after id (lowerHalf whole next) id refl) in
       let upper : applyAll (rs ++ halving) table next ≡ upperHalf whole =
-          ap (λ (T : Table). T next) z ∙ update-same one next (upperHalf whole) next refl in
+      ap (λ (T : Table). T next) z ∙ update-same one next (upperHalf whole) next refl in
       let neatLower : Neat (lowerHalf whole next) =
-          rw (p .rootLower, lower) at
-          (stands-top-neat d (applyAll (rs ++ halving) table) (p .lower) low (middleKey whole) _ (omega (arith, p .under)) (p .standsLower)) in
+      rw (p .rootLower, lower) at
+      (stands-top-neat d (applyAll (rs ++ halving) table) (p .lower) low (middleKey whole) _ (omega (arith, p .under)) (p .standsLower)) in
       let neatUpper : Neat (upperHalf whole) =
-          rw (p .rootUpper, upper) at (stands-top-neat d (applyAll (rs ++ halving) table) (p .upper) (middleKey whole) high link b (p .standsUpper)) in
+      rw (p .rootUpper, upper) at (stands-top-neat d (applyAll (rs ++ halving) table) (p .upper) (middleKey whole) high link b (p .standsUpper)) in
       fits-append limit rs halving table count next (suc next) (g .fits (omega arith))
       ((used, neatLower), ((refl, m, neatUpper), refl))
 
@@ -232,8 +232,8 @@ module _ (limit d : ℕ) (table : Table) (count k : ℕ) (f : List Pair → List
         let m = middleKey full in
         let p = parted .halves in
         let w : Within low high (insert m (rootOf d c) ks) =
-            within-insert m (rootOf d c) low high ks (omega (arith, p .above, lowAt-le (rootOf d) (t .1) low high j (h .1)))
-            (omega (arith, p .under, child-leads d table count k f local t low high link a b o h .under)) (h .1) in
+        within-insert m (rootOf d c) low high ks (omega (arith, p .above, lowAt-le (rootOf d) (t .1) low high j (h .1)))
+        (omega (arith, p .under, child-leads d table count k f local t low high link a b o h .under)) (h .1) in
         let size : length (insert m (rootOf d c) ks) ≤ mostKeys =
             omega (arith, two-long, s, length-insert m (rootOf d c) ks, ap (λ (n : Node). length (pairsOf n)) (h .0)) in
         ((tt, rw (h .0) (neat-within low high (node Branch (insert m (rootOf d c) ks) _) bound w size)),
@@ -250,7 +250,7 @@ module _ (limit d : ℕ) (table : Table) (count k : ℕ) (f : List Pair → List
               halving-fits limit d table count c lo hi nx (f (pairsIn d c)) rs next edits oc g l
               (omega (arith, child-leads d table count k f local t low high link a b o h .under));
           own = self-kept d table count k f local t low high link a b o h (applyAll made table) (parted .kept);
-          neat = two-neat
+          neat = two-neat;
         }
 
   settle-good : (w : Work) → Good limit d table count c lo hi nx (f (pairsIn d c)) w →
@@ -261,6 +261,7 @@ module _ (limit d : ℕ) (table : Table) (count k : ℕ) (f : List Pair → List
     where
       size : ℕ
       size = length (pairsOf (changeAll edits (table (rootOf d c))))
+
       go : (x : Bool) → fitsNode (changeAll edits (table (rootOf d c))) ≡ x →
           Good limit (suc d) table count t low high link (f (pairsIn (suc d) t)) (settle table k (t .0) (rootOf d c) (pending rs next edits))
       go true e =
@@ -294,11 +295,11 @@ module _ (limit : ℕ) (table : Table) (count k : ℕ) (c : Change) (f : List Pa
               spelled = refl;
               ids = λ i. refl;
               grows = omega arith;
-              kept = λ i l z. refl
+              kept = λ i l z. refl;
             };
         fits = λ m. refl;
         own = refl;
-        neat = λ l. ((rw (h .0) (leaf-suits c f does (t .1) link), neat-within low high (change c (table (t .0))) bound (rw top w) l), tt)
+        neat = λ l. ((rw (h .0) (leaf-suits c f does (t .1) link), neat-within low high (change c (table (t .0))) bound (rw top w) l), tt);
       }
 
   pub work-good : (d fuel : ℕ) (t : Tree d) (low high link : ℕ) → low ≤ k → k < high → high ≤ bound32 → d ≤ fuel → Once d count t →
@@ -312,9 +313,10 @@ module _ (limit : ℕ) (table : Table) (count k : ℕ) (c : Change) (f : List Pa
       let j = slot k (keysOf (rootOf d) (t .1)) in
       let x = childOf d t k in
       let u = child-leads d table count k f local t low high link a b o h in
-      rw
-      (path-step table k fuel (rootOf (suc d) t) (rootOf d x) (childFor-branch d table t low high link mostKeys k (table (rootOf (suc d) t)) h),
-      work-step table k c count fuel (rootOf (suc d) t) (rootOf d x))
+      rw (
+        path-step table k fuel (rootOf (suc d) t) (rootOf d x) (childFor-branch d table t low high link mostKeys k (table (rootOf (suc d) t)) h),
+        work-step table k c count fuel (rootOf (suc d) t) (rootOf d x),
+      )
       (settle-good limit d table count k f local t low high link a b o h bound _
       (work-good d fuel x _ _ _ (u .from) (u .to) (omega (arith, u .under)) (omega arith) (once-child d count t j o)
       (child-stands d table count k f local t low high link a b o h)))
@@ -344,9 +346,9 @@ module _ (limit d : ℕ) (table : Table) (count : ℕ) (t : Tree d) (pairs : Lis
               stands = rw (g .changed .root) (g .changed .holds);
               root = g .changed .root ∙ root;
               ids = λ i. omega (arith, ids i, g .changed .ids i);
-              spelled = g .changed .spelled
+              spelled = g .changed .spelled;
             };
-        fits = g .fits
+        fits = g .fits;
       }
 
   module _ (rs : List NodeRequest) (next : ℕ) (edits : List Change) (g : Pending limit d table count t 0 bound32 noLeaf pairs rs next edits)
@@ -395,9 +397,9 @@ module _ (limit d : ℕ) (table : Table) (count : ℕ) (t : Tree d) (pairs : Lis
         halved d then (c .tree) 0 bound32 noLeaf top next (suc next)
         (holds-keep d after then (c .tree) 0 bound32 noLeaf (suc mostKeys) top
         (λ i e.
-          let u : i < next = inner-used d table after then count next t 0 bound32 noLeaf pairs top once c i (omega arith) in
-          update-other both 0 crown i (λ z. inner-other d table after then count next t 0 bound32 noLeaf pairs top once c i e (z ∙ sym root)) ∙
-          (update-other one (suc next) upper i (omega arith) ∙ update-other after next lower i (omega arith)))
+        let u : i < next = inner-used d table after then count next t 0 bound32 noLeaf pairs top once c i (omega arith) in
+        update-other both 0 crown i (λ z. inner-other d table after then count next t 0 bound32 noLeaf pairs top once c i e (z ∙ sym root)) ∙
+        (update-other one (suc next) upper i (omega arith) ∙ update-other after next lower i (omega arith)))
         (c .holds))
         l at-lower at-upper
 
@@ -407,34 +409,38 @@ module _ (limit d : ℕ) (table : Table) (count : ℕ) (t : Tree d) (pairs : Lis
         let p = root-halved in
         let c = g .changed in
         let neatLower : Neat lower =
-            rw (p .rootLower, at-lower) at (stands-top-neat d then (p .lower) 0 (middleKey top) _ (omega (arith, p .under)) (p .standsLower)) in
+        rw (p .rootLower, at-lower) at (stands-top-neat d then (p .lower) 0 (middleKey top) _ (omega (arith, p .under)) (p .standsLower)) in
         let neatUpper : Neat upper =
-            rw (p .rootUpper, at-upper) at (stands-top-neat d then (p .upper) (middleKey top) bound32 noLeaf (omega arith) (p .standsUpper)) in
+        rw (p .rootUpper, at-upper) at (stands-top-neat d then (p .upper) (middleKey top) bound32 noLeaf (omega arith) (p .standsUpper)) in
         record {
           spells =
               rw (applyAll-append rs rooting table)
               record {
                 depth = suc d;
                 tree = (0, (p .lower, middleKey top) ∷ [], p .upper);
-                stands =
-                    (rw (p .rootLower, p .rootUpper) (update-same both 0 crown 0 refl),
-                    (omega arith, p .under, tt),
-                    omega arith,
-                    omega arith,
-                    (p .standsLower, p .standsUpper));
+                stands = (
+                  rw (p .rootLower, p .rootUpper) (update-same both 0 crown 0 refl),
+                  (omega arith, p .under, tt),
+                  omega arith,
+                  omega arith,
+                  (p .standsLower, p .standsUpper),
+                );
                 root = refl;
                 ids =
                     λ i.
-                      omega
-                      (arith, p .ids i, c .ids i, ids i, ap (λ (n : ℕ). bit (eqb i n)) (c .root ∙ root), used-suc next i, used-suc (suc next) i);
-                spelled = p .joined ∙ c .spelled
+                    omega
+                    (arith, p .ids i, c .ids i, ids i, ap (λ (n : ℕ). bit (eqb i n)) (c .root ∙ root), used-suc next i, used-suc (suc next) i);
+                spelled = p .joined ∙ c .spelled;
               };
           fits =
               λ m.
-                fits-append limit rs rooting table count next (suc (suc next)) (g .fits (omega arith))
-                ((refl, omega arith, neatLower),
-                ((refl, m, neatUpper),
-                ((omega arith, neat-within 0 bound32 crown (omega arith) (omega arith, p .under, tt) (omega arith)), refl)))
+              fits-append limit rs rooting table count next (suc (suc next)) (g .fits (omega arith)) (
+                (refl, omega arith, neatLower),
+                (
+                  (refl, m, neatUpper),
+                  ((omega arith, neat-within 0 bound32 crown (omega arith) (omega arith, p .under, tt) (omega arith)), refl),
+                ),
+              );
         }
 
   pub finish-good : (w : Work) → Good limit d table count t 0 bound32 noLeaf pairs w →
@@ -445,8 +451,10 @@ module _ (limit d : ℕ) (table : Table) (count : ℕ) (t : Tree d) (pairs : Lis
     where
       here : length (pairsOf (changeAll edits (table (rootOf d t)))) ≡ length (pairsOf (changeAll edits (table 0)))
       here = ap (λ (i : ℕ). length (pairsOf (changeAll edits (table i)))) root
+
       size : ℕ
       size = length (pairsOf (changeAll edits (table 0)))
+
       go : (x : Bool) → fitsNode (changeAll edits (table 0)) ≡ x →
           Written limit table count pairs (finish table (pending rs next edits)) (finalCount table (pending rs next edits))
       go true e =
