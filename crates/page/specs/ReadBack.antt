@@ -75,17 +75,17 @@ length-fields tag len (p ∷ ps) (both h hs) =
     length-append (field tag p) (fields tag ps) ∙ omega (arith, length-field tag p, length-fields tag len ps hs)
 
 -- Values that are read back one by one are read back as a list.
-map-back : {A B : Type 0} {P : A → Type 0} (to : A → B) (from : B → A) → ((a : A) → P a → from (to a) ≡ a) →
+pub map-back : {A B : Type 0} {P : A → Type 0} (to : A → B) (from : B → A) → ((a : A) → P a → from (to a) ≡ a) →
     (xs : List A) → Every P xs → map from (map to xs) ≡ xs
 map-back to from back [] none = refl
 map-back to from back (x ∷ xs) (both h hs) = ap₂ _∷_ (back x h) (map-back to from back xs hs)
 
-every-to : {A B : Type 0} {P : A → Type 0} {Q : B → Type 0} (to : A → B) → ((a : A) → P a → Q (to a)) →
+pub every-to : {A B : Type 0} {P : A → Type 0} {Q : B → Type 0} (to : A → B) → ((a : A) → P a → Q (to a)) →
     (xs : List A) → Every P xs → Every Q (map to xs)
 every-to to holds [] none = none
 every-to to holds (x ∷ xs) (both h hs) = both (holds x h) (every-to to holds xs hs)
 
-taken-found : (p : List ℕ) → 1 ≤ length p → taken p ≡ 3 + length p
+pub taken-found : (p : List ℕ) → 1 ≤ length p → taken p ≡ 3 + length p
 taken-found [] h = absurd (not-suc-le-zero h)
 taken-found (x ∷ p) h = refl
 

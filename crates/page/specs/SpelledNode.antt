@@ -160,3 +160,10 @@ module _ (p : List ℕ) (b : Bytes p) (m : isNodeBytes (length p) ≡ true) wher
             ap (λ (x : ℕ). x ∷ []) (kind-is (eqb (getD p 2 0) 3) refl) ∙ sym o in
         ap₂ _++_ i (ap₂ _++_ k (ap₂ _++_ l (pairsBytes-from (pairsIn p) p 7 b (omega arith)))) ∙
         parts-whole 2 (1 ∷ 4 ∷ 8 * pairsIn p ∷ []) p (omega arith)
+
+-- A whole node's payload has seven bytes at least.
+pub node-long : (p : List ℕ) → isNodeBytes (length p) ≡ true → 7 ≤ length p
+unfolding isNodeBytes
+node-long p m =
+    let r : length p % 8 ≡ 7 = eqb-true (length p % 8) 7 (and-left (eqb (length p % 8) 7) _ m) in
+    omega arith
