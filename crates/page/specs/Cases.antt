@@ -59,9 +59,11 @@ module _ (s : ℕ) (b : List ℕ) where
 
 -- A page that passed its test is written, and the other way round.
 pub when-true : (t : Bool) (p : Page) → t ≡ true → when t p ≡ written p
+unfolding when
 when-true t p e = rw e
 
 pub when-false : (t : Bool) (p : Page) → t ≡ false → when t p ≡ bad
+unfolding when
 when-false t p e = rw e
 
 pub record Passed (t : Bool) (p q : Page) : Type 0 where
@@ -74,6 +76,6 @@ page-of p (written q) = q
 page-of p bad = p
 
 pub when-passed : (t : Bool) (p q : Page) → when t p ≡ written q → Passed t p q
-unfolding page-of
+unfolding page-of when
 when-passed true p q e = record { test = refl; same = ap (page-of p) e }
 when-passed false p q e = record { test = cc; same = cc }

@@ -124,7 +124,7 @@ abbrev pub readIf : {A : Type 0} → (List ℕ → A) → List ℕ → Option A
 readIf of p = choose (found p) (some (of p)) none
 
 -- A page that passed a test.
-abbrev pub when : Bool → Page → Decoded
+unfoldable pub when : Bool → Page → Decoded
 when ok p = choose ok (written p) bad
 
 -- A log page: 1 to 27 fields 12, then the sums.

@@ -182,7 +182,7 @@ module _ (s : ℕ) (e : Entry) (es : List Entry) (n : ℕ) (h : Fits s (log (e �
   log-first = refl
 
   log-back : decode (numbered s (fields 0x12 entries ++ after-log)) ≡ written (page s (log (e ∷ es)))
-  unfolding decodeLog
+  unfolding decodeLog when
   log-back =
       let b = numbered s (fields 0x12 entries ++ after-log) in
       let m : 1 ≤ length entries = omega (arith, length-entries) in
@@ -225,7 +225,7 @@ module _ (s id : ℕ) (kind : Kind) (ps : List Pair) (l n : ℕ) (h : Fits s (wh
   seal-whole = seal-found s (field 0x11 payload) n (7 + taken payload) (omega (arith, whole-taken, length-field 0x11 payload))
 
   whole-back : decode (numbered s (field 0x11 payload ++ after-node)) ≡ written (page s (whole id (node kind ps l)))
-  unfolding decodeNode
+  unfolding decodeNode when
   whole-back =
       let b = numbered s (field 0x11 payload ++ after-node) in
       decode-numbered s (field 0x11 payload ++ after-node) (h .from) (h .below) ∙
@@ -410,7 +410,7 @@ module _ (s : ℕ) (t : Option Tariff) (x : Score) (xs : List Score) (c : Option
       go (some y) e = p e
 
   checkpoint-back : decode bytes ≡ written (page s (checkpoint t (x ∷ xs) c))
-  unfolding decodeCheckpoint decodeCounted decodeScores
+  unfolding decodeCheckpoint decodeCounted decodeScores when
   checkpoint-back =
       let m : 1 ≤ length scores = omega (arith, length-scores) in
       decode-numbered s (content ++ after) (h .from) (h .below) ∙
