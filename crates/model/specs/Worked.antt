@@ -64,5 +64,5 @@ unfoldable pub ran : Tariff → List Command → Ran
 ran t cs = ranBy t cs (mountCells 4 (prepared 4 t))
 
 pub worked : ran example (Put 7 100 ∷ Get 7 ∷ Delete 7 ∷ Get 7 ∷ []) ≡ record { answers = absent ∷ found 100 ∷ removed 100 ∷ absent ∷ []; charge = 14; numbers = 2 ∷ 3 ∷ 4 ∷ 5 ∷ [] }
-unfolding ran lawsUpdate.update pairsPairs.lookup pairsPairs.insert pairsPairs.delete pairsPairs.range pairsPairs.hasAbove pairsPairs.Within nodeReplay.redo nodeReplay.redoPiece nodeReplay.replayFrom nodeReplay.replay accountServe.serveOf accountRange.withinRange accountRange.costsInRange accountRange.inRange treeTable.slot treeTable.path treeTable.leafFor treeGet.getAnswer treePut.lowerHalf treePut.upperHalf treePut.middleKey treePut.renamed treePut.settle treePut.work treePut.finish treePut.fullRun treePut.idsNeeded treePut.putRefused treePut.putRequests treeDelete.deleteRequests treeScan.stopsIn treeScan.pairsFrom treeScan.leavesAfter treeScan.scanRequests treeScan.scanAnswer treeSound.ascends treeSound.inOrder treeSound.visitLeaf treeSound.visitChildren treeSound.visitBranch treeSound.visit treeSound.leftmost treeSound.allMarked treeSound.complete treeSound.walkFrom treeSound.sound storeView.greatest storeView.pieces storeView.buffered storeView.pages storePool.above storeStore.draftOf storeStore.nodeOf storeStore.modeOf storeLive.carries storeLive.closingSince storeAllocate.spot storeWrite.found storeWrite.place storeWrite.flush storeWrite.enter storeWrite.start storeWrite.nodePage storeWrite.checkpointPage storeRun.written storeRun.write storeRun.makeRoom storeRun.writeGroup storeRun.writeEdit storeServe.serve storeServe.create storeCheckpoint.sheets storeCheckpoint.close storeCheckpoint.collect storeCheckpoint.checkpointOf storeCheckpoint.scoreIn storeCheckpoint.complete storeReopen.cellsIn storeReopen.reopened storeReopen.blocksPass storeReopen.pagesPass bookBook.serve bookBook.charge bookCommand.requests bookCommand.refuses bookCommand.answer modelState.bookOf modelState.serve modelBatch.closed modelMount.stateOf modelMount.threePages modelMount.scoresBelow modelMount.treeSound modelMount.mountCells modelPrepare.prepared
+unfolding ran lawsUpdate.update pairsPairs.lookup pairsPairs.insert pairsPairs.delete pairsPairs.range pairsPairs.hasAbove pairsPairs.Within nodeReplay.redo nodeReplay.redoPiece nodeReplay.replayFrom nodeReplay.replay accountServe.serveOf accountRange.withinRange accountRange.costsInRange accountRange.inRange treeTable.slot treeTable.path treeTable.leafFor treeGet.getAnswer treePut.lowerHalf treePut.upperHalf treePut.middleKey treePut.renamed treePut.settle treePut.work treePut.finish treePut.fullRun treePut.idsNeeded treePut.putRefused treePut.putRequests treeDelete.deleteRequests treeScan.stopsIn treeScan.pairsFrom treeScan.leavesAfter treeScan.scanRequests treeScan.scanAnswer treeSound.ascends treeSound.inOrder treeSound.visitLeaf treeSound.visitChildren treeSound.visitBranch treeSound.visit treeSound.leftmost treeSound.allMarked treeSound.complete treeSound.walkFrom treeSound.sound storeView.greatest storeView.pieces storeView.buffered storeView.pages storePool.above storeStore.draftOf storeStore.nodeOf storeStore.modeOf storeLive.carries storeLive.closingSince storeAllocate.spot storeWrite.found storeWrite.place storeWrite.flush storeWrite.enter storeWrite.start storeWrite.nodePage storeRun.written storeRun.write storeRun.makeRoom storeRun.writeGroup storeRun.writeEdit storeServe.serve storeServe.create storeCheckpoint.sheets storeCheckpoint.close storeCheckpoint.collect storeCheckpoint.checkpointOf storeCheckpoint.scoreIn storeCheckpoint.complete storeReopen.cellsIn storeReopen.reopened storeReopen.blocksPass storeReopen.pagesPass bookBook.serve bookBook.charge bookCommand.requests bookCommand.refuses bookCommand.answer modelState.bookOf modelState.serve modelBatch.closed modelMount.stateOf modelMount.threePages modelMount.scoresBelow modelMount.treeSound modelMount.mountCells modelPrepare.prepared
 worked = refl
