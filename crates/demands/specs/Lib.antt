@@ -3,3 +3,4 @@ pub mod Step
 pub mod Commands
 pub mod Run
 pub mod Mount
+pub mod Close
