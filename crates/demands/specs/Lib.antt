@@ -4,3 +4,4 @@ pub mod Commands
 pub mod Run
 pub mod Mount
 pub mod Close
+pub mod Prepare
