@@ -21,12 +21,12 @@ use Rattle.tree.specs.SoundLaws.{spells-sound}
 use Rattle.store.specs.View.{pages}
 use Rattle.store.specs.Store.{Store, view}
 use Rattle.store.specs.Run.{Run}
-use Rattle.store.specs.Changes.{Lean}
-use Rattle.store.specs.Keeps.{Keeps}
+use Rattle.storelaws.specs.Changes.{Lean}
+use Rattle.storelaws.specs.Keeps.{Keeps}
 use Rattle.store.specs.Checkpoint.{scoresFrom, sheets, close, checkpointOf, tariffIn, scoresIn, countIn, scoreIn, complete}
-use Rattle.store.specs.SheetLaws.{scoresIn-sheets}
+use Rattle.storelaws.specs.SheetLaws.{scoresIn-sheets}
 use Rattle.store.specs.Reopen.{Cells, poolOf, reopened, pagesPass}
-use Rattle.store.specs.Closing.{Closed, close-closed}
+use Rattle.storelaws.specs.Closing.{Closed, close-closed}
 use Rattle.book.specs.Book.{Book}
 use Rattle.book.specs.Bound.{Scored}
 use Rattle.model.specs.State.{State, bookOf}

@@ -20,8 +20,8 @@ use Rattle.tree.specs.Fit.{Fit}
 use Rattle.store.specs.Store.{noNode}
 use Rattle.store.specs.Run.{Run}
 use Rattle.store.specs.Serve as Store
-use Rattle.store.specs.Contents as Contents
-use Rattle.store.specs.Keeps.{Keeps, serve-keeps, create-keeps}
+use Rattle.storelaws.specs.Contents as Contents
+use Rattle.storelaws.specs.Keeps.{Keeps, serve-keeps, create-keeps}
 use Rattle.book.specs.Book.{Book, idOf, requestOf, accountBy}
 use Rattle.book.specs.Book as Book
 use Rattle.model.specs.State.{State, bookOf, write, serve}

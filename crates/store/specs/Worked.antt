@@ -22,7 +22,7 @@ use Rattle.store.specs.Store.{Store, view, draftOf, nodeOf, modeOf}
 use Rattle.store.specs.Live.{carries, closingSince}
 use Rattle.store.specs.Allocate.{spot}
 use Rattle.store.specs.Write.{found, place, enter, start}
-use Rattle.store.specs.Run.{Run, written, write, makeRoom, writeGroup, writeEdit}
+use Rattle.store.specs.Run.{Run, written, write, flushRun, makeRoom, writeGroup, writeEdit}
 use Rattle.store.specs.Serve.{Work, read, edit, rewrite, serve, create}
 use Rattle.store.specs.Checkpoint.{scoresFrom, sheets, close, collect, checkpointOf, scoresIn}
 use Rattle.store.specs.Reopen.{cellsIn, poolOf, pagesPass, blocksPass}
@@ -102,6 +102,25 @@ behind n k run = rewrites k (serve Disk n read (create n (node Leaf ((n, n) ∷ 
 abbrev spread : Run
 spread = behind 3 31 (behind 2 31 (behind 1 28 fresh))
 
+-- The same with the buffer written out in the last place of block 2, so that the next page is the checkpoint's.
+abbrev drained : Run
+drained = flushRun (behind 3 30 (behind 2 31 (behind 1 28 fresh)))
+
+-- A pool that another writer made: the later page of node 0 stands before the earlier one.
+abbrev foreign : Store
+foreign =
+    record {
+      blocks =
+          (page 5 (log (record { id = 0; version = 1; change = put 7 2 } ∷ [])) ∷
+          page 4 (log (record { id = 0; version = 1; change = put 7 1 } ∷ record { id = 0; version = 1; change = link Leaf noLeaf } ∷ [])) ∷
+          []) ∷
+          [] ∷
+          [];
+      current = 0;
+      buffer = [];
+      last = 5;
+    }
+
 abbrev lengths : List (List Page) → List ℕ
 lengths [] = []
 lengths (b ∷ bs) = length b ∷ lengths bs
@@ -122,6 +141,10 @@ pub record Ran : Type 0 where
   -- three of four blocks full, one live page in each of blocks 0 and 1, two in block 2: block 0 is compacted, its page copied, and the new page goes behind it
   pub copied : lengths (rewrites 1 spread .now .blocks) ≡ 0 ∷ 32 ∷ 32 ∷ 2 ∷ []
   pub moved : nodeOf (rewrites 1 spread .now) 1 ≡ node Leaf ((1, 1) ∷ []) noLeaf
+  -- the old checkpoint's page in block 0 is dead while the new one is written: block 0 has the fewest live pages
+  pub checkpointed : lengths (close tariff (λ n. n) drained .now .blocks) ≡ 0 ∷ 32 ∷ 32 ∷ 2 ∷ []
+  -- entries are taken by page number, wherever the pages lie
+  pub order : nodeOf foreign 0 ≡ node Leaf ((7, 2) ∷ []) noLeaf
 
 pub ran : Ran
 unfolding above greatest pages pieces draftOf nodeOf modeOf carries closingSince spot found place enter start written write makeRoom writeGroup writeEdit serve create sheets close collect checkpointOf cellsIn blocksPass pagesPass Pairs.insert redo redoPiece replayFrom replay
@@ -136,4 +159,6 @@ ran =
       scores = refl;
       copied = refl;
       moved = refl;
+      checkpointed = refl;
+      order = refl;
     }

@@ -41,11 +41,11 @@ use Rattle.store.specs.Reopen.{
   everyPage,
   pagesPass,
 }
-use Rattle.store.specs.ViewLaws.{gather-nil, Reached, greatestTo-reached}
-use Rattle.store.specs.BlockRules.{BlockRules}
-use Rattle.store.specs.Placing.{Invariant}
-use Rattle.store.specs.Versions.{versionIs, VersionRules, InLog, OnPage, InMode, mode-is}
-use Rattle.store.specs.BlockTests.{
+use Rattle.storelaws.specs.ViewLaws.{gather-nil, Reached, greatestTo-reached}
+use Rattle.storelaws.specs.BlockRules.{BlockRules}
+use Rattle.storelaws.specs.Placing.{Invariant}
+use Rattle.storelaws.specs.Versions.{versionIs, VersionRules, InLog, OnPage, InMode, mode-is}
+use Rattle.storelaws.specs.BlockTests.{
   passing,
   passing-true,
   passing-rules,
@@ -55,7 +55,7 @@ use Rattle.store.specs.BlockTests.{
   rules-blocks,
   rules-passing,
 }
-use Rattle.store.specs.PageTests.{
+use Rattle.storelaws.specs.PageTests.{
   VersionFits,
   version-fits,
   said-fits,
@@ -68,9 +68,9 @@ use Rattle.store.specs.PageTests.{
   passing-versions,
   rules-pages,
 }
-use Rattle.store.specs.Changes.{Lean}
-use Rattle.store.specs.Good.{Good}
-use Rattle.store.specs.Keeps.{Holds, Keeps}
+use Rattle.storelaws.specs.Changes.{Lean}
+use Rattle.storelaws.specs.Good.{Good}
+use Rattle.storelaws.specs.Keeps.{Holds, Keeps}
 
 none-closing-in : (b : List Page) → count noClosing b ≡ 0
 none-closing-in [] = refl

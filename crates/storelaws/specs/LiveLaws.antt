@@ -13,17 +13,17 @@ use Rattle.laws.specs.Tests.{choose, and-left, and-right, or-left, or-right}
 use Rattle.laws.specs.Order.{eq-or, le-or, le-suc-or}
 use Rattle.laws.specs.Counts.{bit, count, count-mono, tally, tally-mono, tally-or, empty}
 use Rattle.page.specs.Page.{Entry, Page, sequence}
 use Rattle.store.specs.Item.{Item, itemsOf, piecesIn}
 use Rattle.store.specs.View.{View, sumTo, some?, greatest, pages}
 use Rattle.store.specs.Pool.{Blocks, numbered, above, pageIn, orElse, find, itemsAt}
 use Rattle.store.specs.Store.{seen}
 use Rattle.store.specs.Live.{carries, live}
 use Rattle.store.specs.Allocate.{compact}
-use Rattle.store.specs.ItemLaws.{empty-nil}
-use Rattle.store.specs.ViewLaws.{sumTo-ext}
-use Rattle.store.specs.Steps.{Pruned, Fate}
-use Rattle.store.specs.Steps as Steps
-use Rattle.store.specs.PoolLaws.{pageIn-none, Moves, Found, stays, goes, find-compact}
+use Rattle.storelaws.specs.ItemLaws.{empty-nil}
+use Rattle.storelaws.specs.ViewLaws.{sumTo-ext}
+use Rattle.storelaws.specs.Steps.{Pruned, Fate}
+use Rattle.storelaws.specs.Steps as Steps
+use Rattle.storelaws.specs.PoolLaws.{pageIn-none, Moves, Found, stays, goes, find-compact}
 
 not-false : (b : Bool) → not b ≡ false → b ≡ true
 not-false true e = refl

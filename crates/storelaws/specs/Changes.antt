@@ -11,9 +11,9 @@ use Rattle.laws.specs.Order.{eq-or}
 use Rattle.laws.specs.Counts.{bit-le-one, empty}
 use Rattle.layout.specs.Layout.{mostLogPages}
 use Rattle.node.specs.Replay.{Piece}
 use Rattle.store.specs.Item.{Item, piecesIn, greatestIn, group}
 use Rattle.store.specs.View.{View, some?, greatest, pieces, buffered, pages}
-use Rattle.store.specs.ItemLaws.{
+use Rattle.storelaws.specs.ItemLaws.{
   piecesIn-append,
   greatestIn-append,
   piecesIn-group,
@@ -22,7 +22,7 @@ use Rattle.store.specs.ItemLaws.{
   greatestIn-group-any,
   greatestIn-group-other,
 }
-use Rattle.store.specs.Steps.{
+use Rattle.storelaws.specs.Steps.{
   Fit,
   fit-buffer,
   buffer-above,

@@ -44,9 +44,9 @@ use Rattle.store.specs.Checkpoint.{
   scoreIn,
   complete,
 }
 use Rattle.store.specs.Reopen.{reopened, poolOf, pagesPass}
-use Rattle.store.specs.LiveLaws.{live-closing}
-use Rattle.store.specs.Placing.{
+use Rattle.storelaws.specs.LiveLaws.{live-closing}
+use Rattle.storelaws.specs.Placing.{
   mostSheets,
   Invariant,
   place-find,
@@ -56,13 +56,13 @@ use Rattle.store.specs.Placing.{
   silent-same,
   silent-invariant,
 }
-use Rattle.store.specs.Versions.{says, late, VersionRules, silent-versions, place-mode}
-use Rattle.store.specs.Passed.{written-lean}
-use Rattle.store.specs.Good.{LeanAt, Good, Keep, keep-refl, keep-trans, flushRun-good, flushRun-keep}
-use Rattle.store.specs.Keeps.{Keeps, keep-holds}
-use Rattle.store.specs.Numbers.{last, write-last}
-use Rattle.store.specs.Opening.{none-closing, own-passes, reopen}
-use Rattle.store.specs.SheetLaws.{
+use Rattle.storelaws.specs.Versions.{says, late, VersionRules, silent-versions, place-mode}
+use Rattle.storelaws.specs.Passed.{written-lean}
+use Rattle.storelaws.specs.Good.{LeanAt, Good, Keep, keep-refl, keep-trans, flushRun-good, flushRun-keep}
+use Rattle.storelaws.specs.Keeps.{Keeps, keep-holds}
+use Rattle.storelaws.specs.Numbers.{last, write-last}
+use Rattle.storelaws.specs.Opening.{none-closing, own-passes, reopen}
+use Rattle.storelaws.specs.SheetLaws.{
   length-laterSheets,
   sheets-few,
   scoresIn-sheets,

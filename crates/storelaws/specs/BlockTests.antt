@@ -34,10 +34,10 @@ use Rattle.store.specs.Reopen.{
   fullOrAll,
   blocksPass,
 }
-use Rattle.store.specs.ItemLaws.{empty-nil}
-use Rattle.store.specs.AllocateLaws.{BlankAt, a-blank, blanks-positive}
-use Rattle.store.specs.BlockRules.{Whole, BlockRules}
-use Rattle.store.specs.CellLaws.{length-cells, blocksIn-cells, allFilled-cells, length-blocksIn, block-blocksIn}
+use Rattle.storelaws.specs.ItemLaws.{empty-nil}
+use Rattle.storelaws.specs.AllocateLaws.{BlankAt, a-blank, blanks-positive}
+use Rattle.storelaws.specs.BlockRules.{Whole, BlockRules}
+use Rattle.storelaws.specs.CellLaws.{length-cells, blocksIn-cells, allFilled-cells, length-blocksIn, block-blocksIn}
 
 -- The numbers differ: each is counted at most once.
 differIn-once : (s : ℕ) (b : List Page) (bs : Blocks) → differIn b bs ≡ true → tally (numbered s) bs ≤ 1 →

@@ -35,7 +35,7 @@ use Rattle.store.specs.Checkpoint.{
   onceBelow,
   complete,
 }
-use Rattle.store.specs.Placing.{mostSheets}
+use Rattle.storelaws.specs.Placing.{mostSheets}
 
 pub length-laterSheets : (n : ℕ) (xs : List (List Score)) → length (laterSheets n xs) ≡ length xs
 length-laterSheets n [] = refl

@@ -14,20 +14,20 @@ use Rattle.layout.specs.Layout.{pagesInBlock, mostLogPages}
 use Rattle.account.specs.declared.Mode.{Mode}
 use Rattle.account.specs.declared.Mode.the-variants.{Log, Disk}
 use Rattle.page.specs.Page.{Page, page, whole}
 use Rattle.store.specs.Item.{piecesIn}
 use Rattle.store.specs.View.{greatest, pieces, pages}
 use Rattle.store.specs.Pool.{block, numbered, find}
 use Rattle.store.specs.Store.{Store, view}
 use Rattle.store.specs.Live.{carries, live}
 use Rattle.store.specs.Write.{found}
 use Rattle.store.specs.Run.{Moment, Run}
-use Rattle.store.specs.Steps.{pruned-at}
-use Rattle.store.specs.LiveLaws.{live-carries}
-use Rattle.store.specs.AllocateLaws.{BlankAt}
-use Rattle.store.specs.BlockRules.{how-tally}
-use Rattle.store.specs.Placing.{Invariant, found-ready, found-how, found-pruned, found-live, found-same}
-use Rattle.store.specs.Versions.{InMode}
-use Rattle.store.specs.Good.{LeanAt, Good}
+use Rattle.storelaws.specs.Steps.{pruned-at}
+use Rattle.storelaws.specs.LiveLaws.{live-carries}
+use Rattle.storelaws.specs.AllocateLaws.{BlankAt}
+use Rattle.storelaws.specs.BlockRules.{how-tally}
+use Rattle.storelaws.specs.Placing.{Invariant, found-ready, found-how, found-pruned, found-live, found-same}
+use Rattle.storelaws.specs.Versions.{InMode}
+use Rattle.storelaws.specs.Good.{LeanAt, Good}
 
 -- A node has on every page what it had, its version and content, and its mode.
 pub record Unmoved (a b : Store) (n : ℕ) : Type 0 where

@@ -10,17 +10,17 @@ use Rattle.laws.specs.Counts.{count, tally}
 use Rattle.laws.specs.Every.{Every, none, both, every-append}
 use Rattle.layout.specs.Layout.{pagesInBlock}
 use Rattle.page.specs.Page.{Entry, Content, Page}
 use Rattle.store.specs.Pool.{block, numbered, itemsAt}
 use Rattle.store.specs.Store.{Store, view}
 use Rattle.store.specs.Live.{live}
 use Rattle.store.specs.Allocate.{blanks, nextBlank, victim}
 use Rattle.store.specs.Write.{place}
 use Rattle.store.specs.Run.{copying, oneTo, copiesBy, copies, written}
-use Rattle.store.specs.Steps.{Pruned, stays, pruned-greatest, pruned-pieces, pruned-pages, pruned-buffered}
-use Rattle.store.specs.Changes.{Same, Lean, same-lean}
-use Rattle.store.specs.PoolLaws.{Moves, find-copying}
-use Rattle.store.specs.BlockRules.{spot-moves}
-use Rattle.store.specs.Placing.{Invariant, live-fits}
+use Rattle.storelaws.specs.Steps.{Pruned, stays, pruned-greatest, pruned-pieces, pruned-pages, pruned-buffered}
+use Rattle.storelaws.specs.Changes.{Same, Lean, same-lean}
+use Rattle.storelaws.specs.PoolLaws.{Moves, find-copying}
+use Rattle.storelaws.specs.BlockRules.{spot-moves}
+use Rattle.storelaws.specs.Placing.{Invariant, live-fits}
 
 -- with q pages copied, every node is as it was
 copying-same : (keep : Page → Bool) (st : Store) {i j : ℕ} (q : ℕ) → ((s : ℕ) → tally (numbered s) (st .blocks) ≤ 1) → Moves (st .blocks) i j →

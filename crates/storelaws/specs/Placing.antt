@@ -18,15 +18,15 @@ use Rattle.node.specs.Change.{Change}
 use Rattle.node.specs.Replay.{Piece, step}
 use Rattle.node.specs.Replay as Replay
 use Rattle.page.specs.Page.{Entry, Content, Page, page, log, whole, checkpoint, sequence}
 use Rattle.store.specs.Item.{Item, entryItem, itemsOf, piecesIn, greatestIn, group}
 use Rattle.store.specs.View.{View, some?, greatest, pieces, buffered, pages}
 use Rattle.store.specs.Pool.{Blocks, block, numbered, pageIn, find, itemsAt, addTo}
 use Rattle.store.specs.Store.{Store, seen, view}
 use Rattle.store.specs.Live.{live}
 use Rattle.store.specs.Allocate.{compact, Spot, spot}
 use Rattle.store.specs.Write.{found, next, place, flush, enter, start, nodePage}
-use Rattle.store.specs.ItemLaws.{greatestIn-append, greatestIn-group-any, items-append}
-use Rattle.store.specs.Steps.{
+use Rattle.storelaws.specs.ItemLaws.{greatestIn-append, greatestIn-group-any, items-append}
+use Rattle.storelaws.specs.Steps.{
   Fit,
   fit-buffer,
   Wrote,
@@ -38,8 +38,8 @@ use Rattle.store.specs.Steps.{
   pruned-buffered,
   pruned-fit,
 }
-use Rattle.store.specs.Steps as Steps
-use Rattle.store.specs.Changes.{
+use Rattle.storelaws.specs.Steps as Steps
+use Rattle.storelaws.specs.Changes.{
   Same,
   same-trans,
   Now,
@@ -60,10 +60,10 @@ use Rattle.store.specs.Changes.{
   started-lean,
   paged-lean,
 }
-use Rattle.store.specs.PoolLaws.{find-block, find-set, pageIn-snoc, pageIn-snoc-other, Moves, Found, find-compact}
-use Rattle.store.specs.PoolLaws as PoolLaws
-use Rattle.store.specs.LiveLaws.{compact-pruned, live-bound}
-use Rattle.store.specs.BlockRules.{
+use Rattle.storelaws.specs.PoolLaws.{find-block, find-set, pageIn-snoc, pageIn-snoc-other, Moves, Found, find-compact}
+use Rattle.storelaws.specs.PoolLaws as PoolLaws
+use Rattle.storelaws.specs.LiveLaws.{compact-pruned, live-bound}
+use Rattle.storelaws.specs.BlockRules.{
   BlockRules,
   Ready,
   addTo-tally,
@@ -76,7 +76,7 @@ use Rattle.store.specs.BlockRules.{
   spot-ready,
   spot-how,
 }
-use Rattle.store.specs.BlockRules as BlockRules
+use Rattle.storelaws.specs.BlockRules as BlockRules
 
 -- 620 nodes take twelve checkpoint pages.
 abbrev pub mostSheets : ℕ

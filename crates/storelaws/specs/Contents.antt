@@ -15,7 +15,7 @@ use Rattle.node.specs.declared.Kind.the-variants.{Leaf, Branch}
 use Rattle.node.specs.Node.{Node, node, kindOf, pairsOf, Neat}
 use Rattle.node.specs.Change.{Change, put, remove, link, change, puts, changesOf}
 use Rattle.node.specs.Replay.{Piece, step, whole, Draft, unlinked, made, broken, ifFits, sameKind, redo, redoPiece, replayFrom, replay}
-use Rattle.store.specs.ItemLaws.{map-append}
+use Rattle.storelaws.specs.ItemLaws.{map-append}
 
 -- A change that sets a link does so with the kind of its node.
 abbrev pub Suits : Change → Node → Type 0

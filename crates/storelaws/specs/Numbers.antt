@@ -15,14 +15,14 @@ use Rattle.account.specs.declared.Mode.the-variants.{Log, Disk}
 use Rattle.node.specs.Node.{Node}
 use Rattle.node.specs.Change.{Change, change, changesOf}
 use Rattle.page.specs.Page.{Entry, Content, Page}
 use Rattle.store.specs.View.{pages}
 use Rattle.store.specs.Store.{Store, view, nodeOf, modeOf}
 use Rattle.store.specs.Write.{place, enter, start}
 use Rattle.store.specs.Run.{Run, write, roomBy, makeRoom, writeGroup, editBy, writeEdit, writeNode}
 use Rattle.store.specs.Serve.{Work, read, edit, rewrite, switch, work, note, serve, create}
-use Rattle.store.specs.Contents.{neat-fits}
-use Rattle.store.specs.Good.{Good, Done, Roomy, makeRoom-roomy, writeGroup-done, writeGroup-pages}
-use Rattle.store.specs.Keeps.{Keeps, holds-node, holds-mode, writeGroup-nodes}
+use Rattle.storelaws.specs.Contents.{neat-fits}
+use Rattle.storelaws.specs.Good.{Good, Done, Roomy, makeRoom-roomy, writeGroup-done, writeGroup-pages}
+use Rattle.storelaws.specs.Keeps.{Keeps, holds-node, holds-mode, writeGroup-nodes}
 
 abbrev pub last : Run → ℕ
 last run = run .now .last

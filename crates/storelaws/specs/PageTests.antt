@@ -14,17 +14,17 @@ use Rattle.laws.specs.Order.{eq-or, le-or}
 use Rattle.laws.specs.Counts.{bit, count, tally}
 use Rattle.node.specs.Node.{Node}
 use Rattle.page.specs.Page.{Entry, Content, Page, page, log, whole, checkpoint, sequence}
 use Rattle.store.specs.Item.{Item, entryItem, itemsOf, greatestIn}
 use Rattle.store.specs.View.{View, greatest}
 use Rattle.store.specs.Pool.{Blocks, numbered, pageIn, orElse, find, itemsAt}
 use Rattle.store.specs.Store.{Store, seen}
 use Rattle.store.specs.Reopen.{greatestOf, newest, storeOf, versionPasses, versionsPass, pagePasses, every, everyPage}
-use Rattle.store.specs.ViewLaws.{greatestTo-le}
-use Rattle.store.specs.Steps.{Fit}
-use Rattle.store.specs.PoolLaws.{find-none}
-use Rattle.store.specs.BlockRules.{numbered-none}
-use Rattle.store.specs.BlockTests.{newest-above}
-use Rattle.store.specs.Versions.{versionIs, positive, says, said, lateIn, late, VersionRules}
+use Rattle.storelaws.specs.ViewLaws.{greatestTo-le}
+use Rattle.storelaws.specs.Steps.{Fit}
+use Rattle.storelaws.specs.PoolLaws.{find-none}
+use Rattle.storelaws.specs.BlockRules.{numbered-none}
+use Rattle.storelaws.specs.BlockTests.{newest-above}
+use Rattle.storelaws.specs.Versions.{versionIs, positive, says, said, lateIn, late, VersionRules}
 
 -- One entry's version: from 1, below the page's number, no page's number.
 pub record VersionFits (s : ℕ) (bs : Blocks) (v : ℕ) : Type 0 where

@@ -15,10 +15,10 @@ use Rattle.laws.specs.Tests.{test-clash}
 use Rattle.laws.specs.Order.{eq-or}
 use Rattle.laws.specs.Counts.{bit, count, count-append, length-filter, filter, tally, tally-mono, tally-set, empty, occupied}
 use Rattle.page.specs.Page.{Page, sequence}
 use Rattle.store.specs.Pool.{Blocks, block, numbered, above, addTo}
 use Rattle.store.specs.Allocate.{blanks, nextBlank, victim, copied, compact, Spot, spotBy, spot}
-use Rattle.store.specs.PoolLaws.{Moves, compact-to, compact-from, compact-other, compact-tally-le}
-use Rattle.store.specs.AllocateLaws.{
+use Rattle.storelaws.specs.PoolLaws.{Moves, compact-to, compact-from, compact-other, compact-tally-le}
+use Rattle.storelaws.specs.AllocateLaws.{
   HasRoom,
   victim-room,
   blanks-occupied,

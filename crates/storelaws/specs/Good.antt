@@ -20,17 +20,17 @@ use Rattle.node.specs.Change.{Change, changesOf}
 use Rattle.node.specs.Replay.{Piece, step}
 use Rattle.node.specs.Replay as Replay
 use Rattle.page.specs.Page.{Entry, Content, Page, page, log, whole}
 use Rattle.store.specs.Item.{entries}
 use Rattle.store.specs.View.{View, some?, greatest, pieces, buffered, pages}
 use Rattle.store.specs.Pool.{numbered}
 use Rattle.store.specs.Store.{Store, view}
 use Rattle.store.specs.Live.{noClosing}
 use Rattle.store.specs.Write.{next, place, flush, enter, start, nodePage}
 use Rattle.store.specs.Run.{Moment, Run, moment, write, flushRun, roomBy, makeRoom, begin, writeGroup, editBy, writeEdit, writeNode}
-use Rattle.store.specs.ItemLaws.{length-entries}
-use Rattle.store.specs.Changes.{Same, Now, Lean}
-use Rattle.store.specs.BlockRules.{numbered-none}
-use Rattle.store.specs.Placing.{
+use Rattle.storelaws.specs.ItemLaws.{length-entries}
+use Rattle.storelaws.specs.Changes.{Same, Now, Lean}
+use Rattle.storelaws.specs.BlockRules.{numbered-none}
+use Rattle.storelaws.specs.Placing.{
   Invariant,
   place-find,
   flush-now,
@@ -45,7 +45,7 @@ use Rattle.store.specs.Placing.{
   start-other,
   start-invariant,
 }
-use Rattle.store.specs.Versions.{
+use Rattle.storelaws.specs.Versions.{
   VersionRules,
   flush-versions,
   page-versions,
@@ -57,8 +57,8 @@ use Rattle.store.specs.Versions.{
   place-mode,
   same-mode,
 }
-use Rattle.store.specs.Passed.{written-lean}
-use Rattle.store.specs.Contents.{Spelled, spelled}
+use Rattle.storelaws.specs.Passed.{written-lean}
+use Rattle.storelaws.specs.Contents.{Spelled, spelled}
 
 -- A state passed keeps the three-page rule.
 abbrev pub LeanAt : Moment → Type 0
