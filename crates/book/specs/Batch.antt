@@ -3,10 +3,9 @@ use mathlib.Core.List.{List, [], _∷_, _++_}
 use Prim.Native.Nat.{ℕ, _+_}
 use Rattle.account.specs.declared.Tariff.{Tariff}
 use Rattle.command.specs.declared.Command.{Command}
-use Rattle.command.specs.Answer.{Answer}
 use Rattle.tree.specs.NodeRequest.{NodeRequest}
 use Rattle.book.specs.Book.{Book, serveAll, afterEach, charges}
-use Rattle.book.specs.Command.{requests, answer}
+use Rattle.book.specs.Command.{Reply, requests, answer}
 
 module _ (limit : ℕ) (t : Tariff) where
   -- The book after a command.
@@ -26,7 +25,7 @@ module _ (limit : ℕ) (t : Tariff) where
   chargeBook [] b = 0
   chargeBook (c ∷ cs) b = charges t (requests limit c b) b + chargeBook cs (doneBook c b)
 
-  abbrev pub answersBook : List Command → Book → List Answer
+  abbrev pub answersBook : List Command → Book → List Reply
   answersBook [] b = []
   answersBook (c ∷ cs) b = answer limit c b ∷ answersBook cs (doneBook c b)
 

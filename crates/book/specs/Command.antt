@@ -1,12 +1,15 @@
 -- A command on a book: its node requests and its answer (document 01, "Commands and answers", "Nodes and tree"). Both the run over
 -- the flash store and the reference model ask these functions, so neither has requests or answers of its own. Assumes nothing.
 use mathlib.Core.Bool.{Bool, true, false}
-use mathlib.Core.List.{List, [], _∷_}
+use mathlib.Core.List.{List, [], _∷_, _++_}
 use mathlib.Core.Option.{Option, none, some}
 use Prim.Native.Nat.{ℕ}
 use Rattle.command.specs.declared.Command.{Command}
 use Rattle.command.specs.declared.Command.the-variants.{Get, Put, Delete, Scan}
-use Rattle.command.specs.Answer.{Answer, absent, found, replaced, removed, listed, refused}
+use Rattle.pairs.specs.Pairs.{Pair}
+use Rattle.command.specs.declared.Answer.{Answer}
+use Rattle.command.specs.declared.Answer.the-variants.{Absent, Got, Replaced, Removed, Refused}
+use Rattle.command.specs.Answer.{answerBytes, scanBytes, valueOr}
 use Rattle.tree.specs.NodeRequest.{NodeRequest}
 use Rattle.tree.specs.Get.{getRequests, getAnswer}
 use Rattle.tree.specs.Put.{putRequests, putRefused}
@@ -21,23 +24,34 @@ requests limit (Put k v) b = putRequests limit (b .count) (b .table) k v
 requests limit (Delete k) b = deleteRequests (b .count) (b .table) k
 requests limit (Scan low high most) b = scanRequests (b .count) (b .table) low high most
 
--- The refusal for which node ids are wanting.
+-- What a command is answered: one of the answers of fixed length, or the pairs of a scan.
+pub data Reply : Type 0 where
+  short : Answer → Reply
+  listed : List Pair → Reply
+
+abbrev pub replyBytes : Reply → List ℕ
+replyBytes (short a) = answerBytes a
+replyBytes (listed ps) = scanBytes ps
+
+abbrev pub repliesBytes : List Reply → List ℕ
+repliesBytes [] = []
+repliesBytes (r ∷ rs) = replyBytes r ++ repliesBytes rs
+
+-- "Are enough node ids unused? (9)"
 abbrev pub noIds : ℕ
 noIds = 9
 
--- 80 where there is no such key, or for a put newly made; 81, 82 and 83 with the value, the old value, the value removed.
-abbrev pub gotten : Option ℕ → Answer
-gotten none = absent
-gotten (some v) = found v
+-- 80 where there is no such key, or for a put newly made; 81, 82 and 83 with the value, the old value, the value removed; 8F for a
+-- put that is refused.
+abbrev pub getReply : Option ℕ → Reply
+getReply old = short (valueOr Got old)
 
-abbrev pub putBack : Bool → Option ℕ → Answer
-putBack true old = refused noIds
-putBack false none = absent
-putBack false (some v) = replaced v
+abbrev pub putReply : Bool → Option ℕ → Reply
+putReply true old = short (Refused noIds)
+putReply false old = short (valueOr Replaced old)
 
-abbrev pub deleted : Option ℕ → Answer
-deleted none = absent
-deleted (some v) = removed v
+abbrev pub deleteReply : Option ℕ → Reply
+deleteReply old = short (valueOr Removed old)
 
 -- Whether a command is a put that is refused.
 unfoldable pub refuses : ℕ → Command → Book → Bool
@@ -46,8 +60,8 @@ refuses limit (Put k v) b = putRefused limit (b .count) (b .table) k
 refuses limit (Delete k) b = false
 refuses limit (Scan low high most) b = false
 
-unfoldable pub answer : ℕ → Command → Book → Answer
-answer limit (Get k) b = gotten (getAnswer (b .count) (b .table) k)
-answer limit (Put k v) b = putBack (putRefused limit (b .count) (b .table) k) (getAnswer (b .count) (b .table) k)
-answer limit (Delete k) b = deleted (getAnswer (b .count) (b .table) k)
+unfoldable pub answer : ℕ → Command → Book → Reply
+answer limit (Get k) b = getReply (getAnswer (b .count) (b .table) k)
+answer limit (Put k v) b = putReply (putRefused limit (b .count) (b .table) k) (getAnswer (b .count) (b .table) k)
+answer limit (Delete k) b = deleteReply (getAnswer (b .count) (b .table) k)
 answer limit (Scan low high most) b = listed (scanAnswer (b .count) (b .table) low high most)

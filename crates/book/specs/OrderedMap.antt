@@ -9,15 +9,14 @@ use Rattle.pairs.specs.Pairs.{Pair, lookup, insert, delete, range}
 use Rattle.account.specs.declared.Tariff.{Tariff}
 use Rattle.command.specs.declared.Command.{Command}
 use Rattle.command.specs.declared.Command.the-variants.{Get, Put, Delete, Scan}
-use Rattle.command.specs.Answer.{Answer, listed}
 use Rattle.book.specs.Book.{Book}
-use Rattle.book.specs.Command.{gotten, putBack, deleted, refuses}
+use Rattle.book.specs.Command.{Reply, listed, getReply, putReply, deleteReply, refuses}
 use Rattle.book.specs.Batch.{doneBook}
 
-unfoldable pub mapAnswer : Bool → Command → List Pair → Answer
-mapAnswer refused (Get k) ps = gotten (lookup k ps)
-mapAnswer refused (Put k v) ps = putBack refused (lookup k ps)
-mapAnswer refused (Delete k) ps = deleted (lookup k ps)
+unfoldable pub mapAnswer : Bool → Command → List Pair → Reply
+mapAnswer refused (Get k) ps = getReply (lookup k ps)
+mapAnswer refused (Put k v) ps = putReply refused (lookup k ps)
+mapAnswer refused (Delete k) ps = deleteReply (lookup k ps)
 mapAnswer refused (Scan low high most) ps = listed (range low high most ps)
 
 unfoldable pub mapAfter : Bool → Command → List Pair → List Pair
@@ -28,7 +27,7 @@ mapAfter refused (Scan low high most) ps = ps
 
 -- A batch.
 module _ (limit : ℕ) (t : Tariff) where
-  abbrev pub mapAnswers : List Command → Book → List Pair → List Answer
+  abbrev pub mapAnswers : List Command → Book → List Pair → List Reply
   mapAnswers [] b ps = []
   mapAnswers (c ∷ cs) b ps =
       mapAnswer (refuses limit c b) c ps ∷ mapAnswers cs (doneBook limit t c b) (mapAfter (refuses limit c b) c ps)

@@ -1,1 +1,4 @@
+pub mod Command
+pub mod CommandLaws
+pub mod Batch
 pub mod Answer

@@ -10,7 +10,6 @@ use Rattle.layout.specs.Layout.{bound32, noLeaf}
 use Rattle.pairs.specs.Pairs.{Pair}
 use Rattle.command.specs.declared.Command.{Command}
 use Rattle.command.specs.declared.Command.the-variants.{Get, Put, Delete, Scan}
-use Rattle.command.specs.Answer.{Answer, listed}
 use Rattle.tree.specs.Put.{putRefused}
 use Rattle.tree.specs.Spells.{Spells}
 use Rattle.tree.specs.Served.{Served}
@@ -19,7 +18,7 @@ use Rattle.tree.specs.PutLaws.{put-refused, put-served}
 use Rattle.tree.specs.DeleteLaws.{delete-served}
 use Rattle.tree.specs.ScanLaws.{scan-answer, scan-served}
 use Rattle.book.specs.Book.{Book}
-use Rattle.book.specs.Command.{requests, answer, refuses, gotten, putBack, deleted}
+use Rattle.book.specs.Command.{requests, answer, refuses, listed, getReply, putReply, deleteReply}
 use Rattle.book.specs.OrderedMap.{mapAnswer, mapAfter}
 
 -- Keys are 32-bit numbers.
@@ -42,7 +41,7 @@ module _ (limit : ℕ) (small : limit < noLeaf) (b : Book) (ps : List Pair) (s :
   unfolding answer mapAnswer mapAfter requests
   get-does k h =
       record {
-        answers = ap gotten (get-answer (b .table) (b .count) ps s k h);
+        answers = ap getReply (get-answer (b .table) (b .count) ps s k h);
         served = get-served (b .table) (b .count) ps s k h limit l;
       }
 
@@ -60,7 +59,7 @@ module _ (limit : ℕ) (small : limit < noLeaf) (b : Book) (ps : List Pair) (s :
           }
       go false e =
           record {
-            answers = ap (putBack (putRefused limit (b .count) (b .table) k)) (get-answer (b .table) (b .count) ps s k h);
+            answers = ap (putReply (putRefused limit (b .count) (b .table) k)) (get-answer (b .table) (b .count) ps s k h);
             served = rw e (put-served (b .table) (b .count) ps s k v h limit l e);
           }
 
@@ -68,7 +67,7 @@ module _ (limit : ℕ) (small : limit < noLeaf) (b : Book) (ps : List Pair) (s :
   unfolding answer mapAnswer mapAfter requests
   delete-does k h =
       record {
-        answers = ap deleted (get-answer (b .table) (b .count) ps s k h);
+        answers = ap deleteReply (get-answer (b .table) (b .count) ps s k h);
         served = delete-served (b .table) (b .count) ps s k h limit l;
       }
 

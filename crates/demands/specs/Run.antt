@@ -8,7 +8,6 @@ use Rattle.layout.specs.Layout.{nodeLimit, bound32, noLeaf}
 use Rattle.account.specs.declared.Tariff.{Tariff}
 use Rattle.pairs.specs.Pairs.{Pair}
 use Rattle.command.specs.declared.Command.{Command}
-use Rattle.command.specs.Answer.{Answer}
 use Rattle.tree.specs.Table.{Table}
 use Rattle.tree.specs.NodeRequest.{NodeRequest, apply, applyAll, countAfter, countAfterAll}
 use Rattle.tree.specs.Fit.{Fit, Fits}
@@ -16,7 +15,7 @@ use Rattle.tree.specs.Requests.{fits-append}
 use Rattle.tree.specs.Spells.{Spells}
 use Rattle.book.specs.Book.{Book}
 use Rattle.book.specs.Book as Book
-use Rattle.book.specs.Command.{requests, answer, refuses}
+use Rattle.book.specs.Command.{Reply, requests, answer, refuses}
 use Rattle.book.specs.Batch.{doneBook, runBook, booksPassed, chargeBook, requestsBook}
 use Rattle.book.specs.OrderedMap.{mapAnswer, mapAfter, mapAnswers, mapRun}
 use Rattle.model.specs.State.{State, bookOf, serve, serveAll, afterEach, charges}
@@ -142,7 +141,7 @@ module _ (blocks : ℕ) (t : Tariff) (small : nodeLimit blocks < noLeaf) where
         passed =
             map-append bookOf (afterEach t rs s) (statesPassed limit t cs (done limit t c s)) ∙
             ap₂ {B = List Book} _++_ (one .passed) (rest .passed ∙ ap (booksPassed limit t cs) e);
-        answers = ap₂ {B = List Answer} _∷_ (d .answers) (rest .answers ∙ ap (λ (z : Book). mapAnswers limit t cs z ps′) e);
+        answers = ap₂ {B = List Reply} _∷_ (d .answers) (rest .answers ∙ ap (λ (z : Book). mapAnswers limit t cs z ps′) e);
         holds = subst (λ (z : Book). Holds limit (runBook limit t cs z) (mapRun limit t cs z ps′)) e (rest .holds);
         fits =
             fits-append limit rs (requestsBook limit t cs (doneBook limit t c b)) (b .table) (b .count) final

@@ -4,9 +4,8 @@ use mathlib.Core.List.{List, [], _∷_, _++_}
 use Prim.Native.Nat.{ℕ, _+_}
 use Rattle.account.specs.declared.Tariff.{Tariff}
 use Rattle.command.specs.declared.Command.{Command}
-use Rattle.command.specs.Answer.{Answer}
 use Rattle.store.specs.Checkpoint.{close}
-use Rattle.book.specs.Command.{requests, answer}
+use Rattle.book.specs.Command.{Reply, requests, answer}
 use Rattle.model.specs.State.{State, bookOf, serveAll, afterEach, charges}
 
 module _ (limit : ℕ) (t : Tariff) where
@@ -27,7 +26,7 @@ module _ (limit : ℕ) (t : Tariff) where
   chargeOf [] s = 0
   chargeOf (c ∷ cs) s = charges t (requests limit c (bookOf s)) s + chargeOf cs (done c s)
 
-  abbrev pub answers : List Command → State → List Answer
+  abbrev pub answers : List Command → State → List Reply
   answers [] s = []
   answers (c ∷ cs) s = answer limit c (bookOf s) ∷ answers cs (done c s)
 

@@ -7,7 +7,8 @@ use Rattle.account.specs.declared.Tariff.{Tariff}
 use Rattle.account.specs.Tariff.{tariffOf}
 use Rattle.command.specs.declared.Command.{Command}
 use Rattle.command.specs.declared.Command.the-variants.{Get, Put, Delete, Scan}
-use Rattle.command.specs.Answer.{Answer, absent, found, replaced, removed, listed, refused}
+use Rattle.command.specs.declared.Answer.the-variants.{Absent, Got, Removed}
+use Rattle.book.specs.Command.{Reply, short}
 use Rattle.page.specs.Page.{Page, sequence}
 use Rattle.store.specs.Pool.{Blocks, block}
 use Rattle.store.specs.Reopen.{Cells}
@@ -47,7 +48,7 @@ abbrev example : Tariff
 example = tariffOf 3 1 2 1 4 4 3 2
 
 pub record Ran : Type 0 where
-  pub answers : List Answer
+  pub answers : List Reply
   pub charge : ℕ
   pub numbers : List ℕ
 
@@ -63,6 +64,6 @@ ranBy t cs (opened t′ s) =
 unfoldable pub ran : Tariff → List Command → Ran
 ran t cs = ranBy t cs (mountCells 4 (prepared 4 t))
 
-pub worked : ran example (Put 7 100 ∷ Get 7 ∷ Delete 7 ∷ Get 7 ∷ []) ≡ record { answers = absent ∷ found 100 ∷ removed 100 ∷ absent ∷ []; charge = 14; numbers = 2 ∷ 3 ∷ 4 ∷ 5 ∷ [] }
+pub worked : ran example (Put 7 100 ∷ Get 7 ∷ Delete 7 ∷ Get 7 ∷ []) ≡ record { answers = short Absent ∷ short (Got 100) ∷ short (Removed 100) ∷ short Absent ∷ []; charge = 14; numbers = 2 ∷ 3 ∷ 4 ∷ 5 ∷ [] }
 unfolding ran lawsUpdate.update pairsPairs.lookup pairsPairs.insert pairsPairs.delete pairsPairs.range pairsPairs.hasAbove pairsPairs.Within nodeReplay.redo nodeReplay.redoPiece nodeReplay.replayFrom nodeReplay.replay accountServe.serveOf accountRange.withinRange accountRange.costsInRange accountRange.inRange treeTable.slot treeTable.path treeTable.leafFor treeGet.getAnswer treePut.lowerHalf treePut.upperHalf treePut.middleKey treePut.renamed treePut.settle treePut.work treePut.finish treePut.fullRun treePut.idsNeeded treePut.putRefused treePut.putRequests treeDelete.deleteRequests treeScan.stopsIn treeScan.pairsFrom treeScan.leavesAfter treeScan.scanRequests treeScan.scanAnswer treeSound.ascends treeSound.inOrder treeSound.visitLeaf treeSound.visitChildren treeSound.visitBranch treeSound.visit treeSound.leftmost treeSound.allMarked treeSound.complete treeSound.walkFrom treeSound.sound storeView.greatest storeView.pieces storeView.buffered storeView.pages storePool.above storeStore.draftOf storeStore.nodeOf storeStore.modeOf storeLive.carries storeLive.closingSince storeAllocate.spot storeWrite.found storeWrite.place storeWrite.flush storeWrite.enter storeWrite.start storeWrite.nodePage storeRun.written storeRun.write storeRun.makeRoom storeRun.writeGroup storeRun.writeEdit storeServe.serve storeServe.create storeCheckpoint.sheets storeCheckpoint.close storeCheckpoint.collect storeCheckpoint.checkpointOf storeCheckpoint.scoreIn storeCheckpoint.complete storeReopen.cellsIn storeReopen.reopened storeReopen.blocksPass storeReopen.pagesPass bookBook.serve bookBook.charge bookCommand.requests bookCommand.refuses bookCommand.answer modelState.bookOf modelState.serve modelBatch.closed modelMount.stateOf modelMount.threePages modelMount.scoresBelow modelMount.treeSound modelMount.mountCells modelPrepare.prepared
 worked = refl
