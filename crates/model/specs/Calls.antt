@@ -1,0 +1,147 @@
+-- A list of batches of any bytes, "each on the pool as the last call left it", and the reference model beside it (document 01, "What demand
+-- 3 compares"). Assumes nothing.
+use mathlib.Core.Bool.{Bool, true, false}
+use mathlib.Core.List.{List, [], _∷_, _++_, map}
+use mathlib.Core.Option.{Option, none, some}
+use Prim.Native.Nat.{ℕ, zero, suc, _+_}
+use lib.Dec.{eqb}
+use Rattle.layout.specs.Layout.{nodeLimit}
+use Rattle.account.specs.declared.Tariff.{Tariff}
+use Rattle.pairs.specs.Pairs.{Pair}
+use Rattle.command.specs.declared.Command.{Command}
+use Rattle.command.specs.Batch.{commandsOf}
+use Rattle.tree.specs.NodeRequest.{NodeRequest}
+use Rattle.store.specs.Run.{Moment}
+use Rattle.store.specs.Reopen.{Cells, reopened}
+use Rattle.book.specs.Book.{Book}
+use Rattle.book.specs.Command.{Reply}
+use Rattle.book.specs.Batch.{runBook, booksPassed, chargeBook, requestsBook}
+use Rattle.book.specs.OrderedMap.{mapAnswers, mapRun}
+use Rattle.model.specs.State.{State, bookOf}
+use Rattle.model.specs.Batch.{run, statesPassed, closed}
+use Rattle.model.specs.Mount.{Mounted, refused, opened, stateOf}
+use Rattle.model.specs.Prepare.{firstBook}
+use Rattle.model.specs.Bytes.{cellsOf}
+use Rattle.model.specs.Call.{Outcome, blocksOf, mountOf, batchOf}
+
+-- What a caller lends to one call beside the pool: "batches of any bytes, .. with any work table and answer buffer".
+pub record Lent : Type 0 where
+  pub table : List ℕ
+  pub batch : List ℕ
+  pub buffer : List ℕ
+
+-- One call, and what each call of a list leaves.
+abbrev pub outcome : List ℕ → Lent → Outcome
+outcome pool l = batchOf pool (l .table) (l .batch) (l .buffer)
+
+abbrev pub outcomes : List ℕ → List Lent → List Outcome
+outcomes pool [] = []
+outcomes pool (l ∷ ls) = outcome pool l ∷ outcomes (outcome pool l .pool) ls
+
+abbrev pub lastPool : List ℕ → List Lent → List ℕ
+lastPool pool [] = pool
+lastPool pool (l ∷ ls) = lastPool (outcome pool l .pool) ls
+
+-- "Accepted or refused": an accepted call returns number 0.
+abbrev pub accepted : Outcome → Bool
+accepted o = eqb (o .number) 0
+
+-- The book that a pool spells between calls: contents and modes by its pages, scores by its checkpoint.
+abbrev pub bookBy : ℕ → Option Cells → Book
+bookBy blocks none = firstBook
+bookBy blocks (some c) = bookOf (stateOf (reopened blocks c))
+
+unfoldable pub bookIn : List ℕ → Book
+bookIn pool = bookBy (blocksOf pool) (cellsOf pool)
+
+-- What an accepted call runs: its commands from the state that its pool mounts as.
+pub record Work : Type 0 where
+  pub tariff : Tariff
+  pub commands : List Command
+  pub start : State
+
+abbrev pub workBy : Bool → Option (List Command) → Mounted → Option Work
+workBy false cs m = none
+workBy true none m = none
+workBy true (some cs) (refused n) = none
+workBy true (some cs) (opened t s) = some (record { tariff = t; commands = cs; start = s })
+
+unfoldable pub workOf : List ℕ → Lent → Option Work
+workOf pool l = workBy (accepted (outcome pool l)) (commandsOf (l .batch)) (mountOf pool)
+
+-- The states that it passes: after every node request; and after every page written and every node request, with the node count then.
+abbrev pub statesBy : ℕ → Option Work → List State
+statesBy blocks none = []
+statesBy blocks (some w) = statesPassed (nodeLimit blocks) (w .tariff) (w .commands) (w .start)
+
+abbrev pub momentsBy : ℕ → Option Work → List Moment
+momentsBy blocks none = []
+momentsBy blocks (some w) = closed (w .tariff) (run (nodeLimit blocks) (w .tariff) (w .commands) (w .start)) .run .passed
+
+abbrev pub allStates : List ℕ → List Lent → List State
+allStates pool [] = []
+allStates pool (l ∷ ls) = statesBy (blocksOf pool) (workOf pool l) ++ allStates (outcome pool l .pool) ls
+
+abbrev pub allMoments : List ℕ → List Lent → List Moment
+allMoments pool [] = []
+allMoments pool (l ∷ ls) = momentsBy (blocksOf pool) (workOf pool l) ++ allMoments (outcome pool l .pool) ls
+
+-- The reference model "is fed the pool's length, the tariff, each batch's bytes and whether it was accepted".
+pub record Fed : Type 0 where
+  pub batch : List ℕ
+  pub accepted : Bool
+
+abbrev pub fed : List ℕ → List Lent → List Fed
+fed pool [] = []
+fed pool (l ∷ ls) = record { batch = l .batch; accepted = accepted (outcome pool l) } ∷ fed (outcome pool l .pool) ls
+
+-- "A refused batch changes nothing and costs 0."
+abbrev pub commandsBy : Bool → Option (List Command) → List Command
+commandsBy false cs = []
+commandsBy true none = []
+commandsBy true (some cs) = cs
+
+abbrev pub commandsIn : Fed → List Command
+commandsIn f = commandsBy (f .accepted) (commandsOf (f .batch))
+
+module _ (blocks : ℕ) (t : Tariff) where
+  abbrev limit : ℕ
+  limit = nodeLimit blocks
+
+  -- The book after each call, the books after each node request, the charge of each call, all node requests.
+  abbrev pub fedBook : Fed → Book → Book
+  fedBook f b = runBook limit t (commandsIn f) b
+
+  abbrev pub booksAfter : List Fed → Book → List Book
+  booksAfter [] b = []
+  booksAfter (f ∷ fs) b = fedBook f b ∷ booksAfter fs (fedBook f b)
+
+  abbrev pub lastBook : List Fed → Book → Book
+  lastBook [] b = b
+  lastBook (f ∷ fs) b = lastBook fs (fedBook f b)
+
+  abbrev pub allBooks : List Fed → Book → List Book
+  allBooks [] b = []
+  allBooks (f ∷ fs) b = booksPassed limit t (commandsIn f) b ++ allBooks fs (fedBook f b)
+
+  abbrev pub allCharges : List Fed → Book → List ℕ
+  allCharges [] b = []
+  allCharges (f ∷ fs) b = chargeBook limit t (commandsIn f) b ∷ allCharges fs (fedBook f b)
+
+  abbrev pub allRequests : List Fed → Book → List NodeRequest
+  allRequests [] b = []
+  allRequests (f ∷ fs) b = requestsBook limit t (commandsIn f) b ++ allRequests fs (fedBook f b)
+
+  -- The plain ordered map, call after call.
+  abbrev pub mapReplies : List Fed → Book → List Pair → List (List Reply)
+  mapReplies [] b ps = []
+  mapReplies (f ∷ fs) b ps =
+      mapAnswers limit t (commandsIn f) b ps ∷ mapReplies fs (fedBook f b) (mapRun limit t (commandsIn f) b ps)
+
+  abbrev pub lastMap : List Fed → Book → List Pair → List Pair
+  lastMap [] b ps = ps
+  lastMap (f ∷ fs) b ps = lastMap fs (fedBook f b) (mapRun limit t (commandsIn f) b ps)
+
+abbrev pub sum : List ℕ → ℕ
+sum [] = 0
+sum (n ∷ ns) = n + sum ns
