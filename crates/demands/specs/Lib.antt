@@ -5,3 +5,4 @@ pub mod Run
 pub mod Mount
 pub mod Close
 pub mod Prepare
+pub mod DemandOne

@@ -1,0 +1,133 @@
+-- DEMAND 1. "Any caller, any bytes in any buffer: the work is done, or one numbered refusal, and a refusal leaves pool and answers as
+-- found." Assumes nothing.
+use mathlib.Core.Path.{_≡_, refl, sym, ap, _∙_, subst}
+use mathlib.Core.Bool.{Bool, true, false}
+use mathlib.Core.Logic.{_⊎_, inl, inr}
+use mathlib.Core.List.{List}
+use mathlib.Core.Option.{Option, none, some}
+use Prim.Native.Nat.{ℕ, _≤_, _<_}
+use native.Mathlib.Omega.{arith}
+use lib.Dec.{leb}
+use lib.ListN.{length}
+use Rattle.laws.specs.Tests.{choose}
+use Rattle.layout.specs.Layout.{tableBytes}
+use Rattle.account.specs.declared.Tariff.{Tariff}
+use Rattle.account.specs.Range.{inRange}
+use Rattle.command.specs.declared.Command.{Command}
+use Rattle.command.specs.Batch.{commandsOf, roomForAll}
+use Rattle.store.specs.Store.{Store}
+use Rattle.store.specs.Checkpoint.{checkpointOf, tariffIn, complete}
+use Rattle.store.specs.Reopen.{Cells, reopened, pagesPass}
+use Rattle.model.specs.State.{State}
+use Rattle.model.specs.Mount.{Mounted, refused, opened, ask, treeSound, numbersLeft, stateOf, mountTree, mountCells}
+use Rattle.model.specs.Prepare.{prepared}
+use Rattle.model.specs.Bytes.{bytesOf, cellsOf}
+use Rattle.model.specs.Call.{Outcome, refuse, blocksOf, poolLength, cleared, mountBy, mountOf, accept, batchMounted, batchAsked, batchOf, Prepared, prepareOf}
+
+-- The three ways in which a batch ends. Refused with 1 or 2: every buffer is as found. Refused with 3 to 8: pool and answers are as found,
+-- and the first 1,024 × B bytes of the table are zero. Done: the outcome of an accepted batch.
+pub data Ends (pool table buffer : List ℕ) : Outcome → Type 0 where
+  asFound : (n : ℕ) → 1 ≤ n → n ≤ 2 → Ends pool table buffer (refuse n pool table buffer)
+  tableCleared : (n : ℕ) → 3 ≤ n → n ≤ 8 → Ends pool table buffer (refuse n pool (cleared (blocksOf pool) table) buffer)
+  done : (t : Tariff) (cs : List Command) (s : State) → Ends pool table buffer (accept (blocksOf pool) t cs s table buffer)
+
+-- Mount refuses with a number from 5 to 8.
+pub data Judged : Mounted → Type 0 where
+  unmounted : (n : ℕ) → 5 ≤ n → n ≤ 8 → Judged (refused n)
+  mounted : (t : Tariff) (s : State) → Judged (opened t s)
+
+ask-judged : (n : ℕ) (b : Bool) (m : Mounted) → 5 ≤ n → n ≤ 8 → Judged m → Judged (ask n b m)
+ask-judged n true m l h j = j
+ask-judged n false m l h j = unmounted n l h
+
+tree-judged : (blocks : ℕ) (st : Store) (o : Option Tariff) → Judged (mountTree blocks st o)
+tree-judged blocks st none = unmounted 6 (omega arith) (omega arith)
+tree-judged blocks st (some t) =
+    ask-judged 7 (treeSound blocks t st) _ (omega arith) (omega arith)
+    (ask-judged 8 (numbersLeft st) _ (omega arith) (omega arith) (mounted t (stateOf st)))
+
+cells-judged : (blocks : ℕ) (c : Cells) → Judged (mountCells blocks c)
+unfolding mountCells
+cells-judged blocks c =
+    ask-judged 5 (pagesPass blocks c) _ (omega arith) (omega arith)
+    (ask-judged 6 (complete (checkpointOf (reopened blocks c))) _ (omega arith) (omega arith)
+    (tree-judged blocks (reopened blocks c) (tariffIn (checkpointOf (reopened blocks c)))))
+
+pub mount-judged : (pool : List ℕ) → Judged (mountOf pool)
+unfolding mountOf
+mount-judged pool = go (cellsOf pool)
+  where
+    go : (o : Option Cells) → Judged (mountBy (blocksOf pool) o)
+    go none = unmounted 5 (omega arith) (omega arith)
+    go (some c) = cells-judged (blocksOf pool) c
+
+module _ (pool table buffer : List ℕ) where
+  mounted-ends : (m : Mounted) (cs : List Command) → Judged m → Ends pool table buffer (batchMounted m cs pool table buffer)
+  mounted-ends m cs (unmounted n l h) = tableCleared n (omega arith) h
+  mounted-ends m cs (mounted t s) = done t cs s
+
+  asked-ends : (o : Option (List Command)) → Ends pool table buffer (batchAsked o pool table buffer)
+  asked-ends none = tableCleared 3 (omega arith) (omega arith)
+  asked-ends (some cs) = go (leb (roomForAll cs) (length buffer))
+    where
+      go : (b : Bool) →
+          Ends pool table buffer
+          (choose b (batchMounted (mountOf pool) cs pool table buffer) (refuse 4 pool (cleared (blocksOf pool) table) buffer))
+      go true = mounted-ends (mountOf pool) cs (mount-judged pool)
+      go false = tableCleared 4 (omega arith) (omega arith)
+
+  -- THE BATCH: for every byte in every buffer and every length.
+  pub batch-ends : (batch : List ℕ) → Ends pool table buffer (batchOf pool table batch buffer)
+  unfolding batchOf
+  batch-ends batch = go (poolLength pool) (leb (tableBytes (blocksOf pool)) (length table))
+    where
+      go : (a b : Bool) →
+          Ends pool table buffer
+          (choose a (choose b (batchAsked (commandsOf batch) pool table buffer) (refuse 2 pool table buffer)) (refuse 1 pool table buffer))
+      go false b = asFound 1 (omega arith) (omega arith)
+      go true false = asFound 2 (omega arith) (omega arith)
+      go true true = asked-ends (commandsOf batch)
+
+-- The same in the demand's own words: a number of document 01's, and where it is a refusal's, nothing is changed or returned.
+pub record DemandOne (before buffer : List ℕ) (o : Outcome) : Type 0 where
+  pub numbered : o .number ≤ 8
+  pub pool : 1 ≤ o .number → o .pool ≡ before
+  pub answers : 1 ≤ o .number → o .answers ≡ buffer
+  pub length : 1 ≤ o .number → o .length ≡ 0
+  pub charge : 1 ≤ o .number → o .charge ≡ 0
+
+ends-demand : {pool table buffer : List ℕ} {o : Outcome} → Ends pool table buffer o → DemandOne pool buffer o
+ends-demand (asFound n l h) =
+    record { numbered = omega arith; pool = λ r. refl; answers = λ r. refl; length = λ r. refl; charge = λ r. refl }
+ends-demand (tableCleared n l h) =
+    record { numbered = h; pool = λ r. refl; answers = λ r. refl; length = λ r. refl; charge = λ r. refl }
+ends-demand (done t cs s) =
+    record {
+      numbered = omega arith;
+      pool = λ r. absurd (omega arith);
+      answers = λ r. absurd (omega arith);
+      length = λ r. absurd (omega arith);
+      charge = λ r. absurd (omega arith);
+    }
+
+pub demand-one : (pool table batch buffer : List ℕ) → DemandOne pool buffer (batchOf pool table batch buffer)
+demand-one pool table batch buffer = ends-demand (batch-ends pool table buffer batch)
+
+-- PREPARE: done, or refused with 1 or 10, and then the pool is as found.
+pub data Prepares (pool : List ℕ) (t : Tariff) : Prepared → Type 0 where
+  wrongLength : Prepares pool t (record { number = 1; pool = pool })
+  wrongTariff : Prepares pool t (record { number = 10; pool = pool })
+  fresh : inRange t ≡ true → poolLength pool ≡ true → Prepares pool t (record { number = 0; pool = bytesOf (prepared (blocksOf pool) t) })
+
+pub prepare-ends : (pool : List ℕ) (t : Tariff) → Prepares pool t (prepareOf pool t)
+unfolding prepareOf
+prepare-ends pool t = go (poolLength pool) refl (inRange t) refl
+  where
+    go : (a : Bool) → poolLength pool ≡ a → (b : Bool) → inRange t ≡ b →
+        Prepares pool t
+        (choose a
+        (choose b (record { number = 0; pool = bytesOf (prepared (blocksOf pool) t) }) (record { number = 10; pool = pool }))
+        (record { number = 1; pool = pool }))
+    go false p b q = wrongLength
+    go true p false q = wrongTariff
+    go true p true q = fresh q p
