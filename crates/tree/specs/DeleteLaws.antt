@@ -1,24 +1,22 @@
 -- A delete of a present key is one edit behind the reads, which makes a sound table that spells the map without the key; of an
 -- absent key it is reads alone. Assumes nothing.
-use mathlib.Core.Path.{_≡_, refl, sym, ap, _∙_}
-use mathlib.Core.List.{List, [], _∷_, _++_, map, append-nil}
+use mathlib.Core.Path.{_≡_, refl}
+use mathlib.Core.List.{List, [], _∷_, append-nil}
 use mathlib.Core.Option.{Option, none, some}
-use Prim.Native.Nat.{ℕ, zero, suc, _+_, _≤_, _<_}
+use Prim.Native.Nat.{ℕ, _≤_, _<_}
 use native.Mathlib.Omega.{arith}
-use lib.ListN.{length}
-use Rattle.layout.specs.Layout.{mostKeys, bound32}
+use Rattle.layout.specs.Layout.{bound32}
 use Rattle.pairs.specs.Pairs.{Pair, lookup, delete}
 use Rattle.pairs.specs.Sizes.{length-delete, delete-absent}
 use Rattle.pairs.specs.LocalEdit.{delete-local}
-use Rattle.node.specs.declared.Kind.{Kind}
 use Rattle.node.specs.declared.Kind.the-variants.{Leaf}
-use Rattle.node.specs.Node.{Node, node, pairsOf}
-use Rattle.node.specs.Change.{Change, remove, change}
+use Rattle.node.specs.Node.{node}
+use Rattle.node.specs.Change.{remove, change}
 use Rattle.tree.specs.Table.{Table, path, leafFor}
-use Rattle.tree.specs.NodeRequest.{NodeRequest, edit, applyAll, countAfterAll}
-use Rattle.tree.specs.Get.{readsTo, getAnswer}
+use Rattle.tree.specs.NodeRequest.{edit, countAfterAll}
+use Rattle.tree.specs.Get.{readsTo}
 use Rattle.tree.specs.Put.{work, finish, writeRequests}
-use Rattle.tree.specs.Delete.{removalFor, deleteRequests}
+use Rattle.tree.specs.Delete.{deleteRequests}
 use Rattle.tree.specs.Spells.{Spells}
 use Rattle.tree.specs.Written.{finalCount, write-count, write-spells, write-fits}
 use Rattle.tree.specs.IdsNeeded.{finish-single}

@@ -2,8 +2,8 @@
 -- create takes the next id, below the limit (document 01: "Node 0 is the root; ids run from 0 without gaps"). Assumes nothing.
 use mathlib.Core.Path.{_≡_}
 use mathlib.Core.List.{List, [], _∷_}
-use Prim.Native.Nat.{ℕ, suc, _<_}
-use Rattle.node.specs.Node.{Node, Neat}
+use Prim.Native.Nat.{ℕ, _<_}
+use Rattle.node.specs.Node.{Neat}
 use Rattle.node.specs.Change.{change}
 use Rattle.tree.specs.Table.{Table}
 use Rattle.tree.specs.NodeRequest.{NodeRequest, read, edit, rewrite, create, apply, countAfter}

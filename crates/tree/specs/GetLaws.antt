@@ -1,19 +1,16 @@
 -- A get is a lookup in the map that the table spells, and its requests are reads of nodes that are there, at most as many as
 -- nodes. Assumes nothing.
-use mathlib.Core.Path.{_≡_, refl, sym, ap, _∙_}
-use mathlib.Core.List.{List, [], _∷_, _++_, map}
-use mathlib.Core.Option.{Option, none, some}
-use Prim.Native.Nat.{ℕ, zero, suc, _+_, _≤_, _<_}
+use mathlib.Core.Path.{_≡_, sym, ap, _∙_}
+use mathlib.Core.List.{List}
+use Prim.Native.Nat.{ℕ, suc, _≤_, _<_}
 use native.Mathlib.Omega.{arith}
 use lib.ListN.{length}
 use Rattle.laws.specs.Every.{Every}
-use Rattle.layout.specs.Layout.{mostKeys, noLeaf, bound32}
+use Rattle.layout.specs.Layout.{noLeaf, bound32}
 use Rattle.pairs.specs.Pairs.{Pair, lookup}
-use Rattle.node.specs.Node.{Node, pairsOf, Neat}
+use Rattle.node.specs.Node.{Neat}
 use Rattle.tree.specs.Table.{Table, path, leafFor}
-use Rattle.tree.specs.NodeRequest.{NodeRequest, read}
 use Rattle.tree.specs.Get.{getRequests, getAnswer}
-use Rattle.tree.specs.Tree.{Tree, rootOf, pairsIn}
 use Rattle.tree.specs.Spells.{Spells}
 use Rattle.tree.specs.Ids.{used-in}
 use Rattle.tree.specs.Standing.{stands-neat}

@@ -2,22 +2,21 @@
 -- gap, and one more if the root is among them. Along the path, a node splits exactly if it is full and all below it are; a change
 -- whose leaf keeps at most 24 pairs is one edit. Assumes nothing.
 use mathlib.Core.Path.{_≡_, refl, sym, ap, _∙_}
-use mathlib.Core.Bool.{Bool, true, false, _&&_}
-use mathlib.Core.List.{List, [], _∷_, _++_, map}
+use mathlib.Core.Bool.{Bool, true, false}
+use mathlib.Core.List.{List, [], _∷_}
 use mathlib.Core.Logic.{_⊎_, inl, inr}
 use mathlib.Core.Option.{Option, none, some}
 use Prim.Native.Nat.{ℕ, zero, suc, _+_, _≤_, _<_}
 use native.Mathlib.Omega.{arith}
 use borrow.Author.Tests.{leb-true, leb-false, le-leb, lt-leb, eq-eqb, ne-eqb}
-use lib.Dec.{eqb, leb}
+use lib.Dec.{leb}
 use lib.ListN.{length}
 use Rattle.laws.specs.Order.{eq-or, le-or}
 use Rattle.layout.specs.Layout.{mostKeys, noLeaf, bound32}
 use Rattle.pairs.specs.Pairs.{Pair}
 use Rattle.pairs.specs.LocalEdit.{LocalEdit}
-use Rattle.node.specs.declared.Kind.{Kind}
-use Rattle.node.specs.declared.Kind.the-variants.{Leaf, Branch}
-use Rattle.node.specs.Node.{Node, node, pairsOf}
+use Rattle.node.specs.declared.Kind.the-variants.{Leaf}
+use Rattle.node.specs.Node.{node, pairsOf}
 use Rattle.node.specs.Change.{Change, change}
 use Rattle.tree.specs.Table.{Table, slot, childFor, path, leafFor}
 use Rattle.tree.specs.NodeRequest.{NodeRequest, edit, changeAll}
@@ -29,7 +28,7 @@ use Rattle.tree.specs.Standing.{Once, once-child, holds-most}
 use Rattle.tree.specs.Size.{spells-once, depth-count}
 use Rattle.tree.specs.LeafOfKey.{childOf, childFor-branch, childFor-leaf, path-leaf, path-step, leafFor-leaf, leafFor-step}
 use Rattle.tree.specs.Growth.{child-leads, child-stands}
-use Rattle.tree.specs.Written.{Pending, Good, two-long, work-step, work-good, finalCount, workOf}
+use Rattle.tree.specs.Written.{Good, two-long, work-step, work-good, finalCount}
 
 abbrev pub sizeAt : Table → ℕ → ℕ
 sizeAt table id = length (pairsOf (table id))

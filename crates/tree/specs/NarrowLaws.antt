@@ -1,8 +1,8 @@
 -- Every request of a command on a table of 32-bit numbers has 32-bit numbers, and so has the table after it: a new content is
 -- made of parts of old ones, the command's own numbers, and ids. Assumes nothing.
-use mathlib.Core.Path.{_≡_, refl, sym, ap, _∙_}
+use mathlib.Core.Path.{_≡_, refl}
 use mathlib.Core.Bool.{Bool, true, false}
-use mathlib.Core.List.{List, [], _∷_, _++_, map}
+use mathlib.Core.List.{List, [], _∷_, map}
 use mathlib.Core.Logic.{_⊎_, inl, inr}
 use mathlib.Core.Option.{Option, none, some}
 use Prim.Native.Nat.{ℕ, zero, suc, _+_, _≤_, _<_}
@@ -12,32 +12,16 @@ use lib.ListN.{length, take, drop}
 use Rattle.laws.specs.Every.{Every, none, both, every-append, every-weaken, every-map}
 use Rattle.laws.specs.Order.{eq-or, Tri, less, same, more, tri}
 use Rattle.laws.specs.Update.{update, update-same, update-other}
-use Rattle.layout.specs.Layout.{mostKeys, keptKeys, bound32, noLeaf}
+use Rattle.layout.specs.Layout.{keptKeys, bound32}
 use Rattle.pairs.specs.Pairs.{Pair, insert, delete}
 use Rattle.pairs.specs.Clauses.{insert-before, insert-same, insert-behind, delete-same, delete-other}
-use Rattle.node.specs.declared.Kind.{Kind}
 use Rattle.node.specs.declared.Kind.the-variants.{Leaf, Branch}
-use Rattle.node.specs.Node.{Node, node, pairsOf, linkOf}
+use Rattle.node.specs.Node.{Node, node, pairsOf}
 use Rattle.node.specs.Change.{Change, put, remove, link, change}
 use Rattle.tree.specs.Table.{Table, slot, pointerAt, keyAt, path, leafFor}
-use Rattle.tree.specs.NodeRequest.{NodeRequest, read, edit, rewrite, create, apply, applyAll, countAfter, countAfterAll, changeAll}
+use Rattle.tree.specs.NodeRequest.{NodeRequest, read, edit, rewrite, create, apply, applyAll, countAfter, changeAll}
 use Rattle.tree.specs.Get.{getAnswer}
-use Rattle.tree.specs.Put.{
-  lowerHalf,
-  upperHalf,
-  middleKey,
-  renamed,
-  parentEdits,
-  fitsNode,
-  Work,
-  finished,
-  pending,
-  settle,
-  work,
-  finish,
-  putRefused,
-  putRequests,
-}
+use Rattle.tree.specs.Put.{lowerHalf, upperHalf, middleKey, renamed, fitsNode, Work, finished, pending, settle, work, finish, putRefused, putRequests}
 use Rattle.tree.specs.Delete.{removalFor, deleteRequests}
 use Rattle.tree.specs.Fit.{Fit, Fits}
 use Rattle.tree.specs.Spells.{Spells}

@@ -4,36 +4,21 @@ use mathlib.Core.Path.{_≡_, refl, sym, ap, _∙_}
 use mathlib.Core.Bool.{Bool, true, false}
 use mathlib.Core.List.{List, [], _∷_, _++_, map}
 use mathlib.Core.Option.{Option, none, some}
-use Prim.Native.Nat.{ℕ, zero, suc, _+_, _*_, _≤_, _<_}
+use Prim.Native.Nat.{ℕ, suc, _+_, _*_, _≤_, _<_}
 use native.Mathlib.Omega.{arith}
-use borrow.Author.Tests.{ltb-true, ltb-false, lt-ltb}
-use lib.Dec.{ltb}
+use borrow.Author.Tests.{ltb-true, ltb-false}
 use lib.ListN.{length, length-append}
-use Rattle.layout.specs.Layout.{mostKeys, bound32}
+use Rattle.layout.specs.Layout.{bound32}
 use Rattle.pairs.specs.Pairs.{Pair, lookup, insert}
 use Rattle.pairs.specs.Sizes.{length-insert-absent, length-insert-present}
 use Rattle.pairs.specs.LocalEdit.{insert-local}
-use Rattle.node.specs.declared.Kind.{Kind}
 use Rattle.node.specs.declared.Kind.the-variants.{Leaf}
 use Rattle.node.specs.Node.{Node, node, pairsOf}
 use Rattle.node.specs.Change.{Change, put, change}
 use Rattle.tree.specs.Table.{Table, path, leafFor}
-use Rattle.tree.specs.NodeRequest.{NodeRequest, read, edit, rewrite, create, applyAll, countAfterAll, changeAll}
-use Rattle.tree.specs.Get.{readsTo, getAnswer}
-use Rattle.tree.specs.Put.{
-  fitsNode,
-  Work,
-  finished,
-  pending,
-  settle,
-  work,
-  finish,
-  writeRequests,
-  idsNeeded,
-  refusedFor,
-  putRefused,
-  putRequests,
-}
+use Rattle.tree.specs.NodeRequest.{read, edit, changeAll}
+use Rattle.tree.specs.Get.{getAnswer}
+use Rattle.tree.specs.Put.{fitsNode, Work, finished, pending, settle, work, finish, writeRequests, idsNeeded, putRefused, putRequests}
 use Rattle.tree.specs.Spells.{Spells}
 use Rattle.tree.specs.Written.{finalCount, write-count, write-spells, write-fits}
 use Rattle.tree.specs.IdsNeeded.{ids-needed, finish-single}

@@ -1,10 +1,10 @@
 -- Lists of node requests one behind the other: what they make of a table and of the count, and that they fit. Assumes nothing.
-use mathlib.Core.Path.{_≡_, refl, sym, ap, _∙_}
+use mathlib.Core.Path.{_≡_, refl, ap, _∙_}
 use mathlib.Core.List.{List, [], _∷_, _++_, map}
-use Prim.Native.Nat.{ℕ, zero, suc, _+_, _≤_, _<_}
+use Prim.Native.Nat.{ℕ, _≤_, _<_}
 use native.Mathlib.Omega.{arith}
 use Rattle.laws.specs.Every.{Every, none, both}
-use Rattle.laws.specs.Update.{update, update-same, update-other}
+use Rattle.laws.specs.Update.{update-same, update-other}
 use Rattle.node.specs.Node.{Node, Neat}
 use Rattle.node.specs.Change.{Change, change}
 use Rattle.tree.specs.Table.{Table}
@@ -20,7 +20,7 @@ use Rattle.tree.specs.NodeRequest.{
   countAfterAll,
   changeAll,
 }
-use Rattle.tree.specs.Fit.{Fit, Fits}
+use Rattle.tree.specs.Fit.{Fits}
 
 -- The node of a request.
 abbrev pub nodeOf : NodeRequest → ℕ

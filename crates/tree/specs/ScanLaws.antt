@@ -3,8 +3,7 @@
 use mathlib.Core.Path.{_≡_, refl, sym, ap, _∙_}
 use mathlib.Core.Bool.{Bool, true, false, _||_}
 use mathlib.Core.List.{List, [], _∷_, _++_, map, append-nil}
-use mathlib.Core.Logic.{_⊎_, inl, inr}
-use Prim.Native.Nat.{ℕ, zero, suc, _+_, _-_, _≤_, _<_}
+use Prim.Native.Nat.{ℕ, zero, suc, _-_, _≤_, _<_}
 use native.Mathlib.Omega.{arith}
 use borrow.Author.Tests.{ltb-true, ltb-false, leb-true, eqb-true, eqb-false}
 use lib.Dec.{eqb, ltb, leb}
@@ -12,19 +11,17 @@ use lib.ListN.{length, length-append}
 use Rattle.laws.specs.Every.{Every, none, both, every-append}
 use Rattle.laws.specs.Tests.{or-left, or-right}
 use Rattle.layout.specs.Layout.{noLeaf, bound32}
-use Rattle.pairs.specs.Pairs.{Pair, range, hasAbove, Within}
+use Rattle.pairs.specs.Pairs.{Pair, range, hasAbove}
 use Rattle.pairs.specs.Ranges.{range-none, range-append-below, range-append-stop, range-append-full, range-append-on}
-use Rattle.node.specs.declared.Kind.{Kind}
-use Rattle.node.specs.declared.Kind.the-variants.{Leaf, Branch}
-use Rattle.node.specs.Node.{Node, node, pairsOf, linkOf}
+use Rattle.node.specs.Node.{Node, pairsOf, linkOf}
 use Rattle.tree.specs.Table.{Table, path, leafFor}
-use Rattle.tree.specs.NodeRequest.{NodeRequest, read}
+use Rattle.tree.specs.NodeRequest.{read}
 use Rattle.tree.specs.Scan.{stopsIn, taken, pairsFrom, leavesAfter, scanRequests, scanAnswer}
-use Rattle.tree.specs.Tree.{Tree, rootOf, pairsIn}
+use Rattle.tree.specs.Tree.{rootOf, pairsIn}
 use Rattle.tree.specs.Spells.{Spells}
 use Rattle.tree.specs.Ids.{used-below}
-use Rattle.tree.specs.Size.{leaves, size, depth-leaves, size-count, depth-count}
-use Rattle.tree.specs.LeafChain.{Linked, Chain, Chained, Onward, onward}
+use Rattle.tree.specs.Size.{depth-leaves, size-count, depth-count}
+use Rattle.tree.specs.LeafChain.{Chain, Onward, onward}
 use Rattle.tree.specs.Served.{Served, served-reads}
 use Rattle.tree.specs.GetLaws.{path-found}
 

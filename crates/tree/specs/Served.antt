@@ -1,7 +1,7 @@
 -- What every command's requests keep: the store can take each, and the table after them is sound and spells a map. Assumes
 -- nothing.
-use mathlib.Core.Path.{_≡_, refl, sym, ap, _∙_}
-use mathlib.Core.List.{List, [], _∷_, _++_, map}
+use mathlib.Core.Path.{_≡_, refl}
+use mathlib.Core.List.{List, [], _∷_, map}
 use Prim.Native.Nat.{ℕ, _≤_, _<_}
 use Rattle.laws.specs.Every.{Every}
 use Rattle.pairs.specs.Pairs.{Pair}

@@ -1,6 +1,6 @@
 -- The node count bounds the depth, and the depth with the number of leaves, so it is fuel enough for every walk: each level adds
 -- a node, and every node is counted once. Assumes nothing.
-use mathlib.Core.Path.{_≡_, refl, sym, ap, _∙_}
+use mathlib.Core.Path.{_≡_, refl, sym}
 use mathlib.Core.List.{List, [], _∷_}
 use Prim.Native.Nat.{ℕ, zero, suc, _+_, _≤_, _<_}
 use native.Mathlib.Omega.{arith}

@@ -3,10 +3,10 @@
 use mathlib.Core.Path.{_≡_, refl, sym, ap, _∙_}
 use mathlib.Core.Bool.{Bool, true, false}
 use mathlib.Core.List.{List, [], _∷_, _++_, map}
-use Prim.Native.Nat.{ℕ, zero, suc, _+_, _≤_, _<_}
+use Prim.Native.Nat.{ℕ, zero, suc, _≤_, _<_}
 use native.Mathlib.Omega.{arith}
 use borrow.Author.Tests.{leb-true, leb-false}
-use lib.Dec.{eqb, ltb, leb}
+use lib.Dec.{eqb, ltb}
 use lib.ListN.{length}
 use Rattle.laws.specs.Counts.{bit}
 use Rattle.laws.specs.Every.{Every}
@@ -16,11 +16,10 @@ use Rattle.pairs.specs.Pairs.{Pair, insert, Within}
 use Rattle.pairs.specs.Bounds.{within-insert}
 use Rattle.pairs.specs.Sizes.{length-insert}
 use Rattle.pairs.specs.LocalEdit.{LocalEdit}
-use Rattle.node.specs.declared.Kind.{Kind}
 use Rattle.node.specs.declared.Kind.the-variants.{Leaf, Branch}
 use Rattle.node.specs.Node.{Node, node, pairsOf, Neat}
-use Rattle.node.specs.Change.{Change, put, change}
-use Rattle.tree.specs.Table.{Table, slot, childFor, path}
+use Rattle.node.specs.Change.{Change, change}
+use Rattle.tree.specs.Table.{Table, slot, path}
 use Rattle.tree.specs.NodeRequest.{NodeRequest, read, edit, rewrite, create, applyAll, countAfterAll, changeAll}
 use Rattle.tree.specs.Fit.{Fits}
 use Rattle.tree.specs.Get.{readsTo}
@@ -41,7 +40,7 @@ use Rattle.tree.specs.Put.{
 use Rattle.tree.specs.Tree.{keysOf, Tree, rootOf, firstLeaf, pairsIn, reached, Holds, Stands}
 use Rattle.tree.specs.Spells.{Spells}
 use Rattle.tree.specs.Children.{lowAt, highAt, nextAt, splitChild, length-keysOf, length-split, lowAt-le}
-use Rattle.tree.specs.Ids.{id-same, used-le, used-suc}
+use Rattle.tree.specs.Ids.{used-suc}
 use Rattle.tree.specs.Standing.{Once, root-used, once-child, holds-keep, holds-keys, holds-most, neat-within}
 use Rattle.tree.specs.Size.{spells-once, depth-count}
 use Rattle.tree.specs.LeafOfKey.{childOf, childFor-branch, childFor-leaf, path-leaf, path-step, path-used}
@@ -61,18 +60,7 @@ use Rattle.tree.specs.Growth.{
   rises-parted,
   edits-widen,
 }
-use Rattle.tree.specs.Requests.{
-  applyAll-append,
-  applyAll-reads,
-  edits-same,
-  edits-other,
-  fits-append,
-  fits-le,
-  fits-count,
-  fits-reads,
-  NeatAll,
-  fits-edits,
-}
+use Rattle.tree.specs.Requests.{applyAll-append, applyAll-reads, edits-same, edits-other, fits-append, fits-count, fits-reads, NeatAll, fits-edits}
 
 stands-top-neat : (d : ℕ) (table : Table) (t : Tree d) (low high link : ℕ) → high ≤ bound32 → Stands d table t low high link → Neat (table (rootOf d t))
 stands-top-neat d table t low high link b s =
