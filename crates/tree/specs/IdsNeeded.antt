@@ -28,7 +28,8 @@ use Rattle.tree.specs.Standing.{Once, once-child, holds-most}
 use Rattle.tree.specs.Size.{spells-once, depth-count}
 use Rattle.tree.specs.LeafOfKey.{childOf, childFor-branch, childFor-leaf, path-leaf, path-step, leafFor-leaf, leafFor-step}
 use Rattle.tree.specs.Growth.{child-leads, child-stands}
-use Rattle.tree.specs.Written.{Good, two-long, work-step, work-good, finalCount}
+use Rattle.tree.specs.Settled.{Good, two-long, work-step, work-good}
+use Rattle.tree.specs.Written.{finalCount}
 
 abbrev pub sizeAt : Table → ℕ → ℕ
 sizeAt table id = length (pairsOf (table id))

@@ -10,11 +10,11 @@ use native.Mathlib.Omega.{arith}
 use lib.Dec.{ltb}
 use lib.ListN.{length, take, drop}
 use Rattle.laws.specs.Every.{Every, none, both, every-append, every-weaken, every-map}
-use Rattle.laws.specs.Order.{eq-or, Tri, less, same, more, tri}
+use Rattle.laws.specs.Order.{eq-or}
 use Rattle.laws.specs.Update.{update, update-same, update-other}
 use Rattle.layout.specs.Layout.{keptKeys, bound32}
-use Rattle.pairs.specs.Pairs.{Pair, insert, delete}
-use Rattle.pairs.specs.Clauses.{insert-before, insert-same, insert-behind, delete-same, delete-other}
+use Rattle.pairs.specs.Pairs.{Pair}
+use Rattle.pairs.specs.Members.{every-insert, every-delete}
 use Rattle.node.specs.declared.Kind.the-variants.{Leaf, Branch}
 use Rattle.node.specs.Node.{Node, node, pairsOf}
 use Rattle.node.specs.Change.{Change, put, remove, link, change}
@@ -40,25 +40,6 @@ module _ {P : Pair → Type 0} where
   every-drop zero ps e = e
   every-drop (suc n) [] none = none
   every-drop (suc n) (p ∷ ps) (both x e) = every-drop n ps e
-
-  every-insert : (k v : ℕ) (ps : List Pair) → P (k, v) → Every P ps → Every P (insert k v ps)
-  unfolding insert
-  every-insert k v [] x e = both x none
-  every-insert k v (p ∷ ps) x (both y e) = go (tri k (p .0)) (every-insert k v ps x e)
-    where
-      go : Tri k (p .0) → Every P (insert k v ps) → Every P (insert k v (p ∷ ps))
-      go (less l) r = rw (insert-before k v p ps l) (both x (both y e))
-      go (same i) r = rw (insert-same k v p ps i) (both x e)
-      go (more l) r = rw (insert-behind k v p ps l) (both y r)
-
-  every-delete : (k : ℕ) (ps : List Pair) → Every P ps → Every P (delete k ps)
-  unfolding delete
-  every-delete k [] e = none
-  every-delete k (p ∷ ps) (both y e) = go (eq-or k (p .0)) (every-delete k ps e)
-    where
-      go : (k ≡ p .0) ⊎ (k ≡ p .0 → ⊥) → Every P (delete k ps) → Every P (delete k (p ∷ ps))
-      go (inl i) r = rw (delete-same k p ps i) e
-      go (inr i) r = rw (delete-other k p ps i) (both y r)
 
 keyAt-narrow : (ps : List Pair) (j : ℕ) → Every NarrowPair ps → keyAt ps j < bound32
 keyAt-narrow [] j e = omega arith

@@ -7,7 +7,7 @@ use mathlib.Core.Option.{Option, none, some}
 use Prim.Native.Nat.{ℕ, suc, _+_, _*_, _≤_, _<_}
 use native.Mathlib.Omega.{arith}
 use borrow.Author.Tests.{ltb-true, ltb-false}
-use lib.ListN.{length, length-append}
+use lib.ListN.{length, length-append, length-map}
 use Rattle.layout.specs.Layout.{bound32}
 use Rattle.pairs.specs.Pairs.{Pair, lookup, insert}
 use Rattle.pairs.specs.Sizes.{length-insert-absent, length-insert-present}
@@ -104,10 +104,6 @@ abbrev Few : ℕ → Work → Type 0
 Few m (finished rs next) = length rs ≤ 2 * m
 Few m (pending rs next edits) = (length rs ≤ 2 * m) × (length edits ≤ 2)
 
-length-map : {A B : Type 0} (f : A → B) (xs : List A) → length (map f xs) ≡ length xs
-length-map f [] = refl
-length-map f (x ∷ xs) = ap suc (length-map f xs)
-
 module _ (table : Table) (k : ℕ) (c : Change) (next : ℕ) where
   settle-few : (parent id m : ℕ) (w : Work) → Few m w → Few (suc m) (settle table k parent id w)
   unfolding settle
@@ -115,7 +111,7 @@ module _ (table : Table) (k : ℕ) (c : Change) (next : ℕ) where
   settle-few parent id m (pending rs n edits) l = go (fitsNode (changeAll edits (table id))) refl
     where
       go : (x : Bool) → fitsNode (changeAll edits (table id)) ≡ x → Few (suc m) (settle table k parent id (pending rs n edits))
-      go true e = rw (e, settle) (omega (arith, length-append rs (map (edit id) edits), length-map (edit id) edits))
+      go true e = rw (e, settle) (omega (arith, length-append rs (map (edit id) edits), length-map edits (edit id)))
       go false e = rw (e, settle) (simp length-append (omega arith), omega arith)
 
   work-few : (id : ℕ) (ids : List ℕ) → Few (length ids) (work table k c next (id ∷ ids))
@@ -129,13 +125,13 @@ module _ (table : Table) (k : ℕ) (c : Change) (next : ℕ) where
   finish-few m (pending rs n edits) l = go (fitsNode (changeAll edits (table 0))) refl
     where
       go : (x : Bool) → fitsNode (changeAll edits (table 0)) ≡ x → length (finish table (pending rs n edits)) ≤ 2 * m + 3
-      go true e = rw (e, finish) (omega (arith, length-append rs (map (edit 0) edits), length-map (edit 0) edits))
+      go true e = rw (e, finish) (omega (arith, length-append rs (map (edit 0) edits), length-map edits (edit 0)))
       go false e = rw (e, finish) (simp length-append (omega arith))
 
   pub write-length : (ids : List ℕ) (m : ℕ) → length ids ≡ suc m → length (map read ids ++ finish table (work table k c next ids)) ≤ 3 * m + 4
   write-length [] m e = absurd (omega arith)
   write-length (id ∷ ids) m e =
-      rw (length-append (map read (id ∷ ids)) (finish table (work table k c next (id ∷ ids))), length-map read (id ∷ ids))
+      rw (length-append (map read (id ∷ ids)) (finish table (work table k c next (id ∷ ids))), length-map (id ∷ ids) read)
       (omega (arith, finish-few (length ids) (work table k c next (id ∷ ids)) (work-few id ids)))
 
 pub put-length : (table : Table) (count : ℕ) (pairs : List Pair) (s : Spells table count pairs) (k v limit : ℕ) → k < bound32 →

@@ -7,7 +7,7 @@ use Prim.Native.Nat.{ℕ, zero, suc, _-_, _≤_, _<_}
 use native.Mathlib.Omega.{arith}
 use borrow.Author.Tests.{ltb-true, ltb-false, leb-true, eqb-true, eqb-false}
 use lib.Dec.{eqb, ltb, leb}
-use lib.ListN.{length, length-append}
+use lib.ListN.{length, length-append, length-map}
 use Rattle.laws.specs.Every.{Every, none, both, every-append}
 use Rattle.laws.specs.Tests.{or-left, or-right}
 use Rattle.layout.specs.Layout.{noLeaf, bound32}
@@ -171,17 +171,13 @@ module _ (table : Table) (count : ℕ) (pairs : List Pair) (s : Spells table cou
   unfolding scanRequests
   scan-length = go (ltb high low) refl
     where
-      length-map : {A B : Type 0} (f : A → B) (xs : List A) → length (map f xs) ≡ length xs
-      length-map f [] = refl
-      length-map f (x ∷ xs) = ap suc (length-map f xs)
-
       go : (b : Bool) → ltb high low ≡ b → length (scanRequests count table low high most) ≤ count
       go true e = rw (e, scanRequests) (omega arith)
       go false e =
           let p = path count table low 0 in
           let q = leavesAfter count table low high most (leafFor count table low 0) in
           let after : suc (length q) ≤ scan-onward .chained .length = rw start-is at (scan-leaves .1) in
-          rw (e, scanRequests, length-map read (p ++ q), length-append p q)
+          rw (e, scanRequests, length-map (p ++ q) read, length-append p q)
           (omega (
             arith,
             path-found table count pairs s low lowSmall .1,
