@@ -164,7 +164,9 @@ record Cases : Type 0 where
       edit 0 (put 122 1) ∷
       edit 0 (put 200 4) ∷
       []
-  -- an id that no pointer reaches, and a count past the limit
+  -- a key at the upper bound of its leaf, an id that no pointer reaches, and a count past the limit
+  bound : sound limit 4 (update (between .table) 2 (node Leaf (run 1 100) 1)) ≡ false
+  within : sound limit 4 (update (between .table) 2 (node Leaf (run 1 99) 1)) ≡ true
   lost : sound limit 5 (between .table) ≡ false
   past : sound 3 4 (between .table) ≡ false
   -- 9: a new key in a full leaf needs an id; a present key does not, and neither does a leaf with room
@@ -191,6 +193,8 @@ cases =
     record {
       foreign = refl;
       renames = refl;
+      bound = refl;
+      within = refl;
       lost = refl;
       past = refl;
       refused = refl;

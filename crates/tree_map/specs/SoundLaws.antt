@@ -38,9 +38,9 @@ use Rattle.tree.specs.Sound.{
   walkFrom,
   sound,
 }
-use Rattle.tree.specs.Children.{childAt, length-keysOf, pointerAt-keysOf, each-childAt}
-use Rattle.tree.specs.Ids.{id-self, id-other, used-in, used-out, used-le, used-below}
-use Rattle.tree.specs.Size.{depth-count}
+use Rattle.tree_map.specs.Children.{childAt, length-keysOf, pointerAt-keysOf, each-childAt}
+use Rattle.tree_map.specs.Ids.{id-self, id-other, used-in, used-out, used-le, used-below}
+use Rattle.tree_map.specs.Size.{depth-count}
 
 ascends-within : (low high : ℕ) (ps : List Pair) → ascends low high ps ≡ true → Within low high ps
 unfolding ascends Within

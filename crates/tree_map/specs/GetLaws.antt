@@ -9,14 +9,14 @@ use Rattle.laws.specs.Every.{Every}
 use Rattle.layout.specs.Layout.{noLeaf, bound32}
 use Rattle.pairs.specs.Pairs.{Pair, lookup}
 use Rattle.node.specs.Node.{Neat}
 use Rattle.tree.specs.Table.{Table, path, leafFor}
 use Rattle.tree.specs.Get.{getRequests, getAnswer}
 use Rattle.tree.specs.Spells.{Spells}
-use Rattle.tree.specs.Ids.{used-in}
-use Rattle.tree.specs.Standing.{stands-neat}
-use Rattle.tree.specs.Size.{spells-once, depth-count}
-use Rattle.tree.specs.LeafOfKey.{LeafOf, leaf-of, lookup-leaf, path-used}
-use Rattle.tree.specs.Served.{Served, served-reads}
+use Rattle.tree_map.specs.Ids.{used-in}
+use Rattle.tree_map.specs.Standing.{stands-neat}
+use Rattle.tree_map.specs.Size.{spells-once, depth-count}
+use Rattle.tree_map.specs.LeafOfKey.{LeafOf, leaf-of, lookup-leaf, path-used}
+use Rattle.tree_map.specs.Served.{Served, served-reads}
 
 module _ (table : Table) (count : ℕ) (pairs : List Pair) (s : Spells table count pairs) where
   -- every node of a sound table is neat

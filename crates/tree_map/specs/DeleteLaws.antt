@@ -12,16 +12,16 @@ use Rattle.pairs.specs.LocalEdit.{delete-local}
 use Rattle.node.specs.declared.Kind.the-variants.{Leaf}
 use Rattle.node.specs.Node.{node}
 use Rattle.node.specs.Change.{remove, change}
 use Rattle.tree.specs.Table.{Table, path, leafFor}
 use Rattle.tree.specs.NodeRequest.{edit, countAfterAll}
 use Rattle.tree.specs.Get.{readsTo}
 use Rattle.tree.specs.Put.{work, finish, writeRequests}
 use Rattle.tree.specs.Delete.{deleteRequests}
 use Rattle.tree.specs.Spells.{Spells}
-use Rattle.tree.specs.Written.{finalCount, write-count, write-spells, write-fits}
-use Rattle.tree.specs.IdsNeeded.{finish-single}
-use Rattle.tree.specs.Served.{Served}
-use Rattle.tree.specs.GetLaws.{leaf-found, get-answer, get-served}
+use Rattle.tree_map.specs.Written.{finalCount, write-count, write-spells, write-fits}
+use Rattle.tree_map.specs.IdsNeeded.{finish-single}
+use Rattle.tree_map.specs.Served.{Served}
+use Rattle.tree_map.specs.GetLaws.{leaf-found, get-answer, get-served}
 
 module _ (table : Table) (count : ℕ) (pairs : List Pair) (s : Spells table count pairs) (k : ℕ) (small : k < bound32) where
   -- the work of a removal is one edit

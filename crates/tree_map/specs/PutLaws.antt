@@ -15,15 +15,15 @@ use Rattle.pairs.specs.LocalEdit.{insert-local}
 use Rattle.node.specs.declared.Kind.the-variants.{Leaf}
 use Rattle.node.specs.Node.{Node, node, pairsOf}
 use Rattle.node.specs.Change.{Change, put, change}
 use Rattle.tree.specs.Table.{Table, path, leafFor}
 use Rattle.tree.specs.NodeRequest.{read, edit, changeAll}
 use Rattle.tree.specs.Get.{getAnswer}
 use Rattle.tree.specs.Put.{fitsNode, Work, finished, pending, settle, work, finish, writeRequests, idsNeeded, putRefused, putRequests}
 use Rattle.tree.specs.Spells.{Spells}
-use Rattle.tree.specs.Written.{finalCount, write-count, write-spells, write-fits}
-use Rattle.tree.specs.IdsNeeded.{ids-needed, finish-single}
-use Rattle.tree.specs.Served.{Served}
-use Rattle.tree.specs.GetLaws.{leaf-found, get-answer, path-found}
+use Rattle.tree_map.specs.Written.{finalCount, write-count, write-spells, write-fits}
+use Rattle.tree_map.specs.IdsNeeded.{ids-needed, finish-single}
+use Rattle.tree_map.specs.Served.{Served}
+use Rattle.tree_map.specs.GetLaws.{leaf-found, get-answer, path-found}
 
 module _ (table : Table) (count : ℕ) (pairs : List Pair) (s : Spells table count pairs) (k v : ℕ) (small : k < bound32) where
   -- the node count that the requests would lead to

@@ -17,21 +17,21 @@ use Rattle.pairs.specs.LocalEdit.{LocalEdit}
 use Rattle.node.specs.declared.Kind.the-variants.{Leaf, Branch}
 use Rattle.node.specs.Node.{Node, node, pairsOf, Neat}
 use Rattle.node.specs.Change.{Change, change}
 use Rattle.tree.specs.Table.{Table, path}
 use Rattle.tree.specs.NodeRequest.{NodeRequest, read, rewrite, create, applyAll, countAfterAll, changeAll}
 use Rattle.tree.specs.Fit.{Fits}
 use Rattle.tree.specs.Get.{readsTo}
 use Rattle.tree.specs.Put.{lowerHalf, upperHalf, middleKey, fitsNode, Work, finished, pending, work, finish, writeRequests}
 use Rattle.tree.specs.Tree.{Tree, rootOf, pairsIn, reached, Holds}
 use Rattle.tree.specs.Spells.{Spells}
-use Rattle.tree.specs.Ids.{used-suc}
-use Rattle.tree.specs.Standing.{Once, root-used, holds-keep, neat-within}
-use Rattle.tree.specs.Size.{spells-once, depth-count}
-use Rattle.tree.specs.LeafOfKey.{path-used}
-use Rattle.tree.specs.Halves.{Halved, halved}
-use Rattle.tree.specs.Growth.{inner-other, inner-used}
-use Rattle.tree.specs.Requests.{applyAll-append, applyAll-reads, fits-append, fits-count, fits-reads}
-use Rattle.tree.specs.Settled.{stands-top-neat, Finished, Pending, Good, pending-whole, work-good}
+use Rattle.tree_map.specs.Ids.{used-suc}
+use Rattle.tree_map.specs.Standing.{Once, root-used, holds-keep, neat-within}
+use Rattle.tree_map.specs.Size.{spells-once, depth-count}
+use Rattle.tree_map.specs.LeafOfKey.{path-used}
+use Rattle.tree_map.specs.Halves.{Halved, halved}
+use Rattle.tree_map.specs.Growth.{inner-other, inner-used}
+use Rattle.tree_map.specs.Requests.{applyAll-append, applyAll-reads, fits-append, fits-count, fits-reads}
+use Rattle.tree_map.specs.Settled.{stands-top-neat, Finished, Pending, Good, pending-whole, work-good}
 
 -- The root takes its edits: whole, or in two new nodes below it. The count after that:
 unfoldable pub finalCount : Table → Work → ℕ

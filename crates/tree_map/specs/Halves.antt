@@ -11,10 +11,10 @@ use Rattle.layout.specs.Layout.{mostKeys, keptKeys}
 use Rattle.pairs.specs.Pairs.{Pair, Within}
 use Rattle.pairs.specs.Bounds.{within-weaken}
 use Rattle.node.specs.Node.{Node, pairsOf}
 use Rattle.tree.specs.Table.{Table, keyAt}
 use Rattle.tree.specs.Put.{lowerHalf, upperHalf, middleKey}
 use Rattle.tree.specs.Tree.{keysOf, Tree, rootOf, firstLeaf, pairsIn, reached, Holds, Stands}
-use Rattle.tree.specs.Children.{childAt, length-keysOf, pointerAt-keysOf, keysOf-take, keysOf-drop, firstOf-cut, each-cut, joinOf-cut, sumOf-cut}
+use Rattle.tree_map.specs.Children.{childAt, length-keysOf, pointerAt-keysOf, keysOf-take, keysOf-drop, firstOf-cut, each-cut, joinOf-cut, sumOf-cut}
 
 -- Pairs cut at a place: its key bounds both parts.
 pub record Cut (low high : ℕ) (ps : List Pair) (j : ℕ) : Type 0 where

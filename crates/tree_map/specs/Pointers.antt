@@ -12,12 +12,12 @@ use Rattle.layout.specs.Layout.{noLeaf, bound32}
 use Rattle.pairs.specs.Pairs.{Pair}
 use Rattle.node.specs.declared.Kind.the-variants.{Leaf, Branch}
 use Rattle.node.specs.Node.{Node, node}
 use Rattle.tree.specs.Table.{Table, pointerAt}
 use Rattle.tree.specs.Tree.{keysOf, firstOf, sumOf, EachChild, Tree, rootOf, firstLeaf, reached, Holds, Stands}
 use Rattle.tree.specs.Spells.{Spells}
-use Rattle.tree.specs.Children.{childAt, pointerAt-keysOf, sumOf-childAt}
-use Rattle.tree.specs.Ids.{id-self, id-other, used-in, used-below}
-use Rattle.tree.specs.Standing.{reached-root}
+use Rattle.tree_map.specs.Children.{childAt, pointerAt-keysOf, sumOf-childAt}
+use Rattle.tree_map.specs.Ids.{id-self, id-other, used-in, used-below}
+use Rattle.tree_map.specs.Standing.{reached-root}
 
 -- A link to a leaf in use, or none.
 abbrev pub Link : ℕ → ℕ → Type 0

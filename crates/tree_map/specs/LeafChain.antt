@@ -10,13 +10,13 @@ use Rattle.pairs.specs.Pairs.{Pair, Within}
 use Rattle.pairs.specs.Bounds.{within-append}
 use Rattle.node.specs.declared.Kind.the-variants.{Leaf}
 use Rattle.node.specs.Node.{node}
 use Rattle.tree.specs.Table.{Table, slot, leafFor}
 use Rattle.tree.specs.Tree.{keysOf, firstOf, joinOf, sumOf, EachChild, Tree, rootOf, firstLeaf, pairsIn, reached, Holds, Stands}
-use Rattle.tree.specs.Children.{childAt, lowAt, nextAt, before, behind, each-childAt, joinOf-childAt, sumOf-childAt, slot-leads, before-within}
-use Rattle.tree.specs.Ids.{id-self}
-use Rattle.tree.specs.Standing.{stands-within}
-use Rattle.tree.specs.Size.{leaves}
-use Rattle.tree.specs.LeafOfKey.{childOf, childFor-branch, childFor-leaf, leafFor-leaf, leafFor-step}
+use Rattle.tree_map.specs.Children.{childAt, lowAt, nextAt, before, behind, each-childAt, joinOf-childAt, sumOf-childAt, slot-leads, before-within}
+use Rattle.tree_map.specs.Ids.{id-self}
+use Rattle.tree_map.specs.Standing.{stands-within}
+use Rattle.tree_map.specs.Size.{leaves}
+use Rattle.tree_map.specs.LeafOfKey.{childOf, childFor-branch, childFor-leaf, leafFor-leaf, leafFor-step}
 
 -- A leaf whose link leads to more.
 pub record Linked (table : Table) (count id : ℕ) (pairs : List Pair) (More : ℕ → List Pair → Type 0) : Type 0 where

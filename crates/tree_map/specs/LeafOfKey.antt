@@ -13,10 +13,10 @@ use Rattle.pairs.specs.Bounds.{within-append}
 use Rattle.pairs.specs.LocalEdit.{lookup-append-left, lookup-append-right}
 use Rattle.node.specs.declared.Kind.the-variants.{Leaf}
 use Rattle.node.specs.Node.{Node, node, pairsOf}
 use Rattle.tree.specs.Table.{Table, slot, childFor, path, leafFor}
 use Rattle.tree.specs.Tree.{keysOf, Tree, rootOf, firstLeaf, pairsIn, Holds, Stands}
-use Rattle.tree.specs.Children.{childAt, lowAt, highAt, before, behind, pointerAt-keysOf, each-childAt, joinOf-childAt, slot-leads, before-within, behind-within}
-use Rattle.tree.specs.Standing.{Once, root-used, once-child, stands-within}
+use Rattle.tree_map.specs.Children.{childAt, lowAt, highAt, before, behind, pointerAt-keysOf, each-childAt, joinOf-childAt, slot-leads, before-within, behind-within}
+use Rattle.tree_map.specs.Standing.{Once, root-used, once-child, stands-within}
 
 -- The child of a standing branch that a key leads to.
 abbrev pub childOf : (d : ℕ) → Tree (suc d) → ℕ → Tree d

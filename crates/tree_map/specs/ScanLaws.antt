@@ -14,16 +14,16 @@ use Rattle.layout.specs.Layout.{noLeaf, bound32}
 use Rattle.pairs.specs.Pairs.{Pair, range, hasAbove}
 use Rattle.pairs.specs.Ranges.{range-none, range-append-below, range-append-stop, range-append-full, range-append-on}
 use Rattle.node.specs.Node.{Node, pairsOf, linkOf}
 use Rattle.tree.specs.Table.{Table, path, leafFor}
 use Rattle.tree.specs.NodeRequest.{read}
 use Rattle.tree.specs.Scan.{stopsIn, taken, pairsFrom, leavesAfter, scanRequests, scanAnswer}
 use Rattle.tree.specs.Tree.{rootOf, pairsIn}
 use Rattle.tree.specs.Spells.{Spells}
-use Rattle.tree.specs.Ids.{used-below}
-use Rattle.tree.specs.Size.{depth-leaves, size-count, depth-count}
-use Rattle.tree.specs.LeafChain.{Chain, Onward, onward}
-use Rattle.tree.specs.Served.{Served, served-reads}
-use Rattle.tree.specs.GetLaws.{path-found}
+use Rattle.tree_map.specs.Ids.{used-below}
+use Rattle.tree_map.specs.Size.{depth-leaves, size-count, depth-count}
+use Rattle.tree_map.specs.LeafChain.{Chain, Onward, onward}
+use Rattle.tree_map.specs.Served.{Served, served-reads}
+use Rattle.tree_map.specs.GetLaws.{path-found}
 
 -- Why a scan stops in a leaf.
 data Stop (high most : ℕ) (leaf : Node) (got : List Pair) : Type 0 where

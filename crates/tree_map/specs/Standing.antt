@@ -13,10 +13,10 @@ use Rattle.layout.specs.Layout.{mostKeys, bound32}
 use Rattle.pairs.specs.Pairs.{Within}
 use Rattle.pairs.specs.Bounds.{within-weaken, within-tail}
 use Rattle.node.specs.Node.{Node, node, pairsOf, Neat}
 use Rattle.tree.specs.Table.{Table}
 use Rattle.tree.specs.Tree.{keysOf, firstOf, sumOf, EachChild, Tree, rootOf, firstLeaf, pairsIn, reached, Holds, Stands}
-use Rattle.tree.specs.Children.{length-keysOf, joinOf-within, each-keep, childAt, sumOf-childAt}
-use Rattle.tree.specs.Ids.{id-self, id-other, used-below}
+use Rattle.tree_map.specs.Children.{length-keysOf, joinOf-within, each-keep, childAt, sumOf-childAt}
+use Rattle.tree_map.specs.Ids.{id-self, id-other, used-below}
 
 -- The ids that a tree reaches are in use, each once.
 abbrev pub Once : (d count : ℕ) → Tree d → Type 0

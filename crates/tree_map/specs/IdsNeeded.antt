@@ -18,18 +18,18 @@ use Rattle.pairs.specs.LocalEdit.{LocalEdit}
 use Rattle.node.specs.declared.Kind.the-variants.{Leaf}
 use Rattle.node.specs.Node.{node, pairsOf}
 use Rattle.node.specs.Change.{Change, change}
 use Rattle.tree.specs.Table.{Table, slot, childFor, path, leafFor}
 use Rattle.tree.specs.NodeRequest.{NodeRequest, edit, changeAll}
 use Rattle.tree.specs.Put.{fitsNode, Work, finished, pending, settle, work, finish, fullRun, idsNeeded}
 use Rattle.tree.specs.Tree.{keysOf, Tree, rootOf, firstLeaf, pairsIn, Stands}
 use Rattle.tree.specs.Spells.{Spells}
-use Rattle.tree.specs.Children.{lowAt, highAt, nextAt}
-use Rattle.tree.specs.Standing.{Once, once-child, holds-most}
-use Rattle.tree.specs.Size.{spells-once, depth-count}
-use Rattle.tree.specs.LeafOfKey.{childOf, childFor-branch, childFor-leaf, path-leaf, path-step, leafFor-leaf, leafFor-step}
-use Rattle.tree.specs.Growth.{child-leads, child-stands}
-use Rattle.tree.specs.Settled.{Good, two-long, work-step, work-good}
-use Rattle.tree.specs.Written.{finalCount}
+use Rattle.tree_map.specs.Children.{lowAt, highAt, nextAt}
+use Rattle.tree_map.specs.Standing.{Once, once-child, holds-most}
+use Rattle.tree_map.specs.Size.{spells-once, depth-count}
+use Rattle.tree_map.specs.LeafOfKey.{childOf, childFor-branch, childFor-leaf, path-leaf, path-step, leafFor-leaf, leafFor-step}
+use Rattle.tree_map.specs.Growth.{child-leads, child-stands}
+use Rattle.tree_map.specs.Settled.{Good, two-long, work-step, work-good}
+use Rattle.tree_map.specs.Written.{finalCount}
 
 abbrev pub sizeAt : Table → ℕ → ℕ
 sizeAt table id = length (pairsOf (table id))

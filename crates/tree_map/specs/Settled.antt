@@ -16,16 +16,16 @@ use Rattle.pairs.specs.LocalEdit.{LocalEdit}
 use Rattle.node.specs.declared.Kind.the-variants.{Leaf, Branch}
 use Rattle.node.specs.Node.{Node, node, pairsOf, Neat}
 use Rattle.node.specs.Change.{Change, change}
 use Rattle.tree.specs.Table.{Table, slot, path}
 use Rattle.tree.specs.NodeRequest.{NodeRequest, edit, rewrite, create, applyAll, changeAll}
 use Rattle.tree.specs.Fit.{Fits}
 use Rattle.tree.specs.Put.{lowerHalf, upperHalf, middleKey, parentEdits, fitsNode, Work, finished, pending, settle, work}
 use Rattle.tree.specs.Tree.{keysOf, Tree, rootOf, firstLeaf, pairsIn, reached, Holds, Stands}
-use Rattle.tree.specs.Children.{lowAt, highAt, nextAt, splitChild, length-keysOf, length-split, lowAt-le}
-use Rattle.tree.specs.Standing.{Once, root-used, once-child, holds-keys, holds-most, neat-within}
-use Rattle.tree.specs.LeafOfKey.{childOf, childFor-branch, childFor-leaf, path-leaf, path-step}
-use Rattle.tree.specs.Growth.{Changed, Parted, takes-whole, takes-halves, child-leads, child-stands, self-kept, rises-whole, widened, rises-parted, edits-widen}
-use Rattle.tree.specs.Requests.{applyAll-append, edits-same, edits-other, fits-append, NeatAll, fits-edits}
+use Rattle.tree_map.specs.Children.{lowAt, highAt, nextAt, splitChild, length-keysOf, length-split, lowAt-le}
+use Rattle.tree_map.specs.Standing.{Once, root-used, once-child, holds-keys, holds-most, neat-within}
+use Rattle.tree_map.specs.LeafOfKey.{childOf, childFor-branch, childFor-leaf, path-leaf, path-step}
+use Rattle.tree_map.specs.Growth.{Changed, Parted, takes-whole, takes-halves, child-leads, child-stands, self-kept, rises-whole, widened, rises-parted, edits-widen}
+use Rattle.tree_map.specs.Requests.{applyAll-append, edits-same, edits-other, fits-append, NeatAll, fits-edits}
 
 pub stands-top-neat : (d : ℕ) (table : Table) (t : Tree d) (low high link : ℕ) → high ≤ bound32 → Stands d table t low high link → Neat (table (rootOf d t))
 stands-top-neat d table t low high link b s =
