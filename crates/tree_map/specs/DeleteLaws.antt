@@ -9,15 +9,14 @@ use Rattle.layout.specs.Layout.{bound32}
 use Rattle.pairs.specs.Pairs.{Pair, lookup, delete}
 use Rattle.pairs.specs.Sizes.{length-delete, delete-absent}
 use Rattle.pairs.specs.LocalEdit.{delete-local}
-use Rattle.node.specs.declared.Kind.the-variants.{Leaf}
-use Rattle.node.specs.Node.{node}
-use Rattle.node.specs.Change.{remove, change}
+use Rattle.node.specs.Change.{remove}
 use Rattle.tree.specs.Table.{Table, path, leafFor}
 use Rattle.tree.specs.NodeRequest.{edit, countAfterAll}
 use Rattle.tree.specs.Get.{readsTo}
 use Rattle.tree.specs.Put.{work, finish, writeRequests}
 use Rattle.tree.specs.Delete.{deleteRequests}
 use Rattle.tree.specs.Spells.{Spells}
+use Rattle.tree_map.specs.Settled.{remove-says}
 use Rattle.tree_map.specs.Written.{finalCount, write-count, write-spells, write-fits}
 use Rattle.tree_map.specs.IdsNeeded.{finish-single}
 use Rattle.tree_map.specs.Served.{Served}
@@ -43,11 +42,8 @@ module _ (table : Table) (count : ℕ) (pairs : List Pair) (s : Spells table cou
   pub delete-served : (limit : ℕ) → count ≤ limit → Served limit table count (deleteRequests count table k) (delete k pairs)
   delete-served limit l = go (lookup k pairs) refl
     where
-      does : (ps : List Pair) (l : ℕ) → change (remove k) (node Leaf ps l) ≡ node Leaf (delete k ps) l
-      does ps l = refl
-
       n : countAfterAll (writeRequests count table k (remove k)) count ≡ finalCount table (work table k (remove k) count (path count table k 0))
-      n = write-count table count pairs s k small (remove k) (delete k) (delete-local k) does
+      n = write-count table count pairs s k small (remove k) (delete k) (delete-local k) (remove-says k)
 
       m : finalCount table (work table k (remove k) count (path count table k 0)) ≤ limit
       m = omega (arith, removal-single .1, l)
@@ -58,6 +54,6 @@ module _ (table : Table) (count : ℕ) (pairs : List Pair) (s : Spells table cou
           rw (delete-present-requests old e)
           record {
             kept = rw n m;
-            fits = rw n (write-fits table count pairs s k small (remove k) (delete k) (delete-local k) does limit m);
-            spells = rw n (write-spells table count pairs s k small (remove k) (delete k) (delete-local k) does);
+            fits = rw n (write-fits table count pairs s k small (remove k) (delete k) (delete-local k) (remove-says k) limit m);
+            spells = rw n (write-spells table count pairs s k small (remove k) (delete k) (delete-local k) (remove-says k));
           }

@@ -15,8 +15,7 @@ use Rattle.laws.specs.Order.{eq-or, le-or}
 use Rattle.layout.specs.Layout.{mostKeys, noLeaf, bound32}
 use Rattle.pairs.specs.Pairs.{Pair}
 use Rattle.pairs.specs.LocalEdit.{LocalEdit}
-use Rattle.node.specs.declared.Kind.the-variants.{Leaf}
-use Rattle.node.specs.Node.{node, pairsOf}
+use Rattle.node.specs.Node.{pairsOf}
 use Rattle.node.specs.Change.{Change, change}
 use Rattle.tree.specs.Table.{Table, slot, childFor, path, leafFor}
 use Rattle.tree.specs.NodeRequest.{NodeRequest, edit, changeAll}
@@ -28,7 +27,7 @@ use Rattle.tree_map.specs.Standing.{Once, once-child, holds-most}
 use Rattle.tree_map.specs.Size.{spells-once, depth-count}
 use Rattle.tree_map.specs.LeafOfKey.{childOf, childFor-branch, childFor-leaf, path-leaf, path-step, leafFor-leaf, leafFor-step}
 use Rattle.tree_map.specs.Growth.{child-leads, child-stands}
-use Rattle.tree_map.specs.Settled.{Good, two-long, work-step, work-good}
+use Rattle.tree_map.specs.Settled.{Says, Good, two-long, work-step, work-good}
 use Rattle.tree_map.specs.Written.{finalCount}
 
 abbrev pub sizeAt : Table → ℕ → ℕ
@@ -122,7 +121,7 @@ Taken table count id ids (pending rs next edits) =
     (next ≡ count + length ids) × (fullRun table ids ≡ length ids) × (length (pairsOf (changeAll edits (table id))) ≡ suc (sizeAt table id))
 
 module _ (table : Table) (count k : ℕ) (c : Change) (f : List Pair → List Pair) (local : LocalEdit k f)
-    (does : (ps : List Pair) (l : ℕ) → change c (node Leaf ps l) ≡ node Leaf (f ps) l) where
+    (says : Says c f) where
   module _ (d : ℕ) (t : Tree (suc d)) (low high link : ℕ) (a : low ≤ k) (b : k < high) (o : Once (suc d) count t)
       (h : Stands (suc d) table t low high link) (bound : high ≤ bound32) (ids : List ℕ) where
     settle-taken : (w : Work) →
@@ -179,7 +178,7 @@ module _ (table : Table) (count k : ℕ) (c : Change) (f : List Pair → List Pa
       work-taken d fuel x _ _ _ (u .from) (u .to) (omega (arith, u .under)) (omega arith) (once-child d count t j o) st
       (rw (leafFor-step table k fuel (rootOf (suc d) t) (rootOf d x) next) at new) in
       let g =
-      work-good 0 table count k c f local does d fuel x _ _ _ (u .from) (u .to) (omega (arith, u .under)) (omega arith)
+      work-good 0 table count k c f local says d fuel x _ _ _ (u .from) (u .to) (omega (arith, u .under)) (omega arith)
       (once-child d count t j o) st in (
         rootOf d x ∷ r .0,
         e ∙ ap {B = List ℕ} (t .0 ∷_) (r .1),

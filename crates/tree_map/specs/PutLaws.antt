@@ -12,14 +12,14 @@ use Rattle.layout.specs.Layout.{bound32}
 use Rattle.pairs.specs.Pairs.{Pair, lookup, insert}
 use Rattle.pairs.specs.Sizes.{length-insert-absent, length-insert-present}
 use Rattle.pairs.specs.LocalEdit.{insert-local}
-use Rattle.node.specs.declared.Kind.the-variants.{Leaf}
-use Rattle.node.specs.Node.{Node, node, pairsOf}
-use Rattle.node.specs.Change.{Change, put, change}
+use Rattle.node.specs.Node.{Node, pairsOf}
+use Rattle.node.specs.Change.{Change, put}
 use Rattle.tree.specs.Table.{Table, path, leafFor}
 use Rattle.tree.specs.NodeRequest.{read, edit, changeAll}
 use Rattle.tree.specs.Get.{getAnswer}
 use Rattle.tree.specs.Put.{fitsNode, Work, finished, pending, settle, work, finish, writeRequests, idsNeeded, putRefused, putRequests}
 use Rattle.tree.specs.Spells.{Spells}
+use Rattle.tree_map.specs.Settled.{put-says}
 use Rattle.tree_map.specs.Written.{finalCount, write-count, write-spells, write-fits}
 use Rattle.tree_map.specs.IdsNeeded.{ids-needed, finish-single}
 use Rattle.tree_map.specs.Served.{Served}
@@ -47,7 +47,7 @@ module _ (table : Table) (count : ℕ) (pairs : List Pair) (s : Spells table cou
   pub put-adds : lookup k pairs ≡ none → countPut ≡ count + idsNeeded table (path count table k 0)
   put-adds e =
       let l = leaf-found table count pairs s k small in
-      ids-needed table count k (put k v) (insert k v) (insert-local k v) (λ ps l. refl) pairs s small
+      ids-needed table count k (put k v) (insert k v) (insert-local k v) (put-says k v) pairs s small
       (rw (l .content) (length-insert-absent k v (l .pairs) (leaf-lookup ∙ e)))
 
   module _ (limit : ℕ) (keeps : count ≤ limit) where
@@ -89,14 +89,13 @@ module _ (table : Table) (count : ℕ) (pairs : List Pair) (s : Spells table cou
 
     pub put-served : putRefused limit count table k ≡ false → Served limit table count (putRequests limit count table k v) (insert k v pairs)
     put-served e =
-        let does : (ps : List Pair) (l : ℕ) → change (put k v) (node Leaf ps l) ≡ node Leaf (insert k v ps) l = λ ps l. refl in
-        let n = write-count table count pairs s k small (put k v) (insert k v) (insert-local k v) does in
+        let n = write-count table count pairs s k small (put k v) (insert k v) (insert-local k v) (put-says k v) in
         let m = accepted-within e in
         rw (put-accepted e)
         record {
           kept = rw n m;
-          fits = rw n (write-fits table count pairs s k small (put k v) (insert k v) (insert-local k v) does limit m);
-          spells = rw n (write-spells table count pairs s k small (put k v) (insert k v) (insert-local k v) does);
+          fits = rw n (write-fits table count pairs s k small (put k v) (insert k v) (insert-local k v) (put-says k v) limit m);
+          spells = rw n (write-spells table count pairs s k small (put k v) (insert k v) (insert-local k v) (put-says k v));
         }
 
 -- How many requests: behind the reads at most two for each node below the root, and three at it.

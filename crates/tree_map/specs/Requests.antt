@@ -20,7 +20,7 @@ use Rattle.tree.specs.NodeRequest.{
   countAfterAll,
   changeAll,
 }
-use Rattle.tree.specs.Fit.{Fits}
+use Rattle.tree.specs.Fit.{Suits, Fits}
 
 -- The node of a request.
 abbrev pub nodeOf : NodeRequest → ℕ
@@ -80,16 +80,16 @@ module _ (limit : ℕ) where
   fits-reads [] table count none = refl
   fits-reads (i ∷ ids) table count (both l e) = (l, fits-reads ids table count e)
 
--- Each content on the way is neat.
+-- Each content on the way is neat, and each change suits it.
 abbrev pub NeatAll : List Change → Node → Type 0
 NeatAll [] n = Unit {0}
-NeatAll (c ∷ cs) n = Neat (change c n) × NeatAll cs (change c n)
+NeatAll (c ∷ cs) n = Neat (change c n) × Suits c n × NeatAll cs (change c n)
 
 pub fits-edits : (limit : ℕ) (cs : List Change) (id : ℕ) (table : Table) (count : ℕ) (n : Node) → table id ≡ n → id < count → NeatAll cs n →
     Fits limit (map (edit id) cs) table count count
 fits-edits limit [] id table count n e l a = refl
 fits-edits limit (c ∷ cs) id table count n e l a = (
-  (l, rw e (a .0)),
+  (l, rw e (a .0), rw e (a .1)),
   fits-edits limit cs id (apply (edit id c) table) count (change c n)
-      (update-same table id (change c (table id)) id refl ∙ ap (change c) e) l (a .1),
+      (update-same table id (change c (table id)) id refl ∙ ap (change c) e) l (a .2),
 )

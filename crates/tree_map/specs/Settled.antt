@@ -6,20 +6,21 @@ use mathlib.Core.List.{List, [], _∷_, _++_, map}
 use Prim.Native.Nat.{ℕ, zero, suc, _≤_, _<_}
 use native.Mathlib.Omega.{arith}
 use borrow.Author.Tests.{leb-true, leb-false}
+use lib.Dec.{ltb}
 use lib.ListN.{length}
 use Rattle.laws.specs.Update.{update, update-same, update-other}
 use Rattle.layout.specs.Layout.{mostKeys, bound32}
-use Rattle.pairs.specs.Pairs.{Pair, insert, Within}
+use Rattle.pairs.specs.Pairs.{Pair, insert, delete, Within}
 use Rattle.pairs.specs.Bounds.{within-insert}
 use Rattle.pairs.specs.Sizes.{length-insert}
 use Rattle.pairs.specs.LocalEdit.{LocalEdit}
 use Rattle.node.specs.declared.Kind.the-variants.{Leaf, Branch}
-use Rattle.node.specs.Node.{Node, node, pairsOf, Neat}
-use Rattle.node.specs.Change.{Change, change}
+use Rattle.node.specs.Node.{Node, node, kindOf, pairsOf, Neat}
+use Rattle.node.specs.Change.{Change, put, remove, change}
 use Rattle.tree.specs.Table.{Table, slot, path}
 use Rattle.tree.specs.NodeRequest.{NodeRequest, edit, rewrite, create, applyAll, changeAll}
-use Rattle.tree.specs.Fit.{Fits}
-use Rattle.tree.specs.Put.{lowerHalf, upperHalf, middleKey, parentEdits, fitsNode, Work, finished, pending, settle, work}
+use Rattle.tree.specs.Fit.{Suits, Fits}
+use Rattle.tree.specs.Put.{lowerHalf, upperHalf, middleKey, renamed, parentEdits, fitsNode, Work, finished, pending, settle, work}
 use Rattle.tree.specs.Tree.{keysOf, Tree, rootOf, firstLeaf, pairsIn, reached, Holds, Stands}
 use Rattle.tree_map.specs.Children.{lowAt, highAt, nextAt, splitChild, length-keysOf, length-split, lowAt-le}
 use Rattle.tree_map.specs.Standing.{Once, root-used, once-child, holds-keys, holds-most, neat-within}
@@ -31,6 +32,15 @@ pub stands-top-neat : (d : ℕ) (table : Table) (t : Tree d) (low high link : �
 stands-top-neat d table t low high link b s =
     neat-within low high (table (rootOf d t)) b (holds-keys d table t low high link mostKeys (table (rootOf d t)) s)
     (holds-most d table t low high link mostKeys (table (rootOf d t)) s)
+
+-- The second edit of a branch sets its last pointer by the branch's kind, where it sets that.
+renamed-suits : (j : ℕ) (ks : List Pair) (right : ℕ) (n : Node) → kindOf n ≡ Branch → Suits (renamed j ks right) n
+unfolding renamed
+renamed-suits j ks right n e = go (ltb j (length ks)) refl
+  where
+    go : (b : Bool) → ltb j (length ks) ≡ b → Suits (renamed j ks right) n
+    go true f = rw (f, renamed) tt
+    go false f = rw (f, renamed) (sym e)
 
 -- A subtree whose work is finished, and one whose top has still to take edits.
 pub record Finished (limit d : ℕ) (table : Table) (count : ℕ) (t : Tree d) (low high link : ℕ) (pairs : List Pair) (rs : List NodeRequest) (next : ℕ) : Type 0 where
@@ -174,11 +184,14 @@ module _ (limit d : ℕ) (table : Table) (count k : ℕ) (f : List Pair → List
         within-insert m (rootOf d child) low high ks (omega (arith, p .above, lowAt-le (rootOf d) (t .1) low high place (h .1)))
         (omega (arith, p .under, child-leads d table count k f local t low high link a b o h .under)) (h .1) in
         let size : length (insert m (rootOf d child) ks) ≤ mostKeys =
-        omega (arith, two-long, s, length-insert m (rootOf d child) ks, ap (λ (n : Node). length (pairsOf n)) (h .0)) in (
+        omega (arith, two-long, s, length-insert m (rootOf d child) ks, ap (λ (n : Node). length (pairsOf n)) (h .0)) in
+        let kind : kindOf (change (put m (rootOf d child)) (table (t .0))) ≡ Branch = ap (λ (n : Node). kindOf (change (put m (rootOf d child)) n)) (h .0) in (
           rw (h .0) (neat-within low high (node Branch (insert m (rootOf d child) ks) _) bound w size),
+          tt,
           (
             neat-within low high (changeAll bothEdits (table (t .0))) bound
                 (holds-keys (suc d) (applyAll splitting table) (risen .tree) low high link (suc mostKeys) (changeAll bothEdits (table (t .0))) (risen .holds)) s,
+            renamed-suits (slot k (pairsOf (table (t .0)))) (pairsOf (table (t .0))) next (change (put m (rootOf d child)) (table (t .0))) kind,
             tt,
           ),
         )
@@ -211,6 +224,17 @@ module _ (limit d : ℕ) (table : Table) (count k : ℕ) (f : List Pair → List
           (settle-whole _ next (pending-whole limit d table count child childLow childHigh childNext (f (pairsIn d child)) rs next edits childOnce g (leb-true size mostKeys e)))
       go false e = rw (e, settle) (settle-parted rs next edits g (leb-false size mostKeys e))
 
+-- A change says of a leaf what an edit says of its pairs, and suits every node.
+pub record Says (c : Change) (f : List Pair → List Pair) : Type 0 where
+  pub does : (ps : List Pair) (l : ℕ) → change c (node Leaf ps l) ≡ node Leaf (f ps) l
+  pub suits : (n : Node) → Suits c n
+
+pub put-says : (k v : ℕ) → Says (put k v) (insert k v)
+put-says k v = record { does = λ ps l. refl; suits = λ n. tt }
+
+pub remove-says : (k : ℕ) → Says (remove k) (delete k)
+remove-says k = record { does = λ ps l. refl; suits = λ n. tt }
+
 -- Along the whole path, a node at a time.
 pub work-step : (table : Table) (k : ℕ) (c : Change) (count fuel id child : ℕ) →
     work table k c count (id ∷ path fuel table k child) ≡ settle table k id child (work table k c count (path fuel table k child))
@@ -219,13 +243,13 @@ work-step table k c count zero id child = refl
 work-step table k c count (suc fuel) id child = refl
 
 module _ (limit : ℕ) (table : Table) (count k : ℕ) (c : Change) (f : List Pair → List Pair) (local : LocalEdit k f)
-    (does : (ps : List Pair) (l : ℕ) → change c (node Leaf ps l) ≡ node Leaf (f ps) l) where
+    (says : Says c f) where
   work-leaf : (t : Tree zero) (low high link : ℕ) → low ≤ k → k < high → high ≤ bound32 → Once zero count t → Stands zero table t low high link →
       Pending limit zero table count t low high link (f (pairsIn zero t)) [] count (c ∷ [])
   unfolding Holds rootOf pairsIn firstLeaf reached
   work-leaf t low high link a b bound o h =
       let ps = f (t .1) in
-      let top : change c (table (t .0)) ≡ node Leaf ps link = ap (change c) (h .0) ∙ does (t .1) link in
+      let top : change c (table (t .0)) ≡ node Leaf ps link = ap (change c) (h .0) ∙ says .does (t .1) link in
       let w : Within low high ps = local .keeps low high (t .1) a b (h .1) in
       record {
         changed =
@@ -241,7 +265,7 @@ module _ (limit : ℕ) (table : Table) (count k : ℕ) (c : Change) (f : List Pa
             };
         fits = λ m. refl;
         own = refl;
-        neat = λ l. (neat-within low high (change c (table (t .0))) bound (rw top w) l, tt);
+        neat = λ l. (neat-within low high (change c (table (t .0))) bound (rw top w) l, says .suits (table (t .0)), tt);
       }
 
   pub work-good : (d fuel : ℕ) (t : Tree d) (low high link : ℕ) → low ≤ k → k < high → high ≤ bound32 → d ≤ fuel → Once d count t →

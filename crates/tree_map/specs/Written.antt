@@ -14,9 +14,9 @@ use Rattle.laws.specs.Update.{update, update-same, update-other}
 use Rattle.layout.specs.Layout.{mostKeys, noLeaf, bound32}
 use Rattle.pairs.specs.Pairs.{Pair, Within}
 use Rattle.pairs.specs.LocalEdit.{LocalEdit}
-use Rattle.node.specs.declared.Kind.the-variants.{Leaf, Branch}
+use Rattle.node.specs.declared.Kind.the-variants.{Branch}
 use Rattle.node.specs.Node.{Node, node, pairsOf, Neat}
-use Rattle.node.specs.Change.{Change, change}
+use Rattle.node.specs.Change.{Change}
 use Rattle.tree.specs.Table.{Table, path}
 use Rattle.tree.specs.NodeRequest.{NodeRequest, read, rewrite, create, applyAll, countAfterAll, changeAll}
 use Rattle.tree.specs.Fit.{Fits}
@@ -31,7 +31,7 @@ use Rattle.tree_map.specs.LeafOfKey.{path-used}
 use Rattle.tree_map.specs.Halves.{Halved, halved}
 use Rattle.tree_map.specs.Growth.{inner-other, inner-used}
 use Rattle.tree_map.specs.Requests.{applyAll-append, applyAll-reads, fits-append, fits-count, fits-reads}
-use Rattle.tree_map.specs.Settled.{stands-top-neat, Finished, Pending, Good, pending-whole, work-good}
+use Rattle.tree_map.specs.Settled.{Says, stands-top-neat, Finished, Pending, Good, pending-whole, work-good}
 
 -- The root takes its edits: whole, or in two new nodes below it. The count after that:
 unfoldable pub finalCount : Table → Work → ℕ
@@ -180,7 +180,7 @@ module _ (limit d : ℕ) (table : Table) (count : ℕ) (t : Tree d) (pairs : Lis
 
 -- A change at a key on a table that spells a map.
 module _ (table : Table) (count : ℕ) (pairs : List Pair) (s : Spells table count pairs) (k : ℕ) (small : k < bound32) (c : Change)
-    (f : List Pair → List Pair) (local : LocalEdit k f) (does : (ps : List Pair) (l : ℕ) → change c (node Leaf ps l) ≡ node Leaf (f ps) l) where
+    (f : List Pair → List Pair) (local : LocalEdit k f) (says : Says c f) where
   abbrev pub workOf : Work
   workOf = work table k c count (path count table k 0)
 
@@ -190,7 +190,7 @@ module _ (table : Table) (count : ℕ) (pairs : List Pair) (s : Spells table cou
       let t = s .tree in
       finish-good limit d table count t (f pairs) (s .root) (s .ids) workOf
       (rw (s .root, s .spelled) at
-      (work-good limit table count k c f local does d count t 0 bound32 noLeaf (omega arith) small (omega arith)
+      (work-good limit table count k c f local says d count t 0 bound32 noLeaf (omega arith) small (omega arith)
       (omega (arith, depth-count table count pairs s)) (spells-once table count pairs s) (s .stands)))
 
   final-count : countAfterAll (finish table workOf) count ≡ finalCount table workOf
