@@ -17,7 +17,7 @@ use Rattle.account.specs.Range.{inRange, Ranged, ranged-inRange}
 use Rattle.pairs.specs.Pairs.{Pair}
 use Rattle.page.specs.Page.{Score}
 use Rattle.tree.specs.Sound.{sound}
-use Rattle.tree.specs.SoundLaws.{spells-sound}
+use Rattle.tree_map.specs.SoundLaws.{spells-sound}
 use Rattle.store.specs.View.{pages}
 use Rattle.store.specs.Store.{Store, view}
 use Rattle.store.specs.Run.{Run}

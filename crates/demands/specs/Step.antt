@@ -53,7 +53,7 @@ module _ {blocks : ℕ} {table : Table} {count : ℕ} {m : ℕ → Mode} {run : 
   write-keeps (read n) mode h f =
       subst (λ (z : Table). Keeps blocks count z (update m n mode) (Store.serve mode n Store.read run)) (update-self table n)
       (serve-keeps v n f mode Store.read tt)
-  write-keeps (edit n c) mode h f = serve-keeps v n (f .0) mode (Store.edit c) (suited c (table n) (f .1), f .2)
+  write-keeps (edit n c) mode h f = serve-keeps v n (f .0) mode (Store.edit c) (suited c (table n) (f .2), f .1)
   write-keeps (rewrite n x) mode h f = serve-keeps v n (f .0) mode (Store.rewrite x) (f .1)
   write-keeps (create n x) mode h f =
       rw (h refl, f .0) (create-keeps v (omega (arith, f)) x (f .2))

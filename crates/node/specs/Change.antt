@@ -18,7 +18,7 @@ change (put k p) (node kind pairs l) = node kind (insert k p pairs) l
 change (remove k) (node kind pairs l) = node kind (delete k pairs) l
 change (link kind′ p) (node kind pairs l) = node kind pairs p
 
--- A change suits a node: a link is of the node's own kind ("kind 3 or kind 4 alone").
+-- A change suits a node: kind 3 sets a leaf's link and kind 4 a branch's last pointer, never the other way.
 abbrev pub Suits : Change → Node → Type 0
 Suits (put k p) n = Unit {0}
 Suits (remove k) n = Unit {0}

@@ -1,11 +1,10 @@
 -- Pairs within bounds: weaker bounds, two lists one behind the other, and what a change at one key keeps. Assumes nothing.
-use mathlib.Core.Path.{_≡_, refl, ap, _∙_}
+use mathlib.Core.Path.{_≡_, refl, _∙_}
 use mathlib.Core.List.{List, [], _∷_, _++_}
 use mathlib.Core.Logic.{_⊎_, inl, inr}
-use mathlib.Core.Option.{Option, none, some}
-use Prim.Native.Nat.{ℕ, zero, suc, _+_, _≤_, _<_}
+use mathlib.Core.Option.{none}
+use Prim.Native.Nat.{ℕ, suc, _≤_, _<_}
 use native.Mathlib.Omega.{arith}
-use lib.ListN.{length}
 use Rattle.laws.specs.Order.{eq-or, Tri, less, same, more, tri}
 use Rattle.pairs.specs.Pairs.{Pair, lookup, insert, delete, Within}
 use Rattle.pairs.specs.Clauses.{lookup-other, delete-same, delete-other, insert-before, insert-same, insert-behind}

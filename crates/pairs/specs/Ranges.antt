@@ -1,10 +1,10 @@
 -- A range over two lists: pairs below the low key do not count, and after a first list that holds a key above the high one, or
 -- as many pairs as wanted, the second does not count. Assumes nothing.
-use mathlib.Core.Path.{_≡_, refl, ap, _∙_}
-use mathlib.Core.Bool.{Bool, true, false, _||_}
+use mathlib.Core.Path.{_≡_, refl, _∙_}
+use mathlib.Core.Bool.{true, false}
 use mathlib.Core.List.{List, [], _∷_, _++_}
 use mathlib.Core.Logic.{_⊎_, inl, inr}
-use Prim.Native.Nat.{ℕ, zero, suc, _+_, _-_, _≤_, _<_}
+use Prim.Native.Nat.{ℕ, zero, suc, _-_, _≤_, _<_}
 use native.Mathlib.Nat.{sub-zero, suc-sub-suc}
 use native.Mathlib.Omega.{arith}
 use lib.ListN.{length}
@@ -13,7 +13,7 @@ use lib.Dec.{ltb}
 use Rattle.laws.specs.Tests.{or-left, or-right, test-clash}
 use Rattle.laws.specs.Order.{le-or}
 use Rattle.pairs.specs.Pairs.{Pair, range, hasAbove, Within}
-use Rattle.pairs.specs.Clauses.{range-zero, range-skip, range-stop, range-take}
+use Rattle.pairs.specs.Clauses.{range-skip, range-stop, range-take}
 
 module _ (low high : ℕ) where
   pub length-range : (most : ℕ) (ps : List Pair) → length (range low high most ps) ≤ most

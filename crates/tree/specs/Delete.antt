@@ -12,6 +12,7 @@ abbrev pub removalFor : Option ℕ → ℕ → ℕ → List NodeRequest
 removalFor none leaf k = []
 removalFor (some old) leaf k = edit leaf (remove k) ∷ []
 
+-- All reads first, then the edit.
 unfoldable pub deleteRequests : ℕ → Table → ℕ → List NodeRequest
 deleteRequests count table k = readsTo count table k ++ removalFor (getAnswer count table k) (leafFor count table k 0) k
 

@@ -1,10 +1,10 @@
--- What the store has to know of a list of node requests: each is of a node that is there, a change suits its
--- node, each new content is a neat node, and a
--- create takes the next id, below the limit (document 01: "Node 0 is the root; ids run from 0 without gaps"). Assumes nothing.
+-- What the store has to know of a list of node requests: each is of a node that is there, each new content is a neat node, an
+-- edit sets a link by the node's own kind, and a create takes the next id, below the limit (document 01: "Node 0 is the root; ids
+-- run from 0 without gaps"). Assumes nothing.
 use mathlib.Core.Path.{_≡_}
 use mathlib.Core.List.{List, [], _∷_}
-use Prim.Native.Nat.{ℕ, suc, _<_}
-use Rattle.node.specs.Node.{Node, Neat}
+use Prim.Native.Nat.{ℕ, _<_}
+use Rattle.node.specs.Node.{Neat}
 use Rattle.node.specs.Change.{Suits, change}
 use Rattle.tree.specs.Table.{Table}
 use Rattle.tree.specs.NodeRequest.{NodeRequest, read, edit, rewrite, create, apply, countAfter}
@@ -12,7 +12,7 @@ use Rattle.tree.specs.NodeRequest.{NodeRequest, read, edit, rewrite, cre
 -- One request at a table with a count.
 abbrev pub Fit : ℕ → NodeRequest → Table → ℕ → Type 0
 Fit limit (read id) table count = id < count
-Fit limit (edit id c) table count = (id < count) × Suits c (table id) × Neat (change c (table id))
+Fit limit (edit id c) table count = (id < count) × Neat (change c (table id)) × Suits c (table id)
 Fit limit (rewrite id n) table count = (id < count) × Neat n
 Fit limit (create id n) table count = (id ≡ count) × (id < limit) × Neat n
 

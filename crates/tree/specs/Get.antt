@@ -11,6 +11,7 @@ use Rattle.tree.specs.NodeRequest.{NodeRequest, read}
 abbrev pub readsTo : ℕ → Table → ℕ → List NodeRequest
 readsTo count table k = map read (path count table k 0)
 
+-- A look up does no more.
 abbrev pub getRequests : ℕ → Table → ℕ → List NodeRequest
 getRequests = readsTo
 

@@ -1,31 +1,15 @@
+-- The definitions, in document 01's order: the table and the way to a leaf, node requests, the commands, what is sound and what it
+-- spells, and what the store asks of requests.
 pub mod Table
 pub mod NodeRequest
 pub mod Get
 pub mod Put
 pub mod Delete
 pub mod Scan
-pub mod Fit
 pub mod Tree
 pub mod Spells
 pub mod Sound
-pub mod Children
-pub mod Ids
-pub mod Standing
-pub mod Size
-pub mod LeafOfKey
-pub mod Halves
-pub mod Growth
-pub mod Requests
-pub mod Written
-pub mod IdsNeeded
-pub mod Served
-pub mod GetLaws
-pub mod PutLaws
-pub mod DeleteLaws
-pub mod LeafChain
-pub mod ScanLaws
-pub mod SoundLaws
+pub mod Fit
 pub mod Narrow
-pub mod NarrowLaws
-pub mod Pointers
+-- Worked cases, run by the definitions alone.
 pub mod Worked

@@ -1,11 +1,9 @@
 -- Numbers stay 32-bit: keys, values, pointers and links of every node and of every node request (document 01: a log entry's key
 -- and pointer, a node's link and pairs have four bytes each). Assumes nothing.
-use mathlib.Core.List.{List}
-use Prim.Native.Nat.{ℕ, _<_}
+use Prim.Native.Nat.{_<_}
 use Rattle.laws.specs.Every.{Every}
 use Rattle.layout.specs.Layout.{bound32}
 use Rattle.pairs.specs.Pairs.{Pair}
-use Rattle.node.specs.declared.Kind.{Kind}
 use Rattle.node.specs.Node.{Node, pairsOf, linkOf}
 use Rattle.node.specs.Change.{Change, put, remove, link}
 use Rattle.tree.specs.NodeRequest.{NodeRequest, read, edit, rewrite, create}

@@ -26,13 +26,14 @@ abbrev pub applyAll : List NodeRequest → Table → Table
 applyAll [] table = table
 applyAll (r ∷ rs) table = applyAll rs (apply r table)
 
--- The node count after a request, and after a list of them: a create adds one.
+-- The node count after a request: a create adds one.
 abbrev pub countAfter : NodeRequest → ℕ → ℕ
 countAfter (read id) count = count
 countAfter (edit id c) count = count
 countAfter (rewrite id n) count = count
 countAfter (create id n) count = suc count
 
+-- The node count after a list of requests.
 abbrev pub countAfterAll : List NodeRequest → ℕ → ℕ
 countAfterAll [] count = count
 countAfterAll (r ∷ rs) count = countAfterAll rs (countAfter r count)

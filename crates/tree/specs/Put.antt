@@ -3,12 +3,11 @@
 use mathlib.Core.Bool.{Bool, true, false, _&&_}
 use mathlib.Core.List.{List, [], _∷_, _++_, map}
 use mathlib.Core.Option.{Option, none, some}
-use Prim.Native.Nat.{ℕ, zero, suc, _+_}
+use Prim.Native.Nat.{ℕ, suc, _+_}
 use lib.Dec.{eqb, ltb, leb}
 use lib.ListN.{length, take, drop}
 use Rattle.layout.specs.Layout.{mostKeys, keptKeys}
 use Rattle.pairs.specs.Pairs.{Pair}
-use Rattle.node.specs.declared.Kind.{Kind}
 use Rattle.node.specs.declared.Kind.the-variants.{Leaf, Branch}
 use Rattle.node.specs.Node.{Node, node, pairsOf}
 use Rattle.node.specs.Change.{Change, put, link}
@@ -16,12 +15,13 @@ use Rattle.tree.specs.Table.{Table, slot, pointerAt, keyAt, path}
 use Rattle.tree.specs.NodeRequest.{NodeRequest, edit, rewrite, create, changeAll}
 use Rattle.tree.specs.Get.{readsTo, getAnswer}
 
--- A node of 25 keys in two. Of a leaf the first 12 pairs stay below and 13 go up, and the lower leaf's link names the upper
--- one. Of a branch 12 keys stay, the 13th rises and its pointer becomes the lower's last, and 12 go up.
+-- The lower half of a node of 25 keys: of a leaf the first 12 pairs stay, with a link to the upper half; of a branch 12 keys
+-- stay, and the pointer of the 13th becomes the last.
 unfoldable pub lowerHalf : Node → ℕ → Node
 lowerHalf (node Leaf ps next) upper = node Leaf (take keptKeys ps) upper
 lowerHalf (node Branch ks last) upper = node Branch (take keptKeys ks) (pointerAt ks last keptKeys)
 
+-- The upper half: of a leaf the other 13 pairs, with the old link; of a branch the 12 keys behind the one that rises.
 unfoldable pub upperHalf : Node → Node
 upperHalf (node Leaf ps next) = node Leaf (drop keptKeys ps) next
 upperHalf (node Branch ks last) = node Branch (drop (suc keptKeys) ks) last
@@ -30,14 +30,15 @@ upperHalf (node Branch ks last) = node Branch (drop (suc keptKeys) ks) last
 unfoldable pub middleKey : Node → ℕ
 middleKey n = keyAt (pairsOf n) keptKeys
 
--- The parent's two edits: the middle key with the left as pointer, then the slot that led to the left names the right: by its
--- key, or as the last pointer.
+-- The old pointer to the left names the right: the slot that led to the left, by its key or as the last pointer.
 unfoldable pub renamed : ℕ → List Pair → ℕ → Change
 renamed j ks right = elim (ltb j (length ks)) [ true ↦ put (keyAt ks j) right | false ↦ link Branch right ]
 
+-- The parent's two edits: the right's first key, or the risen one, with the left as pointer; then the old pointer.
 abbrev pub parentEdits : ℕ → Node → ℕ → ℕ → ℕ → List Change
 parentEdits k parent middle left right = put middle left ∷ renamed (slot k (pairsOf parent)) (pairsOf parent) right ∷ []
 
+-- At most 24 keys.
 abbrev pub fitsNode : Node → Bool
 fitsNode n = leb (length (pairsOf n)) mostKeys
 
@@ -98,11 +99,12 @@ fullRun table (id ∷ ids) =
 unfoldable pub idsNeeded : Table → List ℕ → ℕ
 idsNeeded table ids = elim (eqb (fullRun table ids) (length ids)) [ true ↦ suc (length ids) | false ↦ fullRun table ids ]
 
--- Refusal 9: the key is not present, and not enough node ids are unused.
+-- A present key is never refused; a new one is where the count that it leads to is past the limit.
 abbrev pub refusedFor : Option ℕ → ℕ → ℕ → Bool
 refusedFor (some old) needed limit = false
 refusedFor none needed limit = ltb limit needed
 
+-- Refusal 9: are enough node ids unused? Decided on contents, before any request.
 unfoldable pub putRefused : ℕ → ℕ → Table → ℕ → Bool
 putRefused limit count table k = refusedFor (getAnswer count table k) (count + idsNeeded table (path count table k 0)) limit
 

@@ -19,7 +19,7 @@ stopsIn high most leaf got = hasAbove high (pairsOf leaf) || (leb most (length g
 abbrev pub taken : ℕ → ℕ → ℕ → Node → List Pair
 taken low high most leaf = range low high most (pairsOf leaf)
 
--- The pairs from a leaf on, and the leaves read after it. The fuel is the node count.
+-- The pairs that a scan takes from a leaf on. The fuel is the node count.
 unfoldable pub pairsFrom : ℕ → Table → ℕ → ℕ → ℕ → ℕ → List Pair
 pairsFrom zero table low high most id = taken low high most (table id)
 pairsFrom (suc fuel) table low high most id =
@@ -29,6 +29,7 @@ pairsFrom (suc fuel) table low high most id =
       | false ↦ got ++ pairsFrom fuel table low high (most - length got) (linkOf (table id))
     ]
 
+-- The leaves that it reads after that one, by links.
 unfoldable pub leavesAfter : ℕ → Table → ℕ → ℕ → ℕ → ℕ → List ℕ
 leavesAfter zero table low high most id = []
 leavesAfter (suc fuel) table low high most id =
@@ -46,6 +47,7 @@ scanRequests count table low high most =
       | false ↦ map read (path count table low 0 ++ leavesAfter count table low high most (leafFor count table low 0))
     ]
 
+-- The pairs found, ascending.
 unfoldable pub scanAnswer : ℕ → Table → ℕ → ℕ → ℕ → List Pair
 scanAnswer count table low high most =
     elim (ltb high low) [ true ↦ [] | false ↦ pairsFrom count table low high most (leafFor count table low 0) ]

@@ -7,7 +7,6 @@ use lib.Dec.{eqb, ltb, leb}
 use lib.ListN.{length, getD, set, replicate}
 use Rattle.layout.specs.Layout.{mostKeys, noLeaf, bound32}
 use Rattle.pairs.specs.Pairs.{Pair}
-use Rattle.node.specs.declared.Kind.{Kind}
 use Rattle.node.specs.declared.Kind.the-variants.{Leaf, Branch}
 use Rattle.node.specs.Node.{Node, node}
 use Rattle.tree.specs.Table.{Table, pointerAt}
@@ -56,11 +55,12 @@ unfoldable pub visit : ℕ → Table → ℕ → ℕ → ℕ → Walk → Option
 visit zero table id low high w = visitLeaf id low high w (table id)
 visit (suc d) table id low high w = visitBranch (visit d table) id low high w (table id)
 
--- The depth and the first leaf, by first pointers. The fuel is the node count.
+-- How deep the leaves stand, and which is the first.
 pub record Leftmost : Type 0 where
   pub depth : ℕ
   pub leaf : ℕ
 
+-- Both by first pointers, from the root. The fuel is the node count.
 unfoldable pub leftmost : ℕ → Table → ℕ → ℕ → Leftmost
 leftmost zero table depth id = record { depth = depth; leaf = id }
 leftmost (suc fuel) table depth id =
@@ -69,6 +69,7 @@ leftmost (suc fuel) table depth id =
           elim kind [ Leaf ↦ record { depth = depth; leaf = id } | Branch ↦ leftmost fuel table (suc depth) (pointerAt ps l 0) ]
     ]
 
+-- Every id was reached.
 unfoldable pub allMarked : List ℕ → Bool
 allMarked [] = true
 allMarked (m ∷ ms) = eqb m 1 && allMarked ms
@@ -82,9 +83,10 @@ complete (some w) = eqb (w .awaited) noLeaf && allMarked (w .marks)
 abbrev pub noMarks : ℕ → List ℕ
 noMarks count = replicate count 0
 
+-- The walk from the root, for all 32-bit keys.
 unfoldable pub walkFrom : ℕ → Table → Leftmost → Option Walk
 walkFrom count table l = visit (l .depth) table 0 0 bound32 (record { awaited = l .leaf; marks = noMarks count })
 
--- Sound: the limit kept, and a walk from the root for all 32-bit keys that is complete.
+-- Sound: the limit kept, and a complete walk from the root.
 unfoldable pub sound : ℕ → ℕ → Table → Bool
 sound limit count table = leb count limit && complete (walkFrom count table (leftmost count table 0 0))

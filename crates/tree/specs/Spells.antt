@@ -6,7 +6,6 @@ use lib.Dec.{ltb}
 use Rattle.laws.specs.Counts.{bit}
 use Rattle.layout.specs.Layout.{noLeaf, bound32}
 use Rattle.pairs.specs.Pairs.{Pair}
-use Rattle.node.specs.declared.Kind.{Kind}
 use Rattle.node.specs.declared.Kind.the-variants.{Leaf, Branch}
 use Rattle.node.specs.Node.{Node, node}
 use Rattle.tree.specs.Table.{Table}
@@ -22,15 +21,17 @@ pub record Spells (table : Table) (count : ℕ) (pairs : List Pair) : Type 0 whe
   pub ids : (i : ℕ) → reached depth tree i ≡ bit (ltb i count)
   pub spelled : pairsIn depth tree ≡ pairs
 
--- The pairs below a node, computed: for a branch those below its pointers, in order.
+-- The pairs below all pointers of a branch, in order.
 unfoldable pub joinPointers : (ℕ → List Pair) → List Pair → ℕ → List Pair
 joinPointers below [] last = below last
 joinPointers below (p ∷ ps) last = below (p .1) ++ joinPointers below ps last
 
+-- The pairs that a node leads to: a leaf's own, or those below a branch's pointers.
 unfoldable pub pairsOfNode : (ℕ → List Pair) → Node → List Pair
 pairsOfNode below (node Leaf ps next) = ps
 pairsOfNode below (node Branch ks last) = joinPointers below ks last
 
+-- The pairs below an id, computed. The fuel is the node count.
 unfoldable pub pairsBelow : ℕ → Table → ℕ → List Pair
 pairsBelow zero table id = []
 pairsBelow (suc fuel) table id = pairsOfNode (pairsBelow fuel table) (table id)

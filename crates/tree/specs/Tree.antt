@@ -7,25 +7,28 @@ use lib.ListN.{length}
 use Rattle.laws.specs.Counts.{bit}
 use Rattle.layout.specs.Layout.{mostKeys}
 use Rattle.pairs.specs.Pairs.{Pair, Within}
-use Rattle.node.specs.declared.Kind.{Kind}
 use Rattle.node.specs.declared.Kind.the-variants.{Leaf, Branch}
 use Rattle.node.specs.Node.{Node, node}
 use Rattle.tree.specs.Table.{Table}
 
 -- The children of a branch, over any kind of child: each but the last has the key above it.
 module _ {X : Type 0} where
+  -- The branch's pairs: each key with the id of the child for what is below it.
   abbrev pub keysOf : (X → ℕ) → List (X × ℕ) → List Pair
   keysOf idOf [] = []
   keysOf idOf (x ∷ xs) = (x .1, idOf (x .0)) ∷ keysOf idOf xs
 
+  -- The first leaf of the first child.
   abbrev pub firstOf : (X → ℕ) → List (X × ℕ) → X → ℕ
   firstOf first [] last = first last
   firstOf first (x ∷ xs) last = first (x .0)
 
+  -- The children's pairs, left to right.
   abbrev pub joinOf : (X → List Pair) → List (X × ℕ) → X → List Pair
   joinOf pairs [] last = pairs last
   joinOf pairs (x ∷ xs) last = pairs (x .0) ++ joinOf pairs xs last
 
+  -- A number summed over the children.
   abbrev pub sumOf : (X → ℕ) → List (X × ℕ) → X → ℕ
   sumOf f [] last = f last
   sumOf f (x ∷ xs) last = f (x .0) + sumOf f xs last
@@ -40,6 +43,7 @@ abbrev pub Tree : ℕ → Type 0
 Tree zero = ℕ × List Pair
 Tree (suc d) = ℕ × List (Tree d × ℕ) × Tree d
 
+-- The id of the top.
 unfoldable pub rootOf : (d : ℕ) → Tree d → ℕ
 rootOf zero t = t .0
 rootOf (suc d) t = t .0

@@ -1,17 +1,15 @@
 -- Document 01's marked cases of splits, the requests of each kind of split, scans and their stops, tables of foreign writers, and
 -- 330 puts through leaf, branch and root splits: all run by the definitions alone. Assumes nothing.
 use mathlib.Core.Path.{_≡_, refl}
-use mathlib.Core.Bool.{Bool, true, false}
+use mathlib.Core.Bool.{true, false}
 use mathlib.Core.List.{List, [], _∷_, _++_, map}
-use mathlib.Core.Option.{Option, none, some}
 use Prim.Native.Nat.{ℕ, zero, suc, _+_}
 use lib.ListN.{length}
 use Rattle.laws.specs.Update.{update}
 use Rattle.layout.specs.Layout.{noLeaf}
-use Rattle.pairs.specs.Pairs.{Pair, lookup, insert, delete, range, hasAbove}
-use Rattle.node.specs.declared.Kind.{Kind}
+use Rattle.pairs.specs.Pairs.{Pair, lookup, insert, range, hasAbove}
 use Rattle.node.specs.declared.Kind.the-variants.{Leaf, Branch}
-use Rattle.node.specs.Node.{Node, node, pairsOf}
+use Rattle.node.specs.Node.{node, pairsOf}
 use Rattle.node.specs.Change.{put, remove, link}
 use Rattle.tree.specs.Table.{Table, slot, path, leafFor}
 use Rattle.tree.specs.NodeRequest.{NodeRequest, read, edit, rewrite, create, applyAll, countAfterAll}
@@ -166,7 +164,9 @@ record Cases : Type 0 where
       edit 0 (put 122 1) ∷
       edit 0 (put 200 4) ∷
       []
-  -- an id that no pointer reaches, and a count past the limit
+  -- a key at the upper bound of its leaf, an id that no pointer reaches, and a count past the limit
+  bound : sound limit 4 (update (between .table) 2 (node Leaf (run 1 100) 1)) ≡ false
+  within : sound limit 4 (update (between .table) 2 (node Leaf (run 1 99) 1)) ≡ true
   lost : sound limit 5 (between .table) ≡ false
   past : sound 3 4 (between .table) ≡ false
   -- 9: a new key in a full leaf needs an id; a present key does not, and neither does a leaf with room
@@ -193,6 +193,8 @@ cases =
     record {
       foreign = refl;
       renames = refl;
+      bound = refl;
+      within = refl;
       lost = refl;
       past = refl;
       refused = refl;

@@ -1,8 +1,8 @@
 -- Every request of a command on a table of 32-bit numbers has 32-bit numbers, and so has the table after it: a new content is
 -- made of parts of old ones, the command's own numbers, and ids. Assumes nothing.
-use mathlib.Core.Path.{_≡_, refl, sym, ap, _∙_}
+use mathlib.Core.Path.{_≡_, refl}
 use mathlib.Core.Bool.{Bool, true, false}
-use mathlib.Core.List.{List, [], _∷_, _++_, map}
+use mathlib.Core.List.{List, [], _∷_, map}
 use mathlib.Core.Logic.{_⊎_, inl, inr}
 use mathlib.Core.Option.{Option, none, some}
 use Prim.Native.Nat.{ℕ, zero, suc, _+_, _≤_, _<_}
@@ -10,40 +10,24 @@ use native.Mathlib.Omega.{arith}
 use lib.Dec.{ltb}
 use lib.ListN.{length, take, drop}
 use Rattle.laws.specs.Every.{Every, none, both, every-append, every-weaken, every-map}
-use Rattle.laws.specs.Order.{eq-or, Tri, less, same, more, tri}
+use Rattle.laws.specs.Order.{eq-or}
 use Rattle.laws.specs.Update.{update, update-same, update-other}
-use Rattle.layout.specs.Layout.{mostKeys, keptKeys, bound32, noLeaf}
-use Rattle.pairs.specs.Pairs.{Pair, insert, delete}
-use Rattle.pairs.specs.Clauses.{insert-before, insert-same, insert-behind, delete-same, delete-other}
-use Rattle.node.specs.declared.Kind.{Kind}
+use Rattle.layout.specs.Layout.{keptKeys, bound32}
+use Rattle.pairs.specs.Pairs.{Pair}
+use Rattle.pairs.specs.Members.{every-insert, every-delete}
 use Rattle.node.specs.declared.Kind.the-variants.{Leaf, Branch}
-use Rattle.node.specs.Node.{Node, node, pairsOf, linkOf}
+use Rattle.node.specs.Node.{Node, node, pairsOf}
 use Rattle.node.specs.Change.{Change, put, remove, link, change}
 use Rattle.tree.specs.Table.{Table, slot, pointerAt, keyAt, path, leafFor}
-use Rattle.tree.specs.NodeRequest.{NodeRequest, read, edit, rewrite, create, apply, applyAll, countAfter, countAfterAll, changeAll}
+use Rattle.tree.specs.NodeRequest.{NodeRequest, read, edit, rewrite, create, apply, applyAll, countAfter, changeAll}
 use Rattle.tree.specs.Get.{getAnswer}
-use Rattle.tree.specs.Put.{
-  lowerHalf,
-  upperHalf,
-  middleKey,
-  renamed,
-  parentEdits,
-  fitsNode,
-  Work,
-  finished,
-  pending,
-  settle,
-  work,
-  finish,
-  putRefused,
-  putRequests,
-}
+use Rattle.tree.specs.Put.{lowerHalf, upperHalf, middleKey, renamed, fitsNode, Work, finished, pending, settle, work, finish, putRefused, putRequests}
 use Rattle.tree.specs.Delete.{removalFor, deleteRequests}
 use Rattle.tree.specs.Fit.{Fit, Fits}
 use Rattle.tree.specs.Spells.{Spells}
-use Rattle.tree.specs.Size.{depth-count}
-use Rattle.tree.specs.GetLaws.{path-found}
+use Rattle.tree_map.specs.Size.{depth-count}
+use Rattle.tree_map.specs.GetLaws.{path-found}
 use Rattle.tree.specs.Narrow.{NarrowPair, Narrow, NarrowChange, NarrowRequest}
 
 -- Parts of lists of pairs.
 module _ {P : Pair → Type 0} where
@@ -56,25 +40,6 @@ module _ {P : Pair → Type 0} where
   every-drop zero ps e = e
   every-drop (suc n) [] none = none
   every-drop (suc n) (p ∷ ps) (both x e) = every-drop n ps e
-
-  every-insert : (k v : ℕ) (ps : List Pair) → P (k, v) → Every P ps → Every P (insert k v ps)
-  unfolding insert
-  every-insert k v [] x e = both x none
-  every-insert k v (p ∷ ps) x (both y e) = go (tri k (p .0)) (every-insert k v ps x e)
-    where
-      go : Tri k (p .0) → Every P (insert k v ps) → Every P (insert k v (p ∷ ps))
-      go (less l) r = rw (insert-before k v p ps l) (both x (both y e))
-      go (same i) r = rw (insert-same k v p ps i) (both x e)
-      go (more l) r = rw (insert-behind k v p ps l) (both y r)
-
-  every-delete : (k : ℕ) (ps : List Pair) → Every P ps → Every P (delete k ps)
-  unfolding delete
-  every-delete k [] e = none
-  every-delete k (p ∷ ps) (both y e) = go (eq-or k (p .0)) (every-delete k ps e)
-    where
-      go : (k ≡ p .0) ⊎ (k ≡ p .0 → ⊥) → Every P (delete k ps) → Every P (delete k (p ∷ ps))
-      go (inl i) r = rw (delete-same k p ps i) e
-      go (inr i) r = rw (delete-other k p ps i) (both y r)
 
 keyAt-narrow : (ps : List Pair) (j : ℕ) → Every NarrowPair ps → keyAt ps j < bound32
 keyAt-narrow [] j e = omega arith

@@ -2,14 +2,14 @@
 -- passes has seen a tree that stands, each of its ids marked once, and a tree that stands lets the walk pass. Assumes nothing.
 use mathlib.Core.Path.{_≡_, refl, sym, ap, _∙_}
 use mathlib.Core.Bool.{Bool, true, false, _&&_}
-use mathlib.Core.List.{List, [], _∷_, _++_}
+use mathlib.Core.List.{List, [], _∷_}
 use mathlib.Core.Option.{Option, none, some}
 use Prim.Native.Nat.{ℕ, zero, suc, _+_, _≤_, _<_}
 use native.Mathlib.Nat.{zero-add}
 use native.Mathlib.Omega.{arith}
 use borrow.Author.Tests.{leb-true, le-leb, ltb-true, lt-ltb, eqb-true, eq-eqb}
 use lib.Dec.{eqb, ltb, leb}
-use lib.ListN.{length, getD, set, length-set, replicate, length-replicate, getD-replicate, List·getD-eq-default}
+use lib.ListN.{length, getD, set, length-set, length-replicate, getD-replicate, List·getD-eq-default}
 use lib.Seq.{getD-set-same, getD-set-other}
 use Rattle.laws.specs.Counts.{bit}
 use Rattle.laws.specs.Order.{eq-or, le-or}
@@ -17,13 +17,12 @@ use Rattle.laws.specs.Tests.{and-left, and-right, and-both}
 use mathlib.Core.Logic.{_⊎_, inl, inr}
 use Rattle.layout.specs.Layout.{mostKeys, noLeaf, bound32}
 use Rattle.pairs.specs.Pairs.{Pair, Within}
-use Rattle.node.specs.declared.Kind.{Kind}
 use Rattle.node.specs.declared.Kind.the-variants.{Leaf, Branch}
-use Rattle.node.specs.Node.{Node, node, pairsOf}
+use Rattle.node.specs.Node.{Node, node}
 use Rattle.tree.specs.Table.{Table, pointerAt}
 use Rattle.tree.specs.Tree.{keysOf, firstOf, joinOf, sumOf, EachChild, Tree, rootOf, firstLeaf, pairsIn, reached, Holds, Stands}
 use Rattle.tree.specs.Spells.{Spells, joinPointers, pairsOfNode, pairsBelow, mapOf}
 use Rattle.tree.specs.Sound.{
   ascends,
   Walk,
   inOrder,
@@ -39,9 +38,9 @@ use Rattle.tree.specs.Sound.{
   walkFrom,
   sound,
 }
-use Rattle.tree.specs.Children.{childAt, length-keysOf, pointerAt-keysOf, each-childAt}
-use Rattle.tree.specs.Ids.{id-self, id-other, used-in, used-out, used-le, used-below}
-use Rattle.tree.specs.Size.{depth-count}
+use Rattle.tree_map.specs.Children.{childAt, length-keysOf, pointerAt-keysOf, each-childAt}
+use Rattle.tree_map.specs.Ids.{id-self, id-other, used-in, used-out, used-le, used-below}
+use Rattle.tree_map.specs.Size.{depth-count}
 
 ascends-within : (low high : ℕ) (ps : List Pair) → ascends low high ps ≡ true → Within low high ps
 unfolding ascends Within

@@ -1,24 +1,23 @@
 -- A tree that a table holds: it stands in any table that agrees at the ids it reaches, its pairs are within its bounds, and
 -- every node that it reaches is neat. Assumes nothing.
-use mathlib.Core.Path.{_≡_, refl, sym, ap, _∙_}
-use mathlib.Core.List.{List, [], _∷_, _++_}
+use mathlib.Core.Path.{_≡_, ap, _∙_}
+use mathlib.Core.List.{List, [], _∷_}
 use mathlib.Core.Logic.{_⊎_, inl, inr}
-use Prim.Native.Nat.{ℕ, zero, suc, _+_, _≤_, _<_}
+use Prim.Native.Nat.{ℕ, zero, suc, _≤_, _<_}
 use native.Mathlib.Omega.{arith}
 use lib.Dec.{eqb, ltb}
 use lib.ListN.{length}
 use Rattle.laws.specs.Counts.{bit}
 use Rattle.laws.specs.Order.{eq-or, le-or}
 use Rattle.layout.specs.Layout.{mostKeys, bound32}
-use Rattle.pairs.specs.Pairs.{Pair, Within}
+use Rattle.pairs.specs.Pairs.{Within}
 use Rattle.pairs.specs.Bounds.{within-weaken, within-tail}
-use Rattle.node.specs.declared.Kind.{Kind}
 use Rattle.node.specs.declared.Kind.the-variants.{Leaf, Branch}
 use Rattle.node.specs.Node.{Node, node, kindOf, pairsOf, Neat}
-use Rattle.tree.specs.Table.{Table, slot}
-use Rattle.tree.specs.Tree.{keysOf, firstOf, joinOf, sumOf, EachChild, Tree, rootOf, firstLeaf, pairsIn, reached, Holds, Stands}
-use Rattle.tree.specs.Children.{length-keysOf, joinOf-within, each-keep, childAt, sumOf-childAt}
-use Rattle.tree.specs.Ids.{id-same, id-self, id-other, used-le, used-below}
+use Rattle.tree.specs.Table.{Table}
+use Rattle.tree.specs.Tree.{keysOf, firstOf, sumOf, EachChild, Tree, rootOf, firstLeaf, pairsIn, reached, Holds, Stands}
+use Rattle.tree_map.specs.Children.{length-keysOf, joinOf-within, each-keep, childAt, sumOf-childAt}
+use Rattle.tree_map.specs.Ids.{id-self, id-other, used-below}
 
 -- The ids that a tree reaches are in use, each once.
 abbrev pub Once : (d count : ℕ) → Tree d → Type 0

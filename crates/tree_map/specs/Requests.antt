@@ -1,16 +1,14 @@
 -- Lists of node requests one behind the other: what they make of a table and of the count, and that they fit. Assumes nothing.
-use mathlib.Core.Path.{_≡_, refl, sym, ap, _∙_}
+use mathlib.Core.Path.{_≡_, refl, ap, _∙_}
 use mathlib.Core.List.{List, [], _∷_, _++_, map}
-use Prim.Native.Nat.{ℕ, zero, suc, _+_, _≤_, _<_}
+use Prim.Native.Nat.{ℕ, _≤_, _<_}
 use native.Mathlib.Omega.{arith}
 use Rattle.laws.specs.Every.{Every, none, both}
-use Rattle.laws.specs.Update.{update, update-same, update-other}
-use Rattle.pairs.specs.Pairs.{Pair}
-use Rattle.node.specs.declared.Kind.the-variants.{Leaf}
-use Rattle.node.specs.Node.{Node, node, linkOf, Neat}
-use Rattle.node.specs.Change.{Change, put, remove, link, Suits, change}
+use Rattle.laws.specs.Update.{update-same, update-other}
+use Rattle.node.specs.Node.{Node, Neat}
+use Rattle.node.specs.Change.{Change, Suits, change}
 use Rattle.tree.specs.Table.{Table}
 use Rattle.tree.specs.NodeRequest.{
   NodeRequest,
   read,
   edit,
@@ -22,7 +20,7 @@ use Rattle.tree.specs.NodeRequest.{
   countAfterAll,
   changeAll,
 }
-use Rattle.tree.specs.Fit.{Fit, Fits}
+use Rattle.tree.specs.Fit.{Fits}
 
 -- The node of a request.
 abbrev pub nodeOf : NodeRequest → ℕ
@@ -82,22 +80,16 @@ module _ (limit : ℕ) where
   fits-reads [] table count none = refl
   fits-reads (i ∷ ids) table count (both l e) = (l, fits-reads ids table count e)
 
--- Each change suits the content that it meets, and each content on the way is neat.
+-- Each content on the way is neat, and each change suits it.
 abbrev pub NeatAll : List Change → Node → Type 0
 NeatAll [] n = Unit {0}
-NeatAll (c ∷ cs) n = (Suits c n × Neat (change c n)) × NeatAll cs (change c n)
+NeatAll (c ∷ cs) n = Neat (change c n) × Suits c n × NeatAll cs (change c n)
 
 pub fits-edits : (limit : ℕ) (cs : List Change) (id : ℕ) (table : Table) (count : ℕ) (n : Node) → table id ≡ n → id < count → NeatAll cs n →
     Fits limit (map (edit id) cs) table count count
 fits-edits limit [] id table count n e l a = refl
-fits-edits limit (c ∷ cs) id table count n e l a =
-    ((l, rw e (a .0 .0), rw e (a .0 .1)),
-    fits-edits limit cs id (apply (edit id c) table) count (change c n)
-    (update-same table id (change c (table id)) id refl ∙ ap (change c) e) l (a .1))
-
--- A change that leaves every leaf's link suits a leaf: it sets no link.
-pub leaf-suits : (c : Change) (f : List Pair → List Pair) → ((ps : List Pair) (l : ℕ) → change c (node Leaf ps l) ≡ node Leaf (f ps) l) →
-    (ps : List Pair) (l : ℕ) → Suits c (node Leaf ps l)
-leaf-suits (put k p) f does ps l = tt
-leaf-suits (remove k) f does ps l = tt
-leaf-suits (link kind p) f does ps l = absurd (omega (arith, ap linkOf (does ps 0), ap linkOf (does ps 1)))
+fits-edits limit (c ∷ cs) id table count n e l a = (
+  (l, rw e (a .0), rw e (a .1)),
+  fits-edits limit cs id (apply (edit id c) table) count (change c n)
+      (update-same table id (change c (table id)) id refl ∙ ap (change c) e) l (a .2),
+)

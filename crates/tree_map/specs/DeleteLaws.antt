@@ -1,29 +1,26 @@
 -- A delete of a present key is one edit behind the reads, which makes a sound table that spells the map without the key; of an
 -- absent key it is reads alone. Assumes nothing.
-use mathlib.Core.Path.{_≡_, refl, sym, ap, _∙_}
-use mathlib.Core.List.{List, [], _∷_, _++_, map, append-nil}
+use mathlib.Core.Path.{_≡_, refl}
+use mathlib.Core.List.{List, [], _∷_, append-nil}
 use mathlib.Core.Option.{Option, none, some}
-use Prim.Native.Nat.{ℕ, zero, suc, _+_, _≤_, _<_}
+use Prim.Native.Nat.{ℕ, _≤_, _<_}
 use native.Mathlib.Omega.{arith}
-use lib.ListN.{length}
-use Rattle.layout.specs.Layout.{mostKeys, bound32}
+use Rattle.layout.specs.Layout.{bound32}
 use Rattle.pairs.specs.Pairs.{Pair, lookup, delete}
 use Rattle.pairs.specs.Sizes.{length-delete, delete-absent}
 use Rattle.pairs.specs.LocalEdit.{delete-local}
-use Rattle.node.specs.declared.Kind.{Kind}
-use Rattle.node.specs.declared.Kind.the-variants.{Leaf}
-use Rattle.node.specs.Node.{Node, node, pairsOf}
-use Rattle.node.specs.Change.{Change, remove, change}
+use Rattle.node.specs.Change.{remove}
 use Rattle.tree.specs.Table.{Table, path, leafFor}
-use Rattle.tree.specs.NodeRequest.{NodeRequest, edit, applyAll, countAfterAll}
-use Rattle.tree.specs.Get.{readsTo, getAnswer}
+use Rattle.tree.specs.NodeRequest.{edit, countAfterAll}
+use Rattle.tree.specs.Get.{readsTo}
 use Rattle.tree.specs.Put.{work, finish, writeRequests}
-use Rattle.tree.specs.Delete.{removalFor, deleteRequests}
+use Rattle.tree.specs.Delete.{deleteRequests}
 use Rattle.tree.specs.Spells.{Spells}
-use Rattle.tree.specs.Written.{finalCount, write-count, write-spells, write-fits}
-use Rattle.tree.specs.IdsNeeded.{finish-single}
-use Rattle.tree.specs.Served.{Served}
-use Rattle.tree.specs.GetLaws.{leaf-found, get-answer, get-served}
+use Rattle.tree_map.specs.Settled.{remove-says}
+use Rattle.tree_map.specs.Written.{finalCount, write-count, write-spells, write-fits}
+use Rattle.tree_map.specs.IdsNeeded.{finish-single}
+use Rattle.tree_map.specs.Served.{Served}
+use Rattle.tree_map.specs.GetLaws.{leaf-found, get-answer, get-served}
 
 module _ (table : Table) (count : ℕ) (pairs : List Pair) (s : Spells table count pairs) (k : ℕ) (small : k < bound32) where
   -- the work of a removal is one edit
@@ -45,11 +42,8 @@ module _ (table : Table) (count : ℕ) (pairs : List Pair) (s : Spells table cou
   pub delete-served : (limit : ℕ) → count ≤ limit → Served limit table count (deleteRequests count table k) (delete k pairs)
   delete-served limit l = go (lookup k pairs) refl
     where
-      does : (ps : List Pair) (l : ℕ) → change (remove k) (node Leaf ps l) ≡ node Leaf (delete k ps) l
-      does ps l = refl
-
       n : countAfterAll (writeRequests count table k (remove k)) count ≡ finalCount table (work table k (remove k) count (path count table k 0))
-      n = write-count table count pairs s k small (remove k) (delete k) (delete-local k) does
+      n = write-count table count pairs s k small (remove k) (delete k) (delete-local k) (remove-says k)
 
       m : finalCount table (work table k (remove k) count (path count table k 0)) ≤ limit
       m = omega (arith, removal-single .1, l)
@@ -60,6 +54,6 @@ module _ (table : Table) (count : ℕ) (pairs : List Pair) (s : Spells table cou
           rw (delete-present-requests old e)
           record {
             kept = rw n m;
-            fits = rw n (write-fits table count pairs s k small (remove k) (delete k) (delete-local k) does limit m);
-            spells = rw n (write-spells table count pairs s k small (remove k) (delete k) (delete-local k) does);
+            fits = rw n (write-fits table count pairs s k small (remove k) (delete k) (delete-local k) (remove-says k) limit m);
+            spells = rw n (write-spells table count pairs s k small (remove k) (delete k) (delete-local k) (remove-says k));
           }

@@ -1,17 +1,17 @@
 -- The children of a branch by place, over any kind of child: the one at a place with its bounds and neighbours; one replaced by
 -- one or by two; all cut in two. Places are numbers, so the last child is no case of its own. Assumes nothing.
-use mathlib.Core.Path.{_≡_, refl, sym, ap, ap₂, _∙_}
+use mathlib.Core.Path.{_≡_, refl, sym, ap}
 use mathlib.Core.List.{List, [], _∷_, _++_, append-assoc, append-nil}
 use Prim.Native.Nat.{ℕ, zero, suc, _+_, _≤_, _<_}
 use native.Mathlib.Omega.{arith}
 use borrow.Author.Tests.{lt-ltb, le-ltb}
 use lib.ListN.{length, take, drop}
 use Rattle.laws.specs.Order.{Tri, less, same, more, tri}
-use Rattle.pairs.specs.Pairs.{Pair, lookup, insert, Within}
+use Rattle.pairs.specs.Pairs.{Pair, insert, Within}
 use Rattle.pairs.specs.Clauses.{insert-before, insert-same, insert-behind}
-use Rattle.pairs.specs.Bounds.{within-weaken, within-tail, within-append}
+use Rattle.pairs.specs.Bounds.{within-tail, within-append}
 use Rattle.tree.specs.Table.{slot, pointerAt, keyAt}
 use Rattle.tree.specs.Tree.{keysOf, firstOf, joinOf, sumOf, EachChild}
 
 pub slot-before : (k : ℕ) (p : Pair) (ps : List Pair) → k < p .0 → slot k (p ∷ ps) ≡ 0
 unfolding slot

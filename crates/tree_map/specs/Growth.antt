@@ -1,10 +1,9 @@
 -- A change at one key, leaf upwards: what a subtree is after some requests, how a node takes its edits whole or in a split, and
 -- what its parent is then. The frame is the ids: a subtree's requests touch no id that others reach. Assumes nothing.
 use mathlib.Core.Path.{_≡_, refl, sym, ap, _∙_}
-use mathlib.Core.Bool.{Bool, true, false}
-use mathlib.Core.List.{List, [], _∷_, _++_}
+use mathlib.Core.List.{List, _++_}
 use mathlib.Core.Logic.{_⊎_, inl, inr}
-use Prim.Native.Nat.{ℕ, zero, suc, _+_, _≤_, _<_}
+use Prim.Native.Nat.{ℕ, suc, _+_, _≤_, _<_}
 use native.Mathlib.Omega.{arith}
 use borrow.Author.Tests.{lt-ltb, le-ltb}
 use lib.Dec.{eqb, ltb}
@@ -12,58 +11,20 @@ use lib.ListN.{length}
 use Rattle.laws.specs.Counts.{bit}
 use Rattle.laws.specs.Order.{le-or}
 use Rattle.layout.specs.Layout.{mostKeys}
-use Rattle.pairs.specs.Pairs.{Pair, insert, Within}
+use Rattle.pairs.specs.Pairs.{Pair, insert}
 use Rattle.pairs.specs.LocalEdit.{LocalEdit}
-use Rattle.node.specs.declared.Kind.{Kind}
-use Rattle.node.specs.declared.Kind.the-variants.{Leaf, Branch}
+use Rattle.node.specs.declared.Kind.the-variants.{Branch}
 use Rattle.node.specs.Node.{Node, node, pairsOf}
-use Rattle.node.specs.Change.{Change, put, link, change}
-use Rattle.tree.specs.Table.{Table, slot, keyAt}
+use Rattle.node.specs.Change.{link, change}
+use Rattle.tree.specs.Table.{Table, slot}
 use Rattle.tree.specs.NodeRequest.{changeAll}
 use Rattle.tree.specs.Put.{lowerHalf, upperHalf, middleKey, renamed, parentEdits}
-use Rattle.tree.specs.Tree.{keysOf, firstOf, joinOf, sumOf, Tree, rootOf, firstLeaf, pairsIn, reached, Holds, Stands}
-use Rattle.tree.specs.Children.{
-  childAt,
-  lowAt,
-  highAt,
-  nextAt,
-  before,
-  behind,
-  others,
-  length-keysOf,
-  pointerAt-keysOf,
-  each-childAt,
-  joinOf-childAt,
-  sumOf-childAt,
-  Leads,
-  slot-leads,
-  before-within,
-  behind-within,
-  swapChild,
-  swapLast,
-  keysOf-swap,
-  idOf-swap,
-  length-swap,
-  joinOf-swap,
-  sumOf-swap,
-  firstOf-swap,
-  splitChild,
-  length-split,
-  joinOf-split,
-  sumOf-split,
-  firstOf-split,
-  within-split,
-  insert-split,
-  insert-split-last,
-  swapLast-inside,
-  swapLast-behind,
-  each-swap,
-  each-split,
-}
-use Rattle.tree.specs.Ids.{id-same, id-self, used-le, used-below, used-suc}
-use Rattle.tree.specs.Standing.{Once, reached-root, root-used, once-child, stands-keep, holds-keep, holds-size, stands-within}
-use Rattle.tree.specs.LeafOfKey.{childOf}
-use Rattle.tree.specs.Halves.{Halved, halved}
+use Rattle.tree.specs.Tree.{keysOf, Tree, rootOf, firstLeaf, pairsIn, reached, Holds, Stands}
+use Rattle.tree_map.specs.Children.{lowAt, highAt, nextAt, before, behind, others, length-keysOf, each-childAt, joinOf-childAt, sumOf-childAt, Leads, slot-leads, before-within, behind-within, swapChild, swapLast, keysOf-swap, idOf-swap, length-swap, joinOf-swap, sumOf-swap, firstOf-swap, splitChild, length-split, joinOf-split, sumOf-split, firstOf-split, within-split, insert-split, insert-split-last, swapLast-inside, swapLast-behind, each-swap, each-split}
+use Rattle.tree_map.specs.Ids.{id-same, id-self, used-le, used-below, used-suc}
+use Rattle.tree_map.specs.Standing.{Once, reached-root, stands-keep, holds-keep, holds-size, stands-within}
+use Rattle.tree_map.specs.LeafOfKey.{childOf}
+use Rattle.tree_map.specs.Halves.{Halved, halved}
 
 -- A subtree after requests that took the ids from `count` up to below `next`: in its place stands a tree with other pairs,
 -- whose top is to have the content `top` with at most `most` keys. Ids that it did not reach are as they were.

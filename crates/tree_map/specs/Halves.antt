@@ -1,34 +1,20 @@
 -- A node of 25 keys cut in two: the halves are trees that stand wherever the table has them, between them they hold the same
 -- pairs and ids, and the middle key parts them. Leaf and branch alike, below the root and at it. Assumes nothing.
-use mathlib.Core.Path.{_≡_, refl, sym, ap, _∙_}
+use mathlib.Core.Path.{_≡_, refl, ap, _∙_}
 use mathlib.Core.List.{List, [], _∷_, _++_}
-use Prim.Native.Nat.{ℕ, zero, suc, _+_, _≤_, _<_, min}
+use Prim.Native.Nat.{ℕ, zero, suc, _+_, _≤_, _<_}
 use native.Mathlib.Omega.{arith}
-use lib.Dec.{eqb, ltb}
+use lib.Dec.{eqb}
 use lib.ListN.{length, take, drop, length-take, length-drop, take-append-drop}
 use Rattle.laws.specs.Counts.{bit}
 use Rattle.layout.specs.Layout.{mostKeys, keptKeys}
 use Rattle.pairs.specs.Pairs.{Pair, Within}
 use Rattle.pairs.specs.Bounds.{within-weaken}
-use Rattle.node.specs.declared.Kind.{Kind}
-use Rattle.node.specs.declared.Kind.the-variants.{Leaf, Branch}
-use Rattle.node.specs.Node.{Node, node, pairsOf}
-use Rattle.tree.specs.Table.{Table, pointerAt, keyAt}
+use Rattle.node.specs.Node.{Node, pairsOf}
+use Rattle.tree.specs.Table.{Table, keyAt}
 use Rattle.tree.specs.Put.{lowerHalf, upperHalf, middleKey}
-use Rattle.tree.specs.Tree.{keysOf, firstOf, joinOf, sumOf, EachChild, Tree, rootOf, firstLeaf, pairsIn, reached, Holds, Stands}
-use Rattle.tree.specs.Children.{
-  childAt,
-  length-keysOf,
-  pointerAt-keysOf,
-  keysOf-take,
-  keysOf-drop,
-  firstOf-cut,
-  each-cut,
-  joinOf-cut,
-  sumOf-cut,
-  each-keep,
-}
-use Rattle.tree.specs.Standing.{stands-keep, holds-keep}
+use Rattle.tree.specs.Tree.{keysOf, Tree, rootOf, firstLeaf, pairsIn, reached, Holds, Stands}
+use Rattle.tree_map.specs.Children.{childAt, length-keysOf, pointerAt-keysOf, keysOf-take, keysOf-drop, firstOf-cut, each-cut, joinOf-cut, sumOf-cut}
 
 -- Pairs cut at a place: its key bounds both parts.
 pub record Cut (low high : ℕ) (ps : List Pair) (j : ℕ) : Type 0 where

@@ -2,31 +2,28 @@
 -- many as nodes: a leaf that does not stop the scan hands on to the leaf that its link names. Assumes nothing.
 use mathlib.Core.Path.{_≡_, refl, sym, ap, _∙_}
 use mathlib.Core.Bool.{Bool, true, false, _||_}
-use mathlib.Core.List.{List, [], _∷_, _++_, map, append-nil}
-use mathlib.Core.Logic.{_⊎_, inl, inr}
-use Prim.Native.Nat.{ℕ, zero, suc, _+_, _-_, _≤_, _<_}
+use mathlib.Core.List.{List, [], _++_, append-nil}
+use Prim.Native.Nat.{ℕ, zero, suc, _-_, _≤_, _<_}
 use native.Mathlib.Omega.{arith}
 use borrow.Author.Tests.{ltb-true, ltb-false, leb-true, eqb-true, eqb-false}
 use lib.Dec.{eqb, ltb, leb}
-use lib.ListN.{length, length-append}
+use lib.ListN.{length, length-append, length-map}
 use Rattle.laws.specs.Every.{Every, none, both, every-append}
 use Rattle.laws.specs.Tests.{or-left, or-right}
 use Rattle.layout.specs.Layout.{noLeaf, bound32}
-use Rattle.pairs.specs.Pairs.{Pair, range, hasAbove, Within}
+use Rattle.pairs.specs.Pairs.{Pair, range, hasAbove}
 use Rattle.pairs.specs.Ranges.{range-none, range-append-below, range-append-stop, range-append-full, range-append-on}
-use Rattle.node.specs.declared.Kind.{Kind}
-use Rattle.node.specs.declared.Kind.the-variants.{Leaf, Branch}
-use Rattle.node.specs.Node.{Node, node, pairsOf, linkOf}
+use Rattle.node.specs.Node.{Node, pairsOf, linkOf}
 use Rattle.tree.specs.Table.{Table, path, leafFor}
-use Rattle.tree.specs.NodeRequest.{NodeRequest, read}
+use Rattle.tree.specs.NodeRequest.{read}
 use Rattle.tree.specs.Scan.{stopsIn, taken, pairsFrom, leavesAfter, scanRequests, scanAnswer}
-use Rattle.tree.specs.Tree.{Tree, rootOf, pairsIn}
+use Rattle.tree.specs.Tree.{rootOf, pairsIn}
 use Rattle.tree.specs.Spells.{Spells}
-use Rattle.tree.specs.Ids.{used-below}
-use Rattle.tree.specs.Size.{leaves, size, depth-leaves, size-count, depth-count}
-use Rattle.tree.specs.LeafChain.{Linked, Chain, Chained, Onward, onward}
-use Rattle.tree.specs.Served.{Served, served-reads}
-use Rattle.tree.specs.GetLaws.{path-found}
+use Rattle.tree_map.specs.Ids.{used-below}
+use Rattle.tree_map.specs.Size.{depth-leaves, size-count, depth-count}
+use Rattle.tree_map.specs.LeafChain.{Chain, Onward, onward}
+use Rattle.tree_map.specs.Served.{Served, served-reads}
+use Rattle.tree_map.specs.GetLaws.{path-found}
 
 -- Why a scan stops in a leaf.
 data Stop (high most : ℕ) (leaf : Node) (got : List Pair) : Type 0 where
@@ -174,17 +171,13 @@ module _ (table : Table) (count : ℕ) (pairs : List Pair) (s : Spells table cou
   unfolding scanRequests
   scan-length = go (ltb high low) refl
     where
-      length-map : {A B : Type 0} (f : A → B) (xs : List A) → length (map f xs) ≡ length xs
-      length-map f [] = refl
-      length-map f (x ∷ xs) = ap suc (length-map f xs)
-
       go : (b : Bool) → ltb high low ≡ b → length (scanRequests count table low high most) ≤ count
       go true e = rw (e, scanRequests) (omega arith)
       go false e =
           let p = path count table low 0 in
           let q = leavesAfter count table low high most (leafFor count table low 0) in
           let after : suc (length q) ≤ scan-onward .chained .length = rw start-is at (scan-leaves .1) in
-          rw (e, scanRequests, length-map read (p ++ q), length-append p q)
+          rw (e, scanRequests, length-map (p ++ q) read, length-append p q)
           (omega (
             arith,
             path-found table count pairs s low lowSmall .1,

@@ -4,41 +4,26 @@ use mathlib.Core.Path.{_≡_, refl, sym, ap, _∙_}
 use mathlib.Core.Bool.{Bool, true, false}
 use mathlib.Core.List.{List, [], _∷_, _++_, map}
 use mathlib.Core.Option.{Option, none, some}
-use Prim.Native.Nat.{ℕ, zero, suc, _+_, _*_, _≤_, _<_}
+use Prim.Native.Nat.{ℕ, suc, _+_, _*_, _≤_, _<_}
 use native.Mathlib.Omega.{arith}
-use borrow.Author.Tests.{ltb-true, ltb-false, lt-ltb}
-use lib.Dec.{ltb}
-use lib.ListN.{length, length-append}
-use Rattle.layout.specs.Layout.{mostKeys, bound32}
+use borrow.Author.Tests.{ltb-true, ltb-false}
+use lib.ListN.{length, length-append, length-map}
+use Rattle.layout.specs.Layout.{bound32}
 use Rattle.pairs.specs.Pairs.{Pair, lookup, insert}
 use Rattle.pairs.specs.Sizes.{length-insert-absent, length-insert-present}
 use Rattle.pairs.specs.LocalEdit.{insert-local}
-use Rattle.node.specs.declared.Kind.{Kind}
-use Rattle.node.specs.declared.Kind.the-variants.{Leaf}
-use Rattle.node.specs.Node.{Node, node, pairsOf}
-use Rattle.node.specs.Change.{Change, put, change}
+use Rattle.node.specs.Node.{Node, pairsOf}
+use Rattle.node.specs.Change.{Change, put}
 use Rattle.tree.specs.Table.{Table, path, leafFor}
-use Rattle.tree.specs.NodeRequest.{NodeRequest, read, edit, rewrite, create, applyAll, countAfterAll, changeAll}
-use Rattle.tree.specs.Get.{readsTo, getAnswer}
-use Rattle.tree.specs.Put.{
-  fitsNode,
-  Work,
-  finished,
-  pending,
-  settle,
-  work,
-  finish,
-  writeRequests,
-  idsNeeded,
-  refusedFor,
-  putRefused,
-  putRequests,
-}
+use Rattle.tree.specs.NodeRequest.{read, edit, changeAll}
+use Rattle.tree.specs.Get.{getAnswer}
+use Rattle.tree.specs.Put.{fitsNode, Work, finished, pending, settle, work, finish, writeRequests, idsNeeded, putRefused, putRequests}
 use Rattle.tree.specs.Spells.{Spells}
-use Rattle.tree.specs.Written.{finalCount, write-count, write-spells, write-fits}
-use Rattle.tree.specs.IdsNeeded.{ids-needed, finish-single}
-use Rattle.tree.specs.Served.{Served}
-use Rattle.tree.specs.GetLaws.{leaf-found, get-answer, path-found}
+use Rattle.tree_map.specs.Settled.{put-says}
+use Rattle.tree_map.specs.Written.{finalCount, write-count, write-spells, write-fits}
+use Rattle.tree_map.specs.IdsNeeded.{ids-needed, finish-single}
+use Rattle.tree_map.specs.Served.{Served}
+use Rattle.tree_map.specs.GetLaws.{leaf-found, get-answer, path-found}
 
 module _ (table : Table) (count : ℕ) (pairs : List Pair) (s : Spells table count pairs) (k v : ℕ) (small : k < bound32) where
   -- the node count that the requests would lead to
@@ -62,7 +47,7 @@ module _ (table : Table) (count : ℕ) (pairs : List Pair) (s : Spells table cou
   pub put-adds : lookup k pairs ≡ none → countPut ≡ count + idsNeeded table (path count table k 0)
   put-adds e =
       let l = leaf-found table count pairs s k small in
-      ids-needed table count k (put k v) (insert k v) (insert-local k v) (λ ps l. refl) pairs s small
+      ids-needed table count k (put k v) (insert k v) (insert-local k v) (put-says k v) pairs s small
       (rw (l .content) (length-insert-absent k v (l .pairs) (leaf-lookup ∙ e)))
 
   module _ (limit : ℕ) (keeps : count ≤ limit) where
@@ -104,24 +89,19 @@ module _ (table : Table) (count : ℕ) (pairs : List Pair) (s : Spells table cou
 
     pub put-served : putRefused limit count table k ≡ false → Served limit table count (putRequests limit count table k v) (insert k v pairs)
     put-served e =
-        let does : (ps : List Pair) (l : ℕ) → change (put k v) (node Leaf ps l) ≡ node Leaf (insert k v ps) l = λ ps l. refl in
-        let n = write-count table count pairs s k small (put k v) (insert k v) (insert-local k v) does in
+        let n = write-count table count pairs s k small (put k v) (insert k v) (insert-local k v) (put-says k v) in
         let m = accepted-within e in
         rw (put-accepted e)
         record {
           kept = rw n m;
-          fits = rw n (write-fits table count pairs s k small (put k v) (insert k v) (insert-local k v) does limit m);
-          spells = rw n (write-spells table count pairs s k small (put k v) (insert k v) (insert-local k v) does);
+          fits = rw n (write-fits table count pairs s k small (put k v) (insert k v) (insert-local k v) (put-says k v) limit m);
+          spells = rw n (write-spells table count pairs s k small (put k v) (insert k v) (insert-local k v) (put-says k v));
         }
 
 -- How many requests: behind the reads at most two for each node below the root, and three at it.
 abbrev Few : ℕ → Work → Type 0
 Few m (finished rs next) = length rs ≤ 2 * m
 Few m (pending rs next edits) = (length rs ≤ 2 * m) × (length edits ≤ 2)
-
-length-map : {A B : Type 0} (f : A → B) (xs : List A) → length (map f xs) ≡ length xs
-length-map f [] = refl
-length-map f (x ∷ xs) = ap suc (length-map f xs)
 
 module _ (table : Table) (k : ℕ) (c : Change) (next : ℕ) where
   settle-few : (parent id m : ℕ) (w : Work) → Few m w → Few (suc m) (settle table k parent id w)
@@ -130,7 +110,7 @@ module _ (table : Table) (k : ℕ) (c : Change) (next : ℕ) where
   settle-few parent id m (pending rs n edits) l = go (fitsNode (changeAll edits (table id))) refl
     where
       go : (x : Bool) → fitsNode (changeAll edits (table id)) ≡ x → Few (suc m) (settle table k parent id (pending rs n edits))
-      go true e = rw (e, settle) (omega (arith, length-append rs (map (edit id) edits), length-map (edit id) edits))
+      go true e = rw (e, settle) (omega (arith, length-append rs (map (edit id) edits), length-map edits (edit id)))
       go false e = rw (e, settle) (simp length-append (omega arith), omega arith)
 
   work-few : (id : ℕ) (ids : List ℕ) → Few (length ids) (work table k c next (id ∷ ids))
@@ -144,13 +124,13 @@ module _ (table : Table) (k : ℕ) (c : Change) (next : ℕ) where
   finish-few m (pending rs n edits) l = go (fitsNode (changeAll edits (table 0))) refl
     where
       go : (x : Bool) → fitsNode (changeAll edits (table 0)) ≡ x → length (finish table (pending rs n edits)) ≤ 2 * m + 3
-      go true e = rw (e, finish) (omega (arith, length-append rs (map (edit 0) edits), length-map (edit 0) edits))
+      go true e = rw (e, finish) (omega (arith, length-append rs (map (edit 0) edits), length-map edits (edit 0)))
       go false e = rw (e, finish) (simp length-append (omega arith))
 
   pub write-length : (ids : List ℕ) (m : ℕ) → length ids ≡ suc m → length (map read ids ++ finish table (work table k c next ids)) ≤ 3 * m + 4
   write-length [] m e = absurd (omega arith)
   write-length (id ∷ ids) m e =
-      rw (length-append (map read (id ∷ ids)) (finish table (work table k c next (id ∷ ids))), length-map read (id ∷ ids))
+      rw (length-append (map read (id ∷ ids)) (finish table (work table k c next (id ∷ ids))), length-map (id ∷ ids) read)
       (omega (arith, finish-few (length ids) (work table k c next (id ∷ ids)) (work-few id ids)))
 
 pub put-length : (table : Table) (count : ℕ) (pairs : List Pair) (s : Spells table count pairs) (k v limit : ℕ) → k < bound32 →

@@ -1,24 +1,23 @@
 -- In a sound table every pointer of a branch is an id in use, and every leaf's link is one or says that no leaf follows: the
 -- children and the next leaf are reached. Assumes nothing.
-use mathlib.Core.Path.{_≡_, refl, sym, ap, _∙_}
+use mathlib.Core.Path.{_≡_, refl}
 use mathlib.Core.List.{List, [], _∷_}
 use mathlib.Core.Logic.{_⊎_, inl, inr}
 use Prim.Native.Nat.{ℕ, zero, suc, _+_, _≤_, _<_}
 use native.Mathlib.Omega.{arith}
-use lib.Dec.{eqb, ltb}
+use lib.Dec.{eqb}
 use Rattle.laws.specs.Counts.{bit}
 use Rattle.laws.specs.Order.{eq-or, le-or}
 use Rattle.layout.specs.Layout.{noLeaf, bound32}
 use Rattle.pairs.specs.Pairs.{Pair}
-use Rattle.node.specs.declared.Kind.{Kind}
 use Rattle.node.specs.declared.Kind.the-variants.{Leaf, Branch}
 use Rattle.node.specs.Node.{Node, node}
 use Rattle.tree.specs.Table.{Table, pointerAt}
 use Rattle.tree.specs.Tree.{keysOf, firstOf, sumOf, EachChild, Tree, rootOf, firstLeaf, reached, Holds, Stands}
 use Rattle.tree.specs.Spells.{Spells}
-use Rattle.tree.specs.Children.{childAt, pointerAt-keysOf, sumOf-childAt}
-use Rattle.tree.specs.Ids.{id-self, id-other, used-in, used-below}
-use Rattle.tree.specs.Standing.{reached-root}
+use Rattle.tree_map.specs.Children.{childAt, pointerAt-keysOf, sumOf-childAt}
+use Rattle.tree_map.specs.Ids.{id-self, id-other, used-in, used-below}
+use Rattle.tree_map.specs.Standing.{reached-root}
 
 -- A link to a leaf in use, or none.
 abbrev pub Link : ℕ → ℕ → Type 0

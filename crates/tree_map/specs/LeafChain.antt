@@ -1,35 +1,22 @@
 -- The leaves by their links: from the leaf of a key on they spell what is left of the map behind the pairs below the key, and
 -- they are at most as many as the tree has leaves. Assumes nothing.
-use mathlib.Core.Path.{_≡_, refl, sym, ap, _∙_}
-use mathlib.Core.List.{List, [], _∷_, _++_, append-assoc, append-nil}
+use mathlib.Core.Path.{_≡_, refl, ap}
+use mathlib.Core.List.{List, [], _∷_, _++_, append-assoc}
 use Prim.Native.Nat.{ℕ, zero, suc, _+_, _≤_, _<_}
 use native.Mathlib.Omega.{arith}
 use lib.ListN.{length}
 use Rattle.layout.specs.Layout.{mostKeys, noLeaf}
 use Rattle.pairs.specs.Pairs.{Pair, Within}
 use Rattle.pairs.specs.Bounds.{within-append}
-use Rattle.node.specs.declared.Kind.{Kind}
-use Rattle.node.specs.declared.Kind.the-variants.{Leaf, Branch}
-use Rattle.node.specs.Node.{Node, node}
+use Rattle.node.specs.declared.Kind.the-variants.{Leaf}
+use Rattle.node.specs.Node.{node}
 use Rattle.tree.specs.Table.{Table, slot, leafFor}
 use Rattle.tree.specs.Tree.{keysOf, firstOf, joinOf, sumOf, EachChild, Tree, rootOf, firstLeaf, pairsIn, reached, Holds, Stands}
-use Rattle.tree.specs.Children.{
-  childAt,
-  lowAt,
-  nextAt,
-  before,
-  behind,
-  each-childAt,
-  joinOf-childAt,
-  sumOf-childAt,
-  Leads,
-  slot-leads,
-  before-within,
-}
-use Rattle.tree.specs.Ids.{id-self}
-use Rattle.tree.specs.Standing.{stands-within}
-use Rattle.tree.specs.Size.{leaves}
-use Rattle.tree.specs.LeafOfKey.{childOf, childFor-branch, childFor-leaf, leafFor-leaf, leafFor-step}
+use Rattle.tree_map.specs.Children.{childAt, lowAt, nextAt, before, behind, each-childAt, joinOf-childAt, sumOf-childAt, slot-leads, before-within}
+use Rattle.tree_map.specs.Ids.{id-self}
+use Rattle.tree_map.specs.Standing.{stands-within}
+use Rattle.tree_map.specs.Size.{leaves}
+use Rattle.tree_map.specs.LeafOfKey.{childOf, childFor-branch, childFor-leaf, leafFor-leaf, leafFor-step}
 
 -- A leaf whose link leads to more.
 pub record Linked (table : Table) (count id : ℕ) (pairs : List Pair) (More : ℕ → List Pair → Type 0) : Type 0 where

@@ -2,39 +2,21 @@
 -- bounds on the way keep apart. Assumes nothing.
 use mathlib.Core.Path.{_≡_, refl, sym, ap, _∙_}
 use mathlib.Core.List.{List, [], _∷_, _++_, append-assoc, append-nil}
-use mathlib.Core.Option.{Option, none, some}
-use Prim.Native.Nat.{ℕ, zero, suc, _+_, _≤_, _<_}
+use mathlib.Core.Option.{none, some}
+use Prim.Native.Nat.{ℕ, zero, suc, _≤_, _<_}
 use native.Mathlib.Omega.{arith}
-use lib.Dec.{ltb}
 use lib.ListN.{length}
-use Rattle.laws.specs.Counts.{bit}
 use Rattle.laws.specs.Every.{Every, none, both}
 use Rattle.layout.specs.Layout.{mostKeys}
 use Rattle.pairs.specs.Pairs.{Pair, lookup, Within}
-use Rattle.pairs.specs.Bounds.{within-weaken, within-append}
+use Rattle.pairs.specs.Bounds.{within-append}
 use Rattle.pairs.specs.LocalEdit.{lookup-append-left, lookup-append-right}
-use Rattle.node.specs.declared.Kind.{Kind}
-use Rattle.node.specs.declared.Kind.the-variants.{Leaf, Branch}
+use Rattle.node.specs.declared.Kind.the-variants.{Leaf}
 use Rattle.node.specs.Node.{Node, node, pairsOf}
-use Rattle.tree.specs.Table.{Table, slot, pointerAt, childFor, path, leafFor}
-use Rattle.tree.specs.Tree.{keysOf, Tree, rootOf, firstLeaf, pairsIn, reached, Holds, Stands}
-use Rattle.tree.specs.Children.{
-  childAt,
-  lowAt,
-  highAt,
-  nextAt,
-  before,
-  behind,
-  pointerAt-keysOf,
-  each-childAt,
-  joinOf-childAt,
-  sumOf-childAt,
-  Leads,
-  slot-leads,
-  before-within,
-  behind-within,
-}
-use Rattle.tree.specs.Standing.{Once, root-used, once-child, reached-root, stands-within}
+use Rattle.tree.specs.Table.{Table, slot, childFor, path, leafFor}
+use Rattle.tree.specs.Tree.{keysOf, Tree, rootOf, firstLeaf, pairsIn, Holds, Stands}
+use Rattle.tree_map.specs.Children.{childAt, lowAt, highAt, before, behind, pointerAt-keysOf, each-childAt, joinOf-childAt, slot-leads, before-within, behind-within}
+use Rattle.tree_map.specs.Standing.{Once, root-used, once-child, stands-within}
 
 -- The child of a standing branch that a key leads to.
 abbrev pub childOf : (d : ℕ) → Tree (suc d) → ℕ → Tree d

@@ -1,15 +1,15 @@
 -- What every command's requests keep: the store can take each, and the table after them is sound and spells a map. Assumes
 -- nothing.
-use mathlib.Core.Path.{_≡_, refl, sym, ap, _∙_}
-use mathlib.Core.List.{List, [], _∷_, _++_, map}
+use mathlib.Core.Path.{_≡_, refl}
+use mathlib.Core.List.{List, [], _∷_, map}
 use Prim.Native.Nat.{ℕ, _≤_, _<_}
 use Rattle.laws.specs.Every.{Every}
 use Rattle.pairs.specs.Pairs.{Pair}
 use Rattle.tree.specs.Table.{Table}
 use Rattle.tree.specs.NodeRequest.{NodeRequest, read, applyAll, countAfterAll}
 use Rattle.tree.specs.Fit.{Fits}
 use Rattle.tree.specs.Spells.{Spells}
-use Rattle.tree.specs.Requests.{applyAll-reads, fits-reads}
+use Rattle.tree_map.specs.Requests.{applyAll-reads, fits-reads}
 
 -- Requests on a table with a count, and the map that is spelled after them; the limit is kept.
 pub record Served (limit : ℕ) (table : Table) (count : ℕ) (rs : List NodeRequest) (pairs : List Pair) : Type 0 where

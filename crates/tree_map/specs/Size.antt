@@ -1,6 +1,6 @@
 -- The node count bounds the depth, and the depth with the number of leaves, so it is fuel enough for every walk: each level adds
 -- a node, and every node is counted once. Assumes nothing.
-use mathlib.Core.Path.{_≡_, refl, sym, ap, _∙_}
+use mathlib.Core.Path.{_≡_, refl, sym}
 use mathlib.Core.List.{List, [], _∷_}
 use Prim.Native.Nat.{ℕ, zero, suc, _+_, _≤_, _<_}
 use native.Mathlib.Omega.{arith}
@@ -9,11 +9,11 @@ use Rattle.laws.specs.Counts.{bit}
 use Rattle.laws.specs.Order.{Tri, less, same, more, tri}
 use Rattle.laws.specs.Update.{sumBelow}
 use Rattle.pairs.specs.Pairs.{Pair}
 use Rattle.tree.specs.Table.{Table}
 use Rattle.tree.specs.Tree.{sumOf, Tree, rootOf, reached}
 use Rattle.tree.specs.Spells.{Spells}
-use Rattle.tree.specs.Ids.{id-same, id-other, used-le}
-use Rattle.tree.specs.Standing.{Once, root-used}
+use Rattle.tree_map.specs.Ids.{id-same, id-other, used-le}
+use Rattle.tree_map.specs.Standing.{Once, root-used}
 
 sumBelow-add : (n : ℕ) (f g : ℕ → ℕ) → sumBelow n (λ i. f i + g i) ≡ sumBelow n f + sumBelow n g
 sumBelow-add zero f g = omega arith
