@@ -97,6 +97,9 @@ tree-chain (suc d) table count t low high next most rest u h c =
     children-chain table count (firstLeaf d) (leaves d) (pairsIn d) (reached d) (Stands d table) (tree-chain d table count) (t .1) (t .2) low high
     next most rest (λ i l. u i (omega arith)) (h .4) c
 
+regroup : (a b c d e f : List Pair) → b ++ (c ++ d) ≡ e ++ f → (a ++ (b ++ c)) ++ d ≡ (a ++ e) ++ f
+regroup a b c d e f h = simp append-assoc (rw h)
+
 -- The leaf that a key leads to, with what is left from it on.
 pub record Onward (d fuel : ℕ) (table : Table) (count k : ℕ) (t : Tree d) (low most : ℕ) (rest : List Pair) : Type 0 where
   pub skipped : List Pair
@@ -155,7 +158,8 @@ onward (suc d) (suc fuel) table count k t low high next most rest a b f u h c =
           (before-within (rootOf d) (firstLeaf d) (pairsIn d) (Stands d table) (stands-within d table) xs last low high next j (h .1) (h .4))
           (r .below);
       joined =
-          rw (joinOf-childAt (pairsIn d) xs last j) (simp append-assoc (ap {B = List Pair} (before (pairsIn d) xs j ++_) (r .joined)));
+          rw (joinOf-childAt (pairsIn d) xs last j)
+          (regroup (before (pairsIn d) xs j) (pairsIn d x) (behind (pairsIn d) xs last j) rest (r .skipped) (r .left) (r .joined));
       used = rw e (r .used);
       chained =
           rw e

@@ -240,7 +240,7 @@ module _ (d : ℕ) (table : Table)
         after = b .after;
         is = rw (a .is, visitChildren) (b .is);
         added = λ i. omega (arith, a .added i, b .added i);
-        size = b .size ∙ a .size;
+        size = rw (b .size) (a .size);
       }
 
 visit-passes : (d : ℕ) (table : Table) (t : Tree d) (low high next : ℕ) (marks : List ℕ) → Stands d table t low high next →
