@@ -3,3 +3,13 @@ pub mod Step
 pub mod Commands
 pub mod Run
 pub mod Mount
+pub mod EveryLaws
+pub mod StoreFits
+pub mod ReplayNarrow
+pub mod NodesNarrow
+pub mod WriteFits
+pub mod ServeFits
+pub mod CloseFits
+pub mod RequestCount
+pub mod RequestFits
+pub mod BatchFits

@@ -1,4 +1,5 @@
 pub mod State
+pub mod Bytes
 pub mod Batch
 pub mod Mount
 pub mod Prepare

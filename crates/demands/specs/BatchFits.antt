@@ -1,0 +1,192 @@
+-- A whole batch leaves a fitting store: a command makes at most four requests more than there are nodes, each takes at most four sequence
+-- numbers, and the checkpoint thirteen, so from a number at which a pool opens 32 bits are never used up. Assumes nothing.
+use mathlib.Core.Path.{_≡_, refl, sym, ap, _∙_, subst}
+use mathlib.Core.Bool.{Bool, true, false}
+use mathlib.Core.List.{List, [], _∷_, _++_, map}
+use Prim.Native.Nat.{ℕ, suc, _+_, _*_, _≤_, _<_}
+use native.Mathlib.Omega.{arith}
+use lib.Dec.{ltb}
+use lib.ListN.{length}
+use Rattle.laws.specs.Every.{Every, none, both}
+use Rattle.layout.specs.Layout.{nodeLimit, mostBlocks, noLeaf, bound32, lastSequence}
+use Rattle.account.specs.declared.Tariff.{Tariff}
+use Rattle.account.specs.Tariff.{limit}
+use Rattle.account.specs.Range.{Ranged, limit-some, limit-le}
+use Rattle.pairs.specs.Pairs.{Pair}
+use Rattle.command.specs.declared.Command.{Command}
+use Rattle.command.specs.declared.Command.the-variants.{Get, Put, Delete, Scan}
+use Rattle.tree.specs.Table.{path, leafFor}
+use Rattle.tree.specs.NodeRequest.{NodeRequest, read, countAfterAll}
+use Rattle.tree.specs.Scan.{leavesAfter, scanRequests}
+use Rattle.tree.specs.Spells.{Spells}
+use Rattle.tree.specs.Size.{depth-count}
+use Rattle.tree.specs.Narrow.{Narrow, NarrowRequest}
+use Rattle.tree.specs.NarrowLaws.{put-narrow, delete-narrow}
+use Rattle.store.specs.Run.{Run}
+use Rattle.store.specs.Numbers.{last}
+use Rattle.store.specs.Closing.{close-closed}
+use Rattle.book.specs.Book.{Book}
+use Rattle.book.specs.Book as Book
+use Rattle.book.specs.Command.{requests}
+use Rattle.book.specs.Batch.{runBook, requestsBook}
+use Rattle.book.specs.Bound.{Scored, scored-all}
+use Rattle.model.specs.State.{State, bookOf}
+use Rattle.model.specs.Batch.{done, run, closed}
+use Rattle.demands.specs.Says.{modes, Sound, Says, bookOf-trimmed, bookOf-count, score-is, says}
+use Rattle.demands.specs.Commands.{Valid, ValidAll, does}
+use Rattle.demands.specs.Run.{Holds, runBook-requests, Batched, batch-batched}
+use Rattle.demands.specs.Mount.{Ready}
+use Rattle.demands.specs.StoreFits.{StoreFits, RunFits}
+use Rattle.demands.specs.NodesNarrow.{book-narrow}
+use Rattle.demands.specs.CloseFits.{close-fits}
+use Rattle.demands.specs.RequestCount.{command-length}
+use Rattle.demands.specs.RequestFits.{Took, serveAll-took}
+
+-- A value that a command brings has 32 bits.
+abbrev pub ValueFits : Command → Type 0
+ValueFits (Get k) = Unit {0}
+ValueFits (Put k v) = v < bound32
+ValueFits (Delete k) = Unit {0}
+ValueFits (Scan low high most) = Unit {0}
+
+-- What a command's requests take at most, with 620 nodes: four numbers for each of 624 requests.
+abbrev pub mostNumbers : ℕ
+mostNumbers = 2496
+
+-- A batch of 32,768 bytes has no more commands than this: each is of seven bytes at least.
+abbrev pub mostCommands : ℕ
+mostCommands = 4681
+
+-- What a batch takes at most, and the checkpoint at its end.
+abbrev pub mostBatchNumbers : ℕ
+mostBatchNumbers = 11683789
+
+reads-narrow : (ids : List ℕ) → Every NarrowRequest (map read ids)
+reads-narrow [] = none
+reads-narrow (i ∷ ids) = both tt (reads-narrow ids)
+
+-- The requests of a command on a book of 32-bit numbers.
+module _ (limit : ℕ) (b : Book) (ps : List Pair) (s : Spells (b .table) (b .count) ps) (few : b .count ≤ 65536)
+    (narrow : (i : ℕ) → Narrow (b .table i)) where
+  scan-narrow : (low high most : ℕ) → Every NarrowRequest (scanRequests (b .count) (b .table) low high most)
+  unfolding scanRequests
+  scan-narrow low high most = go (ltb high low)
+    where
+      go : (t : Bool) →
+          Every NarrowRequest (elim t [
+            | true ↦ []
+            | false ↦
+              map read (path (b .count) (b .table) low 0 ++ leavesAfter (b .count) (b .table) low high most (leafFor (b .count) (b .table) low 0))
+          ])
+      go true = none
+      go false =
+          reads-narrow
+          (path (b .count) (b .table) low 0 ++ leavesAfter (b .count) (b .table) low high most (leafFor (b .count) (b .table) low 0))
+
+  command-narrow : (c : Command) → Valid c → ValueFits c → Every NarrowRequest (requests limit c b)
+  unfolding requests
+  command-narrow (Get k) valid v = reads-narrow (path (b .count) (b .table) k 0)
+  command-narrow (Put k w) valid v = put-narrow (b .table) (b .count) ps s few (λ i l. narrow i) k valid limit w v
+  command-narrow (Delete k) valid v = delete-narrow (b .table) (b .count) ps s few (λ i l. narrow i) k valid
+  command-narrow (Scan low high most) valid v = scan-narrow low high most
+
+abbrev pub ValuesFit : List Command → Type 0
+ValuesFit [] = Unit {0}
+ValuesFit (c ∷ cs) = ValueFits c × ValuesFit cs
+
+module _ (blocks : ℕ) (t : Tariff) (small : blocks ≤ mostBlocks) where
+  abbrev nodes : ℕ
+  nodes = nodeLimit blocks
+
+  command-took : (c : Command) (s : State) (ps : List Pair) → Valid c → ValueFits c → Sound blocks s → Holds nodes (bookOf s) ps →
+      RunFits (s .run) → mostNumbers + last (s .run) < bound32 → Took mostNumbers (s .run) (done nodes t c s .run)
+  command-took c s ps valid value v h fits b =
+      let book = bookOf s in
+      let rs = requests nodes c book in
+      let d = does nodes (omega arith) book ps (h .spells) (h .most) c valid in
+      let l = command-length nodes c book ps (h .spells) (omega (arith, h .most)) valid in
+      let all =
+            serveAll-took blocks t (omega arith) rs s (countAfterAll rs (book .count)) v fits (d .served .fits)
+            (command-narrow nodes book ps (h .spells) (omega (arith, h .most)) (book-narrow s (fits .now)) c valid value)
+            (omega (arith, l, h .most)) in
+      record { fits = all .fits; number = omega (arith, all .number, l, h .most) }
+
+  -- THE COMMANDS OF A BATCH
+  pub run-took : (cs : List Command) (s : State) (ps : List Pair) → ValidAll cs → ValuesFit cs → Sound blocks s → Holds nodes (bookOf s) ps →
+      RunFits (s .run) → mostNumbers * length cs + last (s .run) < bound32 → Took (mostNumbers * length cs) (s .run) (run nodes t cs s .run)
+  run-took [] s ps valid values v h fits b = record { fits = fits; number = omega arith }
+  run-took (c ∷ cs) s ps valid values v h fits b =
+      let one = command-took c s ps (valid .0) (values .0) v h fits (omega arith) in
+      let said = batch-batched blocks t (omega arith) (c ∷ []) s ps (valid .0, tt) v h in
+      let rest =
+            run-took cs (done nodes t c s) _ (valid .1) (values .1) (said .says .sound)
+            (subst (λ (z : Book). Holds nodes z _) (sym (said .says .is)) (said .holds)) (one .fits) (omega (arith, one .number)) in
+      record { fits = rest .fits; number = omega (arith, rest .number, one .number) }
+
+-- THE CHECKPOINT at its end, of a state that says a book whose scores are below the limit T.
+pub closed-took : (blocks : ℕ) (t : Tariff) → blocks ≤ mostBlocks → (s : State) (ps : List Pair) → Sound blocks s →
+    Holds (nodeLimit blocks) (bookOf s) ps → Ranged t → Scored t (bookOf s) → RunFits (s .run) → 13 + last (s .run) < bound32 →
+    Took 13 (s .run) (closed t s .run)
+unfolding closed
+closed-took blocks t small s ps v h r low fits b =
+    let n = bookOf-count s in
+    record {
+      fits =
+          close-fits fits t r (s .score)
+          (λ i l.
+            omega (arith, score-is s i (omega (arith, n)), low i (omega (arith, n)), limit-le r))
+          (omega (arith, n, depth-count (bookOf s .table) (bookOf s .count) ps (h .spells))) (omega (arith, n, h .most)) b;
+      number = close-closed v small t (s .score) .number;
+    }
+
+-- A batch says the book that its commands make, before the checkpoint and behind it.
+closed-says : (blocks : ℕ) (t : Tariff) → blocks ≤ mostBlocks → (s : State) → Sound blocks s → Says blocks (closed t s) (bookOf s)
+unfolding closed
+closed-says blocks t small s v =
+    says (bookOf s) (closed t s) (close-closed v small t (s .score) .keeps) (bookOf-trimmed s) (λ n l. score-is s n l)
+
+-- WHAT A BATCH LEAVES, from a state that a pool opens with.
+pub record Stays (t : Tariff) (s after : State) : Type 0 where
+  pub fits : RunFits (after .run)
+  pub narrow : (n : ℕ) → Narrow (bookOf after .table n)
+  pub number : last (after .run) ≤ mostBatchNumbers + last (s .run)
+  pub below : last (after .run) < bound32
+
+stays : {t : Tariff} {s after : State} → RunFits (after .run) → last (after .run) ≤ mostBatchNumbers + last (s .run) → Stays t s after
+stays {after = after} fits n =
+    record { fits = fits; narrow = book-narrow after (fits .now); number = n; below = fits .now .last }
+
+module _ {blocks : ℕ} {t : Tariff} {s : State} {b : Book} {ps : List Pair} (small : blocks ≤ mostBlocks) (ready : Ready blocks t s b ps)
+    (fits : RunFits (s .run)) (opens : last (s .run) ≤ lastSequence) (cs : List Command) (valid : ValidAll cs) (values : ValuesFit cs)
+    (few : length cs ≤ mostCommands) where
+  abbrev after : State
+  after = run (nodeLimit blocks) t cs s
+
+  holds-now : Holds (nodeLimit blocks) (bookOf s) ps
+  holds-now = subst (λ (z : Book). Holds (nodeLimit blocks) z ps) (sym (ready .says .is)) (ready .holds)
+
+  batched : Batched blocks t cs s ps
+  batched = batch-batched blocks t (omega arith) cs s ps valid (ready .says .sound) holds-now
+
+  took : Took (mostNumbers * length cs) (s .run) (after .run)
+  took = run-took blocks t small cs s ps valid values (ready .says .sound) holds-now fits (omega arith)
+
+  pub batch-stays : Stays t s after
+  batch-stays = stays (took .fits) (omega (arith, took .number))
+
+  scored-after : Scored t (bookOf after)
+  scored-after =
+      let limit = nodeLimit blocks in
+      let rs = requestsBook limit t cs (bookOf s) in
+      subst (Scored t) (sym (batched .says .is ∙ runBook-requests limit t cs (bookOf s)))
+      (scored-all limit t (limit-some (ready .ranged)) rs (bookOf s) (runBook limit t cs (bookOf s) .count)
+      (subst (Scored t) (sym (ready .says .is)) (ready .scored)) (batched .fits))
+
+  closing : Took 13 (after .run) (closed t after .run)
+  closing =
+      closed-took blocks t small after _ (batched .says .sound)
+      (subst (λ (z : Book). Holds (nodeLimit blocks) z _) (sym (batched .says .is)) (batched .holds)) (ready .ranged) scored-after (took .fits)
+      (omega (arith, took .number))
+
+  pub closed-stays : Stays t s (closed t after)
+  closed-stays = stays (closing .fits) (omega (arith, closing .number, took .number))
