@@ -29,6 +29,7 @@ use Rattle.book.specs.Book.{Book}
 use Rattle.book.specs.Book as Book
 use Rattle.book.specs.Command.{requests}
 use Rattle.book.specs.Batch.{runBook, requestsBook}
+use Rattle.book.specs.OrderedMap.{mapRun}
 use Rattle.book.specs.Bound.{Scored, scored-all}
 use Rattle.model.specs.State.{State, bookOf}
 use Rattle.model.specs.Batch.{done, run, closed}
@@ -99,7 +100,7 @@ module _ (blocks : ℕ) (t : Tariff) (small : blocks ≤ mostBlocks) where
   nodes = nodeLimit blocks
 
   command-took : (c : Command) (s : State) (ps : List Pair) → Valid c → ValueFits c → Sound blocks s → Holds nodes (bookOf s) ps →
-      RunFits (s .run) → mostNumbers + last (s .run) < bound32 → Took mostNumbers (s .run) (done nodes t c s .run)
+      RunFits (s .run) → 1 + (mostNumbers + last (s .run)) < bound32 → Took mostNumbers (s .run) (done nodes t c s .run)
   command-took c s ps valid value v h fits b =
       let book = bookOf s in
       let rs = requests nodes c book in
@@ -113,14 +114,15 @@ module _ (blocks : ℕ) (t : Tariff) (small : blocks ≤ mostBlocks) where
 
   -- THE COMMANDS OF A BATCH
   pub run-took : (cs : List Command) (s : State) (ps : List Pair) → ValidAll cs → ValuesFit cs → Sound blocks s → Holds nodes (bookOf s) ps →
-      RunFits (s .run) → mostNumbers * length cs + last (s .run) < bound32 → Took (mostNumbers * length cs) (s .run) (run nodes t cs s .run)
+      RunFits (s .run) → 1 + (mostNumbers * length cs + last (s .run)) < bound32 → Took (mostNumbers * length cs) (s .run) (run nodes t cs s .run)
   run-took [] s ps valid values v h fits b = record { fits = fits; number = omega arith }
   run-took (c ∷ cs) s ps valid values v h fits b =
       let one = command-took c s ps (valid .0) (values .0) v h fits (omega arith) in
       let said = batch-batched blocks t (omega arith) (c ∷ []) s ps (valid .0, tt) v h in
       let rest =
-            run-took cs (done nodes t c s) _ (valid .1) (values .1) (said .says .sound)
-            (subst (λ (z : Book). Holds nodes z _) (sym (said .says .is)) (said .holds)) (one .fits) (omega (arith, one .number)) in
+            run-took cs (done nodes t c s) (mapRun nodes t (c ∷ []) (bookOf s) ps) (valid .1) (values .1) (said .says .sound)
+            (subst (λ (z : Book). Holds nodes z (mapRun nodes t (c ∷ []) (bookOf s) ps)) (sym (said .says .is)) (said .holds)) (one .fits)
+            (omega (arith, one .number)) in
       record { fits = rest .fits; number = omega (arith, rest .number, one .number) }
 
 -- THE CHECKPOINT at its end, of a state that says a book whose scores are below the limit T.
@@ -184,9 +186,10 @@ module _ {blocks : ℕ} {t : Tariff} {s : State} {b : Book} {ps : List Pair} (sm
 
   closing : Took 13 (after .run) (closed t after .run)
   closing =
-      closed-took blocks t small after _ (batched .says .sound)
-      (subst (λ (z : Book). Holds (nodeLimit blocks) z _) (sym (batched .says .is)) (batched .holds)) (ready .ranged) scored-after (took .fits)
-      (omega (arith, took .number))
+      let pairs = mapRun (nodeLimit blocks) t cs (bookOf s) ps in
+      closed-took blocks t small after pairs (batched .says .sound)
+      (subst (λ (z : Book). Holds (nodeLimit blocks) z pairs) (sym (batched .says .is)) (batched .holds)) (ready .ranged) scored-after
+      (took .fits) (omega (arith, took .number))
 
   pub closed-stays : Stays t s (closed t after)
   closed-stays = stays (closing .fits) (omega (arith, closing .number, took .number))

@@ -13,3 +13,5 @@ pub mod CloseFits
 pub mod RequestCount
 pub mod RequestFits
 pub mod BatchFits
+pub mod PoolBytes
+pub mod MountFits
