@@ -3,14 +3,13 @@
 use mathlib.Core.Path.{_≡_, refl, sym, ap, _∙_, subst}
 use mathlib.Core.Bool.{Bool, true, false}
 use mathlib.Core.List.{List, [], _∷_, _++_, map}
-use Prim.Native.Nat.{ℕ, suc, _+_, _*_, _≤_, _<_}
+use Prim.Native.Nat.{ℕ, suc, _+_, _*_, _/_, _≤_, _<_}
 use native.Mathlib.Omega.{arith}
 use lib.Dec.{ltb}
 use lib.ListN.{length}
 use Rattle.laws.specs.Every.{Every, none, both}
-use Rattle.layout.specs.Layout.{nodeLimit, mostBlocks, noLeaf, bound32, lastSequence}
+use Rattle.layout.specs.Layout.{nodeLimit, mostBlocks, mostBatchBytes, bound32, lastSequence}
 use Rattle.account.specs.declared.Tariff.{Tariff}
-use Rattle.account.specs.Tariff.{limit}
 use Rattle.account.specs.Range.{Ranged, limit-some, limit-le}
 use Rattle.pairs.specs.Pairs.{Pair}
 use Rattle.command.specs.declared.Command.{Command}
@@ -22,22 +21,20 @@ use Rattle.tree.specs.Spells.{Spells}
 use Rattle.tree.specs.Size.{depth-count}
 use Rattle.tree.specs.Narrow.{Narrow, NarrowRequest}
 use Rattle.tree.specs.NarrowLaws.{put-narrow, delete-narrow}
-use Rattle.store.specs.Run.{Run}
 use Rattle.store.specs.Numbers.{last}
 use Rattle.store.specs.Closing.{close-closed}
 use Rattle.book.specs.Book.{Book}
-use Rattle.book.specs.Book as Book
 use Rattle.book.specs.Command.{requests}
 use Rattle.book.specs.Batch.{runBook, requestsBook}
 use Rattle.book.specs.OrderedMap.{mapRun}
 use Rattle.book.specs.Bound.{Scored, scored-all}
 use Rattle.model.specs.State.{State, bookOf}
 use Rattle.model.specs.Batch.{done, run, closed}
-use Rattle.demands.specs.Says.{modes, Sound, Says, bookOf-trimmed, bookOf-count, score-is, says}
+use Rattle.demands.specs.Says.{Sound, bookOf-count, score-is}
 use Rattle.demands.specs.Commands.{Valid, ValidAll, does}
 use Rattle.demands.specs.Run.{Holds, runBook-requests, Batched, batch-batched}
 use Rattle.demands.specs.Mount.{Ready}
-use Rattle.demands.specs.StoreFits.{StoreFits, RunFits}
+use Rattle.demands.specs.StoreFits.{RunFits}
 use Rattle.demands.specs.NodesNarrow.{book-narrow}
 use Rattle.demands.specs.CloseFits.{close-fits}
 use Rattle.demands.specs.RequestCount.{command-length}
@@ -50,17 +47,20 @@ ValueFits (Put k v) = v < bound32
 ValueFits (Delete k) = Unit {0}
 ValueFits (Scan low high most) = Unit {0}
 
--- What a command's requests take at most, with 620 nodes: four numbers for each of 624 requests.
+-- What a command takes at most: four numbers for each of its requests, which are at most four more than nodes.
 abbrev pub mostNumbers : ℕ
-mostNumbers = 2496
+mostNumbers = 4 * (4 + nodeLimit mostBlocks)
 
--- A batch of 32,768 bytes has no more commands than this: each is of seven bytes at least.
+-- A batch has at most as many commands as seven bytes go into its length: a field of four bytes is the shortest.
 abbrev pub mostCommands : ℕ
-mostCommands = 4681
+mostCommands = mostBatchBytes / 7
 
--- What a batch takes at most, and the checkpoint at its end.
+-- What a batch takes at most, its checkpoint of a buffer's page and twelve pages included.
 abbrev pub mostBatchNumbers : ℕ
-mostBatchNumbers = 11683789
+mostBatchNumbers = mostNumbers * mostCommands + 13
+
+pub batch-numbers : mostBatchNumbers ≡ 11683789
+batch-numbers = refl
 
 reads-narrow : (ids : List ℕ) → Every NarrowRequest (map read ids)
 reads-narrow [] = none
@@ -141,21 +141,15 @@ closed-took blocks t small s ps v h r low fits b =
       number = close-closed v small t (s .score) .number;
     }
 
--- A batch says the book that its commands make, before the checkpoint and behind it.
-closed-says : (blocks : ℕ) (t : Tariff) → blocks ≤ mostBlocks → (s : State) → Sound blocks s → Says blocks (closed t s) (bookOf s)
-unfolding closed
-closed-says blocks t small s v =
-    says (bookOf s) (closed t s) (close-closed v small t (s .score) .keeps) (bookOf-trimmed s) (λ n l. score-is s n l)
-
 -- WHAT A BATCH LEAVES, from a state that a pool opens with.
-pub record Stays (t : Tariff) (s after : State) : Type 0 where
+pub record AfterBatch (s after : State) : Type 0 where
   pub fits : RunFits (after .run)
   pub narrow : (n : ℕ) → Narrow (bookOf after .table n)
   pub number : last (after .run) ≤ mostBatchNumbers + last (s .run)
   pub below : last (after .run) < bound32
 
-stays : {t : Tariff} {s after : State} → RunFits (after .run) → last (after .run) ≤ mostBatchNumbers + last (s .run) → Stays t s after
-stays {after = after} fits n =
+after-batch : {s after : State} → RunFits (after .run) → last (after .run) ≤ mostBatchNumbers + last (s .run) → AfterBatch s after
+after-batch {after = after} fits n =
     record { fits = fits; narrow = book-narrow after (fits .now); number = n; below = fits .now .last }
 
 module _ {blocks : ℕ} {t : Tariff} {s : State} {b : Book} {ps : List Pair} (small : blocks ≤ mostBlocks) (ready : Ready blocks t s b ps)
@@ -173,8 +167,9 @@ module _ {blocks : ℕ} {t : Tariff} {s : State} {b : Book} {ps : List Pair} (sm
   took : Took (mostNumbers * length cs) (s .run) (after .run)
   took = run-took blocks t small cs s ps valid values (ready .says .sound) holds-now fits (omega arith)
 
-  pub batch-stays : Stays t s after
-  batch-stays = stays (took .fits) (omega (arith, took .number))
+  -- before the checkpoint
+  pub run-after : AfterBatch s after
+  run-after = after-batch (took .fits) (omega (arith, took .number))
 
   scored-after : Scored t (bookOf after)
   scored-after =
@@ -191,5 +186,6 @@ module _ {blocks : ℕ} {t : Tariff} {s : State} {b : Book} {ps : List Pair} (sm
       (subst (λ (z : Book). Holds (nodeLimit blocks) z pairs) (sym (batched .says .is)) (batched .holds)) (ready .ranged) scored-after
       (took .fits) (omega (arith, took .number))
 
-  pub closed-stays : Stays t s (closed t after)
-  closed-stays = stays (closing .fits) (omega (arith, closing .number, took .number))
+  -- and behind it
+  pub closed-after : AfterBatch s (closed t after)
+  closed-after = after-batch (closing .fits) (omega (arith, closing .number, took .number))

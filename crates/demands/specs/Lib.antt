@@ -15,3 +15,4 @@ pub mod RequestFits
 pub mod BatchFits
 pub mod PoolBytes
 pub mod MountFits
+pub mod PrepareFits

@@ -88,7 +88,7 @@ cellsIn-fit zero b e = none
 cellsIn-fit (suc k) [] none = both {x = none} tt (cellsIn-fit k [] none)
 cellsIn-fit (suc k) (p ∷ b) (both f e) = both {x = some p} f (cellsIn-fit k b e)
 
-cells-fit : (width : ℕ) (bs : Blocks) → BlocksFit bs → Every CellFits (cells width bs)
+pub cells-fit : (width : ℕ) (bs : Blocks) → BlocksFit bs → Every CellFits (cells width bs)
 cells-fit width [] none = none
 cells-fit width (b ∷ bs) (both f e) = every-append (cellsIn-fit width b f) (cells-fit width bs e)
 

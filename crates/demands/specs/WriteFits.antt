@@ -1,6 +1,6 @@
 -- Every write of a run leaves a fitting store, as long as the numbers taken have 32 bits: a buffer is written only when it holds
 -- something, a group begins only where it finds room, and a version lies between 1 and the last number taken. Assumes nothing.
-use mathlib.Core.Path.{_≡_, refl, sym, ap, _∙_, subst}
+use mathlib.Core.Path.{_≡_, refl}
 use mathlib.Core.Bool.{Bool, true, false}
 use mathlib.Core.List.{List, [], _∷_, _++_}
 use Prim.Native.Nat.{ℕ, zero, suc, _+_, _≤_, _<_}
@@ -14,20 +14,20 @@ use Rattle.account.specs.declared.Mode.the-variants.{Log}
 use Rattle.pairs.specs.Pairs.{Pair}
 use Rattle.node.specs.Node.{Node, node, pairsOf}
 use Rattle.node.specs.Change.{Change, put, link, puts, changesOf}
-use Rattle.page.specs.Page.{Entry, Content, log, whole}
-use Rattle.page.specs.Limits.{bound16, ChangeFits, EntryFits, ContentFits}
+use Rattle.page.specs.Page.{Entry, Page, log, whole}
+use Rattle.page.specs.Limits.{bound16, ChangeFits, EntryFits, Fits}
 use Rattle.tree.specs.Narrow.{NarrowPair, Narrow}
 use Rattle.store.specs.Item.{entries}
 use Rattle.store.specs.ItemLaws.{length-entries}
 use Rattle.store.specs.View.{greatest, pages}
 use Rattle.store.specs.Store.{Store, view}
 use Rattle.store.specs.Live.{noClosing}
-use Rattle.store.specs.Write.{place, enter, start}
+use Rattle.store.specs.Write.{place, flush, enter, start, nodePage}
 use Rattle.store.specs.Run.{Run, write, flushRun, roomBy, makeRoom, writeGroup, editBy, writeEdit, writeNode}
 use Rattle.store.specs.Versions.{InLog}
 use Rattle.store.specs.Good.{Good, Roomy, makeRoom-roomy}
 use Rattle.store.specs.Numbers.{last}
-use Rattle.demands.specs.StoreFits.{StoreFits, RunFits, later-entries, write-fits}
+use Rattle.demands.specs.StoreFits.{StoreFits, RunFits, later-entries, place-fits, write-fits}
 
 -- The changes that spell a node, and its entries under a version.
 puts-fit : (ps : List Pair) → Every NarrowPair ps → Every ChangeFits (puts ps)
@@ -42,12 +42,9 @@ entries-fit s n v i a b [] none = none
 entries-fit s n v i a b (c ∷ cs) (both f e) =
     both (record { id = i; from = a; below = b; change = f }) (entries-fit s n v i a b cs e)
 
-whole-fits : (s n : ℕ) (x : Node) → n < bound16 → length (pairsOf x) ≤ mostKeys → Narrow x → ContentFits s (whole n x)
-whole-fits s n (node kind ps l) i k w = record { id = i; node = record { few = k; numbers = w .pairs; link = w .last } }
-
 -- Entries join the buffer: one under the node's version, or a group under a new one.
 module _ {st : Store} (h : StoreFits st) (n : ℕ) (id : n < bound16) where
-  enter-fits : (c : Change) → ChangeFits c → 1 ≤ greatest (view st) n → greatest (view st) n ≤ st .last →
+  pub enter-fits : (c : Change) → ChangeFits c → 1 ≤ greatest (view st) n → greatest (view st) n ≤ st .last →
       1 + length (st .buffer) ≤ mostEntries → StoreFits (enter n c st)
   unfolding enter
   enter-fits c f a b k =
@@ -59,7 +56,7 @@ module _ {st : Store} (h : StoreFits st) (n : ℕ) (id : n < bound16) where
         last = h .last;
       }
 
-  start-fits : (cs : List Change) → Every ChangeFits cs → length cs + length (st .buffer) ≤ mostEntries → suc (st .last) < bound32 →
+  pub start-fits : (cs : List Change) → Every ChangeFits cs → length cs + length (st .buffer) ≤ mostEntries → suc (st .last) < bound32 →
       StoreFits (start n cs st)
   unfolding start
   start-fits cs f k b =
@@ -71,12 +68,33 @@ module _ {st : Store} (h : StoreFits st) (n : ℕ) (id : n < bound16) where
         last = b;
       }
 
--- The buffer's page: 1 to 27 entries.
+-- The pages of the next number: the buffer's, which has 1 to 27 entries, and a node's.
+module _ {st : Store} (h : StoreFits st) (room : suc (st .last) < bound32) where
+  log-fits : 1 ≤ length (st .buffer) → Fits (suc (st .last)) (log (st .buffer))
+  log-fits k = record { from = omega arith; below = room; content = record { some = k; few = h .few; entries = h .entries } }
+
+  whole-fits : (n : ℕ) → n < bound16 → (x : Node) → Narrow x → length (pairsOf x) ≤ mostKeys → Fits (suc (st .last)) (whole n x)
+  whole-fits n id (node kind ps l) w k =
+      record {
+        from = omega arith;
+        below = room;
+        content = record { id = id; node = record { few = k; numbers = w .pairs; link = w .last } };
+      }
+
+  waiting : Every (EntryFits (suc (suc (st .last)))) (st .buffer)
+  waiting = later-entries (omega arith) (h .entries)
+
+  pub flush-fits : (closing : Page → Bool) (nodes : ℕ) → 1 ≤ length (st .buffer) → StoreFits (flush closing nodes st)
+  unfolding flush
+  flush-fits closing nodes k = place-fits h closing nodes (log (st .buffer)) [] (log-fits k) none (omega arith)
+
+  pub nodePage-fits : (closing : Page → Bool) (nodes n : ℕ) → n < bound16 → (x : Node) → Narrow x → length (pairsOf x) ≤ mostKeys →
+      StoreFits (nodePage closing nodes n x st)
+  unfolding nodePage
+  nodePage-fits closing nodes n id x w k = place-fits h closing nodes (whole n x) (st .buffer) (whole-fits n id x w k) waiting (h .few)
+
 pub flushRun-fits : {run : Run} → RunFits run → 1 ≤ length (run .now .buffer) → suc (last run) < bound32 → RunFits (flushRun run)
-flushRun-fits {run} h k b =
-    write-fits h noClosing (log (run .now .buffer)) []
-    (record { from = omega arith; below = b; content = record { some = k; few = h .now .few; entries = h .now .entries } }) none
-    (omega arith)
+flushRun-fits {run} h k b = write-fits h noClosing (log (run .now .buffer)) [] (log-fits (h .now) b k) none (omega arith)
 
 -- Room for k entries: where a page is forced out, the buffer holds something.
 record HasRoom (k : ℕ) (run run′ : Run) : Type 0 where
@@ -111,9 +129,8 @@ module _ {run : Run} (h : RunFits run) (n : ℕ) (id : n < bound16) (x : Node) (
   -- A NODE PAGE
   pub writeNode-fits : length (pairsOf x) ≤ mostKeys → 1 + last run < bound32 → RunFits (writeNode n x run)
   writeNode-fits k b =
-      write-fits h noClosing (whole n x) (run .now .buffer)
-      (record { from = omega arith; below = omega arith; content = whole-fits (suc (last run)) n x id k narrow })
-      (later-entries (omega arith) (h .now .entries)) (h .now .few)
+      write-fits h noClosing (whole n x) (run .now .buffer) (whole-fits (h .now) (omega arith) n id x narrow k) (waiting (h .now) (omega arith))
+      (h .now .few)
 
 -- AN EDIT in log mode: one entry more, or the whole edited content
 pub writeEdit-fits : {B : ℕ} {run : Run} → Good B run → RunFits run → (n : ℕ) → n < bound16 → n < run .nodes → InLog (run .now) n →
