@@ -164,6 +164,9 @@ module _ {blocks : ℕ} {t : Tariff} {s : State} {b : Book} {ps : List Pair} (sm
   batched : Batched blocks t cs s ps
   batched = batch-batched blocks t (omega arith) cs s ps valid (ready .says .sound) holds-now
 
+  pub sound-after : Sound blocks after
+  sound-after = batched .says .sound
+
   took : Took (mostNumbers * length cs) (s .run) (after .run)
   took = run-took blocks t small cs s ps valid values (ready .says .sound) holds-now fits (omega arith)
 
@@ -182,7 +185,7 @@ module _ {blocks : ℕ} {t : Tariff} {s : State} {b : Book} {ps : List Pair} (sm
   closing : Took 13 (after .run) (closed t after .run)
   closing =
       let pairs = mapRun (nodeLimit blocks) t cs (bookOf s) ps in
-      closed-took blocks t small after pairs (batched .says .sound)
+      closed-took blocks t small after pairs sound-after
       (subst (λ (z : Book). Holds (nodeLimit blocks) z pairs) (sym (batched .says .is)) (batched .holds)) (ready .ranged) scored-after
       (took .fits) (omega (arith, took .number))
 

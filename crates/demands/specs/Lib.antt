@@ -16,3 +16,4 @@ pub mod BatchFits
 pub mod PoolBytes
 pub mod MountFits
 pub mod PrepareFits
+pub mod PoolAfter

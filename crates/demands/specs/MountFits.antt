@@ -9,7 +9,7 @@ use borrow.Author.Tests.{leb-true}
 use lib.ListN.{length, take, drop}
 use Rattle.laws.specs.Every.{Every, none, both, every-append}
 use Rattle.laws.specs.BigEndian.{Bytes}
-use Rattle.layout.specs.Layout.{pageBytes, pagesInBlock, bound32, lastSequence}
+use Rattle.layout.specs.Layout.{blockBytes, pagesInBlock, bound32, lastSequence}
 use Rattle.account.specs.declared.Tariff.{Tariff}
 use Rattle.page.specs.Page.{Page, page, sequence}
 use Rattle.page.specs.Limits.{PageFits}
@@ -100,6 +100,7 @@ pub pool-back : {st : Store} → StoreFits st → cellsOf (bytesOf (poolOf st)) 
 pool-back {st} h = cellsOf-bytesOf (poolOf st) (poolOf-fits h)
 
 -- A POOL OF BYTES of which every page checks and which opens.
-pub bytes-enter : (bs : List ℕ) → Bytes bs → (blocks k : ℕ) → length bs ≡ pageBytes * k → (c : Cells) → cellsOf bs ≡ some c →
+pub bytes-enter : (bs : List ℕ) → Bytes bs → (blocks : ℕ) → length bs ≡ blockBytes * blocks → (c : Cells) → cellsOf bs ≡ some c →
     (t : Tariff) (s : State) → mountCells blocks c ≡ opened t s → Enters s
-bytes-enter bs bytes blocks k l c e t s m = opened-enters blocks c t s (cellsOf-is bs bytes k l c e .fits) m
+bytes-enter bs bytes blocks l c e t s m =
+    opened-enters blocks c t s (cellsOf-is bs bytes (pagesInBlock * blocks) (omega arith) c e .fits) m

@@ -7,7 +7,7 @@ use Prim.Native.Nat.{ℕ, zero, suc, _+_, _-_, _*_, _/_, _≤_, _<_}
 use native.Mathlib.Omega.{arith}
 use lib.ListN.{length, take, drop, length-append, length-drop, take-append-drop}
 use lib.Seq.{length-take-le, take-at, drop-at}
-use Rattle.laws.specs.Every.{Every, none, both}
+use Rattle.laws.specs.Every.{Every, none, both, every-append}
 use Rattle.laws.specs.BigEndian.{Bytes}
 use Rattle.layout.specs.Layout.{pageBytes}
 use Rattle.page.specs.Page.{Page}
@@ -17,6 +17,7 @@ use Rattle.page.specs.Limits.{PageFits}
 use Rattle.page.specs.ReadBack.{decode-image}
 use Rattle.page.specs.Exact.{decode-fits, image-decode}
 use Rattle.page.specs.Sizes.{length-image, decode-blankBytes, blank-decode}
+use Rattle.page.specs.ImageBytes.{bytes-image, bytes-blankBytes}
 use Rattle.store.specs.Reopen.{Cells}
 use Rattle.model.specs.Bytes.{cellBytes, bytesOf, cellFrom, joined, cellsFrom, cellsOf}
 use Rattle.demands.specs.EveryLaws.{every-take, every-drop}
@@ -63,6 +64,11 @@ all-back (x ∷ c) (both f e) = both (cell-back x f) (all-back c e)
 -- 512 bytes a cell
 pub length-bytesOf : (c : Cells) → Every CellFits c → length (bytesOf c) ≡ pageBytes * length c
 length-bytesOf c e = length-each pageBytes c (all-back c e)
+
+pub bytes-bytesOf : (c : Cells) → Bytes (bytesOf c)
+bytes-bytesOf [] = none
+bytes-bytesOf (none ∷ c) = every-append bytes-blankBytes (bytes-bytesOf c)
+bytes-bytesOf (some p ∷ c) = every-append (bytes-image p) (bytes-bytesOf c)
 
 parts-in : (k n : ℕ) → n ≡ 512 * k → n / 512 ≡ k
 parts-in k n e = omega arith
