@@ -1,9 +1,9 @@
 -- A whole batch leaves a fitting store: a command makes at most four requests more than there are nodes, each takes at most four sequence
 -- numbers, and the checkpoint thirteen, so from a number at which a pool opens 32 bits are never used up. Assumes nothing.
-use mathlib.Core.Path.{_≡_, refl, sym, ap, _∙_, subst}
+use mathlib.Core.Path.{_≡_, refl, sym, _∙_, subst}
 use mathlib.Core.Bool.{Bool, true, false}
 use mathlib.Core.List.{List, [], _∷_, _++_, map}
-use Prim.Native.Nat.{ℕ, suc, _+_, _*_, _/_, _≤_, _<_}
+use Prim.Native.Nat.{ℕ, _+_, _*_, _/_, _≤_, _<_}
 use native.Mathlib.Omega.{arith}
 use lib.Dec.{ltb}
 use lib.ListN.{length}
@@ -15,7 +15,7 @@ use Rattle.pairs.specs.Pairs.{Pair}
 use Rattle.command.specs.declared.Command.{Command}
 use Rattle.command.specs.declared.Command.the-variants.{Get, Put, Delete, Scan}
 use Rattle.tree.specs.Table.{path, leafFor}
-use Rattle.tree.specs.NodeRequest.{NodeRequest, read, countAfterAll}
+use Rattle.tree.specs.NodeRequest.{read, countAfterAll}
 use Rattle.tree.specs.Scan.{leavesAfter, scanRequests}
 use Rattle.tree.specs.Spells.{Spells}
 use Rattle.tree.specs.Size.{depth-count}

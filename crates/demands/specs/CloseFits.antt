@@ -3,22 +3,22 @@
 use mathlib.Core.Path.{_≡_, refl, sym, ap, _∙_}
 use mathlib.Core.Bool.{Bool}
 use mathlib.Core.Logic.{_⊎_, inl, inr}
-use mathlib.Core.List.{List, [], _∷_, _++_}
-use mathlib.Core.Option.{Option, none, some}
+use mathlib.Core.List.{List, [], _∷_}
+use mathlib.Core.Option.{none, some}
 use Prim.Native.Nat.{ℕ, zero, suc, _+_, _≤_, _<_}
 use native.Mathlib.Omega.{arith}
 use lib.ListN.{length, take, drop, length-take, drop-of-length-le}
 use Rattle.laws.specs.Every.{Every, none, both}
 use Rattle.laws.specs.Order.{le-or}
-use Rattle.layout.specs.Layout.{mostEntries, firstScores, otherScores, nodeLimit, mostBlocks, bound32}
+use Rattle.layout.specs.Layout.{firstScores, otherScores, nodeLimit, mostBlocks, bound32}
 use Rattle.account.specs.declared.Costs.{Costs}
 use Rattle.account.specs.declared.Tariff.{Tariff}
 use Rattle.account.specs.Range.{Bounded, Ranged}
-use Rattle.page.specs.Page.{Entry, Score, Page, checkpoint}
+use Rattle.page.specs.Page.{Entry, Score, Page}
 use Rattle.page.specs.Limits.{bound16, CostsFit, TariffFits, ScoreFits, Filled, CheckpointFits}
 use Rattle.store.specs.Live.{closingSince}
 use Rattle.store.specs.Write.{place}
-use Rattle.store.specs.Run.{Run, write, flushRun}
+use Rattle.store.specs.Run.{Run, write}
 use Rattle.store.specs.Checkpoint.{
   Sheet,
   sheet,

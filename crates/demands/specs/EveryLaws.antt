@@ -1,7 +1,7 @@
 -- What holds of every element of a list holds of every element of its parts: what is taken, left, picked out or put in place.
 -- Assumes nothing.
 use mathlib.Core.Bool.{Bool, true, false}
-use mathlib.Core.List.{List, [], _∷_, _++_}
+use mathlib.Core.List.{List, [], _∷_}
 use Prim.Native.Nat.{ℕ, zero, suc}
 use lib.ListN.{getD, take, drop, set}
 use Rattle.laws.specs.Every.{Every, none, both}

@@ -1,9 +1,9 @@
 -- A pool that opens is a fitting store: its pages were read from bytes, so each is within its limits, and between calls the buffer is
 -- empty. So every node of the book that it says has 32-bit numbers. Assumes nothing.
-use mathlib.Core.Path.{_≡_, refl, sym, ap, _∙_, subst}
-use mathlib.Core.List.{List, [], _∷_, _++_}
-use mathlib.Core.Option.{Option, none, some}
-use Prim.Native.Nat.{ℕ, zero, suc, _+_, _*_, _≤_, _<_, max}
+use mathlib.Core.Path.{_≡_, sym, subst}
+use mathlib.Core.List.{List, [], _∷_}
+use mathlib.Core.Option.{none, some}
+use Prim.Native.Nat.{ℕ, zero, suc, _*_, _≤_, _<_}
 use native.Mathlib.Omega.{arith}
 use borrow.Author.Tests.{leb-true}
 use lib.ListN.{length, take, drop}
@@ -11,22 +11,21 @@ use Rattle.laws.specs.Every.{Every, none, both, every-append}
 use Rattle.laws.specs.BigEndian.{Bytes}
 use Rattle.layout.specs.Layout.{blockBytes, pagesInBlock, bound32, lastSequence}
 use Rattle.account.specs.declared.Tariff.{Tariff}
-use Rattle.page.specs.Page.{Page, page, sequence}
+use Rattle.page.specs.Page.{Page, page}
 use Rattle.page.specs.Limits.{PageFits}
 use Rattle.tree.specs.Narrow.{Narrow}
 use Rattle.store.specs.Pool.{Blocks}
 use Rattle.store.specs.Store.{Store}
-use Rattle.store.specs.Run.{Run}
 use Rattle.store.specs.Numbers.{last}
 use Rattle.store.specs.Reopen.{Cells, cellsIn, cells, blockIn, blocksIn, greatestOf, newest, storeOf, reopened, poolOf}
 use Rattle.model.specs.State.{State, bookOf}
 use Rattle.model.specs.Mount.{opened, stateOf, mountCells}
 use Rattle.model.specs.Bytes.{bytesOf, cellsOf}
-use Rattle.demands.specs.Mount.{Mounts, Opened, opened-mounts}
+use Rattle.demands.specs.Mount.{Mounts, opened-mounts}
 use Rattle.demands.specs.EveryLaws.{every-take, every-drop}
 use Rattle.demands.specs.StoreFits.{BlocksFit, StoreFits, RunFits}
 use Rattle.demands.specs.NodesNarrow.{book-narrow}
-use Rattle.demands.specs.PoolBytes.{CellFits, IsPool, length-bytesOf, cellsOf-bytesOf, cellsOf-is}
+use Rattle.demands.specs.PoolBytes.{CellFits, cellsOf-bytesOf, cellsOf-is}
 
 -- The blocks that cells spell have no page that is not among the cells.
 blockIn-fits : (c : Cells) → Every CellFits c → Every PageFits (blockIn c)

@@ -1,7 +1,7 @@
 -- Every node that a fitting store says has 32-bit numbers: they are those of entries and node pages that fit, and replaying adds no
 -- number. Assumes nothing.
 use mathlib.Core.Bool.{Bool, true, false, _&&_}
-use mathlib.Core.List.{List, [], _∷_, _++_, map}
+use mathlib.Core.List.{List, [], _∷_, map}
 use mathlib.Core.Option.{Option, none, some}
 use Prim.Native.Nat.{ℕ, zero, suc}
 use native.Mathlib.Omega.{arith}
@@ -10,7 +10,7 @@ use Rattle.laws.specs.Every.{Every, none, both, every-append, every-map, every-
 use Rattle.laws.specs.Tests.{choose}
 use Rattle.pairs.specs.Pairs.{Pair}
 use Rattle.node.specs.declared.Kind.{Kind}
-use Rattle.node.specs.Node.{Node, node}
+use Rattle.node.specs.Node.{node}
 use Rattle.node.specs.Change.{Change, put, remove, link}
 use Rattle.node.specs.Replay.{Piece, Draft, unlinked, made, broken, replay}
 use Rattle.page.specs.Page.{Entry, Page, page, log, whole, checkpoint}

@@ -1,15 +1,14 @@
 -- From bytes to bytes: a batch on a pool of bytes that opens leaves a pool of as many bytes, and these are read back as the very pages
 -- that the store has then. Assumes nothing.
-use mathlib.Core.Path.{_≡_, refl, sym, ap, _∙_, subst}
+use mathlib.Core.Path.{_≡_, sym, subst}
 use mathlib.Core.List.{List}
-use mathlib.Core.Option.{Option, some}
+use mathlib.Core.Option.{some}
 use Prim.Native.Nat.{ℕ, _*_, _≤_}
 use native.Mathlib.Omega.{arith}
 use lib.ListN.{length}
 use Rattle.laws.specs.BigEndian.{Bytes}
 use Rattle.layout.specs.Layout.{blockBytes, pagesInBlock, fewestBlocks, mostBlocks, nodeLimit}
 use Rattle.account.specs.declared.Tariff.{Tariff}
-use Rattle.pairs.specs.Pairs.{Pair}
 use Rattle.command.specs.declared.Command.{Command}
 use Rattle.tree.specs.Spells.{mapOf}
 use Rattle.store.specs.Store.{Store}

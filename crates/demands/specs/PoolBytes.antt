@@ -3,7 +3,7 @@
 use mathlib.Core.Path.{_≡_, refl, sym, ap, ap₂, _∙_, subst}
 use mathlib.Core.List.{List, [], _∷_, _++_}
 use mathlib.Core.Option.{Option, none, some}
-use Prim.Native.Nat.{ℕ, zero, suc, _+_, _-_, _*_, _/_, _≤_, _<_}
+use Prim.Native.Nat.{ℕ, zero, suc, _*_, _/_}
 use native.Mathlib.Omega.{arith}
 use lib.ListN.{length, take, drop, length-append, length-drop, take-append-drop}
 use lib.Seq.{length-take-le, take-at, drop-at}
@@ -11,7 +11,7 @@ use Rattle.laws.specs.Every.{Every, none, both, every-append}
 use Rattle.laws.specs.BigEndian.{Bytes}
 use Rattle.layout.specs.Layout.{pageBytes}
 use Rattle.page.specs.Page.{Page}
-use Rattle.page.specs.Image.{image, blankBytes}
+use Rattle.page.specs.Image.{blankBytes}
 use Rattle.page.specs.Decode.{Decoded, blank, written, bad, decode}
 use Rattle.page.specs.Limits.{PageFits}
 use Rattle.page.specs.ReadBack.{decode-image}

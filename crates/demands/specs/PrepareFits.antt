@@ -1,7 +1,7 @@
 -- The pool that prepare leaves can stand in bytes and is read back from them: its two pages are within their limits. Assumes nothing.
 use mathlib.Core.Path.{_≡_}
-use mathlib.Core.List.{List, [], _∷_}
-use mathlib.Core.Option.{Option, none, some}
+use mathlib.Core.List.{[], _∷_}
+use mathlib.Core.Option.{none, some}
 use Prim.Native.Nat.{ℕ, zero, suc, _-_}
 use native.Mathlib.Omega.{arith}
 use lib.ListN.{replicate}
@@ -11,8 +11,8 @@ use Rattle.account.specs.declared.Tariff.{Tariff}
 use Rattle.account.specs.Range.{Ranged}
 use Rattle.node.specs.declared.Kind.the-variants.{Leaf}
 use Rattle.node.specs.Change.{link}
-use Rattle.page.specs.Page.{Entry, Score, Page, page, log, checkpoint}
-use Rattle.page.specs.Limits.{EntryFits, ScoreFits, PageFits}
+use Rattle.page.specs.Page.{page, log, checkpoint}
+use Rattle.page.specs.Limits.{PageFits}
 use Rattle.model.specs.Prepare.{firstBlock, preparedBlocks, prepared}
 use Rattle.model.specs.Bytes.{bytesOf, cellsOf}
 use Rattle.demands.specs.StoreFits.{BlocksFit}

@@ -1,17 +1,15 @@
 -- Replaying pieces with 32-bit numbers makes a node with 32-bit numbers: no step adds a number of its own. Assumes nothing.
 use mathlib.Core.Bool.{Bool, true, false}
 use mathlib.Core.List.{List, [], _∷_}
-use Prim.Native.Nat.{ℕ}
 use native.Mathlib.Omega.{arith}
 use lib.Dec.{leb}
 use lib.ListN.{length}
 use Rattle.laws.specs.Every.{Every, none, both}
 use Rattle.layout.specs.Layout.{mostKeys}
 use Rattle.pairs.specs.Pairs.{Pair, insert}
-use Rattle.node.specs.declared.Kind.{Kind}
 use Rattle.node.specs.declared.Kind.the-variants.{Leaf}
-use Rattle.node.specs.Node.{Node, node}
-use Rattle.node.specs.Change.{Change, put, remove, link, change}
+use Rattle.node.specs.Node.{node}
+use Rattle.node.specs.Change.{Change, put, remove, link}
 use Rattle.node.specs.Replay.{Piece, step, whole, Draft, unlinked, made, broken, ifFits, sameKind, redo, redoPiece, replayFrom, replay}
 use Rattle.tree.specs.Narrow.{NarrowPair, Narrow, NarrowChange}
 use Rattle.tree.specs.NarrowLaws.{change-narrow}

@@ -1,7 +1,6 @@
 -- How many node requests a command makes: at most four more than there are nodes. A branch has two children or more, so a tree has at
 -- least three times as many nodes as levels below the root, and a put's way down and up again is no longer than that. Assumes nothing.
-use mathlib.Core.Path.{_≡_, refl, sym, ap, _∙_}
-use mathlib.Core.List.{List, [], _∷_, _++_, map}
+use mathlib.Core.List.{List, [], _∷_}
 use mathlib.Core.Option.{Option, none, some}
 use Prim.Native.Nat.{ℕ, zero, suc, _+_, _*_, _≤_, _<_}
 use native.Mathlib.Omega.{arith}
@@ -12,7 +11,7 @@ use Rattle.node.specs.Node.{Node}
 use Rattle.command.specs.declared.Command.{Command}
 use Rattle.command.specs.declared.Command.the-variants.{Get, Put, Delete, Scan}
 use Rattle.tree.specs.Table.{Table, path, leafFor}
-use Rattle.tree.specs.NodeRequest.{NodeRequest, read}
+use Rattle.tree.specs.NodeRequest.{read}
 use Rattle.tree.specs.Get.{readsTo, getAnswer}
 use Rattle.tree.specs.Delete.{removalFor, deleteRequests}
 use Rattle.tree.specs.Tree.{firstOf, sumOf, EachChild, Tree, rootOf, firstLeaf, Holds, Stands}

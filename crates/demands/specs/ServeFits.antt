@@ -1,27 +1,26 @@
 -- A node request, whatever it asks and in whatever mode it is served, leaves a fitting store: a switch writes the content that the node
 -- has, which has 32-bit numbers, and the request's own numbers have 32 bits. Assumes nothing.
-use mathlib.Core.Path.{_≡_, refl, sym, ap, _∙_, subst}
-use Prim.Native.Nat.{ℕ, suc, _+_, _≤_, _<_, max}
+use mathlib.Core.Path.{_≡_, refl, subst}
+use Prim.Native.Nat.{ℕ, suc, _+_, _≤_, _<_}
 use native.Mathlib.Omega.{arith}
-use Rattle.laws.specs.Every.{Every, none, both, every-append}
-use Rattle.laws.specs.Update.{update, update-same}
+use Rattle.laws.specs.Every.{none, both, every-append}
+use Rattle.laws.specs.Update.{update-same}
 use Rattle.layout.specs.Layout.{nodeLimit, bound32}
 use Rattle.account.specs.declared.Mode.{Mode}
 use Rattle.account.specs.declared.Mode.the-variants.{Log, Disk}
 use Rattle.node.specs.Node.{Node, Neat}
-use Rattle.node.specs.Change.{Change, change}
+use Rattle.node.specs.Change.{change}
 use Rattle.page.specs.Limits.{bound16}
 use Rattle.tree.specs.Narrow.{Narrow, NarrowChange}
 use Rattle.tree.specs.NarrowLaws.{change-narrow}
-use Rattle.store.specs.Store.{Store, nodeOf}
 use Rattle.store.specs.Run.{Run, writeGroup, writeNode}
 use Rattle.store.specs.Serve.{Work, read, edit, rewrite, switch, work, note, serve, create}
 use Rattle.store.specs.Contents.{neat-fits}
 use Rattle.store.specs.Versions.{InLog, InMode}
 use Rattle.store.specs.Good.{Good}
-use Rattle.store.specs.Keeps.{Keeps, Holds, holds-node, holds-mode, Fits, writeGroup-keeps}
+use Rattle.store.specs.Keeps.{Keeps, holds-node, holds-mode, Fits, writeGroup-keeps}
 use Rattle.store.specs.Numbers.{last, write-last, writeGroup-last}
-use Rattle.demands.specs.StoreFits.{StoreFits, RunFits}
+use Rattle.demands.specs.StoreFits.{RunFits}
 use Rattle.demands.specs.NodesNarrow.{change-fits, node-narrow}
 use Rattle.demands.specs.WriteFits.{writeGroup-fits, writeNode-fits, writeEdit-fits}
 

@@ -1,17 +1,17 @@
 -- A store that can stand in bytes: every page is within its limits, and so would be the page that the buffer is to be. A page that is
 -- placed keeps it so, wherever it goes and whatever is compacted for it: pages are moved or erased, and none is changed. Assumes nothing.
 use mathlib.Core.Bool.{Bool, true, false}
-use mathlib.Core.List.{List, [], _∷_, _++_, map}
-use Prim.Native.Nat.{ℕ, zero, suc, _+_, _≤_, _<_}
+use mathlib.Core.List.{List, [], _∷_, _++_}
+use Prim.Native.Nat.{ℕ, zero, suc, _≤_, _<_}
 use native.Mathlib.Omega.{arith}
 use lib.Dec.{leb, ltb}
 use lib.ListN.{length, set, take}
 use Rattle.laws.specs.Every.{Every, none, both, every-append, every-map, every-weaken}
 use Rattle.laws.specs.Counts.{count, filter}
 use Rattle.layout.specs.Layout.{pagesInBlock, mostEntries, bound32}
-use Rattle.page.specs.Page.{Entry, Content, Page, page}
+use Rattle.page.specs.Page.{Entry, Content, Page}
 use Rattle.page.specs.Limits.{EntryFits, Fits, PageFits}
-use Rattle.store.specs.Pool.{Blocks, block, addTo}
+use Rattle.store.specs.Pool.{Blocks, block}
 use Rattle.store.specs.Live.{live}
 use Rattle.store.specs.Allocate.{blanks, nextBlank, victim, copied, compact, spotBy, spot}
 use Rattle.store.specs.Store.{Store, view}

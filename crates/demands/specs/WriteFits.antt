@@ -2,8 +2,8 @@
 -- something, a group begins only where it finds room, and a version lies between 1 and the last number taken. Assumes nothing.
 use mathlib.Core.Path.{_≡_, refl}
 use mathlib.Core.Bool.{Bool, true, false}
-use mathlib.Core.List.{List, [], _∷_, _++_}
-use Prim.Native.Nat.{ℕ, zero, suc, _+_, _≤_, _<_}
+use mathlib.Core.List.{List, [], _∷_}
+use Prim.Native.Nat.{ℕ, suc, _+_, _≤_, _<_}
 use native.Mathlib.Omega.{arith}
 use borrow.Author.Tests.{leb-true, leb-false}
 use lib.Dec.{leb}
@@ -14,7 +14,7 @@ use Rattle.account.specs.declared.Mode.the-variants.{Log}
 use Rattle.pairs.specs.Pairs.{Pair}
 use Rattle.node.specs.Node.{Node, node, pairsOf}
 use Rattle.node.specs.Change.{Change, put, link, puts, changesOf}
-use Rattle.page.specs.Page.{Entry, Page, log, whole}
+use Rattle.page.specs.Page.{Page, log, whole}
 use Rattle.page.specs.Limits.{bound16, ChangeFits, EntryFits, Fits}
 use Rattle.tree.specs.Narrow.{NarrowPair, Narrow}
 use Rattle.store.specs.Item.{entries}
