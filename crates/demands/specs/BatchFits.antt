@@ -1,26 +1,18 @@
 -- A whole batch leaves a fitting store: a command makes at most four requests more than there are nodes, each takes at most four sequence
 -- numbers, and the checkpoint thirteen, so from a number at which a pool opens 32 bits are never used up. Assumes nothing.
 use mathlib.Core.Path.{_≡_, refl, sym, _∙_, subst}
-use mathlib.Core.Bool.{Bool, true, false}
-use mathlib.Core.List.{List, [], _∷_, _++_, map}
+use mathlib.Core.List.{List, [], _∷_}
 use Prim.Native.Nat.{ℕ, _+_, _*_, _/_, _≤_, _<_}
 use native.Mathlib.Omega.{arith}
-use lib.Dec.{ltb}
 use lib.ListN.{length}
-use Rattle.laws.specs.Every.{Every, none, both}
 use Rattle.layout.specs.Layout.{nodeLimit, mostBlocks, mostBatchBytes, bound32, lastSequence}
 use Rattle.account.specs.declared.Tariff.{Tariff}
 use Rattle.account.specs.Range.{Ranged, limit-some, limit-le}
 use Rattle.pairs.specs.Pairs.{Pair}
 use Rattle.command.specs.declared.Command.{Command}
-use Rattle.command.specs.declared.Command.the-variants.{Get, Put, Delete, Scan}
-use Rattle.tree.specs.Table.{path, leafFor}
-use Rattle.tree.specs.NodeRequest.{read, countAfterAll}
-use Rattle.tree.specs.Scan.{leavesAfter, scanRequests}
-use Rattle.tree.specs.Spells.{Spells}
+use Rattle.tree.specs.NodeRequest.{countAfterAll}
 use Rattle.tree.specs.Size.{depth-count}
-use Rattle.tree.specs.Narrow.{Narrow, NarrowRequest}
-use Rattle.tree.specs.NarrowLaws.{put-narrow, delete-narrow}
+use Rattle.tree.specs.Narrow.{Narrow}
 use Rattle.store.specs.Numbers.{last}
 use Rattle.store.specs.Closing.{close-closed}
 use Rattle.book.specs.Book.{Book}
@@ -37,15 +29,9 @@ use Rattle.demands.specs.Mount.{Ready}
 use Rattle.demands.specs.StoreFits.{RunFits}
 use Rattle.demands.specs.NodesNarrow.{book-narrow}
 use Rattle.demands.specs.CloseFits.{close-fits}
+use Rattle.demands.specs.CommandFits.{ValueFits, ValuesFit, command-narrow}
 use Rattle.demands.specs.RequestCount.{command-length}
-use Rattle.demands.specs.RequestFits.{Took, serveAll-took}
-
--- A value that a command brings has 32 bits.
-abbrev pub ValueFits : Command → Type 0
-ValueFits (Get k) = Unit {0}
-ValueFits (Put k v) = v < bound32
-ValueFits (Delete k) = Unit {0}
-ValueFits (Scan low high most) = Unit {0}
+use Rattle.demands.specs.RequestFits.{Took, took-more, took-then, serveAll-took}
 
 -- What a command takes at most: four numbers for each of its requests, which are at most four more than nodes.
 abbrev pub mostNumbers : ℕ
@@ -62,39 +48,6 @@ mostBatchNumbers = mostNumbers * mostCommands + 13
 pub batch-numbers : mostBatchNumbers ≡ 11683789
 batch-numbers = refl
 
-reads-narrow : (ids : List ℕ) → Every NarrowRequest (map read ids)
-reads-narrow [] = none
-reads-narrow (i ∷ ids) = both tt (reads-narrow ids)
-
--- The requests of a command on a book of 32-bit numbers.
-module _ (limit : ℕ) (b : Book) (ps : List Pair) (s : Spells (b .table) (b .count) ps) (few : b .count ≤ 65536)
-    (narrow : (i : ℕ) → Narrow (b .table i)) where
-  scan-narrow : (low high most : ℕ) → Every NarrowRequest (scanRequests (b .count) (b .table) low high most)
-  unfolding scanRequests
-  scan-narrow low high most = go (ltb high low)
-    where
-      go : (t : Bool) →
-          Every NarrowRequest (elim t [
-            | true ↦ []
-            | false ↦
-              map read (path (b .count) (b .table) low 0 ++ leavesAfter (b .count) (b .table) low high most (leafFor (b .count) (b .table) low 0))
-          ])
-      go true = none
-      go false =
-          reads-narrow
-          (path (b .count) (b .table) low 0 ++ leavesAfter (b .count) (b .table) low high most (leafFor (b .count) (b .table) low 0))
-
-  command-narrow : (c : Command) → Valid c → ValueFits c → Every NarrowRequest (requests limit c b)
-  unfolding requests
-  command-narrow (Get k) valid v = reads-narrow (path (b .count) (b .table) k 0)
-  command-narrow (Put k w) valid v = put-narrow (b .table) (b .count) ps s few (λ i l. narrow i) k valid limit w v
-  command-narrow (Delete k) valid v = delete-narrow (b .table) (b .count) ps s few (λ i l. narrow i) k valid
-  command-narrow (Scan low high most) valid v = scan-narrow low high most
-
-abbrev pub ValuesFit : List Command → Type 0
-ValuesFit [] = Unit {0}
-ValuesFit (c ∷ cs) = ValueFits c × ValuesFit cs
-
 module _ (blocks : ℕ) (t : Tariff) (small : blocks ≤ mostBlocks) where
   abbrev nodes : ℕ
   nodes = nodeLimit blocks
@@ -106,11 +59,10 @@ module _ (blocks : ℕ) (t : Tariff) (small : blocks ≤ mostBlocks) where
       let rs = requests nodes c book in
       let d = does nodes (omega arith) book ps (h .spells) (h .most) c valid in
       let l = command-length nodes c book ps (h .spells) (omega (arith, h .most)) valid in
-      let all =
-            serveAll-took blocks t (omega arith) rs s (countAfterAll rs (book .count)) v fits (d .served .fits)
-            (command-narrow nodes book ps (h .spells) (omega (arith, h .most)) (book-narrow s (fits .now)) c valid value)
-            (omega (arith, l, h .most)) in
-      record { fits = all .fits; number = omega (arith, all .number, l, h .most) }
+      took-more (omega (arith, l, h .most))
+      (serveAll-took blocks t (omega arith) rs s (countAfterAll rs (book .count)) v fits (d .served .fits)
+      (command-narrow nodes book ps (h .spells) (omega (arith, h .most)) (book-narrow s (fits .now)) c valid value)
+      (omega (arith, l, h .most)))
 
   -- THE COMMANDS OF A BATCH
   pub run-took : (cs : List Command) (s : State) (ps : List Pair) → ValidAll cs → ValuesFit cs → Sound blocks s → Holds nodes (bookOf s) ps →
@@ -119,11 +71,10 @@ module _ (blocks : ℕ) (t : Tariff) (small : blocks ≤ mostBlocks) where
   run-took (c ∷ cs) s ps valid values v h fits b =
       let one = command-took c s ps (valid .0) (values .0) v h fits (omega arith) in
       let said = batch-batched blocks t (omega arith) (c ∷ []) s ps (valid .0, tt) v h in
-      let rest =
-            run-took cs (done nodes t c s) (mapRun nodes t (c ∷ []) (bookOf s) ps) (valid .1) (values .1) (said .says .sound)
-            (subst (λ (z : Book). Holds nodes z (mapRun nodes t (c ∷ []) (bookOf s) ps)) (sym (said .says .is)) (said .holds)) (one .fits)
-            (omega (arith, one .number)) in
-      record { fits = rest .fits; number = omega (arith, rest .number, one .number) }
+      let pairs = mapRun nodes t (c ∷ []) (bookOf s) ps in
+      took-then (omega arith) one
+      (run-took cs (done nodes t c s) pairs (valid .1) (values .1) (said .says .sound)
+      (subst (λ (z : Book). Holds nodes z pairs) (sym (said .says .is)) (said .holds)) (one .fits) (omega (arith, one .number)))
 
 -- THE CHECKPOINT at its end, of a state that says a book whose scores are below the limit T.
 pub closed-took : (blocks : ℕ) (t : Tariff) → blocks ≤ mostBlocks → (s : State) (ps : List Pair) → Sound blocks s →
@@ -135,8 +86,7 @@ closed-took blocks t small s ps v h r low fits b =
     record {
       fits =
           close-fits fits t r (s .score)
-          (λ i l.
-            omega (arith, score-is s i (omega (arith, n)), low i (omega (arith, n)), limit-le r))
+          (λ i l. omega (arith, score-is s i (omega (arith, n)), low i (omega (arith, n)), limit-le r))
           (omega (arith, n, depth-count (bookOf s .table) (bookOf s .count) ps (h .spells))) (omega (arith, n, h .most)) b;
       number = close-closed v small t (s .score) .number;
     }
@@ -148,9 +98,14 @@ pub record AfterBatch (s after : State) : Type 0 where
   pub number : last (after .run) ≤ mostBatchNumbers + last (s .run)
   pub below : last (after .run) < bound32
 
-after-batch : {s after : State} → RunFits (after .run) → last (after .run) ≤ mostBatchNumbers + last (s .run) → AfterBatch s after
-after-batch {after = after} fits n =
-    record { fits = fits; narrow = book-narrow after (fits .now); number = n; below = fits .now .last }
+after-batch : {s after : State} → Took mostBatchNumbers (s .run) (after .run) → AfterBatch s after
+after-batch {after = after} took =
+    record {
+      fits = took .fits;
+      narrow = book-narrow after (took .fits .now);
+      number = took .number;
+      below = took .fits .now .last;
+    }
 
 module _ {blocks : ℕ} {t : Tariff} {s : State} {b : Book} {ps : List Pair} (small : blocks ≤ mostBlocks) (ready : Ready blocks t s b ps)
     (fits : RunFits (s .run)) (opens : last (s .run) ≤ lastSequence) (cs : List Command) (valid : ValidAll cs) (values : ValuesFit cs)
@@ -172,7 +127,7 @@ module _ {blocks : ℕ} {t : Tariff} {s : State} {b : Book} {ps : List Pair} (sm
 
   -- before the checkpoint
   pub run-after : AfterBatch s after
-  run-after = after-batch (took .fits) (omega (arith, took .number))
+  run-after = after-batch (took-more (omega arith) took)
 
   scored-after : Scored t (bookOf after)
   scored-after =
@@ -191,4 +146,4 @@ module _ {blocks : ℕ} {t : Tariff} {s : State} {b : Book} {ps : List Pair} (sm
 
   -- and behind it
   pub closed-after : AfterBatch s (closed t after)
-  closed-after = after-batch (closing .fits) (omega (arith, closing .number, took .number))
+  closed-after = after-batch (took-then (omega arith) took closing)

@@ -107,7 +107,7 @@ sheets-fit t f scores e least few =
     (laterSheets-fit (length scores) (length scores) few (drop firstScores scores) (every-drop firstScores scores e))
 
 -- The sheets are written one after another.
-writeSheets-fits : (closing : Page → Bool) (xs : List Sheet) {run : Run} → RunFits run → Every SheetFits xs → length xs + last run < bound32 →
+pub writeSheets-fits : (closing : Page → Bool) (xs : List Sheet) {run : Run} → RunFits run → Every SheetFits xs → length xs + last run < bound32 →
     RunFits (writeSheets closing xs run)
 writeSheets-fits closing [] h none b = h
 writeSheets-fits closing (x ∷ xs) {run} h (both f e) b =
@@ -117,11 +117,11 @@ writeSheets-fits closing (x ∷ xs) {run} h (both f e) b =
     e (omega (arith, write-last closing (sheetContent x) (run .now .buffer) run))
 
 -- The buffer's page first, if it holds anything.
-record Drained (run run′ : Run) : Type 0 where
-  fits : RunFits run′
-  number : last run′ ≤ suc (last run)
+pub record Drained (run run′ : Run) : Type 0 where
+  pub fits : RunFits run′
+  pub number : last run′ ≤ suc (last run)
 
-drain-fits : {run : Run} → RunFits run → suc (last run) < bound32 → Drained run (drain run)
+pub drain-fits : {run : Run} → RunFits run → suc (last run) < bound32 → Drained run (drain run)
 unfolding write place
 drain-fits {run} h b = go (run .now .buffer) refl
   where

@@ -10,6 +10,7 @@ pub mod NodesNarrow
 pub mod WriteFits
 pub mod ServeFits
 pub mod CloseFits
+pub mod CommandFits
 pub mod RequestCount
 pub mod RequestFits
 pub mod BatchFits

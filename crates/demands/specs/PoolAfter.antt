@@ -23,7 +23,8 @@ use Rattle.demands.specs.Says.{Sound}
 use Rattle.demands.specs.Commands.{ValidAll}
 use Rattle.demands.specs.Mount.{Ready, opened-mounts, mounts-ready}
 use Rattle.demands.specs.StoreFits.{StoreFits}
-use Rattle.demands.specs.BatchFits.{ValuesFit, mostCommands, AfterBatch, sound-after, closed-after}
+use Rattle.demands.specs.CommandFits.{ValuesFit}
+use Rattle.demands.specs.BatchFits.{mostCommands, AfterBatch, sound-after, closed-after}
 use Rattle.demands.specs.PoolBytes.{length-bytesOf, bytes-bytesOf}
 use Rattle.demands.specs.MountFits.{Enters, poolOf-fits, pool-back, bytes-enter}
 

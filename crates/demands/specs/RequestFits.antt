@@ -34,6 +34,12 @@ pub record Took (most : ℕ) (run run′ : Run) : Type 0 where
   pub fits : RunFits run′
   pub number : last run′ ≤ most + last run
 
+pub took-more : {k most : ℕ} {a b : Run} → k ≤ most → Took k a b → Took most a b
+took-more l x = record { fits = x .fits; number = omega (arith, l, x .number) }
+
+pub took-then : {j k most : ℕ} {a b c : Run} → j + k ≤ most → Took j a b → Took k b c → Took most a c
+took-then l x y = record { fits = y .fits; number = omega (arith, l, x .number, y .number) }
+
 suited : (c : Change) (x : Node) → Suits c x → Contents.Suits c x
 suited (put k p) x h = h
 suited (remove k) x h = h
@@ -82,8 +88,6 @@ module _ (blocks : ℕ) (t : Tariff) (few : nodeLimit blocks ≤ bound16) where
   serveAll-took (r ∷ rs) s final v h f (both w ws) b =
       let one = serve-took r s v h (f .0) w (omega arith) in
       let said = serve-says t s v r (f .0) in
-      let rest =
-            serveAll-took rs (serve t r s) final (said .sound) (one .fits)
-            (subst (λ (z : Book). Fits (nodeLimit blocks) rs (z .table) (z .count) final) (sym (said .is)) (f .1)) ws
-            (omega (arith, one .number)) in
-      record { fits = rest .fits; number = omega (arith, rest .number, one .number) }
+      took-then (omega arith) one
+      (serveAll-took rs (serve t r s) final (said .sound) (one .fits)
+      (subst (λ (z : Book). Fits (nodeLimit blocks) rs (z .table) (z .count) final) (sym (said .is)) (f .1)) ws (omega (arith, one .number)))

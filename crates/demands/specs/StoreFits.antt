@@ -45,7 +45,7 @@ later-entries l =
 
 -- Where a page goes: the blocks as they are, or compacted.
 module _ {bs : Blocks} (fit : BlocksFit bs) (keep : Page → Bool) where
-  compact-fits : (from to : ℕ) → BlocksFit (compact keep bs from to)
+  pub compact-fits : (from to : ℕ) → BlocksFit (compact keep bs from to)
   compact-fits from to =
       every-set (copied keep bs from to) from [] none
       (every-set bs to (filter keep (block bs from)) (every-filter keep (block bs from) (every-in bs from fit)) fit)
@@ -64,7 +64,7 @@ module _ {st : Store} (h : StoreFits st) (closing : Page → Bool) (nodes : ℕ)
   abbrev keep : Page → Bool
   keep = live (view st) closing nodes
 
-  found-fits : BlocksFit (found closing nodes st .blocks)
+  pub found-fits : BlocksFit (found closing nodes st .blocks)
   unfolding found spot
   found-fits =
       spotBy-fits (h .pages) keep (ltb (length (block (st .blocks) (st .current))) pagesInBlock) (leb 2 (blanks (st .blocks))) (st .current)
@@ -86,7 +86,7 @@ module _ {st : Store} (h : StoreFits st) (closing : Page → Bool) (nodes : ℕ)
       }
 
   -- Each state of a compaction: a page more has been copied.
-  copying-fits : (from to q : ℕ) → StoreFits (copying keep st from to q)
+  pub copying-fits : (from to q : ℕ) → StoreFits (copying keep st from to q)
   copying-fits from to q =
       record { pages = copied-fits (h .pages) keep from to q; entries = h .entries; few = h .few; last = h .last }
 

@@ -97,12 +97,12 @@ pub flushRun-fits : {run : Run} → RunFits run → 1 ≤ length (run .now .buff
 flushRun-fits {run} h k b = write-fits h noClosing (log (run .now .buffer)) [] (log-fits (h .now) b k) none (omega arith)
 
 -- Room for k entries: where a page is forced out, the buffer holds something.
-record HasRoom (k : ℕ) (run run′ : Run) : Type 0 where
-  fits : RunFits run′
-  space : k + length (run′ .now .buffer) ≤ mostEntries
-  number : last run′ ≤ suc (last run)
+pub record HasRoom (k : ℕ) (run run′ : Run) : Type 0 where
+  pub fits : RunFits run′
+  pub space : k + length (run′ .now .buffer) ≤ mostEntries
+  pub number : last run′ ≤ suc (last run)
 
-makeRoom-room : {run : Run} → RunFits run → (k : ℕ) → k ≤ mostEntries → suc (last run) < bound32 → HasRoom k run (makeRoom k run)
+pub makeRoom-room : {run : Run} → RunFits run → (k : ℕ) → k ≤ mostEntries → suc (last run) < bound32 → HasRoom k run (makeRoom k run)
 unfolding makeRoom write place
 makeRoom-room {run} h k l b = go (leb (k + length (run .now .buffer)) mostEntries) refl
   where
