@@ -13,14 +13,12 @@ use Rattle.account.specs.declared.Tariff.{Tariff}
 use Rattle.account.specs.declared.Account.{Account}
 use Rattle.account.specs.Serve.{fresh}
 use Rattle.node.specs.Node.{Node}
-use Rattle.node.specs.Change.{Change, put, remove, link, Suits}
 use Rattle.tree.specs.Table.{Table}
 use Rattle.tree.specs.NodeRequest.{NodeRequest, read, edit, rewrite, create, apply, countAfter}
 use Rattle.tree.specs.Fit.{Fit}
 use Rattle.store.specs.Store.{noNode}
 use Rattle.store.specs.Run.{Run}
 use Rattle.store.specs.Serve as Store
-use Rattle.storelaws.specs.Contents as Contents
 use Rattle.storelaws.specs.Keeps.{Keeps, serve-keeps, create-keeps}
 use Rattle.book.specs.Book.{Book, idOf, requestOf, accountBy}
 use Rattle.book.specs.Book as Book
@@ -41,11 +39,6 @@ update-self f n = fun-ext (λ k. go k (eq-or k n))
     go k (inl q) = update-same f n (f n) k q ∙ ap f (sym q)
     go k (inr q) = update-other f n (f n) k q
 
-suited : (c : Change) (x : Node) → Suits c x → Contents.Suits c x
-suited (put k p) x h = h
-suited (remove k) x h = h
-suited (link kind p) x h = h
-
 module _ {blocks : ℕ} {table : Table} {count : ℕ} {m : ℕ → Mode} {run : Run} (v : Keeps blocks count table m run) where
   -- What a request writes leaves the store with the request's table, count and mode.
   write-keeps : (r : NodeRequest) (mode : Mode) → (requestOf r ≡ none → mode ≡ fresh .mode) → Fit (nodeLimit blocks) r table count →
@@ -53,7 +46,7 @@ module _ {blocks : ℕ} {table : Table} {count : ℕ} {m : ℕ → Mode} {run : 
   write-keeps (read n) mode h f =
       subst (λ (z : Table). Keeps blocks count z (update m n mode) (Store.serve mode n Store.read run)) (update-self table n)
       (serve-keeps v n f mode Store.read tt)
-  write-keeps (edit n c) mode h f = serve-keeps v n (f .0) mode (Store.edit c) (suited c (table n) (f .2), f .1)
+  write-keeps (edit n c) mode h f = serve-keeps v n (f .0) mode (Store.edit c) (f .2, f .1)
   write-keeps (rewrite n x) mode h f = serve-keeps v n (f .0) mode (Store.rewrite x) (f .1)
   write-keeps (create n x) mode h f =
       rw (h refl, f .0) (create-keeps v (omega (arith, f)) x (f .2))

@@ -13,15 +13,9 @@ use Rattle.pairs.specs.Pairs.{Pair, insert, delete, Within}
 use Rattle.node.specs.declared.Kind.{Kind}
 use Rattle.node.specs.declared.Kind.the-variants.{Leaf, Branch}
 use Rattle.node.specs.Node.{Node, node, kindOf, pairsOf, Neat}
-use Rattle.node.specs.Change.{Change, put, remove, link, change, puts, changesOf}
+use Rattle.node.specs.Change.{Change, put, remove, link, change, puts, changesOf, Suits}
 use Rattle.node.specs.Replay.{Piece, step, whole, Draft, unlinked, made, broken, ifFits, sameKind, redo, redoPiece, replayFrom, replay}
 use Rattle.storelaws.specs.ItemLaws.{map-append}
-
--- A change that sets a link does so with the kind of its node.
-abbrev pub Suits : Change → Node → Type 0
-Suits (put k p) x = Unit {0}
-Suits (remove k) x = Unit {0}
-Suits (link kind p) x = kind ≡ kindOf x
 
 replayFrom-snoc : (d : Draft) (xs : List Piece) (c : Change) → replayFrom d (xs ++ (step c ∷ [])) ≡ redo (replayFrom d xs) c
 unfolding replayFrom redoPiece

@@ -15,7 +15,7 @@ use Rattle.layout.specs.Layout.{mostEntries, mostLogPages, nodeLimit}
 use Rattle.account.specs.declared.Mode.{Mode}
 use Rattle.account.specs.declared.Mode.the-variants.{Log, Disk}
 use Rattle.node.specs.Node.{Node, Neat}
-use Rattle.node.specs.Change.{Change, change, changesOf}
+use Rattle.node.specs.Change.{Change, change, changesOf, Suits}
 use Rattle.node.specs.Replay.{Piece, step, made, redo, replay}
 use Rattle.node.specs.Replay as Replay
 use Rattle.page.specs.Page.{Page}
@@ -24,7 +24,7 @@ use Rattle.store.specs.Store.{Store, view, draftOf, nodeIn, nodeOf, modeOf}
 use Rattle.store.specs.Run.{Moment, Run, write, roomBy, makeRoom, begin, writeGroup, editBy, writeEdit, writeNode}
 use Rattle.store.specs.Serve.{Work, read, edit, rewrite, workOn, switch, work, note, serve, create}
 use Rattle.storelaws.specs.Versions.{InMode, InLog, mode-is}
-use Rattle.storelaws.specs.Contents.{Suits, replay-snoc, replay-whole, redo-made, replay-changesOf, neat-fits}
+use Rattle.storelaws.specs.Contents.{replay-snoc, replay-whole, redo-made, replay-changesOf, neat-fits}
 use Rattle.storelaws.specs.Good.{Good, Keep, Done, makeRoom-roomy, writeGroup-done, writeEdit-done, writeNode-done}
 
 -- A node's content is x, unbroken, and it is in this mode.
