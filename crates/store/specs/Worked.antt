@@ -138,7 +138,8 @@ pub record Ran : Type 0 where
   -- the pool passes the tests, and gives the scores back
   pub passes : pagesPass 4 (poolOf (closed .now)) ≡ true
   pub scores : scoresIn (checkpointOf (closed .now)) ≡ scoresFrom 0 3 (λ n. n)
-  -- three of four blocks full, one live page in each of blocks 0 and 1, two in block 2: block 0 is compacted, its page copied, and the new page goes behind it
+  -- three of four blocks full, one live page in each of blocks 0 and 1, two in block 2: block 0 is compacted, its page copied, and
+  -- the new page goes behind it
   pub copied : lengths (rewrites 1 spread .now .blocks) ≡ 0 ∷ 32 ∷ 32 ∷ 2 ∷ []
   pub moved : nodeOf (rewrites 1 spread .now) 1 ≡ node Leaf ((1, 1) ∷ []) noLeaf
   -- the old checkpoint's page in block 0 is dead while the new one is written: block 0 has the fewest live pages

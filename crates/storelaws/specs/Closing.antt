@@ -56,9 +56,9 @@ use Rattle.storelaws.specs.Placing.{
   silent-same,
   silent-invariant,
 }
-use Rattle.storelaws.specs.Versions.{says, late, VersionRules, silent-versions, place-mode}
+use Rattle.storelaws.specs.Versions.{says, late, VersionRules, silent-versions}
 use Rattle.storelaws.specs.Passed.{written-lean}
-use Rattle.storelaws.specs.Good.{LeanAt, Good, Keep, keep-refl, keep-trans, flushRun-good, flushRun-keep}
+use Rattle.storelaws.specs.Good.{LeanAt, Good, Keep, keep-refl, keep-trans, place-keep, flushRun-good, flushRun-keep}
 use Rattle.storelaws.specs.Keeps.{Keeps, keep-holds}
 use Rattle.storelaws.specs.Numbers.{last, write-last}
 use Rattle.storelaws.specs.Opening.{none-closing, own-passes, reopen}
@@ -114,11 +114,7 @@ module _ {B : ℕ} {closing : Page → Bool} (run : Run) (v : Invariant B (run .
         keep =
             λ m k.
             let o = silent-same v c refl m k in
-            record {
-              greatest = o .greatest;
-              pieces = o .pieces;
-              mode = λ y h. place-mode v m y c (st .buffer) k (o .greatest) h;
-            };
+            place-keep v c (st .buffer) m k (o .greatest) (o .pieces);
       }
 
   -- it stands under the next number, and every page of the checkpoint stays

@@ -83,6 +83,16 @@ pub keep-trans : {a b c : Store} {m : ℕ} → Keep a b m → Keep b c m → Kee
 keep-trans p q =
     record { greatest = q .greatest ∙ p .greatest; pieces = q .pieces ∙ p .pieces; mode = λ x h. q .mode x (p .mode x h) }
 
+-- A node seen as before keeps its mode too, where the blocks stay and where a page is placed.
+same-keep : (a b : Store) (m : ℕ) → Same (view a) (view b) m → b .blocks ≡ a .blocks → Keep a b m
+same-keep a b m o e =
+    record { greatest = o .greatest; pieces = o .pieces; mode = λ x h. same-mode x a b m (o .greatest) e h }
+
+pub place-keep : {B N : ℕ} {closing : Page → Bool} {st : Store} (v : Invariant B N closing st) (c : Content) (rest : List Entry) (m : ℕ) → m < N →
+    greatest (view (place closing N c rest st)) m ≡ greatest (view st) m → pieces (view (place closing N c rest st)) m ≡ pieces (view st) m →
+    Keep st (place closing N c rest st) m
+place-keep v c rest m l g x = record { greatest = g; pieces = x; mode = λ y h. place-mode v m y c rest l g h }
+
 -- What a write of node n does: it has these pieces and this mode; every other node is kept.
 pub record Done (B n : ℕ) (run run′ : Run) (xs : List Piece) (m₀ : Mode) : Type 0 where
   pub good : Good B run′
@@ -114,11 +124,7 @@ module _ {B : ℕ} {run : Run} (v : Good B run) where
   unfolding write flush
   flushRun-keep m l =
       let a = flush-now (v .invariant) m l in
-      record {
-        greatest = a .greatest;
-        pieces = a .pieces;
-        mode = λ x h. place-mode (v .invariant) m x (log (run .now .buffer)) [] l (a .greatest) h;
-      }
+      place-keep (v .invariant) (log (run .now .buffer)) [] m l (a .greatest) (a .pieces)
 
   flushRun-pages : (m : ℕ) → m < run .nodes → pages (view (flushRun run .now)) m ≤ suc (pages (view (run .now)) m)
   unfolding write flush
@@ -190,14 +196,7 @@ module _ {B : ℕ} {run : Run} (v : Good B run) (n : ℕ) (c : Change) (cs : Lis
         own = start-now (v .invariant) n c cs .pieces;
         mode = begin-mode;
         others = λ m k h. omega arith;
-        keep =
-            λ m k h.
-            let o = start-other (v .invariant) n c cs m h in
-            record {
-              greatest = o .greatest;
-              pieces = o .pieces;
-              mode = λ x q. same-mode x (run .now) (start n (c ∷ cs) (run .now)) m (o .greatest) refl q;
-            };
+        keep = λ m k h. same-keep (run .now) (start n (c ∷ cs) (run .now)) m (start-other (v .invariant) n c cs m h) refl;
       }
 
 -- a write after room was made
@@ -258,14 +257,7 @@ enter-done {B} {run} v n c x f l lg p =
       own = now .pieces;
       mode = same-mode Log (run .now) (enter n c (run .now)) n (now .greatest) refl lg;
       others = λ m k h. k;
-      keep =
-          λ m k h.
-          let o = enter-other (v .invariant) n c m h in
-          record {
-            greatest = o .greatest;
-            pieces = o .pieces;
-            mode = λ y q. same-mode y (run .now) (enter n c (run .now)) m (o .greatest) refl q;
-          };
+      keep = λ m k h. same-keep (run .now) (enter n c (run .now)) m (enter-other (v .invariant) n c m h) refl;
     }
   where
     now : Now (view (enter n c (run .now))) n (greatest (view (run .now)) n) (pieces (view (run .now)) n ++ (step c ∷ []))
@@ -314,11 +306,7 @@ writeNode-done {B} {run} v n x l =
       keep =
           λ m k h.
           let o = page-other (v .invariant) n x m k h in
-          record {
-            greatest = o .greatest;
-            pieces = o .pieces;
-            mode = λ y q. place-mode (v .invariant) m y (whole n x) (run .now .buffer) k (o .greatest) q;
-          };
+          place-keep (v .invariant) (whole n x) (run .now .buffer) m k (o .greatest) (o .pieces);
     }
   where
     now : Now (view (place noClosing (run .nodes) (whole n x) (run .now .buffer) (run .now))) n (suc (run .now .last)) (Replay.whole x ∷ []) 1 []

@@ -66,8 +66,8 @@ writeEdit-entry n c x run l = go (leb mostLogPages (pages (view (makeRoom 1 run 
     go false e = omega (arith, makeRoom-last 1 run)
 
 -- an edit behind a switch to log
-switch-edit-last : {B N : ℕ} {table : ℕ → Node} {modes : ℕ → Mode} {run : Run} → Keeps B N table modes run → (n : ℕ) → n < N → (c : Change) (x : Node) →
-    last (writeEdit n c x (writeGroup n (table n) run)) ≤ 3 + last run
+switch-edit-last : {B N : ℕ} {table : ℕ → Node} {modes : ℕ → Mode} {run : Run} → Keeps B N table modes run → (n : ℕ) → n < N →
+    (c : Change) (x : Node) → last (writeEdit n c x (writeGroup n (table n) run)) ≤ 3 + last run
 switch-edit-last {B} {N} {table} {modes} {run} v n l c x =
     let h = v .neat n l in
     let d : Good B (writeGroup n (table n) run) =
@@ -83,24 +83,26 @@ switch-edit-last {B} {N} {table} {modes} {run} v n l c x =
     more : (n : ℕ) (x : Node) (run : Run) → n < writeGroup n x run .nodes
     more n x run = omega (arith, writeGroup-nodes n x run)
 
-work-last : (m : Mode) (n : ℕ) (w : Work) (x : Node) (run : Run) → last (work m n w x run) ≤ 3 + last run
-work-last Log n read x run = omega arith
-work-last Disk n read x run = omega arith
-work-last Log n (edit c) x run = writeEdit-last n c (change c x) run
-work-last Disk n (edit c) x run = omega (arith, writeNode-last n (change c x) run)
-work-last Log n (rewrite y) x run = omega (arith, writeGroup-last n y run)
-work-last Disk n (rewrite y) x run = omega (arith, writeNode-last n y run)
+disk-last : (n : ℕ) (w : Work) (x : Node) (run : Run) → last (work Disk n w x run) ≤ 1 + last run
+disk-last n read x run = omega arith
+disk-last n (edit c) x run = omega (arith, writeNode-last n (change c x) run)
+disk-last n (rewrite y) x run = omega (arith, writeNode-last n y run)
+
+log-last : (n : ℕ) (w : Work) (x : Node) (run : Run) → last (work Log n w x run) ≤ 3 + last run
+log-last n read x run = omega arith
+log-last n (edit c) x run = writeEdit-last n c (change c x) run
+log-last n (rewrite y) x run = omega (arith, writeGroup-last n y run)
 
 module _ {B N : ℕ} {table : ℕ → Node} {modes : ℕ → Mode} {run : Run} (v : Keeps B N table modes run) (n : ℕ) (l : n < N) where
+  -- two groups, each with a page that it forces out, are the most
   switched-last : (m m′ : Mode) (w : Work) → last (work m′ n w (table n) (switch m m′ n (table n) run)) ≤ 4 + last run
-  switched-last Log Log w = omega (arith, work-last Log n w (table n) run)
-  switched-last Log Disk w =
-      omega (arith, work-last Disk n w (table n) (writeNode n (table n) run), writeNode-last n (table n) run)
+  switched-last Log Log w = omega (arith, log-last n w (table n) run)
+  switched-last Log Disk w = omega (arith, disk-last n w (table n) (writeNode n (table n) run), writeNode-last n (table n) run)
   switched-last Disk Log read = omega (arith, writeGroup-last n (table n) run)
   switched-last Disk Log (edit c) = omega (arith, switch-edit-last v n l c (change c (table n)))
   switched-last Disk Log (rewrite y) =
       omega (arith, writeGroup-last n y (writeGroup n (table n) run), writeGroup-last n (table n) run)
-  switched-last Disk Disk w = omega (arith, work-last Disk n w (table n) run)
+  switched-last Disk Disk w = omega (arith, disk-last n w (table n) run)
 
   -- A REQUEST takes at most four numbers
   pub serve-last : (m : Mode) (w : Work) → last (serve m n w run) ≤ 4 + last run

@@ -131,7 +131,8 @@ module _ {B N : ℕ} {c : Cells} (o : Opens B N c) where
 piecesIn-zero : (n s : ℕ) (bs : Blocks) (es : List Entry) → versionsPass s bs es ≡ true → piecesIn n 0 (map entryItem es) ≡ []
 piecesIn-zero n s bs [] h = refl
 piecesIn-zero n s bs (e ∷ es) h =
-    rw (ne-eqb (e .version) 0 (λ z. omega (arith, fits .fromOne))) (go (eqb (e .id) n) (piecesIn-zero n s bs es (and-right (versionPasses s bs e) (versionsPass s bs es) h)))
+    rw (ne-eqb (e .version) 0 (λ z. omega (arith, fits .fromOne)))
+    (go (eqb (e .id) n) (piecesIn-zero n s bs es (and-right (versionPasses s bs e) (versionsPass s bs es) h)))
   where
     fits : VersionFits s bs (e .version)
     fits = version-fits s bs e (and-left (versionPasses s bs e) (versionsPass s bs es) h)

@@ -195,31 +195,28 @@ passing-fit bs e =
     go n s none h = omega arith
     go n s (some p) h = omega (arith, page-greatest n bs p (h .0))
 
+fits-raise : {s s′ v : ℕ} {bs : Blocks} → VersionFits s bs v → s ≤ s′ → VersionFits s′ bs v
+fits-raise f l = record { fromOne = f .fromOne; below = omega (arith, f .below); apart = f .apart }
+
 says-in : (v : ℕ) (bs : Blocks) (b : List Page) → every (pagePasses bs) b ≡ true → 0 < count (says v) b → VersionFits (greatestOf b) bs v
 says-in v bs [] e h = absurd (omega arith)
 says-in v bs (p ∷ b) e h =
     go (le-or 1 (bit (says v p))) (λ q. says-in v bs b (and-right (pagePasses bs p) (every (pagePasses bs) b) e) q)
   where
-    wider : (s : ℕ) → VersionFits s bs v → s ≤ max (sequence p) (greatestOf b) → VersionFits (max (sequence p) (greatestOf b)) bs v
-    wider s f l = record { fromOne = f .fromOne; below = omega (arith, f .below); apart = f .apart }
-
     go : (1 ≤ bit (says v p)) ⊎ (bit (says v p) < 1) → (0 < count (says v) b → VersionFits (greatestOf b) bs v) →
         VersionFits (max (sequence p) (greatestOf b)) bs v
-    go (inl q) r = wider (sequence p) (page-says v bs p (and-left (pagePasses bs p) (every (pagePasses bs) b) e) q) (omega arith)
-    go (inr q) r = wider (greatestOf b) (r (omega arith)) (omega arith)
+    go (inl q) r = fits-raise (page-says v bs p (and-left (pagePasses bs p) (every (pagePasses bs) b) e) q) (omega arith)
+    go (inr q) r = fits-raise (r (omega arith)) (omega arith)
 
 says-all : (v : ℕ) (bs cs : Blocks) → everyPage (pagePasses bs) cs ≡ true → 0 < tally (says v) cs → VersionFits (newest cs) bs v
 says-all v bs [] e h = absurd (omega arith)
 says-all v bs (c ∷ cs) e h =
     go (le-or 1 (count (says v) c)) (λ q. says-all v bs cs (and-right (every (pagePasses bs) c) (everyPage (pagePasses bs) cs) e) q)
   where
-    wider : (s : ℕ) → VersionFits s bs v → s ≤ max (greatestOf c) (newest cs) → VersionFits (max (greatestOf c) (newest cs)) bs v
-    wider s f l = record { fromOne = f .fromOne; below = omega (arith, f .below); apart = f .apart }
-
     go : (1 ≤ count (says v) c) ⊎ (count (says v) c < 1) → (0 < tally (says v) cs → VersionFits (newest cs) bs v) →
         VersionFits (max (greatestOf c) (newest cs)) bs v
-    go (inl q) r = wider (greatestOf c) (says-in v bs c (and-left (every (pagePasses bs) c) (everyPage (pagePasses bs) cs) e) q) (omega arith)
-    go (inr q) r = wider (newest cs) (r (omega arith)) (omega arith)
+    go (inl q) r = fits-raise (says-in v bs c (and-left (every (pagePasses bs) c) (everyPage (pagePasses bs) cs) e) q) (omega arith)
+    go (inr q) r = fits-raise (r (omega arith)) (omega arith)
 
 pub passing-versions : (bs : Blocks) → everyPage (pagePasses bs) bs ≡ true → VersionRules (storeOf bs)
 unfolding said
