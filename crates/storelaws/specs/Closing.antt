@@ -13,6 +13,7 @@ use lib.ListN.{length, take}
 use Rattle.laws.specs.Tests.{and-right}
 use Rattle.laws.specs.Counts.{bit, bit-le-one, tally, tally-mono}
 use Rattle.laws.specs.Every.{Every, every-append, every-map}
+use Rattle.laws.specs.Every as Every
 use Rattle.layout.specs.Layout.{firstScores, mostBlocks, nodeLimit}
 use Rattle.account.specs.declared.Mode.{Mode}
 use Rattle.account.specs.declared.Tariff.{Tariff}
@@ -61,7 +62,7 @@ use Rattle.storelaws.specs.Passed.{written-lean}
 use Rattle.storelaws.specs.Good.{LeanAt, Good, Keep, keep-refl, keep-trans, place-keep, flushRun-good, flushRun-keep}
 use Rattle.storelaws.specs.Keeps.{Keeps, keep-holds}
 use Rattle.storelaws.specs.Numbers.{last, write-last}
-use Rattle.storelaws.specs.Opening.{none-closing, own-passes, reopen}
+use Rattle.storelaws.specs.Opening.{none-closing, opened, own-passes, reopen}
 use Rattle.storelaws.specs.SheetLaws.{
   length-laterSheets,
   sheets-few,
@@ -377,3 +378,21 @@ module _ {B N : ℕ} {table : ℕ → Node} {modes : ℕ → Mode} {run : Run} (
             scoreIn-scoresFrom 0 N score n (omega arith) (omega arith);
         number = omega (arith, close-last, few, d .number);
       }
+
+-- THE NEXT CALL finds what the last one kept
+pub closed-opens : {B N : ℕ} {table : ℕ → Node} {modes : ℕ → Mode} {t : Tariff} {score : ℕ → ℕ} {run run′ : Run} →
+    Closed B N table modes t score run run′ → Keeps B N table modes (opened B N (poolOf (run′ .now)))
+closed-opens {B} {N} {table} {modes} {run′ = run′} c =
+    subst (λ st. Keeps B N table modes (record { nodes = N; now = st; passed = [] })) (sym (c .again))
+    (record {
+      good =
+          record {
+            invariant = subst (λ n. Invariant B n noClosing (run′ .now)) (c .keeps .nodes) (c .keeps .good .invariant);
+            versions = c .keeps .good .versions;
+            small = c .keeps .good .small;
+            passed = Every.none;
+          };
+      nodes = refl;
+      holds = c .keeps .holds;
+      neat = c .keeps .neat;
+    })
