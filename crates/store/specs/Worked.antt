@@ -26,6 +26,7 @@ use Rattle.store.specs.Run.{Run, written, write, flushRun, makeRoom, wri
 use Rattle.store.specs.Serve.{Work, read, edit, rewrite, serve, create}
 use Rattle.store.specs.Checkpoint.{scoresFrom, sheets, close, collect, checkpointOf, scoresIn}
 use Rattle.store.specs.Reopen.{cellsIn, poolOf, pagesPass, blocksPass}
+use Rattle.store.specs.Prepare.{prepared, preparedRun}
 
 abbrev tariff : Tariff
 tariff =
@@ -36,25 +37,7 @@ tariff =
 
 -- The pool of a prepare, four blocks.
 abbrev fresh : Run
-fresh =
-    record {
-      nodes = 1;
-      now =
-          record {
-            blocks =
-                (page 2 (log (record { id = 0; version = 1; change = link Leaf noLeaf } ∷ [])) ∷
-                page 3 (checkpoint (some tariff) (record { id = 0; score = 0 } ∷ []) (some 1)) ∷
-                []) ∷
-                [] ∷
-                [] ∷
-                [] ∷
-                [];
-            current = 0;
-            buffer = [];
-            last = 3;
-          };
-      passed = [];
-    }
+fresh = preparedRun 4 tariff
 
 abbrev edits : ℕ → Run
 edits zero = fresh
@@ -148,7 +131,7 @@ pub record Ran : Type 0 where
   pub order : nodeOf foreign 0 ≡ node Leaf ((7, 2) ∷ []) noLeaf
 
 pub ran : Ran
-unfolding above greatest pages pieces draftOf nodeOf modeOf carries closingSince spot found place enter start written write makeRoom writeGroup writeEdit serve create sheets close collect checkpointOf cellsIn blocksPass pagesPass Pairs.insert redo redoPiece replayFrom replay
+unfolding prepared preparedRun above greatest pages pieces draftOf nodeOf modeOf carries closingSince spot found place enter start written write makeRoom writeGroup writeEdit serve create sheets close collect checkpointOf cellsIn blocksPass pagesPass Pairs.insert redo redoPiece replayFrom replay
 ran =
     record {
       three = refl;

@@ -365,8 +365,8 @@ module _ {B N : ℕ} {table : ℕ → Node} {modes : ℕ → Mode} {run : Run} (
       let set : checkpointOf (close t score run .now) ≡ sheets t (scoresFrom 0 N score) = close-checkpoint ∙ ap (sheets t) scores-are in
       record {
         keeps = close-keeps;
-        passes = own-passes (left .invariant) (left .versions);
-        again = reopen (left .invariant) close-has close-empty;
+        passes = own-passes (close t score run .now) (left .invariant .rules) (left .versions);
+        again = reopen (close t score run .now) (left .invariant .rules) close-has close-empty;
         checkpoint = set;
         complete = ap complete set ∙ sheets-complete t N score;
         tariff = ap tariffIn set ∙ tariffIn-sheets t (scoresFrom 0 N score);

@@ -243,19 +243,20 @@ opened-keeps {B} {N} {c} o d t =
     }
 
 -- OUR OWN POOL PASSES the tests, in every good state
-pub own-passes : {B N : ℕ} {closing : Page → Bool} {st : Store} → Invariant B N closing st → VersionRules st → pagesPass B (poolOf st) ≡ true
+pub own-passes : {B : ℕ} (st : Store) → BlockRules pagesInBlock B (st .blocks) (st .current) (st .last) → VersionRules st →
+    pagesPass B (poolOf st) ≡ true
 unfolding pagesPass
-own-passes {B} {st = st} v r =
+own-passes {B} st r a =
     and-both (blocksPass pagesInBlock B (poolOf st)) _
-    (passing-true pagesInBlock B (poolOf st) (rules-passing (v .rules)))
-    (rw (rules-blocks (v .rules)) (rules-pages st (v .rules .fromOne) r))
+    (passing-true pagesInBlock B (poolOf st) (rules-passing r))
+    (rw (rules-blocks r) (rules-pages st (r .fromOne) a))
 
 -- AFTER A PAGE OF THE LAST NUMBER, and with the buffer empty, the next call finds this very store
-pub reopen : {B N : ℕ} {closing : Page → Bool} {st : Store} (v : Invariant B N closing st) → 0 < tally (numbered (st .last)) (st .blocks) →
-    st .buffer ≡ [] → reopened B (poolOf st) ≡ st
+pub reopen : {B : ℕ} (st : Store) → BlockRules pagesInBlock B (st .blocks) (st .current) (st .last) →
+    0 < tally (numbered (st .last)) (st .blocks) → st .buffer ≡ [] → reopened B (poolOf st) ≡ st
 unfolding reopened
-reopen {B} {st = st} v h e =
+reopen {B} st r h e =
     let top : newest (st .blocks) ≡ st .last =
-    omega (arith, newest-le (st .last) (st .blocks) (v .rules .within), le-newest (st .last) (st .blocks) h) in
-    let at : blockOf (st .last) (st .blocks) ≡ st .current = ap (λ z. blockOf z (st .blocks)) (sym top) ∙ rules-current (v .rules) in
-    rw (rules-blocks (v .rules), top, at) (λ i. record { blocks = st .blocks; current = st .current; buffer = sym e i; last = st .last })
+    omega (arith, newest-le (st .last) (st .blocks) (r .within), le-newest (st .last) (st .blocks) h) in
+    let at : blockOf (st .last) (st .blocks) ≡ st .current = ap (λ z. blockOf z (st .blocks)) (sym top) ∙ rules-current r in
+    rw (rules-blocks r, top, at) (λ i. record { blocks = st .blocks; current = st .current; buffer = sym e i; last = st .last })
