@@ -9,7 +9,7 @@ use Prim.Native.Nat.{ℕ, zero, suc, _+_, _*_, _≤_, _<_, max}
 use native.Mathlib.Omega.{arith}
 use borrow.Author.Tests.{eqb-true, eqb-false, eq-eqb, ne-eqb}
 use lib.Dec.{eqb}
-use Rattle.laws.specs.Tests.{choose, and-left, and-right, and-both}
+use Rattle.laws.specs.Tests.{choose, test-clash, and-left, and-right, and-both}
 use Rattle.laws.specs.Order.{eq-or, le-or}
 use Rattle.laws.specs.Counts.{bit, consIf, count, tally}
 use Rattle.laws.specs.Every as Every
@@ -25,6 +25,7 @@ use Rattle.store.specs.Pool.{Blocks, numbered, find, itemsAt}
 use Rattle.store.specs.Store.{Store, view, draftOf, nodeIn, nodeOf, modeAt, modeOf}
 use Rattle.store.specs.Live.{noClosing}
 use Rattle.store.specs.Run.{Run}
+use Rattle.store.specs.Checkpoint.{collect, checkpointOf, complete}
 use Rattle.store.specs.Reopen.{
   Cells,
   cells,
@@ -260,3 +261,15 @@ reopen {B} st r h e =
     omega (arith, newest-le (st .last) (st .blocks) (r .within), le-newest (st .last) (st .blocks) h) in
     let at : blockOf (st .last) (st .blocks) ≡ st .current = ap (λ z. blockOf z (st .blocks)) (sym top) ∙ rules-current r in
     rw (rules-blocks r, top, at) (λ i. record { blocks = st .blocks; current = st .current; buffer = sym e i; last = st .last })
+
+-- A pool with a complete checkpoint has a page.
+pub complete-newest : (B : ℕ) (c : Cells) → complete (checkpointOf (reopened B c)) ≡ true → 0 < newest (blocksIn pagesInBlock B c)
+unfolding reopened checkpointOf collect complete
+complete-newest B c e = go (newest bs) refl
+  where
+    bs : Blocks
+    bs = blocksIn pagesInBlock B c
+
+    go : (k : ℕ) → newest bs ≡ k → 0 < k
+    go zero q = absurd (test-clash (complete (collect (λ s. find s bs) (newest bs) [])) e (ap (λ k. complete (collect (λ s. find s bs) k [])) q))
+    go (suc k) q = omega arith
