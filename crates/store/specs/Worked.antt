@@ -1,21 +1,19 @@
 -- The definitions run: a hundred and more edits of one node with the pages that they force out and a rewrite at three pages, a
 -- checkpoint and its reading back, each computed. Assumes nothing.
 use mathlib.Core.Path.{_≡_, refl}
-use mathlib.Core.Bool.{Bool, true, false}
-use mathlib.Core.List.{List, [], _∷_, _++_}
-use mathlib.Core.Option.{Option, none, some}
+use mathlib.Core.Bool.{true}
+use mathlib.Core.List.{List, [], _∷_}
 use Prim.Native.Nat.{ℕ, zero, suc, _+_}
 use lib.ListN.{length}
-use Rattle.account.specs.declared.Mode.{Mode}
 use Rattle.account.specs.declared.Mode.the-variants.{Log, Disk}
 use Rattle.account.specs.declared.Tariff.{Tariff}
 use Rattle.layout.specs.Layout.{noLeaf}
 use Rattle.pairs.specs.Pairs as Pairs
 use Rattle.node.specs.declared.Kind.the-variants.{Leaf, Branch}
-use Rattle.node.specs.Node.{Node, node}
-use Rattle.node.specs.Change.{Change, put, remove, link}
-use Rattle.node.specs.Replay.{Draft, made, redo, redoPiece, replayFrom, replay}
-use Rattle.page.specs.Page.{Entry, Page, page, log, whole, checkpoint}
+use Rattle.node.specs.Node.{node}
+use Rattle.node.specs.Change.{put, link}
+use Rattle.node.specs.Replay.{redo, redoPiece, replayFrom, replay}
+use Rattle.page.specs.Page.{Page, page, log, whole, checkpoint}
 use Rattle.store.specs.View.{greatest, pieces, pages}
 use Rattle.store.specs.Pool.{block, above}
 use Rattle.store.specs.Store.{Store, view, draftOf, nodeOf, modeOf}
@@ -23,7 +21,7 @@ use Rattle.store.specs.Live.{carries, closingSince}
 use Rattle.store.specs.Allocate.{spot}
 use Rattle.store.specs.Write.{found, place, enter, start}
 use Rattle.store.specs.Run.{Run, written, write, flushRun, makeRoom, writeGroup, writeEdit}
-use Rattle.store.specs.Serve.{Work, read, edit, rewrite, serve, create}
+use Rattle.store.specs.Serve.{read, edit, rewrite, serve, create}
 use Rattle.store.specs.Checkpoint.{scoresFrom, sheets, close, collect, checkpointOf, scoresIn}
 use Rattle.store.specs.Reopen.{cellsIn, poolOf, pagesPass, blocksPass}
 use Rattle.store.specs.Prepare.{prepared, preparedRun}

@@ -1,29 +1,28 @@
 -- The end of a batch: the buffer's page, then the checkpoint. No node notices; the checkpoint's pages are live while it is written, so all
 -- of them stand at its end, under the greatest numbers, and are read back; and the cells are this very store again. Assumes nothing.
 use mathlib.Core.Path.{_≡_, refl, sym, ap, _∙_, subst}
-use mathlib.Core.Bool.{Bool, true, false, _&&_}
-use mathlib.Core.Option.{Option, none, some}
-use mathlib.Core.List.{List, [], _∷_, _++_, map, append-nil}
-use Prim.Native.Nat.{ℕ, zero, suc, _+_, _≤_, _<_}
+use mathlib.Core.Bool.{Bool, true}
+use mathlib.Core.Option.{none, some}
+use mathlib.Core.List.{List, [], _∷_, _++_, append-nil}
+use Prim.Native.Nat.{ℕ, suc, _+_, _≤_, _<_}
 use native.Mathlib.Nat.{le-trans}
 use native.Mathlib.Omega.{arith}
 use borrow.Author.Tests.{eq-eqb, lt-ltb}
-use lib.Dec.{eqb}
 use lib.ListN.{length, take}
 use Rattle.laws.specs.Tests.{and-right}
 use Rattle.laws.specs.Counts.{bit, bit-le-one, tally, tally-mono}
 use Rattle.laws.specs.Every.{Every, every-append, every-map}
 use Rattle.laws.specs.Every as Every
-use Rattle.layout.specs.Layout.{firstScores, mostBlocks, nodeLimit}
+use Rattle.layout.specs.Layout.{firstScores, mostBlocks}
 use Rattle.account.specs.declared.Mode.{Mode}
 use Rattle.account.specs.declared.Tariff.{Tariff}
 use Rattle.node.specs.Node.{Node}
-use Rattle.page.specs.Page.{Entry, Score, Content, Page, page}
+use Rattle.page.specs.Page.{Entry, Score, Page, page}
 use Rattle.store.specs.Pool.{Blocks, numbered, above, find}
 use Rattle.store.specs.Store.{Store, view}
-use Rattle.store.specs.Live.{live, noClosing, isCheckpoint, closingSince}
+use Rattle.store.specs.Live.{noClosing, isCheckpoint, closingSince}
 use Rattle.store.specs.Write.{next, place}
-use Rattle.store.specs.Run.{Moment, Run, moment, written, write, flushRun}
+use Rattle.store.specs.Run.{Run, moment, write}
 use Rattle.store.specs.Checkpoint.{
   Sheet,
   sheet,
@@ -63,16 +62,7 @@ use Rattle.storelaws.specs.Good.{LeanAt, Good, Keep, keep-refl, keep-tra
 use Rattle.storelaws.specs.Keeps.{Keeps, keep-holds}
 use Rattle.storelaws.specs.Numbers.{last, write-last}
 use Rattle.storelaws.specs.Opening.{none-closing, opened, own-passes, reopen}
-use Rattle.storelaws.specs.SheetLaws.{
-  length-laterSheets,
-  sheets-few,
-  scoresIn-sheets,
-  countIn-sheets,
-  tariffIn-sheets,
-  length-scoresFrom,
-  scoreIn-scoresFrom,
-  sheets-complete,
-}
+use Rattle.storelaws.specs.SheetLaws.{sheets-few, scoresIn-sheets, countIn-sheets, tariffIn-sheets, length-scoresFrom, scoreIn-scoresFrom, sheets-complete}
 
 -- What a checkpoint page, or several, leave of a run.
 pub record Left (B : ℕ) (closing : Page → Bool) (run run′ : Run) : Type 0 where

@@ -4,14 +4,13 @@ use mathlib.Core.Path.{_≡_, refl, sym, ap, _∙_, subst}
 use mathlib.Core.Bool.{Bool, true, false, not}
 use mathlib.Core.Logic.{_⊎_, inl, inr}
 use mathlib.Core.List.{List, [], _∷_, _++_, map}
-use Prim.Native.Nat.{ℕ, zero, suc, _+_, _≤_, _<_, max}
-use native.Mathlib.Nat.{le-trans}
+use Prim.Native.Nat.{ℕ, suc, _+_, _≤_, _<_, max}
 use native.Mathlib.Omega.{arith}
 use borrow.Author.Tests.{leb-true, leb-false}
 use lib.Dec.{leb}
 use lib.ListN.{length, length-append}
 use Rattle.laws.specs.Counts.{bit-le-one, empty, tally}
-use Rattle.laws.specs.Every.{Every, none, both, every-append, every-map, every-weaken}
+use Rattle.laws.specs.Every.{Every, none, every-append, every-map}
 use Rattle.layout.specs.Layout.{mostEntries, mostLogPages, nodeLimit}
 use Rattle.account.specs.declared.Mode.{Mode}
 use Rattle.account.specs.declared.Mode.the-variants.{Log, Disk}
@@ -21,11 +20,11 @@ use Rattle.node.specs.Replay.{Piece, step}
 use Rattle.node.specs.Replay as Replay
 use Rattle.page.specs.Page.{Entry, Content, Page, page, log, whole}
 use Rattle.store.specs.Item.{entries}
-use Rattle.store.specs.View.{View, some?, greatest, pieces, buffered, pages}
+use Rattle.store.specs.View.{greatest, pieces, buffered, pages}
 use Rattle.store.specs.Pool.{numbered}
 use Rattle.store.specs.Store.{Store, view}
 use Rattle.store.specs.Live.{noClosing}
-use Rattle.store.specs.Write.{next, place, flush, enter, start, nodePage}
+use Rattle.store.specs.Write.{place, flush, enter, start, nodePage}
 use Rattle.store.specs.Run.{Moment, Run, moment, write, flushRun, roomBy, makeRoom, begin, writeGroup, editBy, writeEdit, writeNode}
 use Rattle.storelaws.specs.ItemLaws.{length-entries}
 use Rattle.storelaws.specs.Changes.{Same, Now, Lean}
@@ -45,18 +44,7 @@ use Rattle.storelaws.specs.Placing.{
   start-other,
   start-invariant,
 }
-use Rattle.storelaws.specs.Versions.{
-  VersionRules,
-  flush-versions,
-  page-versions,
-  enter-versions,
-  start-versions,
-  InLog,
-  OnPage,
-  InMode,
-  place-mode,
-  same-mode,
-}
+use Rattle.storelaws.specs.Versions.{VersionRules, flush-versions, page-versions, enter-versions, start-versions, InLog, InMode, place-mode, same-mode}
 use Rattle.storelaws.specs.Passed.{written-lean}
 use Rattle.storelaws.specs.Contents.{Spelled, spelled}
 

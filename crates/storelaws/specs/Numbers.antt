@@ -1,10 +1,9 @@
 -- How many sequence numbers are taken: a page takes one, a fresh start one. A node just written as a group lies on no page, so the edit
 -- behind a switch to log writes no second group. Assumes nothing.
-use mathlib.Core.Path.{_≡_, refl, sym, ap, _∙_}
+use mathlib.Core.Path.{_≡_, refl}
 use mathlib.Core.Bool.{Bool, true, false}
-use mathlib.Core.List.{List, [], _∷_}
-use Prim.Native.Nat.{ℕ, zero, suc, _+_, _≤_, _<_, max}
-use native.Mathlib.Nat.{le-trans}
+use mathlib.Core.List.{List}
+use Prim.Native.Nat.{ℕ, suc, _+_, _≤_, _<_}
 use native.Mathlib.Omega.{arith}
 use borrow.Author.Tests.{leb-true}
 use lib.Dec.{leb}
@@ -16,12 +15,12 @@ use Rattle.node.specs.Node.{Node}
 use Rattle.node.specs.Change.{Change, change, changesOf}
 use Rattle.page.specs.Page.{Entry, Content, Page}
 use Rattle.store.specs.View.{pages}
-use Rattle.store.specs.Store.{Store, view, nodeOf, modeOf}
+use Rattle.store.specs.Store.{view}
 use Rattle.store.specs.Write.{place, enter, start}
 use Rattle.store.specs.Run.{Run, write, roomBy, makeRoom, writeGroup, editBy, writeEdit, writeNode}
-use Rattle.store.specs.Serve.{Work, read, edit, rewrite, switch, work, note, serve, create}
+use Rattle.store.specs.Serve.{Work, read, edit, rewrite, switch, work, serve, create}
 use Rattle.storelaws.specs.Contents.{neat-fits}
-use Rattle.storelaws.specs.Good.{Good, Done, Roomy, makeRoom-roomy, writeGroup-done, writeGroup-pages}
+use Rattle.storelaws.specs.Good.{Good, makeRoom-roomy, writeGroup-done, writeGroup-pages}
 use Rattle.storelaws.specs.Keeps.{Keeps, holds-node, holds-mode, writeGroup-nodes}
 
 abbrev pub last : Run → ℕ

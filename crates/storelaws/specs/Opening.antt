@@ -5,46 +5,29 @@ use mathlib.Core.Bool.{Bool, true, false, _&&_}
 use mathlib.Core.Logic.{_⊎_, inl, inr}
 use mathlib.Core.Option.{Option, none, some}
 use mathlib.Core.List.{List, [], _∷_, _++_, map}
-use Prim.Native.Nat.{ℕ, zero, suc, _+_, _*_, _≤_, _<_, max}
+use Prim.Native.Nat.{ℕ, zero, suc, _+_, _≤_, _<_}
 use native.Mathlib.Omega.{arith}
-use borrow.Author.Tests.{eqb-true, eqb-false, eq-eqb, ne-eqb}
+use borrow.Author.Tests.{eq-eqb, ne-eqb}
 use lib.Dec.{eqb}
 use Rattle.laws.specs.Tests.{choose, test-clash, and-left, and-right, and-both}
 use Rattle.laws.specs.Order.{eq-or, le-or}
 use Rattle.laws.specs.Counts.{bit, consIf, count, tally}
 use Rattle.laws.specs.Every as Every
 use Rattle.layout.specs.Layout.{pagesInBlock, fewestBlocks, nodeLimit, mostLogPages}
-use Rattle.account.specs.declared.Mode.{Mode}
 use Rattle.account.specs.declared.Mode.the-variants.{Log, Disk}
 use Rattle.node.specs.Node.{Node, Neat}
-use Rattle.node.specs.Replay.{Piece, Draft, unlinked, made, replayFrom, replay}
-use Rattle.page.specs.Page.{Entry, Page, page, log, whole, checkpoint, sequence}
-use Rattle.store.specs.Item.{Item, entryItem, itemsOf, piecesIn, greatestIn}
-use Rattle.store.specs.View.{View, gather, greatestTo, greatest, pieces, buffered, pages}
+use Rattle.node.specs.Replay.{Piece, unlinked, made, replayFrom, replay}
+use Rattle.page.specs.Page.{Entry, Page, page, log, whole, checkpoint}
+use Rattle.store.specs.Item.{entryItem, itemsOf, piecesIn, greatestIn}
+use Rattle.store.specs.View.{gather, greatestTo, greatest, pieces, buffered, pages}
 use Rattle.store.specs.Pool.{Blocks, numbered, find, itemsAt}
-use Rattle.store.specs.Store.{Store, view, draftOf, nodeIn, nodeOf, modeAt, modeOf}
+use Rattle.store.specs.Store.{Store, view, draftOf, nodeOf, modeOf}
 use Rattle.store.specs.Live.{noClosing}
 use Rattle.store.specs.Run.{Run}
 use Rattle.store.specs.Checkpoint.{collect, checkpointOf, complete}
-use Rattle.store.specs.Reopen.{
-  Cells,
-  cells,
-  blocksIn,
-  newest,
-  blockOf,
-  storeOf,
-  reopened,
-  poolOf,
-  blocksPass,
-  versionPasses,
-  versionsPass,
-  pagePasses,
-  everyPage,
-  pagesPass,
-}
+use Rattle.store.specs.Reopen.{Cells, blocksIn, newest, blockOf, storeOf, reopened, poolOf, blocksPass, versionPasses, versionsPass, pagePasses, everyPage, pagesPass}
 use Rattle.storelaws.specs.ViewLaws.{gather-nil, Reached, greatestTo-reached}
 use Rattle.storelaws.specs.BlockRules.{BlockRules}
-use Rattle.storelaws.specs.Placing.{Invariant}
 use Rattle.storelaws.specs.Versions.{versionIs, VersionRules, InLog, OnPage, InMode, mode-is}
 use Rattle.storelaws.specs.BlockTests.{
   passing,
@@ -71,7 +54,7 @@ use Rattle.storelaws.specs.PageTests.{
 }
 use Rattle.storelaws.specs.Changes.{Lean}
 use Rattle.storelaws.specs.Good.{Good}
-use Rattle.storelaws.specs.Keeps.{Holds, Keeps}
+use Rattle.storelaws.specs.Keeps.{Keeps}
 
 none-closing-in : (b : List Page) → count noClosing b ≡ 0
 none-closing-in [] = refl

@@ -1,9 +1,9 @@
 -- The tests of sequence numbers and versions hold exactly where their rules do, page by page and entry by entry. Assumes nothing.
-use mathlib.Core.Path.{_≡_, refl, sym, ap, subst, _∙_}
+use mathlib.Core.Path.{_≡_, refl, ap, subst}
 use mathlib.Core.Bool.{Bool, true, false, _&&_}
 use mathlib.Core.Logic.{_⊎_, inl, inr}
 use mathlib.Core.Option.{Option, none, some}
-use mathlib.Core.List.{List, [], _∷_, _++_, map}
+use mathlib.Core.List.{List, [], _∷_, map}
 use Prim.Native.Nat.{ℕ, zero, suc, _+_, _≤_, _<_, max}
 use native.Mathlib.Nat.{le-trans}
 use native.Mathlib.Omega.{arith}
@@ -12,10 +12,9 @@ use lib.Dec.{eqb, leb, ltb}
 use Rattle.laws.specs.Tests.{choose, and-left, and-right, and-both}
 use Rattle.laws.specs.Order.{eq-or, le-or}
 use Rattle.laws.specs.Counts.{bit, count, tally}
-use Rattle.node.specs.Node.{Node}
 use Rattle.page.specs.Page.{Entry, Content, Page, page, log, whole, checkpoint, sequence}
-use Rattle.store.specs.Item.{Item, entryItem, itemsOf, greatestIn}
-use Rattle.store.specs.View.{View, greatest}
+use Rattle.store.specs.Item.{entryItem, itemsOf, greatestIn}
+use Rattle.store.specs.View.{greatest}
 use Rattle.store.specs.Pool.{Blocks, numbered, pageIn, orElse, find, itemsAt}
 use Rattle.store.specs.Store.{Store, seen}
 use Rattle.store.specs.Reopen.{greatestOf, newest, storeOf, versionPasses, versionsPass, pagePasses, every, everyPage}

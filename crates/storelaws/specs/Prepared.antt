@@ -1,29 +1,27 @@
 -- The store that prepare leaves is like that of a closed batch: node 0 alone, an empty leaf in log mode with score 0. Only its first two
 -- pages matter: the other blocks are blank. Assumes nothing.
 use mathlib.Core.Path.{_≡_, refl, sym, ap, _∙_, subst, fun-ext}
-use mathlib.Core.Bool.{Bool, true, false, not}
+use mathlib.Core.Bool.{Bool, true, not}
 use mathlib.Core.Logic.{_⊎_, inl, inr}
-use mathlib.Core.Option.{Option, none, some}
-use mathlib.Core.List.{List, [], _∷_, _++_, map}
+use mathlib.Core.Option.{none, some}
+use mathlib.Core.List.{[], _∷_}
 use Prim.Native.Nat.{ℕ, zero, suc, _+_, _-_, _≤_, _<_}
 use native.Mathlib.Omega.{arith}
-use borrow.Author.Tests.{eq-eqb, ne-eqb}
+use borrow.Author.Tests.{ne-eqb}
 use lib.Dec.{eqb}
-use lib.ListN.{length, getD, replicate, length-replicate}
+use lib.ListN.{length, replicate, length-replicate}
 use Rattle.laws.specs.Order.{eq-or}
 use Rattle.laws.specs.Counts.{bit, bit-le-one, count, tally, empty}
 use Rattle.layout.specs.Layout.{pagesInBlock, fewestBlocks}
-use Rattle.account.specs.declared.Mode.the-variants.{Log, Disk}
+use Rattle.account.specs.declared.Mode.the-variants.{Log}
 use Rattle.account.specs.declared.Tariff.{Tariff}
 use Rattle.pairs.specs.Pairs.{Within}
-use Rattle.node.specs.Node.{Neat}
 use Rattle.node.specs.Replay.{made, redo, redoPiece, replayFrom, replay}
 use Rattle.page.specs.Page.{Page}
 use Rattle.store.specs.Item.{piecesIn}
 use Rattle.store.specs.View.{View, some?, greatest, pieces, pages}
-use Rattle.store.specs.Pool.{Blocks, block, numbered, above, pageIn, orElse, find, itemsAt}
-use Rattle.store.specs.Store.{Store, seen, view, draftOf}
-use Rattle.store.specs.Run.{Run}
+use Rattle.store.specs.Pool.{Blocks, block, numbered, above, pageIn, orElse, itemsAt}
+use Rattle.store.specs.Store.{seen, view, draftOf}
 use Rattle.store.specs.Checkpoint.{scoresFrom, sheets, collect, checkpointOf, tariffIn, scoresIn, countIn, scoreIn, complete}
 use Rattle.store.specs.Reopen.{reopened, poolOf, pagesPass}
 use Rattle.store.specs.Prepare.{emptyLeaf, firstPages, prepared, preparedRun}
@@ -34,7 +32,7 @@ use Rattle.storelaws.specs.Versions.{says, said, late, VersionRules, InL
 use Rattle.storelaws.specs.BlockTests.{rules-positive, rules-blocks}
 use Rattle.storelaws.specs.Good.{Good}
 use Rattle.storelaws.specs.Keeps.{Holds, Keeps}
-use Rattle.storelaws.specs.Opening.{Opens, opened, opened-good, own-passes, reopen}
+use Rattle.storelaws.specs.Opening.{Opens, opened-good, own-passes, reopen}
 use Rattle.storelaws.specs.SheetLaws.{tariffIn-sheets, countIn-sheets, scoresIn-sheets, scoreIn-scoresFrom, sheets-complete}
 use Rattle.storelaws.specs.Closing.{Closed}
 

@@ -4,7 +4,7 @@
 use mathlib.Core.Path.{_≡_, refl, sym, ap, _∙_, subst}
 use mathlib.Core.Bool.{Bool, true, false}
 use mathlib.Core.Logic.{_⊎_, inl, inr}
-use mathlib.Core.Option.{Option, none, some}
+use mathlib.Core.Option.{none, some}
 use mathlib.Core.List.{List, [], _∷_, _++_}
 use Prim.Native.Nat.{ℕ, zero, suc, _+_, _≤_, _<_}
 use native.Mathlib.Omega.{arith}
@@ -16,17 +16,17 @@ use Rattle.account.specs.declared.Mode.{Mode}
 use Rattle.account.specs.declared.Mode.the-variants.{Log, Disk}
 use Rattle.node.specs.Node.{Node}
 use Rattle.node.specs.Change.{Change}
-use Rattle.page.specs.Page.{Entry, Content, Page, page, log, whole, checkpoint, sequence}
+use Rattle.page.specs.Page.{Entry, Content, Page, page, log, whole, checkpoint}
 use Rattle.store.specs.Item.{entries}
-use Rattle.store.specs.View.{View, greatest}
+use Rattle.store.specs.View.{greatest}
 use Rattle.store.specs.Pool.{numbered, find}
 use Rattle.store.specs.Store.{Store, view, modeAt, modeOf}
-use Rattle.store.specs.Live.{carries, live}
-use Rattle.store.specs.Write.{found, next, place, flush, enter, start, nodePage}
+use Rattle.store.specs.Live.{carries}
+use Rattle.store.specs.Write.{next, place, flush, enter, start, nodePage}
 use Rattle.storelaws.specs.PoolLaws.{find-none}
 use Rattle.storelaws.specs.LiveLaws.{live-carries}
 use Rattle.storelaws.specs.BlockRules.{numbered-none}
-use Rattle.storelaws.specs.Placing.{Invariant, place-tally, place-find, place-find-live}
+use Rattle.storelaws.specs.Placing.{Invariant, place-tally, place-find-live}
 
 abbrev pub versionIs : ℕ → Entry → Bool
 versionIs v e = eqb (e .version) v
