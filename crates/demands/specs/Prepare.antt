@@ -38,7 +38,8 @@ use Rattle.storelaws.specs.CellLaws.{length-cells, blocksIn-cells, allFilled-ce
 use Rattle.book.specs.Book.{Book}
 use Rattle.model.specs.State.{State, bookOf}
 use Rattle.model.specs.Mount.{stateOf, threePages, scoresBelow, treeSound}
-use Rattle.model.specs.Prepare.{emptyLeaf, firstBlock, preparedBlocks, prepared, rootAlone, firstBook}
+use Rattle.store.specs.Prepare.{emptyLeaf, firstPages, preparedBlocks}
+use Rattle.model.specs.Prepare.{prepared, rootAlone, firstBook}
 use Rattle.demands.specs.Mount.{Mounts, Ready, mounts-ready}
 
 -- Blank blocks count for nothing.
@@ -128,11 +129,11 @@ module _ (blocks : ℕ) (t : Tariff) (four : fewestBlocks ≤ blocks) where
       (rw (blocks-back, blank-tally k (numbered 1)) (blank-every (pagePasses bs) k))
 
   -- What is seen does not depend on the blank blocks.
-  find-is : (s : ℕ) → find s bs ≡ find s (firstBlock t ∷ [])
-  find-is s = ap (orElse (pageIn s (firstBlock t))) (blank-find k s)
+  find-is : (s : ℕ) → find s bs ≡ find s (firstPages t ∷ [])
+  find-is s = ap (orElse (pageIn s (firstPages t))) (blank-find k s)
 
   abbrev seen-first : View
-  seen-first = seen (firstBlock t ∷ []) [] 3
+  seen-first = seen (firstPages t ∷ []) [] 3
 
   view-is : view st ≡ seen-first
   view-is =

@@ -13,7 +13,8 @@ use Rattle.node.specs.declared.Kind.the-variants.{Leaf}
 use Rattle.node.specs.Change.{link}
 use Rattle.page.specs.Page.{page, log, checkpoint}
 use Rattle.page.specs.Limits.{PageFits}
-use Rattle.model.specs.Prepare.{firstBlock, preparedBlocks, prepared}
+use Rattle.store.specs.Prepare.{firstPages, preparedBlocks}
+use Rattle.model.specs.Prepare.{prepared}
 use Rattle.model.specs.Bytes.{bytesOf, cellsOf}
 use Rattle.demands.specs.StoreFits.{BlocksFit}
 use Rattle.demands.specs.CloseFits.{tariff-fits}
@@ -55,7 +56,7 @@ module _ (t : Tariff) (r : Ranged t) where
             };
       }
 
-  first-fits : Every PageFits (firstBlock t)
+  first-fits : Every PageFits (firstPages t)
   first-fits =
       both {x = page 2 (log (record { id = 0; version = 1; change = link Leaf noLeaf } ∷ []))} root-page
       (both {x = page 3 (checkpoint (some t) (record { id = 0; score = 0 } ∷ []) (some 1))} checkpoint-page none)
