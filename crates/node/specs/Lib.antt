@@ -1,3 +1,7 @@
 pub mod Node
 pub mod Change
 pub mod Replay
+pub mod Splice
+pub mod Search
+pub mod Found
+pub mod Value

@@ -1,8 +1,27 @@
-// A tree node by value.
+// A tree node by value: the search in it, its edits, its replay from log entries, and the halves of a full one.
+pub mod edit;
+pub mod replay;
+pub mod search;
+pub mod splice;
 
 // Document 01's types 3 and 4: a leaf holds the map's pairs and a link to the next leaf, a branch holds keys with child
 // pointers and a last pointer.
 pub enum Kind {
     Leaf,
     Branch,
+}
+
+// A node: the first `count` keys, ascending, with the pointers beside them, and the link.
+pub struct NodeValue {
+    pub kind: Kind,
+    pub count: usize,
+    pub keys: [u32; 24],
+    pub pointers: [u32; 24],
+    pub link: u32,
+}
+
+// What a search for a key finds: its place, or the place of the first key above it.
+pub enum Found {
+    At(usize),
+    Above(usize),
 }

@@ -1,0 +1,55 @@
+// The search in a node, and what stands at a place.
+ghost use mathlib.Core.Path.{_≡_};
+ghost use Prim.Native.Nat.{suc, _≤_, _<_};
+ghost use Rattle.node.specs.Search.{place, childPlace, keyAt, pointerAt};
+ghost use Rattle.node.specs.Found.{found};
+ghost use Rattle.node.specs.Value.{pairsIn, nodeOf, Held};
+use crate::Found;
+use crate::NodeValue;
+
+// A key as a number one above every key can be told from.
+fn wide(x: u32) -> u64
+    ensures { λ r. ⌜ r ≡ x ⌝ }
+{
+    x as u64
+}
+
+// The place of the first key at or above the wanted one, from the last key down, since keys most often come in ascending.
+pub fn place(v: NodeValue, wanted: u64) -> usize
+    requires { ⌜ Held v ⌝ }
+    ensures { λ r. ⌜ (r ≡ place wanted (pairsIn v)) × (r ≤ v .count) ⌝ }
+{
+    let keys = v.keys;
+    let mut i = v.count;
+    while 0 < i {
+        if wide(keys[i - 1]) < wanted {
+            return i;
+        }
+        i -= 1;
+    }
+    i
+}
+
+// The place of a key and whether it is there.
+pub fn find(v: NodeValue, key: u32) -> Found
+    requires { ⌜ Held v ⌝ }
+    ensures { λ r. ⌜ r ≡ found key (pairsIn v) ⌝ }
+{
+    let i = place(v, wide(key));
+    let keys = v.keys;
+    if i < v.count {
+        if keys[i] == key {
+            return Found::At(i);
+        }
+        return Found::Above(i);
+    }
+    Found::Above(i)
+}
+
+// The place of the child for a key: that of the first key above it.
+pub fn child_place(v: NodeValue, key: u32) -> usize
+    requires { ⌜ Held v ⌝ }
+    ensures { λ r. ⌜ (r ≡ childPlace key (pairsIn v)) × (r ≤ v .count) ⌝ }
+{
+    place(v, wide(key) + 1)
+}
