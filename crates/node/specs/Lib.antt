@@ -5,3 +5,4 @@ pub mod Splice
 pub mod Search
 pub mod Found
 pub mod Value
+pub mod Edits

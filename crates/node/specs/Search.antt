@@ -133,31 +133,31 @@ module _ (key v : ℕ) (p : Pair) (ps : List Pair) where
       let f : p .0 ≡ key = rw e at (w .equal) in
       omega arith
 
-  insert-lt : key < p .0 → insert key v (p ∷ ps) ≡ (key, v) ∷ p ∷ ps
+  pub insert-lt : key < p .0 → insert key v (p ∷ ps) ≡ (key, v) ∷ p ∷ ps
   unfolding insert
   insert-lt h = rw (lt-ltb key (p .0) h, insert)
 
-  insert-eq : key ≡ p .0 → insert key v (p ∷ ps) ≡ (key, v) ∷ ps
+  pub insert-eq : key ≡ p .0 → insert key v (p ∷ ps) ≡ (key, v) ∷ ps
   unfolding insert
   insert-eq h = rw (le-ltb key (p .0) (omega arith), eq-eqb key (p .0) h, insert)
 
-  insert-gt : p .0 < key → insert key v (p ∷ ps) ≡ p ∷ insert key v ps
+  pub insert-gt : p .0 < key → insert key v (p ∷ ps) ≡ p ∷ insert key v ps
   unfolding insert
   insert-gt h = rw (le-ltb key (p .0) (omega arith), ne-eqb key (p .0) (omega arith), insert)
 
-  delete-eq : key ≡ p .0 → delete key (p ∷ ps) ≡ ps
+  pub delete-eq : key ≡ p .0 → delete key (p ∷ ps) ≡ ps
   unfolding delete
   delete-eq h = rw (eq-eqb key (p .0) h, delete)
 
-  delete-ne : (key ≡ p .0 → ⊥) → delete key (p ∷ ps) ≡ p ∷ delete key ps
+  pub delete-ne : (key ≡ p .0 → ⊥) → delete key (p ∷ ps) ≡ p ∷ delete key ps
   unfolding delete
   delete-ne h = rw (ne-eqb key (p .0) h, delete)
 
-  lookup-eq : key ≡ p .0 → lookup key (p ∷ ps) ≡ some (p .1)
+  pub lookup-eq : key ≡ p .0 → lookup key (p ∷ ps) ≡ some (p .1)
   unfolding lookup
   lookup-eq h = rw (eq-eqb key (p .0) h, lookup)
 
-  lookup-ne : (key ≡ p .0 → ⊥) → lookup key (p ∷ ps) ≡ lookup key ps
+  pub lookup-ne : (key ≡ p .0 → ⊥) → lookup key (p ∷ ps) ≡ lookup key ps
   unfolding lookup
   lookup-ne h = rw (ne-eqb key (p .0) h, lookup)
 

@@ -75,3 +75,27 @@ pub fn relinked(v: NodeValue, to: u32) -> NodeValue
     w.link = to;
     w
 }
+
+// The node with a key's pointer added or replaced, where it has room.
+pub fn put(v: NodeValue, key: u32, pointer: u32) -> NodeValue
+    requires { ⌜ (Held v) × (length (insert key pointer (pairsIn v)) ≤ mostKeys) ⌝ }
+    ensures { λ r. ⌜ Becomes r (change (put key pointer) (nodeOf v)) ⌝ }
+{
+    let found = search::find(v, key);
+    match found {
+        Found::At(i) => repointed(v, i, pointer),
+        Found::Above(i) => added(v, i, key, pointer),
+    }
+}
+
+// The node without a key, the same where the key is absent.
+pub fn delete(v: NodeValue, key: u32) -> NodeValue
+    requires { ⌜ Held v ⌝ }
+    ensures { λ r. ⌜ Becomes r (change (remove key) (nodeOf v)) ⌝ }
+{
+    let found = search::find(v, key);
+    match found {
+        Found::At(i) => removed(v, i),
+        Found::Above(_) => v,
+    }
+}

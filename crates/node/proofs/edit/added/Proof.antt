@@ -1,25 +1,29 @@
+-- `node::edit::added` meets its contract: both arrays have the value in at the place, so their pairs have the pair there. Assumes nothing.
 use borrow.Author.Needs.{needs}
+use Rattle.node.specs.Edits.{stands-added}
 use Rattle.node.proofs.edit.added.Statement.{statement}
 use Rattle.node.proofs.edit.added.Tie as tie
-use Rattle.node.proofs.edit.added.Reads as reads
-use Rattle.node.proofs.edit.added.Lts as lts
-use Rattle.node.proofs.splice.insert.Reads as insert-reads
 
--- src/edit.rt:26:9
 insert-requires : tie.Need-insert-requires
 insert-requires c κs = search needs
 
--- src/edit.rt:27:9
 insert-requires-2 : tie.Need-insert-requires-2
 insert-requires-2 c κs = search needs
 
--- src/edit.rt:30:16
 add-t11 : tie.Need-add-t11
 add-t11 c = search needs
 
--- src/edit.rt:18:1
 returns : tie.Need-returns
-returns c = ?
+returns c =
+    let entry = c .before .before .before .before in
+    let a = entry .args in
+    let keys = c .before .insert in
+    let pointers = c .insert2 in
+    stands-added (a .v) (entry .pre .0) (a .at) (a .key) (a .pointer) (keys .result) (pointers .result) (entry .pre .2)
+    (keys .ensures .0)
+    (pointers .ensures .0)
+    (keys .ensures .1)
+    (pointers .ensures .1)
 
 pub added-spec : {M : Type 1} → statement M
 added-spec = tie.close (tie.spec insert-requires insert-requires-2 add-t11 returns)

@@ -1,0 +1,188 @@
+-- What the edited arrays of a node stand for, and that an edit keeps the keys ascending. Assumes nothing.
+use mathlib.Core.Path.{_≡_, refl, sym, ap, _∙_}
+use mathlib.Core.Bool.{Bool, true, false}
+use mathlib.Core.List.{List, [], _∷_}
+use mathlib.Core.Logic.{_⊎_, inl, inr}
+use Prim.Native.Nat.{ℕ, zero, suc, _+_, _-_, _≤_, _<_}
+use native.Mathlib.Omega.{arith}
+use lib.ListN.{length, getD, take, set, length-set}
+use lib.Seq.{set-getD}
+use Rattle.laws.specs.Order.{Tri, less, same, more, tri}
+use Rattle.layout.specs.Layout.{mostKeys, bound32}
+use Rattle.pairs.specs.Pairs.{Pair, insert, delete, Within}
+use Rattle.node.specs.declared.NodeValue.{NodeValue}
+use Rattle.node.specs.Node.{Node, node, pairsOf, Neat}
+use Rattle.node.specs.Change.{Change, put, remove, link, change}
+use Rattle.node.specs.Splice.{insertAt, removeAt, length-insertAt, length-removeAt}
+use Rattle.node.specs.Search.{
+  place,
+  keyAt,
+  Present,
+  Absent,
+  present-or,
+  place-le-length,
+  insert-lt,
+  insert-eq,
+  insert-gt,
+  delete-eq,
+  delete-ne,
+  insert-present,
+  insert-absent,
+  delete-present,
+  delete-absent,
+}
+use Rattle.node.specs.Value.{pairsIn, nodeOf, Sized, Held, Stands, Becomes, length-pairsIn, keyAt-pairsIn, pairs-insertAt, pairs-removeAt, pairs-set}
+
+-- Ascending keys, in bounds, stay so.
+pub within-weaken : (low low′ high : ℕ) (ps : List Pair) → low′ ≤ low → Within low high ps → Within low′ high ps
+unfolding Within
+within-weaken low low′ high [] l w = tt
+within-weaken low low′ high (p ∷ ps) l w = (omega arith, w .1, w .2)
+
+pub within-insert : (key v low high : ℕ) (ps : List Pair) → low ≤ key → key < high → Within low high ps → Within low high (insert key v ps)
+unfolding Within insert
+within-insert key v low high [] l h w = (l, h, tt)
+within-insert key v low high (p ∷ ps) l h w = go (tri key (p .0)) (λ m. within-insert key v (suc (p .0)) high ps m h (w .2))
+  where
+    go : Tri key (p .0) → (suc (p .0) ≤ key → Within (suc (p .0)) high (insert key v ps)) → Within low high (insert key v (p ∷ ps))
+    go (less e) r = rw (insert-lt key v p ps e) (l, h, (e, w .1, w .2))
+    go (same e) r = rw (insert-eq key v p ps e) (l, h, rw e (w .2))
+    go (more e) r = rw (insert-gt key v p ps e) (w .0, w .1, r e)
+
+pub within-delete : (key low high : ℕ) (ps : List Pair) → Within low high ps → Within low high (delete key ps)
+unfolding Within delete
+within-delete key low high [] w = tt
+within-delete key low high (p ∷ ps) w = go (tri key (p .0)) (within-delete key (suc (p .0)) high ps (w .2))
+  where
+    go : Tri key (p .0) → Within (suc (p .0)) high (delete key ps) → Within low high (delete key (p ∷ ps))
+    go (less e) r = rw (delete-ne key 0 p ps (omega arith)) (w .0, w .1, r)
+    go (same e) r = rw (delete-eq key 0 p ps e) (within-weaken (suc (p .0)) low high ps (omega arith) (w .2))
+    go (more e) r = rw (delete-ne key 0 p ps (omega arith)) (w .0, w .1, r)
+
+-- The number of pairs after a put: one more where the key was absent.
+pub length-insert-present : (key v : ℕ) (ps : List Pair) → Present key ps → length (insert key v ps) ≡ length ps
+length-insert-present key v ps w = ap length (insert-present key v ps w) ∙ simp length-set
+
+pub length-insert-absent : (key v : ℕ) (ps : List Pair) → Absent key ps → length (insert key v ps) ≡ suc (length ps)
+length-insert-absent key v ps a = ap length (insert-absent key v ps a) ∙ length-insertAt (place key ps) (key, v) ps
+
+pub length-insert-le : (key v : ℕ) (ps : List Pair) → length (insert key v ps) ≤ suc (length ps)
+length-insert-le key v ps = go (present-or key ps)
+  where
+    go : Present key ps ⊎ Absent key ps → length (insert key v ps) ≤ suc (length ps)
+    go (inl w) = omega (arith, length-insert-present key v ps w)
+    go (inr a) = omega (arith, length-insert-absent key v ps a)
+
+pub length-delete-le : (key : ℕ) (ps : List Pair) → length (delete key ps) ≤ length ps
+unfolding delete
+length-delete-le key [] = omega arith
+length-delete-le key (p ∷ ps) = go (tri key (p .0)) (length-delete-le key ps)
+  where
+    go : Tri key (p .0) → length (delete key ps) ≤ length ps → length (delete key (p ∷ ps)) ≤ suc (length ps)
+    go (less e) r = rw (delete-ne key 0 p ps (omega arith)) (omega arith)
+    go (same e) r = rw (delete-eq key 0 p ps e) (omega arith)
+    go (more e) r = rw (delete-ne key 0 p ps (omega arith)) (omega arith)
+
+-- A change whose key is a 32-bit number, and which leaves room, keeps a node neat: both kinds of node at once.
+pub record Fitting (c : Change) (n : Node) : Type 0 where
+  pub key : (k p : ℕ) → c ≡ put k p → k < bound32
+  pub room : length (pairsOf (change c n)) ≤ mostKeys
+
+pub neat-change : (c : Change) (n : Node) → Fitting c n → Neat n → Neat (change c n)
+neat-change (put k p) (node kind ps l) f w =
+    record { keys = within-insert k p 0 bound32 ps (omega arith) (f .key k p refl) (w .keys); size = f .room }
+neat-change (remove k) (node kind ps l) f w = record { keys = within-delete k 0 bound32 ps (w .keys); size = f .room }
+neat-change (link kind′ p) (node kind ps l) f w = record { keys = w .keys; size = w .size }
+
+-- What the arrays of an edited node stand for.
+module _ (v : NodeValue) (s : Sized v) where
+  pub stands-added :
+      (at k p : ℕ) (ks ps : List ℕ) → v .count < mostKeys →
+      take (v .count + 1) ks ≡ insertAt at k (take (v .count) (v .keys)) →
+      take (v .count + 1) ps ≡ insertAt at p (take (v .count) (v .pointers)) →
+      length ks ≡ mostKeys → length ps ≡ mostKeys →
+      Stands (record { kind = v .kind; count = v .count + 1; keys = ks; pointers = ps; link = v .link }) (node (v .kind) (insertAt at (k, p) (pairsIn v)) (v .link))
+  unfolding pairsIn
+  stands-added at k p ks ps h e f a b =
+      record {
+        is = ap (λ (qs : List Pair). node (v .kind) qs (v .link)) (pairs-insertAt v s at k p (take (v .count + 1) ks) (take (v .count + 1) ps) e f);
+        sized = record { size = omega arith; keyRoom = a; pointerRoom = b }
+      }
+
+  pub stands-removed :
+      (at : ℕ) (ks ps : List ℕ) →
+      take (v .count - 1) ks ≡ removeAt at (take (v .count) (v .keys)) →
+      take (v .count - 1) ps ≡ removeAt at (take (v .count) (v .pointers)) →
+      length ks ≡ mostKeys → length ps ≡ mostKeys →
+      Stands (record { kind = v .kind; count = v .count - 1; keys = ks; pointers = ps; link = v .link }) (node (v .kind) (removeAt at (pairsIn v)) (v .link))
+  unfolding pairsIn
+  stands-removed at ks ps e f a b =
+      record {
+        is = ap (λ (qs : List Pair). node (v .kind) qs (v .link)) (pairs-removeAt v s at (take (v .count - 1) ks) (take (v .count - 1) ps) e f);
+        sized = record { size = omega (arith, s .size); keyRoom = a; pointerRoom = b }
+      }
+
+  pub stands-repointed :
+      (at p : ℕ) → at < v .count →
+      Stands (record { kind = v .kind; count = v .count; keys = v .keys; pointers = set (v .pointers) at p; link = v .link }) (node (v .kind) (set (pairsIn v) at (keyAt (pairsIn v) at, p)) (v .link))
+  unfolding pairsIn
+  stands-repointed at p h =
+      let k = getD (v .keys) at 0 in
+      let qs = take (v .count) (set (v .pointers) at p) in
+      record {
+        is =
+          ap (λ (ks : List ℕ). node (v .kind) (Rattle.node.specs.Splice.zip (take (v .count) ks) qs) (v .link)) (sym (set-getD (v .keys) at 0)) ∙
+          ap (λ (qs : List Pair). node (v .kind) qs (v .link)) (pairs-set v s at k p h) ∙
+          ap (λ (k : ℕ). node (v .kind) (set (pairsIn v) at (k, p)) (v .link)) (sym (keyAt-pairsIn v s at h));
+        sized = record { size = s .size; keyRoom = s .keyRoom; pointerRoom = simp length-set (s .pointerRoom) }
+      }
+
+-- A put and a delete of a key, from the edit at its place.
+becomes : (r : NodeValue) (n m : Node) → Stands r n → n ≡ m → Within 0 bound32 (pairsOf m) → Becomes r m
+becomes r n m s e w =
+    record { is = s .is ∙ e; held = record { sized = s .sized; ascending = rw (ap pairsOf (sym (s .is ∙ e))) at w } }
+
+module _ (v r : NodeValue) (h : Held v) (key : ℕ) where
+  pub becomes-added :
+      (p : ℕ) → key < bound32 → Absent key (pairsIn v) →
+      Stands r (node (v .kind) (insertAt (place key (pairsIn v)) (key, p) (pairsIn v)) (v .link)) → Becomes r (change (put key p) (nodeOf v))
+  becomes-added p l a s =
+      becomes r _ _ s (ap (λ (qs : List Pair). node (v .kind) qs (v .link)) (sym (insert-absent key p (pairsIn v) a)))
+      (within-insert key p 0 bound32 (pairsIn v) (omega arith) l (h .ascending))
+
+  pub becomes-replaced :
+      (p : ℕ) → key < bound32 → Present key (pairsIn v) →
+      Stands r (node (v .kind) (set (pairsIn v) (place key (pairsIn v)) (keyAt (pairsIn v) (place key (pairsIn v)), p)) (v .link)) →
+      Becomes r (change (put key p) (nodeOf v))
+  becomes-replaced p l w s =
+      let i = place key (pairsIn v) in
+      becomes r _ _ s
+      (ap (λ (k : ℕ). node (v .kind) (set (pairsIn v) i (k, p)) (v .link)) (w .equal) ∙
+      ap (λ (qs : List Pair). node (v .kind) qs (v .link)) (sym (insert-present key p (pairsIn v) w)))
+      (within-insert key p 0 bound32 (pairsIn v) (omega arith) l (h .ascending))
+
+  pub becomes-removed :
+      Present key (pairsIn v) →
+      Stands r (node (v .kind) (removeAt (place key (pairsIn v)) (pairsIn v)) (v .link)) → Becomes r (change (remove key) (nodeOf v))
+  becomes-removed w s =
+      becomes r _ _ s (ap (λ (qs : List Pair). node (v .kind) qs (v .link)) (sym (delete-present key (pairsIn v) w)))
+      (within-delete key 0 bound32 (pairsIn v) (h .ascending))
+
+-- A delete of an absent key changes nothing; a link leaves the pairs alone.
+pub becomes-same : (v : NodeValue) → Held v → (key : ℕ) → Absent key (pairsIn v) → Becomes v (change (remove key) (nodeOf v))
+becomes-same v h key a =
+    record { is = ap (λ (qs : List Pair). node (v .kind) qs (v .link)) (sym (delete-absent key 0 bound32 (pairsIn v) (h .ascending) a)); held = h }
+
+pub becomes-relinked :
+    (v : NodeValue) → Held v → (to : ℕ) →
+    Becomes (record { kind = v .kind; count = v .count; keys = v .keys; pointers = v .pointers; link = to }) (node (v .kind) (pairsIn v) to)
+unfolding pairsIn
+becomes-relinked v h to =
+    record {
+      is = refl;
+      held =
+        record {
+          sized = record { size = h .sized .size; keyRoom = h .sized .keyRoom; pointerRoom = h .sized .pointerRoom };
+          ascending = h .ascending
+        }
+    }
