@@ -1,34 +1,49 @@
+-- `node::edit::delete` meets its contract: the search says whether the key is there, and the pair at its place goes. Assumes nothing.
+use mathlib.Core.Path.{_≡_, sym, ap, _∙_}
+use Prim.Native.Nat.{ℕ, _≤_, _<_}
+use native.Mathlib.Omega.{arith}
+use lib.ListN.{length}
 use borrow.Author.Needs.{needs}
+use Rattle.node.specs.Search.{place}
+use Rattle.node.specs.Found.{at-present, at-place, above-absent}
+use Rattle.node.specs.Value.{pairsIn, length-pairsIn}
+use Rattle.node.specs.Edits.{becomes-removed, becomes-same}
 use Rattle.node.proofs.edit.delete.Statement.{statement}
 use Rattle.node.proofs.edit.delete.Tie as tie
-use Rattle.node.proofs.edit.delete.Reads as reads
-use Rattle.node.proofs.edit.delete.Lts as lts
-use Rattle.node.proofs.edit.removed.Reads as removed-reads
-use Rattle.node.proofs.search.find.Reads as find-reads
 
--- src/edit.rt:96:9
 find-requires : tie.Need-find-requires
 find-requires c κs = search needs
 
--- src/edit.rt:98:19
 enum-known-found : tie.Need-enum-known-found
 enum-known-found c = search needs
 
--- src/edit.rt:98:25
 removed-requires : tie.Need-removed-requires
-removed-requires c κs = ?
+removed-requires c κs =
+    let entry = c .before .before .before .before in
+    let v = entry .args .v in
+    let e = sym (c .before .before .before .find .ensures) ∙ c .before .found .given .1 in
+    let w = at-present (entry .args .key) (pairsIn v) _ e in
+    (entry .pre .sized,
+    omega (arith, at-place (entry .args .key) (pairsIn v) _ e, w .inside, length-pairsIn v (entry .pre .sized)))
 
--- src/edit.rt:99:28
 enum-told : tie.Need-enum-told
 enum-told c = search needs
 
--- src/edit.rt:92:1
 returns : tie.Need-returns
-returns c = ?
+returns c =
+    let entry = c .before .before .before .before .before in
+    let v = entry .args .v in
+    let key = entry .args .key in
+    let e = sym (c .before .before .before .before .find .ensures) ∙ c .before .before .found .given .1 in
+    becomes-removed v (c .removed .result) (entry .pre) key (at-present key (pairsIn v) _ e)
+    (rw (at-place key (pairsIn v) _ e) at (c .removed .ensures))
 
--- src/edit.rt:92:1
 returns-2 : tie.Need-returns-2
-returns-2 c = ?
+returns-2 c =
+    let entry = c .before .before .before in
+    let v = entry .args .v in
+    let key = entry .args .key in
+    becomes-same v (entry .pre) key (above-absent key (pairsIn v) _ (sym (c .before .before .find .ensures) ∙ c .enum-told .given .1))
 
 pub delete-spec : {M : Type 1} → statement M
 delete-spec =
