@@ -1,31 +1,22 @@
 -- What the edited arrays of a node stand for, and that an edit keeps the keys ascending. Assumes nothing.
 use mathlib.Core.Path.{_≡_, refl, sym, ap, _∙_}
-use mathlib.Core.Bool.{Bool, true, false}
 use mathlib.Core.List.{List, [], _∷_}
-use mathlib.Core.Logic.{_⊎_, inl, inr}
 use Prim.Native.Nat.{ℕ, zero, suc, _+_, _-_, _≤_, _<_}
 use native.Mathlib.Omega.{arith}
 use lib.ListN.{length, getD, take, set, length-set}
 use lib.Seq.{set-getD}
-use Rattle.laws.specs.Order.{Tri, less, same, more, tri}
 use Rattle.layout.specs.Layout.{mostKeys, bound32}
 use Rattle.pairs.specs.Pairs.{Pair, insert, delete, Within}
+use Rattle.pairs.specs.Bounds.{within-insert, within-delete}
 use Rattle.node.specs.declared.NodeValue.{NodeValue}
 use Rattle.node.specs.Node.{Node, node, pairsOf, Neat}
 use Rattle.node.specs.Change.{Change, put, remove, link, change}
-use Rattle.node.specs.Splice.{insertAt, removeAt, length-insertAt, length-removeAt}
+use Rattle.node.specs.Splice.{zip, insertAt, removeAt, length-insertAt}
 use Rattle.node.specs.Search.{
   place,
   keyAt,
   Present,
   Absent,
-  present-or,
-  place-le-length,
-  insert-lt,
-  insert-eq,
-  insert-gt,
-  delete-eq,
-  delete-ne,
   insert-present,
   insert-absent,
   delete-present,
@@ -33,55 +24,12 @@ use Rattle.node.specs.Search.{
 }
 use Rattle.node.specs.Value.{pairsIn, nodeOf, Sized, Held, Stands, Becomes, length-pairsIn, keyAt-pairsIn, pairs-insertAt, pairs-removeAt, pairs-set}
 
--- Ascending keys, in bounds, stay so.
-pub within-weaken : (low low′ high : ℕ) (ps : List Pair) → low′ ≤ low → Within low high ps → Within low′ high ps
-unfolding Within
-within-weaken low low′ high [] l w = tt
-within-weaken low low′ high (p ∷ ps) l w = (omega arith, w .1, w .2)
-
-pub within-insert : (key v low high : ℕ) (ps : List Pair) → low ≤ key → key < high → Within low high ps → Within low high (insert key v ps)
-unfolding Within insert
-within-insert key v low high [] l h w = (l, h, tt)
-within-insert key v low high (p ∷ ps) l h w = go (tri key (p .0)) (λ m. within-insert key v (suc (p .0)) high ps m h (w .2))
-  where
-    go : Tri key (p .0) → (suc (p .0) ≤ key → Within (suc (p .0)) high (insert key v ps)) → Within low high (insert key v (p ∷ ps))
-    go (less e) r = rw (insert-lt key v p ps e) (l, h, (e, w .1, w .2))
-    go (same e) r = rw (insert-eq key v p ps e) (l, h, rw e (w .2))
-    go (more e) r = rw (insert-gt key v p ps e) (w .0, w .1, r e)
-
-pub within-delete : (key low high : ℕ) (ps : List Pair) → Within low high ps → Within low high (delete key ps)
-unfolding Within delete
-within-delete key low high [] w = tt
-within-delete key low high (p ∷ ps) w = go (tri key (p .0)) (within-delete key (suc (p .0)) high ps (w .2))
-  where
-    go : Tri key (p .0) → Within (suc (p .0)) high (delete key ps) → Within low high (delete key (p ∷ ps))
-    go (less e) r = rw (delete-ne key 0 p ps (omega arith)) (w .0, w .1, r)
-    go (same e) r = rw (delete-eq key 0 p ps e) (within-weaken (suc (p .0)) low high ps (omega arith) (w .2))
-    go (more e) r = rw (delete-ne key 0 p ps (omega arith)) (w .0, w .1, r)
-
 -- The number of pairs after a put: one more where the key was absent.
 pub length-insert-present : (key v : ℕ) (ps : List Pair) → Present key ps → length (insert key v ps) ≡ length ps
 length-insert-present key v ps w = ap length (insert-present key v ps w) ∙ simp length-set
 
 pub length-insert-absent : (key v : ℕ) (ps : List Pair) → Absent key ps → length (insert key v ps) ≡ suc (length ps)
 length-insert-absent key v ps a = ap length (insert-absent key v ps a) ∙ length-insertAt (place key ps) (key, v) ps
-
-pub length-insert-le : (key v : ℕ) (ps : List Pair) → length (insert key v ps) ≤ suc (length ps)
-length-insert-le key v ps = go (present-or key ps)
-  where
-    go : Present key ps ⊎ Absent key ps → length (insert key v ps) ≤ suc (length ps)
-    go (inl w) = omega (arith, length-insert-present key v ps w)
-    go (inr a) = omega (arith, length-insert-absent key v ps a)
-
-pub length-delete-le : (key : ℕ) (ps : List Pair) → length (delete key ps) ≤ length ps
-unfolding delete
-length-delete-le key [] = omega arith
-length-delete-le key (p ∷ ps) = go (tri key (p .0)) (length-delete-le key ps)
-  where
-    go : Tri key (p .0) → length (delete key ps) ≤ length ps → length (delete key (p ∷ ps)) ≤ suc (length ps)
-    go (less e) r = rw (delete-ne key 0 p ps (omega arith)) (omega arith)
-    go (same e) r = rw (delete-eq key 0 p ps e) (omega arith)
-    go (more e) r = rw (delete-ne key 0 p ps (omega arith)) (omega arith)
 
 -- A change whose key is a 32-bit number, and which leaves room, keeps a node neat: both kinds of node at once.
 pub record Fitting (c : Change) (n : Node) : Type 0 where
@@ -131,7 +79,7 @@ module _ (v : NodeValue) (s : Sized v) where
       let qs = take (v .count) (set (v .pointers) at p) in
       record {
         is =
-          ap (λ (ks : List ℕ). node (v .kind) (Rattle.node.specs.Splice.zip (take (v .count) ks) qs) (v .link)) (sym (set-getD (v .keys) at 0)) ∙
+          ap (λ (ks : List ℕ). node (v .kind) (zip (take (v .count) ks) qs) (v .link)) (sym (set-getD (v .keys) at 0)) ∙
           ap (λ (qs : List Pair). node (v .kind) qs (v .link)) (pairs-set v s at k p h) ∙
           ap (λ (k : ℕ). node (v .kind) (set (pairsIn v) at (k, p)) (v .link)) (sym (keyAt-pairsIn v s at h));
         sized = record { size = s .size; keyRoom = s .keyRoom; pointerRoom = simp length-set (s .pointerRoom) }

@@ -7,11 +7,13 @@ use mathlib.Core.Logic.{_⊎_, inl, inr}
 use mathlib.Core.Option.{Option, none, some}
 use Prim.Native.Nat.{ℕ, zero, suc, _+_, _-_, _≤_, _<_}
 use native.Mathlib.Omega.{arith}
-use borrow.Author.Tests.{lt-ltb, le-ltb, eq-eqb, ne-eqb}
-use lib.Dec.{eqb, ltb}
+use borrow.Author.Tests.{lt-ltb, le-ltb}
+use lib.Dec.{ltb}
 use lib.ListN.{length, getD, set}
 use Rattle.laws.specs.Order.{Tri, less, same, more, tri, eq-or, le-or}
 use Rattle.pairs.specs.Pairs.{Pair, lookup, insert, delete, Within}
+use Rattle.pairs.specs.Clauses.{lookup-same, lookup-other, delete-same, delete-other, insert-before, insert-same, insert-behind}
+use Rattle.pairs.specs.Bounds.{lookup-below}
 use Rattle.node.specs.Splice.{insertAt, removeAt}
 
 -- The place of the first key at or above the wanted one: the number of pairs where every key is below it.
@@ -23,15 +25,32 @@ place wanted (p ∷ ps) = elim (ltb (p .0) wanted) [ true ↦ suc (place wanted 
 abbrev pub childPlace : ℕ → List Pair → ℕ
 childPlace key ps = place (suc key) ps
 
--- the pair at a place, its key and its pointer
-abbrev pub pairAt : List Pair → ℕ → Pair
-pairAt ps i = getD ps i (0, 0)
-
+-- The key at a place.
 abbrev pub keyAt : List Pair → ℕ → ℕ
-keyAt ps i = pairAt ps i .0
+keyAt [] j = 0
+keyAt (p ∷ ps) zero = p .0
+keyAt (p ∷ ps) (suc j) = keyAt ps j
 
-abbrev pub pointerAt : List Pair → ℕ → ℕ
-pointerAt ps i = pairAt ps i .1
+-- The pointer at a place: behind all keys it is the link, the last pointer of a branch.
+abbrev pub pointerAt : List Pair → ℕ → ℕ → ℕ
+pointerAt [] last j = last
+pointerAt (p ∷ ps) last zero = p .1
+pointerAt (p ∷ ps) last (suc j) = pointerAt ps last j
+
+pub keyAt-getD : (ps : List Pair) (j : ℕ) → keyAt ps j ≡ getD ps j (0, 0) .0
+keyAt-getD [] j = refl
+keyAt-getD (p ∷ ps) zero = refl
+keyAt-getD (p ∷ ps) (suc j) = keyAt-getD ps j
+
+pub pointerAt-getD : (ps : List Pair) (last j : ℕ) → j < length ps → pointerAt ps last j ≡ getD ps j (0, 0) .1
+pointerAt-getD [] last j h = absurd (omega arith)
+pointerAt-getD (p ∷ ps) last zero h = refl
+pointerAt-getD (p ∷ ps) last (suc j) h = pointerAt-getD ps last j (omega arith)
+
+pub pointerAt-last : (ps : List Pair) (last j : ℕ) → length ps ≤ j → pointerAt ps last j ≡ last
+pointerAt-last [] last j h = refl
+pointerAt-last (p ∷ ps) last zero h = absurd (omega arith)
+pointerAt-last (p ∷ ps) last (suc j) h = pointerAt-last ps last j (omega arith)
 
 -- The key stands in the list, at its place.
 pub record Present (key : ℕ) (ps : List Pair) : Type 0 where
@@ -110,8 +129,8 @@ place-is wanted low high ps i w l before behind = omega (arith, lower (le-or i 0
     upper (inl h) = omega (arith, place-le-length wanted ps)
     upper (inr h) = place-le wanted ps i h (behind h)
 
--- What a first pair below the key, at it or above it says of the key's place, and of a put, a delete and a read.
-module _ (key v : ℕ) (p : Pair) (ps : List Pair) where
+-- What a first pair below the key, at it or above it says of the key's place.
+module _ (key : ℕ) (p : Pair) (ps : List Pair) where
   present-tail : p .0 < key → Present key (p ∷ ps) → Present key ps
   present-tail h w =
       let e = place-below key p ps h in
@@ -133,34 +152,6 @@ module _ (key v : ℕ) (p : Pair) (ps : List Pair) where
       let f : p .0 ≡ key = rw e at (w .equal) in
       omega arith
 
-  pub insert-lt : key < p .0 → insert key v (p ∷ ps) ≡ (key, v) ∷ p ∷ ps
-  unfolding insert
-  insert-lt h = rw (lt-ltb key (p .0) h, insert)
-
-  pub insert-eq : key ≡ p .0 → insert key v (p ∷ ps) ≡ (key, v) ∷ ps
-  unfolding insert
-  insert-eq h = rw (le-ltb key (p .0) (omega arith), eq-eqb key (p .0) h, insert)
-
-  pub insert-gt : p .0 < key → insert key v (p ∷ ps) ≡ p ∷ insert key v ps
-  unfolding insert
-  insert-gt h = rw (le-ltb key (p .0) (omega arith), ne-eqb key (p .0) (omega arith), insert)
-
-  pub delete-eq : key ≡ p .0 → delete key (p ∷ ps) ≡ ps
-  unfolding delete
-  delete-eq h = rw (eq-eqb key (p .0) h, delete)
-
-  pub delete-ne : (key ≡ p .0 → ⊥) → delete key (p ∷ ps) ≡ p ∷ delete key ps
-  unfolding delete
-  delete-ne h = rw (ne-eqb key (p .0) h, delete)
-
-  pub lookup-eq : key ≡ p .0 → lookup key (p ∷ ps) ≡ some (p .1)
-  unfolding lookup
-  lookup-eq h = rw (eq-eqb key (p .0) h, lookup)
-
-  pub lookup-ne : (key ≡ p .0 → ⊥) → lookup key (p ∷ ps) ≡ lookup key ps
-  unfolding lookup
-  lookup-ne h = rw (ne-eqb key (p .0) h, lookup)
-
 present-nil : (key : ℕ) → Present key [] → ⊥
 present-nil key h = omega (arith, h .inside)
 
@@ -173,11 +164,11 @@ insert-present key v (p ∷ ps) w = go (tri key (p .0)) (insert-present key v ps
         Tri key (p .0) →
         (Present key ps → insert key v ps ≡ set ps (place key ps) (key, v)) →
         insert key v (p ∷ ps) ≡ set (p ∷ ps) (place key (p ∷ ps)) (key, v)
-    go (less h) r = absurd (present-first key v p ps h w)
-    go (same h) r = rw (insert-eq key v p ps h, place-first key p ps (omega arith))
+    go (less h) r = absurd (present-first key p ps h w)
+    go (same h) r = rw (insert-same key v p ps h, place-first key p ps (omega arith))
     go (more h) r =
-        rw (insert-gt key v p ps h, place-below key p ps h)
-        (ap {B = List Pair} (p ∷_) (r (present-tail key v p ps h w)))
+        rw (insert-behind key v p ps h, place-below key p ps h)
+        (ap {B = List Pair} (p ∷_) (r (present-tail key p ps h w)))
 
 pub insert-absent : (key v : ℕ) (ps : List Pair) → Absent key ps → insert key v ps ≡ insertAt (place key ps) (key, v) ps
 unfolding insert place
@@ -188,11 +179,11 @@ insert-absent key v (p ∷ ps) w = go (tri key (p .0)) (insert-absent key v ps)
         Tri key (p .0) →
         (Absent key ps → insert key v ps ≡ insertAt (place key ps) (key, v) ps) →
         insert key v (p ∷ ps) ≡ insertAt (place key (p ∷ ps)) (key, v) (p ∷ ps)
-    go (less h) r = insert-lt key v p ps h ∙ ap (λ (i : ℕ). insertAt i (key, v) (p ∷ ps)) (sym (place-first key p ps (omega arith)))
-    go (same h) r = absurd (absent-first key v p ps h w)
+    go (less h) r = insert-before key v p ps h ∙ ap (λ (i : ℕ). insertAt i (key, v) (p ∷ ps)) (sym (place-first key p ps (omega arith)))
+    go (same h) r = absurd (absent-first key p ps h w)
     go (more h) r =
-        insert-gt key v p ps h ∙
-        ap {B = List Pair} (p ∷_) (r (absent-tail key v p ps h w)) ∙
+        insert-behind key v p ps h ∙
+        ap {B = List Pair} (p ∷_) (r (absent-tail key p ps h w)) ∙
         ap (λ (i : ℕ). insertAt i (key, v) (p ∷ ps)) (sym (place-below key p ps h))
 
 -- A delete of a present key takes the pair at its place out; of an absent one, in an ascending list, it changes nothing.
@@ -204,18 +195,18 @@ delete-present key (p ∷ ps) w = go (tri key (p .0)) (delete-present key ps)
         Tri key (p .0) →
         (Present key ps → delete key ps ≡ removeAt (place key ps) ps) →
         delete key (p ∷ ps) ≡ removeAt (place key (p ∷ ps)) (p ∷ ps)
-    go (less h) r = absurd (present-first key 0 p ps h w)
-    go (same h) r = delete-eq key 0 p ps h ∙ ap (λ (i : ℕ). removeAt i (p ∷ ps)) (sym (place-first key p ps (omega arith)))
+    go (less h) r = absurd (present-first key p ps h w)
+    go (same h) r = delete-same key p ps h ∙ ap (λ (i : ℕ). removeAt i (p ∷ ps)) (sym (place-first key p ps (omega arith)))
     go (more h) r =
-        delete-ne key 0 p ps (omega arith) ∙
-        ap {B = List Pair} (p ∷_) (r (present-tail key 0 p ps h w)) ∙
+        delete-other key p ps (omega arith) ∙
+        ap {B = List Pair} (p ∷_) (r (present-tail key p ps h w)) ∙
         ap (λ (i : ℕ). removeAt i (p ∷ ps)) (sym (place-below key p ps h))
 
 delete-below : (key low high : ℕ) (ps : List Pair) → key < low → Within low high ps → delete key ps ≡ ps
 unfolding Within delete
 delete-below key low high [] h w = refl
 delete-below key low high (p ∷ ps) h w =
-    delete-ne key 0 p ps (omega arith) ∙ ap {B = List Pair} (p ∷_) (delete-below key (suc (p .0)) high ps (omega arith) (w .2))
+    delete-other key p ps (omega arith) ∙ ap {B = List Pair} (p ∷_) (delete-below key (suc (p .0)) high ps (omega arith) (w .2))
 
 pub delete-absent : (key low high : ℕ) (ps : List Pair) → Within low high ps → Absent key ps → delete key ps ≡ ps
 unfolding Within delete
@@ -224,29 +215,23 @@ delete-absent key low high (p ∷ ps) w a = go (tri key (p .0)) (delete-absent k
   where
     go : Tri key (p .0) → (Absent key ps → delete key ps ≡ ps) → delete key (p ∷ ps) ≡ p ∷ ps
     go (less h) r =
-        delete-ne key 0 p ps (omega arith) ∙
+        delete-other key p ps (omega arith) ∙
         ap {B = List Pair} (p ∷_) (delete-below key (suc (p .0)) high ps (omega arith) (w .2))
-    go (same h) r = absurd (absent-first key 0 p ps h a)
-    go (more h) r = delete-ne key 0 p ps (omega arith) ∙ ap {B = List Pair} (p ∷_) (r (absent-tail key 0 p ps h a))
+    go (same h) r = absurd (absent-first key p ps h a)
+    go (more h) r = delete-other key p ps (omega arith) ∙ ap {B = List Pair} (p ∷_) (r (absent-tail key p ps h a))
 
 -- A read answers the value at the key's place, or nothing.
-pub lookup-present : (key : ℕ) (ps : List Pair) → Present key ps → lookup key ps ≡ some (pointerAt ps (place key ps))
-lookup-present key [] w = absurd (present-nil key w)
-lookup-present key (p ∷ ps) w = go (tri key (p .0)) (lookup-present key ps)
+pub lookup-present : (key last : ℕ) (ps : List Pair) → Present key ps → lookup key ps ≡ some (pointerAt ps last (place key ps))
+lookup-present key last [] w = absurd (present-nil key w)
+lookup-present key last (p ∷ ps) w = go (tri key (p .0)) (lookup-present key last ps)
   where
     go :
         Tri key (p .0) →
-        (Present key ps → lookup key ps ≡ some (pointerAt ps (place key ps))) →
-        lookup key (p ∷ ps) ≡ some (pointerAt (p ∷ ps) (place key (p ∷ ps)))
-    go (less h) r = absurd (present-first key 0 p ps h w)
-    go (same h) r = rw (lookup-eq key 0 p ps h, place-first key p ps (omega arith))
-    go (more h) r = rw (lookup-ne key 0 p ps (omega arith), place-below key p ps h) (r (present-tail key 0 p ps h w))
-
-lookup-below : (key low high : ℕ) (ps : List Pair) → key < low → Within low high ps → lookup key ps ≡ none
-unfolding Within lookup
-lookup-below key low high [] h w = refl
-lookup-below key low high (p ∷ ps) h w =
-    lookup-ne key 0 p ps (omega arith) ∙ lookup-below key (suc (p .0)) high ps (omega arith) (w .2)
+        (Present key ps → lookup key ps ≡ some (pointerAt ps last (place key ps))) →
+        lookup key (p ∷ ps) ≡ some (pointerAt (p ∷ ps) last (place key (p ∷ ps)))
+    go (less h) r = absurd (present-first key p ps h w)
+    go (same h) r = rw (lookup-same key p ps h, place-first key p ps (omega arith))
+    go (more h) r = rw (lookup-other key p ps (omega arith), place-below key p ps h) (r (present-tail key p ps h w))
 
 pub lookup-absent : (key low high : ℕ) (ps : List Pair) → Within low high ps → Absent key ps → lookup key ps ≡ none
 unfolding Within lookup
@@ -255,6 +240,6 @@ lookup-absent key low high (p ∷ ps) w a = go (tri key (p .0)) (lookup-absent k
   where
     go : Tri key (p .0) → (Absent key ps → lookup key ps ≡ none) → lookup key (p ∷ ps) ≡ none
     go (less h) r =
-        lookup-ne key 0 p ps (omega arith) ∙ lookup-below key (suc (p .0)) high ps (omega arith) (w .2)
-    go (same h) r = absurd (absent-first key 0 p ps h a)
-    go (more h) r = lookup-ne key 0 p ps (omega arith) ∙ r (absent-tail key 0 p ps h a)
+        lookup-other key p ps (omega arith) ∙ lookup-below key (suc (p .0)) high ps (omega arith) (w .2)
+    go (same h) r = absurd (absent-first key p ps h a)
+    go (more h) r = lookup-other key p ps (omega arith) ∙ r (absent-tail key p ps h a)

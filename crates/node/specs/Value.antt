@@ -12,7 +12,7 @@ use Rattle.node.specs.declared.NodeValue.{NodeValue}
 use Rattle.node.specs.Node.{Node, node, Neat}
 use Rattle.node.specs.Splice.{zip, length-zip, getD-zip, insertAt, removeAt, zip-insertAt, zip-removeAt, zip-set}
 use Rattle.node.specs.declared.Found.the-variants.{At, Above}
-use Rattle.node.specs.Search.{place, keyAt, pointerAt, pairAt, place-is, Present, Absent}
+use Rattle.node.specs.Search.{place, keyAt, pointerAt, keyAt-getD, pointerAt-getD, place-is, Present, Absent}
 use Rattle.node.specs.Found.{found, found-present, found-absent}
 
 -- its pairs: the first `count` keys with the pointers beside them
@@ -55,17 +55,18 @@ module _ (v : NodeValue) (s : Sized v) where
   length-pairsIn =
       length-zip (take (v .count) (v .keys)) (take (v .count) (v .pointers)) (length-keys ∙ sym length-pointers) ∙ length-keys
 
-  pairAt-pairsIn : (i : ℕ) → i < v .count → pairAt (pairsIn v) i ≡ (getD (v .keys) i 0, getD (v .pointers) i 0)
+  getD-pairsIn : (i : ℕ) → i < v .count → getD (pairsIn v) i (0, 0) ≡ (getD (v .keys) i 0, getD (v .pointers) i 0)
   unfolding pairsIn
-  pairAt-pairsIn i h =
+  getD-pairsIn i h =
       getD-zip (take (v .count) (v .keys)) (take (v .count) (v .pointers)) i (length-keys ∙ sym length-pointers) ∙
       ap₂ {C = Pair} (λ (k p : ℕ). (k, p)) (getD-take (v .count) (v .keys) i 0 h) (getD-take (v .count) (v .pointers) i 0 h)
 
   pub keyAt-pairsIn : (i : ℕ) → i < v .count → keyAt (pairsIn v) i ≡ getD (v .keys) i 0
-  keyAt-pairsIn i h = ap (λ (p : Pair). p .0) (pairAt-pairsIn i h)
+  keyAt-pairsIn i h = keyAt-getD (pairsIn v) i ∙ ap (λ (p : Pair). p .0) (getD-pairsIn i h)
 
-  pub pointerAt-pairsIn : (i : ℕ) → i < v .count → pointerAt (pairsIn v) i ≡ getD (v .pointers) i 0
-  pointerAt-pairsIn i h = ap (λ (p : Pair). p .1) (pairAt-pairsIn i h)
+  pub pointerAt-pairsIn : (last i : ℕ) → i < v .count → pointerAt (pairsIn v) last i ≡ getD (v .pointers) i 0
+  pointerAt-pairsIn last i h =
+      pointerAt-getD (pairsIn v) last i (omega (arith, length-pairsIn)) ∙ ap (λ (p : Pair). p .1) (getD-pairsIn i h)
 
   -- what arrays that were spliced, and set, stand for
   pub pairs-insertAt :
