@@ -25,11 +25,11 @@ use Rattle.node.specs.Search.{
 use Rattle.node.specs.Value.{pairsIn, nodeOf, Sized, Held, Stands, Becomes, length-pairsIn, keyAt-pairsIn, pairs-insertAt, pairs-removeAt, pairs-set}
 
 -- The number of pairs after a put: one more where the key was absent.
-pub length-insert-present : (key v : ℕ) (ps : List Pair) → Present key ps → length (insert key v ps) ≡ length ps
-length-insert-present key v ps w = ap length (insert-present key v ps w) ∙ simp length-set
+pub length-put-present : (key v : ℕ) (ps : List Pair) → Present key ps → length (insert key v ps) ≡ length ps
+length-put-present key v ps w = ap length (insert-present key v ps w) ∙ simp length-set
 
-pub length-insert-absent : (key v : ℕ) (ps : List Pair) → Absent key ps → length (insert key v ps) ≡ suc (length ps)
-length-insert-absent key v ps a = ap length (insert-absent key v ps a) ∙ length-insertAt (place key ps) (key, v) ps
+pub length-put-absent : (key v : ℕ) (ps : List Pair) → Absent key ps → length (insert key v ps) ≡ suc (length ps)
+length-put-absent key v ps a = ap length (insert-absent key v ps a) ∙ length-insertAt (place key ps) (key, v) ps
 
 -- A change whose key is a 32-bit number, and which leaves room, keeps a node neat: both kinds of node at once.
 pub record Fitting (c : Change) (n : Node) : Type 0 where

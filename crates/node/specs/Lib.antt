@@ -6,3 +6,5 @@ pub mod Search
 pub mod Found
 pub mod Value
 pub mod Edits
+pub mod Halves
+pub mod Split

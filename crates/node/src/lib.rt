@@ -1,5 +1,6 @@
 // A tree node by value: the search in it, its edits, its replay from log entries, and the halves of a full one.
 pub mod edit;
+pub mod halves;
 pub mod replay;
 pub mod search;
 pub mod splice;

@@ -11,7 +11,7 @@ use Rattle.node.specs.Splice.{insertAt}
 use Rattle.node.specs.Search.{place, keyAt, place-le-length}
 use Rattle.node.specs.Found.{at-present, at-place, above-absent, above-place}
 use Rattle.node.specs.Value.{pairsIn, Stands, length-pairsIn}
-use Rattle.node.specs.Edits.{length-insert-absent, becomes-added, becomes-replaced}
+use Rattle.node.specs.Edits.{length-put-absent, becomes-added, becomes-replaced}
 use Rattle.node.proofs.edit.put.Statement.{statement}
 use Rattle.node.proofs.edit.put.Tie as tie
 
@@ -42,7 +42,7 @@ added-requires c κs =
     let l = length-pairsIn v (entry .pre .0 .sized) in
     (entry .pre .0 .sized,
     omega (arith, above-place key (pairsIn v) _ e, place-le-length key (pairsIn v)),
-    omega (arith, entry .pre .1, length-insert-absent key (entry .args .pointer) (pairsIn v) (above-absent key (pairsIn v) _ e)))
+    omega (arith, entry .pre .1, length-put-absent key (entry .args .pointer) (pairsIn v) (above-absent key (pairsIn v) _ e)))
 
 returns : tie.Need-returns
 returns c =
