@@ -1,5 +1,5 @@
 -- What the edited arrays of a node stand for, and that an edit keeps the keys ascending. Assumes nothing.
-use mathlib.Core.Path.{_≡_, refl, sym, ap, _∙_}
+use mathlib.Core.Path.{_≡_, refl, sym, ap, ap₂, _∙_}
 use mathlib.Core.List.{List, [], _∷_}
 use Prim.Native.Nat.{ℕ, zero, suc, _+_, _-_, _≤_, _<_}
 use native.Mathlib.Omega.{arith}
@@ -8,12 +8,16 @@ use lib.Seq.{set-getD}
 use Rattle.layout.specs.Layout.{mostKeys, bound32}
 use Rattle.pairs.specs.Pairs.{Pair, insert, delete, Within}
 use Rattle.pairs.specs.Bounds.{within-insert, within-delete}
+use Rattle.node.specs.declared.Kind.{Kind}
 use Rattle.node.specs.declared.NodeValue.{NodeValue}
 use Rattle.node.specs.Node.{Node, node, pairsOf, Neat}
 use Rattle.node.specs.Change.{Change, put, remove, link, change}
 use Rattle.node.specs.Splice.{zip, insertAt, removeAt, length-insertAt}
+use Rattle.node.specs.declared.Found.the-variants.{At, Above}
+use Rattle.node.specs.Found.{found, at-present, at-place, above-absent, above-place}
 use Rattle.node.specs.Search.{
   place,
+  place-le-length,
   keyAt,
   Present,
   Absent,
@@ -23,13 +27,6 @@ use Rattle.node.specs.Search.{
   delete-absent,
 }
 use Rattle.node.specs.Value.{pairsIn, nodeOf, Sized, Held, Stands, Becomes, length-pairsIn, keyAt-pairsIn, pairs-insertAt, pairs-removeAt, pairs-set}
-
--- The number of pairs after a put: one more where the key was absent.
-pub length-put-present : (key v : ℕ) (ps : List Pair) → Present key ps → length (insert key v ps) ≡ length ps
-length-put-present key v ps w = ap length (insert-present key v ps w) ∙ simp length-set
-
-pub length-put-absent : (key v : ℕ) (ps : List Pair) → Absent key ps → length (insert key v ps) ≡ suc (length ps)
-length-put-absent key v ps a = ap length (insert-absent key v ps a) ∙ length-insertAt (place key ps) (key, v) ps
 
 -- A change whose key is a 32-bit number, and which leaves room, keeps a node neat: both kinds of node at once.
 pub record Fitting (c : Change) (n : Node) : Type 0 where
@@ -90,42 +87,76 @@ becomes : (r : NodeValue) (n m : Node) → Stands r n → n ≡ m → Within 0 b
 becomes r n m s e w =
     record { is = s .is ∙ e; held = record { sized = s .sized; ascending = rw (ap pairsOf (sym (s .is ∙ e))) at w } }
 
-module _ (v r : NodeValue) (h : Held v) (key : ℕ) where
-  pub becomes-added :
-      (p : ℕ) → key < bound32 → Absent key (pairsIn v) →
-      Stands r (node (v .kind) (insertAt (place key (pairsIn v)) (key, p) (pairsIn v)) (v .link)) → Becomes r (change (put key p) (nodeOf v))
-  becomes-added p l a s =
-      becomes r _ _ s (ap (λ (qs : List Pair). node (v .kind) qs (v .link)) (sym (insert-absent key p (pairsIn v) a)))
-      (within-insert key p 0 bound32 (pairsIn v) (omega arith) l (h .ascending))
-
+module _ (v r : NodeValue) (h : Held v) (key i : ℕ) where
   pub becomes-replaced :
-      (p : ℕ) → key < bound32 → Present key (pairsIn v) →
-      Stands r (node (v .kind) (set (pairsIn v) (place key (pairsIn v)) (keyAt (pairsIn v) (place key (pairsIn v)), p)) (v .link)) →
-      Becomes r (change (put key p) (nodeOf v))
-  becomes-replaced p l w s =
-      let i = place key (pairsIn v) in
+      (p : ℕ) → key < bound32 → found key (pairsIn v) ≡ At i →
+      Stands r (node (v .kind) (set (pairsIn v) i (keyAt (pairsIn v) i, p)) (v .link)) → Becomes r (change (put key p) (nodeOf v))
+  becomes-replaced p l e s =
+      let w = at-present key (pairsIn v) i e in
+      let f = at-place key (pairsIn v) i e in
+      let k : keyAt (pairsIn v) i ≡ key = ap (λ (j : ℕ). keyAt (pairsIn v) j) f ∙ w .equal in
       becomes r _ _ s
-      (ap (λ (k : ℕ). node (v .kind) (set (pairsIn v) i (k, p)) (v .link)) (w .equal) ∙
+      (ap₂ (λ (j k : ℕ). node (v .kind) (set (pairsIn v) j (k, p)) (v .link)) f k ∙
       ap (λ (qs : List Pair). node (v .kind) qs (v .link)) (sym (insert-present key p (pairsIn v) w)))
       (within-insert key p 0 bound32 (pairsIn v) (omega arith) l (h .ascending))
 
+  pub becomes-added :
+      (p : ℕ) → key < bound32 → found key (pairsIn v) ≡ Above i →
+      Stands r (node (v .kind) (insertAt i (key, p) (pairsIn v)) (v .link)) → Becomes r (change (put key p) (nodeOf v))
+  becomes-added p l e s =
+      becomes r _ _ s
+      (ap (λ (j : ℕ). node (v .kind) (insertAt j (key, p) (pairsIn v)) (v .link)) (above-place key (pairsIn v) i e) ∙
+      ap (λ (qs : List Pair). node (v .kind) qs (v .link)) (sym (insert-absent key p (pairsIn v) (above-absent key (pairsIn v) i e))))
+      (within-insert key p 0 bound32 (pairsIn v) (omega arith) l (h .ascending))
+
   pub becomes-removed :
-      Present key (pairsIn v) →
-      Stands r (node (v .kind) (removeAt (place key (pairsIn v)) (pairsIn v)) (v .link)) → Becomes r (change (remove key) (nodeOf v))
-  becomes-removed w s =
-      becomes r _ _ s (ap (λ (qs : List Pair). node (v .kind) qs (v .link)) (sym (delete-present key (pairsIn v) w)))
+      found key (pairsIn v) ≡ At i →
+      Stands r (node (v .kind) (removeAt i (pairsIn v)) (v .link)) → Becomes r (change (remove key) (nodeOf v))
+  becomes-removed e s =
+      becomes r _ _ s
+      (ap (λ (j : ℕ). node (v .kind) (removeAt j (pairsIn v)) (v .link)) (at-place key (pairsIn v) i e) ∙
+      ap (λ (qs : List Pair). node (v .kind) qs (v .link)) (sym (delete-present key (pairsIn v) (at-present key (pairsIn v) i e))))
       (within-delete key 0 bound32 (pairsIn v) (h .ascending))
 
--- A delete of an absent key changes nothing; a link leaves the pairs alone.
-pub becomes-same : (v : NodeValue) → Held v → (key : ℕ) → Absent key (pairsIn v) → Becomes v (change (remove key) (nodeOf v))
-becomes-same v h key a =
-    record { is = ap (λ (qs : List Pair). node (v .kind) qs (v .link)) (sym (delete-absent key 0 bound32 (pairsIn v) (h .ascending) a)); held = h }
+module _ (v : NodeValue) (h : Held v) (key i : ℕ) where
+  -- the place that the search found is within the node
+  pub at-inside : found key (pairsIn v) ≡ At i → i < v .count
+  at-inside e =
+      omega (arith, at-place key (pairsIn v) i e, at-present key (pairsIn v) i e .inside, length-pairsIn v (h .sized))
 
-pub becomes-relinked :
-    (v : NodeValue) → Held v → (to : ℕ) →
-    Becomes (record { kind = v .kind; count = v .count; keys = v .keys; pointers = v .pointers; link = to }) (node (v .kind) (pairsIn v) to)
+  pub above-inside : found key (pairsIn v) ≡ Above i → i ≤ v .count
+  above-inside e =
+      omega (arith, above-place key (pairsIn v) i e, place-le-length key (pairsIn v), length-pairsIn v (h .sized))
+
+  -- how many pairs a put leaves: as many where the key is there, one more where it is not
+  pub length-put-at : (p : ℕ) → found key (pairsIn v) ≡ At i → length (insert key p (pairsIn v)) ≡ v .count
+  length-put-at p e =
+      ap length (insert-present key p (pairsIn v) (at-present key (pairsIn v) i e)) ∙
+      length-set (pairsIn v) (place key (pairsIn v)) (key, p) ∙
+      length-pairsIn v (h .sized)
+
+  pub length-put-above : (p : ℕ) → found key (pairsIn v) ≡ Above i → length (insert key p (pairsIn v)) ≡ suc (v .count)
+  length-put-above p e =
+      ap length (insert-absent key p (pairsIn v) (above-absent key (pairsIn v) i e)) ∙
+      length-insertAt (place key (pairsIn v)) (key, p) (pairsIn v) ∙
+      ap suc (length-pairsIn v (h .sized))
+
+  -- A delete of an absent key changes nothing.
+  pub becomes-same : found key (pairsIn v) ≡ Above i → Becomes v (change (remove key) (nodeOf v))
+  becomes-same e =
+      record {
+        is =
+          ap (λ (qs : List Pair). node (v .kind) qs (v .link))
+          (sym (delete-absent key 0 bound32 (pairsIn v) (h .ascending) (above-absent key (pairsIn v) i e)));
+        held = h
+      }
+
+-- A link leaves the pairs alone.
+pub becomes-linked :
+    (v : NodeValue) → Held v → (kind : Kind) (to : ℕ) →
+    Becomes (record { kind = kind; count = v .count; keys = v .keys; pointers = v .pointers; link = to }) (node kind (pairsIn v) to)
 unfolding pairsIn
-becomes-relinked v h to =
+becomes-linked v h kind to =
     record {
       is = refl;
       held =

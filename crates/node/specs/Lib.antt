@@ -8,3 +8,5 @@ pub mod Value
 pub mod Edits
 pub mod Halves
 pub mod Split
+pub mod ReplayLaws
+pub mod Drafts

@@ -69,6 +69,13 @@ module _ {A : Type 0} where
     getD-insertAt-behind (suc i) (suc j) [] h k = absurd (omega arith)
     getD-insertAt-behind (suc i) (suc j) (y ∷ ys) h k = getD-insertAt-behind i j ys (omega arith) (omega arith)
 
+    -- behind, as the code counts
+    pub getD-insertAt-after : (i j : ℕ) (xs : List A) → i < j → i ≤ length xs → getD (insertAt i x xs) j d ≡ getD xs (j - 1) d
+    getD-insertAt-after i zero xs h k = absurd (omega arith)
+    getD-insertAt-after i (suc j) xs h k =
+        let e : suc j - 1 ≡ j = omega arith in
+        rw e (getD-insertAt-behind i j xs (omega arith) k)
+
 -- Keys and pointers side by side, as pairs.
 abbrev pub zip : List ℕ → List ℕ → List Pair
 zip [] ps = []

@@ -24,8 +24,8 @@ use Rattle.node.specs.Splice.{
   length-zip,
   getD-zip,
 }
-use Rattle.node.specs.Search.{place, keyAt, pointerAt, keyAt-getD, pointerAt-getD, Absent, insert-absent}
-use Rattle.node.specs.Value.{pairsIn, nodeOf, Sized, Held, Becomes}
+use Rattle.node.specs.Search.{place, keyAt, pointerAt, keyAt-getD, pointerAt-getD, Absent, insert-absent, place-le-length}
+use Rattle.node.specs.Value.{pairsIn, nodeOf, Sized, Held, Becomes, length-pairsIn}
 use Rattle.node.specs.Halves.{lowerHalf, upperHalf, middleKey, lowerLink, upperFrom, within-take, within-drop}
 
 -- What a split is asked with: a full node, and a key that it does not hold, with its place.
@@ -34,6 +34,10 @@ pub record Splits (v : NodeValue) (at key : ℕ) : Type 0 where
   pub full : v .count ≡ mostKeys
   pub absent : Absent key (pairsIn v)
   pub there : at ≡ place key (pairsIn v)
+
+pub splits-at : (v : NodeValue) (at key : ℕ) → Splits v at key → at ≤ mostKeys
+splits-at v at key s =
+    omega (arith, s .there, s .full, place-le-length key (pairsIn v), length-pairsIn v (s .held .sized))
 
 -- A part of a list that an element was put into, filled one by one: each turn reads the next element.
 pub part-turn :
@@ -118,23 +122,22 @@ module _ (v : NodeValue) (at key p : ℕ) (s : Splits v at key) where
       }
 
   pub becomes-upper :
-      (n : ℕ) (ks ps : List ℕ) → key < bound32 → n + upperFrom (v .kind) ≡ suc mostKeys → n ≤ mostKeys →
-      take n ks ≡ take n (drop (upperFrom (v .kind)) keys25) →
-      take n ps ≡ take n (drop (upperFrom (v .kind)) pointers25) →
+      (from n : ℕ) (ks ps : List ℕ) → key < bound32 → from ≡ upperFrom (v .kind) → n + from ≡ suc mostKeys → n ≤ mostKeys →
+      take n ks ≡ take n (drop from keys25) →
+      take n ps ≡ take n (drop from pointers25) →
       length ks ≡ mostKeys → length ps ≡ mostKeys →
       Becomes (record { kind = v .kind; count = n; keys = ks; pointers = ps; link = v .link }) (upperHalf (change (put key p) (nodeOf v)))
   unfolding pairsIn upperHalf
-  becomes-upper n ks ps h m k e f a b =
+  becomes-upper from n ks ps h g m k e f a b =
       let q = insert key p (pairsIn v) in
       let size : length q ≡ suc mostKeys = ap length (sym whole) ∙ length-zip keys25 pointers25 same-length ∙ length-keys25 in
-      let all : take n (drop (upperFrom (v .kind)) q) ≡ drop (upperFrom (v .kind)) q =
-          take-all n (drop (upperFrom (v .kind)) q) (omega (arith, length-drop (upperFrom (v .kind)) q)) in
-      let pairs = zip-part (upperFrom (v .kind)) n ks ps e f ∙ all in
+      let all : take n (drop from q) ≡ drop from q = take-all n (drop from q) (omega (arith, length-drop from q)) in
+      let pairs = zip-part from n ks ps e f ∙ all in
       record {
-        is = ap (λ (qs : List Pair). node (v .kind) qs (v .link)) pairs;
+        is = ap (λ (qs : List Pair). node (v .kind) qs (v .link)) (pairs ∙ ap (λ (i : ℕ). drop i q) g);
         held =
           record {
             sized = record { size = k; keyRoom = a; pointerRoom = b };
-            ascending = rw pairs (within-drop (upperFrom (v .kind)) 0 bound32 q (ascending h))
+            ascending = rw pairs (within-drop from 0 bound32 q (ascending h))
           }
       }

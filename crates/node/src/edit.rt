@@ -10,6 +10,7 @@ ghost use Rattle.node.specs.Splice.{insertAt, removeAt};
 ghost use Rattle.node.specs.Search.{keyAt};
 ghost use Rattle.node.specs.Value.{pairsIn, nodeOf, Sized, Held, Stands, Becomes};
 use crate::Found;
+use crate::Kind;
 use crate::NodeValue;
 use crate::search;
 use crate::splice;
@@ -97,5 +98,21 @@ pub fn delete(v: NodeValue, key: u32) -> NodeValue
     match found {
         Found::At(i) => removed(v, i),
         Found::Above(_) => v,
+    }
+}
+
+// The node with its pairs, as another kind and with another link.
+pub fn linked(v: NodeValue, kind: Kind, to: u32) -> NodeValue
+    requires { ⌜ Held v ⌝ }
+    ensures { λ r. ⌜ Becomes r (node kind (pairsIn v) to) ⌝ }
+{
+    let keys = v.keys;
+    let pointers = v.pointers;
+    NodeValue {
+        kind,
+        count: v.count,
+        keys,
+        pointers,
+        link: to,
     }
 }

@@ -26,3 +26,23 @@ pub enum Found {
     At(usize),
     Above(usize),
 }
+
+// How far the replay of a node has come: no link yet; a node; or no node, since its entries break a rule.
+pub enum DraftState {
+    Unlinked,
+    Made,
+    Broken,
+}
+
+// A node being replayed.
+pub struct DraftValue {
+    pub state: DraftState,
+    pub node: NodeValue,
+}
+
+// One change of a node: what one log entry says.
+pub enum ChangeValue {
+    Put { key: u32, pointer: u32 },
+    Remove { key: u32 },
+    Link { kind: Kind, link: u32 },
+}

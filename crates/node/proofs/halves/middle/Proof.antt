@@ -1,16 +1,22 @@
+-- `node::halves::middle` meets its contract: the 13th of the keys with the new one is the 13th pair's. Assumes nothing.
+use mathlib.Core.Path.{_≡_, _∙_}
+use native.Mathlib.Omega.{arith}
+use borrow.Author.Needs.{needs}
+use Rattle.node.specs.Halves.{middleKey}
+use Rattle.node.specs.Split.{splits-at, getD-keys25}
 use Rattle.node.proofs.halves.middle.Statement.{statement}
 use Rattle.node.proofs.halves.middle.Tie as tie
-use Rattle.node.proofs.halves.middle.Reads as reads
-use Rattle.node.proofs.halves.middle.Lts as lts
-use Rattle.node.proofs.halves.value_at.Reads as value-at-reads
 
--- src/halves.rt:111:5
 value-at-requires : tie.Need-value-at-requires
-value-at-requires c κs = ?
+value-at-requires c κs =
+    let entry = c .before in
+    (splits-at (entry .args .v) (entry .args .at) (entry .args .key) (entry .pre), omega arith)
 
--- src/halves.rt:106:1
 returns : tie.Need-returns
-returns c = ?
+unfolding middleKey
+returns c =
+    let entry = c .before .before in
+    c .value-at .ensures ∙ getD-keys25 (entry .args .v) (entry .args .at) (entry .args .key) (entry .args .pointer) (entry .pre) 12
 
 pub middle-spec : {M : Type 1} → statement M
 middle-spec = tie.close (tie.spec value-at-requires returns)
