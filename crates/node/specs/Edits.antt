@@ -83,7 +83,7 @@ module _ (v : NodeValue) (s : Sized v) where
       }
 
 -- A put and a delete of a key, from the edit at its place.
-becomes : (r : NodeValue) (n m : Node) → Stands r n → n ≡ m → Within 0 bound32 (pairsOf m) → Becomes r m
+pub becomes : (r : NodeValue) (n m : Node) → Stands r n → n ≡ m → Within 0 bound32 (pairsOf m) → Becomes r m
 becomes r n m s e w =
     record { is = s .is ∙ e; held = record { sized = s .sized; ascending = rw (ap pairsOf (sym (s .is ∙ e))) at w } }
 

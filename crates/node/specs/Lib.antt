@@ -4,9 +4,10 @@ pub mod Replay
 pub mod Splice
 pub mod Search
 pub mod Found
+pub mod Ascends
 pub mod Value
 pub mod Edits
 pub mod Halves
-pub mod Split
 pub mod ReplayLaws
 pub mod Drafts
+pub mod Repoint

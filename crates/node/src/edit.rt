@@ -6,6 +6,7 @@ ghost use Rattle.layout.specs.Layout.{mostKeys};
 ghost use Rattle.pairs.specs.Pairs.{insert};
 ghost use Rattle.node.specs.Node.{node};
 ghost use Rattle.node.specs.Change.{change, put, remove, link};
+ghost use Rattle.node.specs.Repoint.{repoint};
 ghost use Rattle.node.specs.Splice.{insertAt, removeAt};
 ghost use Rattle.node.specs.Search.{keyAt};
 ghost use Rattle.node.specs.Value.{pairsIn, nodeOf, Sized, Held, Stands, Becomes};
@@ -115,4 +116,15 @@ pub fn linked(v: NodeValue, kind: Kind, to: u32) -> NodeValue
         pointers,
         link: to,
     }
+}
+
+// The node with another pointer at a place, behind all keys the link.
+pub fn pointed(v: NodeValue, at: usize, pointer: u32) -> NodeValue
+    requires { ⌜ Held v ⌝ }
+    ensures { λ r. ⌜ Becomes r (change (repoint at pointer (nodeOf v)) (nodeOf v)) ⌝ }
+{
+    if at < v.count {
+        return repointed(v, at, pointer);
+    }
+    relinked(v, pointer)
 }

@@ -1,6 +1,5 @@
-// A tree node by value: the search in it, its edits, its replay from log entries, and the halves of a full one.
+// A tree node by value: the search in it, its edits, and its replay from log entries.
 pub mod edit;
-pub mod halves;
 pub mod replay;
 pub mod search;
 pub mod splice;

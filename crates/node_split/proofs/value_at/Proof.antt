@@ -1,12 +1,12 @@
--- `node::halves::value_at` meets its contract: before the place, at it and behind it. Assumes nothing.
+-- `node_split::value_at` meets its contract: before the place, at it and behind it. Assumes nothing.
 use mathlib.Core.Path.{_≡_, sym, ap, _∙_}
 use Prim.Native.Nat.{ℕ, _≤_, _<_}
 use native.Mathlib.Omega.{arith}
 use lib.ListN.{length, getD}
 use borrow.Author.Needs.{needs}
 use Rattle.node.specs.Splice.{insertAt, getD-insertAt-before, getD-insertAt-same, getD-insertAt-after}
-use Rattle.node.proofs.halves.value_at.Statement.{statement}
-use Rattle.node.proofs.halves.value_at.Tie as tie
+use Rattle.node_split.proofs.value_at.Statement.{statement}
+use Rattle.node_split.proofs.value_at.Tie as tie
 
 mul-result : tie.Need-mul-result
 mul-result c = search needs

@@ -1,12 +1,12 @@
--- `node::halves::lower` meets its contract: its arrays are the first 12 of those with the new pair. Assumes nothing.
+-- `node_split::lower` meets its contract: its arrays are the first 12 of those with the new pair. Assumes nothing.
 use mathlib.Core.Path.{_≡_, ap, _∙_}
 use Prim.Native.Nat.{ℕ}
 use native.Mathlib.Omega.{arith}
 use borrow.Author.Needs.{needs}
 use Rattle.node.specs.Halves.{lowerLink}
-use Rattle.node.specs.Split.{splits-at, becomes-lower}
-use Rattle.node.proofs.halves.lower.Statement.{statement}
-use Rattle.node.proofs.halves.lower.Tie as tie
+use Rattle.node_split.specs.Split.{splits-at, becomes-lower}
+use Rattle.node_split.proofs.lower.Statement.{statement}
+use Rattle.node_split.proofs.lower.Tie as tie
 
 part-requires : tie.Need-part-requires
 part-requires c κs =

@@ -1,13 +1,13 @@
--- `node::halves::part` meets its contract. The invariant: the first `i` values are those of the part. Assumes nothing.
+-- `node_split::part` meets its contract. The invariant: the first `i` values are those of the part. Assumes nothing.
 use mathlib.Core.Path.{_≡_, refl, sym, ap, _∙_}
 use Prim.Native.Nat.{ℕ, suc, _+_, _-_, _≤_, _<_}
 use native.Mathlib.Omega.{arith}
 use lib.ListN.{length, getD, take, drop, set, length-set, length-replicate}
 use borrow.Author.Needs.{needs}
 use Rattle.node.specs.Splice.{insertAt, length-insertAt}
-use Rattle.node.specs.Split.{part-turn}
-use Rattle.node.proofs.halves.part.Statement.{statement}
-use Rattle.node.proofs.halves.part.Tie as tie
+use Rattle.node_split.specs.Split.{part-turn}
+use Rattle.node_split.proofs.part.Statement.{statement}
+use Rattle.node_split.proofs.part.Tie as tie
 
 abbrev Inv-loop : tie.InvT-loop
 Inv-loop a at x from n b₀ i₀ b i = (i ≤ n) × (length b ≡ 24) × (take i b ≡ take i (drop from (insertAt at x a)))

@@ -1,11 +1,11 @@
--- `node::halves::upper` meets its contract: its arrays are the last 13 or 12 of those with the new pair. Assumes nothing.
+-- `node_split::upper` meets its contract: its arrays are the last 13 or 12 of those with the new pair. Assumes nothing.
 use mathlib.Core.Path.{_≡_, ap, _∙_}
 use Prim.Native.Nat.{ℕ}
 use native.Mathlib.Omega.{arith}
 use borrow.Author.Needs.{needs}
-use Rattle.node.specs.Split.{splits-at, becomes-upper}
-use Rattle.node.proofs.halves.upper.Statement.{statement}
-use Rattle.node.proofs.halves.upper.Tie as tie
+use Rattle.node_split.specs.Split.{splits-at, becomes-upper}
+use Rattle.node_split.proofs.upper.Statement.{statement}
+use Rattle.node_split.proofs.upper.Tie as tie
 
 upper-from-requires : tie.Need-upper-from-requires
 upper-from-requires c κs = search needs

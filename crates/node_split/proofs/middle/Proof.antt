@@ -1,11 +1,11 @@
--- `node::halves::middle` meets its contract: the 13th of the keys with the new one is the 13th pair's. Assumes nothing.
+-- `node_split::middle` meets its contract: the 13th of the keys with the new one is the 13th pair's. Assumes nothing.
 use mathlib.Core.Path.{_≡_, _∙_}
 use native.Mathlib.Omega.{arith}
 use borrow.Author.Needs.{needs}
 use Rattle.node.specs.Halves.{middleKey}
-use Rattle.node.specs.Split.{splits-at, getD-keys25}
-use Rattle.node.proofs.halves.middle.Statement.{statement}
-use Rattle.node.proofs.halves.middle.Tie as tie
+use Rattle.node_split.specs.Split.{splits-at, getD-keys25}
+use Rattle.node_split.proofs.middle.Statement.{statement}
+use Rattle.node_split.proofs.middle.Tie as tie
 
 value-at-requires : tie.Need-value-at-requires
 value-at-requires c κs =

@@ -3,13 +3,13 @@ ghost use mathlib.Core.Path.{_≡_};
 ghost use Prim.Native.Nat.{_+_, _≤_, _<_};
 ghost use lib.ListN.{length, getD, take, drop};
 ghost use Rattle.layout.specs.Layout.{mostKeys};
 ghost use Rattle.node.specs.Change.{change, put};
 ghost use Rattle.node.specs.Splice.{insertAt};
 ghost use Rattle.node.specs.Value.{nodeOf, Becomes};
 ghost use Rattle.node.specs.Halves.{lowerHalf, upperHalf, middleKey, lowerLink, upperFrom};
-ghost use Rattle.node.specs.Split.{Splits};
-use crate::Kind;
-use crate::NodeValue;
+ghost use Rattle.node_split.specs.Split.{Splits};
+use node::Kind;
+use node::NodeValue;
 
 // The value at an index of the array with one more at a place.
 fn value_at(a: [u32; 24], at: usize, x: u32, i: usize) -> u32
