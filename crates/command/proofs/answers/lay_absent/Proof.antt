@@ -1,25 +1,27 @@
+-- `command::answers::lay_absent` meets its contract: a head alone is the field of no payload. Assumes nothing.
+use mathlib.Core.Path.{_≡_, refl, sym, ap, ap₂, _∙_}
+use mathlib.Core.List.{List}
+use Prim.Native.Nat.{ℕ, _+_, _≤_, _<_}
+use native.Mathlib.Omega.{arith}
 use borrow.Author.Needs.{needs}
+use Rattle.laws.specs.Lay.{lay}
+use Rattle.wire.specs.Field.{field}
+use Rattle.command.specs.Answer.{answerBytes}
 use Rattle.command.proofs.answers.lay_absent.Statement.{statement}
 use Rattle.command.proofs.answers.lay_absent.Tie as tie
-use Rattle.command.proofs.answers.lay_absent.Reads as reads
-use Rattle.command.proofs.answers.lay_absent.Lts as lts
-use Rattle.wire.proofs.field.lay_head.Reads as lay-head-reads
 
--- src/answers.rt:29:5
 lay-head-requires : tie.Need-lay-head-requires
 lay-head-requires c κs = search needs
 
--- src/answers.rt:30:5
 add-result : tie.Need-add-result
 add-result c = search needs
 
--- src/answers.rt:25:1
 same-length : tie.Need-same-length
 same-length c = search needs
 
--- src/answers.rt:25:1
 returns : tie.Need-returns
-returns c = ?
+unfolding answerBytes field
+returns c = (c .before .before .lay-head .ensures, refl)
 
 pub lay-absent-spec : {M : Type 1} → statement M
 lay-absent-spec = tie.close (tie.spec lay-head-requires add-result same-length returns)

@@ -1,91 +1,93 @@
+-- `command::answers::lay_answer` meets its contract: one case for each answer, its number and its values. Assumes nothing.
+use mathlib.Core.Path.{_≡_, refl, sym, ap, ap₂, _∙_}
+use mathlib.Core.List.{List}
+use Prim.Native.Nat.{ℕ, _+_, _≤_, _<_}
+use native.Mathlib.Omega.{arith}
 use borrow.Author.Needs.{needs}
+use Rattle.command.specs.declared.Answer.{Answer}
+use Rattle.command.specs.declared.Answer.the-variants.{Absent, Got, Replaced, Removed, Refused}
+use Rattle.command.specs.Answer.{answerBytes}
+use Rattle.command.specs.AnswerLaws.{laid-answer, length-value, length-absent, length-refused}
 use Rattle.command.proofs.answers.lay_answer.Statement.{statement}
 use Rattle.command.proofs.answers.lay_answer.Tie as tie
-use Rattle.command.proofs.answers.lay_answer.Reads as reads
-use Rattle.command.proofs.answers.lay_answer.Lts as lts
-use Rattle.command.proofs.answers.lay_absent.Reads as lay-absent-reads
-use Rattle.command.proofs.answers.lay_refused.Reads as lay-refused-reads
-use Rattle.command.proofs.answers.lay_value.Reads as lay-value-reads
 
--- src/answers.rt:49:38
 enum-told : tie.Need-enum-told
 enum-told c = search needs
 
--- src/answers.rt:49:27
 lay-absent-requires : tie.Need-lay-absent-requires
 lay-absent-requires c κs = search needs
 
--- src/answers.rt:50:21
 enum-known-answer : tie.Need-enum-known-answer
 enum-known-answer c = search needs
 
--- src/answers.rt:50:31
 lay-value-requires : tie.Need-lay-value-requires
 lay-value-requires c κs = search needs
 
--- src/answers.rt:51:26
 enum-known-answer-2 : tie.Need-enum-known-answer-2
 enum-known-answer-2 c = search needs
 
--- src/answers.rt:51:36
 lay-value-requires-2 : tie.Need-lay-value-requires-2
 lay-value-requires-2 c κs = search needs
 
--- src/answers.rt:52:25
 enum-known-answer-3 : tie.Need-enum-known-answer-3
 enum-known-answer-3 c = search needs
 
--- src/answers.rt:52:35
 lay-value-requires-3 : tie.Need-lay-value-requires-3
 lay-value-requires-3 c κs = search needs
 
--- src/answers.rt:53:25
 enum-known-answer-4 : tie.Need-enum-known-answer-4
 enum-known-answer-4 c = search needs
 
--- src/answers.rt:53:36
 lay-refused-requires : tie.Need-lay-refused-requires
 lay-refused-requires c κs = search needs
 
--- src/answers.rt:44:1
 same-length : tie.Need-same-length
 same-length c = search needs
 
--- src/answers.rt:44:1
 returns : tie.Need-returns
-returns c = ?
+returns c =
+    let a = c .before .before .before .before .before .before .before .args in
+    let laid = c .before .before .lay-absent in
+    laid-answer (a .buffer .now) _ (a .at) _ 3 (a .answer) (answerBytes Absent) (ap answerBytes (c .before .before .before .before .enum-told .given .1)) length-absent (laid .ensures .0) (laid .ensures .1)
 
--- src/answers.rt:44:1
 same-length-2 : tie.Need-same-length-2
 same-length-2 c = search needs
 
--- src/answers.rt:44:1
 returns-2 : tie.Need-returns-2
-returns-2 c = ?
+unfolding answerBytes
+returns-2 c =
+    let a = c .before .before .before .before .before .before .before .before .args in
+    let laid = c .before .before .lay-value in
+    laid-answer (a .buffer .now) _ (a .at) _ 7 (a .answer) _ (ap answerBytes (c .before .before .before .before .before .answer .given .1)) (length-value _ _) (laid .ensures .0) (laid .ensures .1)
 
--- src/answers.rt:44:1
 same-length-3 : tie.Need-same-length-3
 same-length-3 c = search needs
 
--- src/answers.rt:44:1
 returns-3 : tie.Need-returns-3
-returns-3 c = ?
+unfolding answerBytes
+returns-3 c =
+    let a = c .before .before .before .before .before .before .before .before .args in
+    let laid = c .before .before .lay-value2 in
+    laid-answer (a .buffer .now) _ (a .at) _ 7 (a .answer) _ (ap answerBytes (c .before .before .before .before .before .answer2 .given .1)) (length-value _ _) (laid .ensures .0) (laid .ensures .1)
 
--- src/answers.rt:44:1
 same-length-4 : tie.Need-same-length-4
 same-length-4 c = search needs
 
--- src/answers.rt:44:1
 returns-4 : tie.Need-returns-4
-returns-4 c = ?
+unfolding answerBytes
+returns-4 c =
+    let a = c .before .before .before .before .before .before .before .before .args in
+    let laid = c .before .before .lay-value3 in
+    laid-answer (a .buffer .now) _ (a .at) _ 7 (a .answer) _ (ap answerBytes (c .before .before .before .before .before .answer3 .given .1)) (length-value _ _) (laid .ensures .0) (laid .ensures .1)
 
--- src/answers.rt:44:1
 same-length-5 : tie.Need-same-length-5
 same-length-5 c = search needs
 
--- src/answers.rt:44:1
 returns-5 : tie.Need-returns-5
-returns-5 c = ?
+returns-5 c =
+    let a = c .before .before .before .before .before .before .before .before .args in
+    let laid = c .before .before .lay-refused in
+    laid-answer (a .buffer .now) _ (a .at) _ 4 (a .answer) _ (ap answerBytes (c .before .before .before .before .before .answer4 .given .1)) (length-refused _) (laid .ensures .0) (laid .ensures .1)
 
 pub lay-answer-spec : {M : Type 1} → statement M
 lay-answer-spec =

@@ -1,38 +1,43 @@
+-- `command::answers::lay_refused` meets its contract: a head, then the number behind it, are the field. Assumes nothing.
+use mathlib.Core.Path.{_≡_, refl, sym, ap, ap₂, _∙_}
+use mathlib.Core.List.{List}
+use Prim.Native.Nat.{ℕ, _+_, _≤_, _<_}
+use native.Mathlib.Omega.{arith}
 use borrow.Author.Needs.{needs}
+use mathlib.Core.List.{[], _∷_}
+use Rattle.laws.specs.Lay.{lay}
+use Rattle.wire.specs.FieldLaws.{lay-field}
+use Rattle.command.specs.Answer.{answerBytes}
 use Rattle.command.proofs.answers.lay_refused.Statement.{statement}
 use Rattle.command.proofs.answers.lay_refused.Tie as tie
-use Rattle.command.proofs.answers.lay_refused.Reads as reads
-use Rattle.command.proofs.answers.lay_refused.Lts as lts
-use Rattle.wire.proofs.bytes.lay_bytes.Reads as lay-bytes-reads
-use Rattle.wire.proofs.field.lay_head.Reads as lay-head-reads
 
--- src/answers.rt:38:5
 lay-head-requires : tie.Need-lay-head-requires
 lay-head-requires c κs = search needs
 
--- src/answers.rt:39:23
 add-lay-bytes : tie.Need-add-lay-bytes
 add-lay-bytes c = search needs
 
--- src/answers.rt:39:31
 slice-aggregate-lay-bytes : tie.Need-slice-aggregate-lay-bytes
 slice-aggregate-lay-bytes c = search needs
 
--- src/answers.rt:39:5
 lay-bytes-requires : tie.Need-lay-bytes-requires
 lay-bytes-requires c κs = search needs
 
--- src/answers.rt:40:5
 add-result : tie.Need-add-result
 add-result c = search needs
 
--- src/answers.rt:34:1
 same-length : tie.Need-same-length
 same-length c = search needs
 
--- src/answers.rt:34:1
 returns : tie.Need-returns
-returns c = ?
+unfolding answerBytes
+returns c =
+    let entry = c .before .before .before .before .before .before .before .before .before .before in
+    let a = entry .args in
+    (c .before .before .lay-bytes .ensures ∙
+    ap (λ (s : List ℕ). lay s (a .at + 3) (a .number ∷ [])) (c .before .before .before .before .before .before .before .lay-head .ensures) ∙
+    lay-field (a .buffer .now) (a .at) 143 1 (a .number ∷ []) (omega (arith, entry .pre)) refl,
+    refl)
 
 pub lay-refused-spec : {M : Type 1} → statement M
 lay-refused-spec =

@@ -51,7 +51,7 @@ add-bytes : tie.Need-add-bytes Inv-loop μ-loop
 add-bytes c =
     let w = onward (c .before) in
     let turn = c .before .before .before .before .before .before .loop in
-    omega (arith, c .room-for .ensures, roomFor-le _ (w .2), turn .inv .0, turn .inv .1, c .before .before .before .before .before .before .before .if1 .left)
+    omega (arith, c .room-for .ensures, roomFor-le (c .before .before .step .given .0 .0) (w .2), turn .inv .0, turn .inv .1, c .before .before .before .before .before .before .before .if1 .left)
 
 loop-less : tie.Need-loop-less Inv-loop μ-loop
 loop-less c =
@@ -65,7 +65,7 @@ loop-again c =
     let s = c .before .before .before .before .before .before .before .before .before .args .s .now in
     let next = c .before .before .step .given .0 .1 .0 in
     (w .1,
-    omega (arith, w .0, c .room-for .ensures, roomFor-le _ (w .2), turn .inv .1),
+    omega (arith, w .0, c .room-for .ensures, roomFor-le (c .before .before .step .given .0 .0) (w .2), turn .inv .1),
     ap (λ (n : ℕ). askedWith (turn .bytes + n) (commandsFrom s next)) (c .room-for .ensures) ∙
     asked-turn s (turn .at) (turn .bytes) (c .before .before .before .before .before .loop-test .taken) _ next (step-is (c .before)) (turn .inv .2))
 

@@ -3,6 +3,7 @@ use mathlib.Core.Path.{_≡_, refl, sym, ap, ap₂, _∙_}
 use Prim.Native.Nat.{ℕ, _+_, _-_, _*_, _≤_, _<_}
 use native.Mathlib.Omega.{arith}
 use borrow.Author.Needs.{needs}
+use mathlib.Core.List.{List}
 use lib.ListN.{length, getD}
 use Rattle.laws.specs.Lay.{part}
 use Rattle.wire.specs.Field.{fieldAt}
@@ -13,15 +14,23 @@ use Rattle.command.specs.CommandLaws.{Bounds, field-bounds, payload-may,
 use Rattle.command.proofs.batch.command_at.Statement.{statement}
 use Rattle.command.proofs.batch.command_at.Tie as tie
 
--- the field that was found
+-- the batch, the place and the tag where a field was found
+abbrev bytes : tie.After-known-told → List ℕ
+bytes c = c .before .before .before .before .before .before .before .args .s .now
+
+abbrev here : tie.After-known-told → ℕ
+here c = c .before .before .before .before .before .before .before .args .at
+
+abbrev tag : tie.After-known-told → ℕ
+tag c = getD (bytes c) (here c) 0
+
 found-is : (c : tie.After-known-told) →
-    fieldAt (c .before .before .before .before .before .before .before .args .s .now) (c .before .before .before .before .before .before .before .args .at) (getD (c .before .before .before .before .before .before .before .args .s .now) (c .before .before .before .before .before .before .before .args .at) 0) ≡
-    Payload (c .before .found .given .0 .0) (c .before .found .given .0 .1 .0)
+    fieldAt (bytes c) (here c) (tag c) ≡ Payload (c .before .found .given .0 .0) (c .before .found .given .0 .1 .0)
 found-is c = sym (c .before .before .before .field-at .ensures .is) ∙ c .before .found .given .1
 
 bounds : (c : tie.After-known-told) →
-    Bounds (c .before .before .before .before .before .before .before .args .s .now) (c .before .before .before .before .before .before .before .args .at) _ (c .before .found .given .0 .0) (c .before .found .given .0 .1 .0)
-bounds c = field-bounds _ _ _ _ _ (found-is c)
+    Bounds (bytes c) (here c) (tag c) (c .before .found .given .0 .0) (c .before .found .given .0 .1 .0)
+bounds c = field-bounds (bytes c) (here c) (tag c) _ _ (found-is c)
 
 returns : tie.Need-returns
 returns c = commandAt-past _ _ (c .if1 .taken)
