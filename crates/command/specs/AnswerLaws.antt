@@ -77,7 +77,7 @@ module _ (s : List ℕ) (at : ℕ) where
       let b = at + length xs in
       let rest = ys ++ drop (b + length ys) s in
       let front : take at (take b s ++ rest) ≡ take at s =
-          take-append-le at (take b s) rest (omega (arith, length-take-le b s h)) ∙ take-take at b s (omega arith) in
+      take-append-le at (take b s) rest (omega (arith, length-take-le b s h)) ∙ take-take at b s (omega arith) in
       let back : drop b (take b s ++ rest) ≡ rest = drop-at (take b s) rest b (length-take-le b s h) in
       let n : b + length ys ≡ at + length (xs ++ ys) = omega (arith, length-append xs ys) in
       ap₂ (λ (f r : List ℕ). f ++ (xs ++ r)) front back ∙

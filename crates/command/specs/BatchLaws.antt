@@ -48,6 +48,7 @@ run-fuel (suc m) (suc n) s at h k = go (leb (length s) at) refl (λ next. run-fu
         ((next : ℕ) → length s - next < m → length s - next < n → run m s next ≡ run n s next) → runOn m s r ≡ runOn n s r
     on (Next c next) w l same = ap (before c) (same next (omega (arith, w .0, w .1)) (omega (arith, w .0, w .1)))
     on Invalid w l same = refl
+
     go :
         (b : Bool) → leb (length s) at ≡ b →
         ((next : ℕ) → length s - next < m → length s - next < n → run m s next ≡ run n s next) → run (suc m) s at ≡ run (suc n) s at

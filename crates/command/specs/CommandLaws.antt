@@ -104,6 +104,7 @@ field-bounds s at tag start end e =
   where
     clash : {f : Field} → f ≡ Payload start end → isPayload f ≡ false → Bounds s at tag start end
     clash g h = let z : true ≡ false = sym (ap isPayload g) ∙ h in absurd (test-clash true refl z)
+
     go :
         Stands s at tag → (a b c : Bool) → leb (at + 3) (length s) ≡ a →
         (eqb (getD s at 0) tag && allowed (lengthOf tag) (lengthAt s at)) ≡ b → leb (at + 3 + lengthAt s at) (length s) ≡ c →
@@ -122,7 +123,7 @@ pub payload-may :
 payload-may s at tag start end e =
     let b = field-bounds s at tag start end e in
     let n : length (part s start (end - start)) ≡ lengthAt s at =
-        length-part s start (end - start) (omega (arith, b .first, b .last, b .within)) ∙ omega (arith, b .first, b .last) in
+    length-part s start (end - start) (omega (arith, b .first, b .last, b .within)) ∙ omega (arith, b .first, b .last) in
     ap (λ (k : ℕ). allowed (lengthOf tag) k) n ∙ b .may
 
 -- The command at a place ends further on, within the bytes.

@@ -21,10 +21,11 @@ pub ascends-within : (low high : ℕ) (ps : List Pair) → ascends low high ps �
 unfolding ascends Within
 ascends-within low high [] e = tt
 ascends-within low high (p ∷ ps) e =
-    let rest = and-right (leb low (p .0)) (ltb (p .0) high && ascends (suc (p .0)) high ps) e in
-    (leb-true low (p .0) (and-left (leb low (p .0)) (ltb (p .0) high && ascends (suc (p .0)) high ps) e),
-    ltb-true (p .0) high (and-left (ltb (p .0) high) (ascends (suc (p .0)) high ps) rest),
-    ascends-within (suc (p .0)) high ps (and-right (ltb (p .0) high) (ascends (suc (p .0)) high ps) rest))
+    let rest = and-right (leb low (p .0)) (ltb (p .0) high && ascends (suc (p .0)) high ps) e in (
+      leb-true low (p .0) (and-left (leb low (p .0)) (ltb (p .0) high && ascends (suc (p .0)) high ps) e),
+      ltb-true (p .0) high (and-left (ltb (p .0) high) (ascends (suc (p .0)) high ps) rest),
+      ascends-within (suc (p .0)) high ps (and-right (ltb (p .0) high) (ascends (suc (p .0)) high ps) rest),
+    )
 
 pub within-ascends : (low high : ℕ) (ps : List Pair) → Within low high ps → ascends low high ps ≡ true
 unfolding ascends Within

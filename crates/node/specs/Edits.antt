@@ -51,7 +51,7 @@ module _ (v : NodeValue) (s : Sized v) where
   stands-added at k p ks ps h e f a b =
       record {
         is = ap (λ (qs : List Pair). node (v .kind) qs (v .link)) (pairs-insertAt v s at k p (take (v .count + 1) ks) (take (v .count + 1) ps) e f);
-        sized = record { size = omega arith; keyRoom = a; pointerRoom = b }
+        sized = record { size = omega arith; keyRoom = a; pointerRoom = b };
       }
 
   pub stands-removed :
@@ -64,7 +64,7 @@ module _ (v : NodeValue) (s : Sized v) where
   stands-removed at ks ps e f a b =
       record {
         is = ap (λ (qs : List Pair). node (v .kind) qs (v .link)) (pairs-removeAt v s at (take (v .count - 1) ks) (take (v .count - 1) ps) e f);
-        sized = record { size = omega (arith, s .size); keyRoom = a; pointerRoom = b }
+        sized = record { size = omega (arith, s .size); keyRoom = a; pointerRoom = b };
       }
 
   pub stands-repointed :
@@ -76,10 +76,10 @@ module _ (v : NodeValue) (s : Sized v) where
       let qs = take (v .count) (set (v .pointers) at p) in
       record {
         is =
-          ap (λ (ks : List ℕ). node (v .kind) (zip (take (v .count) ks) qs) (v .link)) (sym (set-getD (v .keys) at 0)) ∙
-          ap (λ (qs : List Pair). node (v .kind) qs (v .link)) (pairs-set v s at k p h) ∙
-          ap (λ (k : ℕ). node (v .kind) (set (pairsIn v) at (k, p)) (v .link)) (sym (keyAt-pairsIn v s at h));
-        sized = record { size = s .size; keyRoom = s .keyRoom; pointerRoom = simp length-set (s .pointerRoom) }
+            ap (λ (ks : List ℕ). node (v .kind) (zip (take (v .count) ks) qs) (v .link)) (sym (set-getD (v .keys) at 0)) ∙
+            ap (λ (qs : List Pair). node (v .kind) qs (v .link)) (pairs-set v s at k p h) ∙
+            ap (λ (k : ℕ). node (v .kind) (set (pairsIn v) at (k, p)) (v .link)) (sym (keyAt-pairsIn v s at h));
+        sized = record { size = s .size; keyRoom = s .keyRoom; pointerRoom = simp length-set (s .pointerRoom) };
       }
 
 -- A put and a delete of a key, from the edit at its place.
@@ -146,9 +146,9 @@ module _ (v : NodeValue) (h : Held v) (key i : ℕ) where
   becomes-same e =
       record {
         is =
-          ap (λ (qs : List Pair). node (v .kind) qs (v .link))
-          (sym (delete-absent key 0 bound32 (pairsIn v) (h .ascending) (above-absent key (pairsIn v) i e)));
-        held = h
+            ap (λ (qs : List Pair). node (v .kind) qs (v .link))
+            (sym (delete-absent key 0 bound32 (pairsIn v) (h .ascending) (above-absent key (pairsIn v) i e)));
+        held = h;
       }
 
 -- A link leaves the pairs alone.
@@ -160,8 +160,8 @@ becomes-linked v h kind to =
     record {
       is = refl;
       held =
-        record {
-          sized = record { size = h .sized .size; keyRoom = h .sized .keyRoom; pointerRoom = h .sized .pointerRoom };
-          ascending = h .ascending
-        }
+          record {
+            sized = record { size = h .sized .size; keyRoom = h .sized .keyRoom; pointerRoom = h .sized .pointerRoom };
+            ascending = h .ascending;
+          };
     }

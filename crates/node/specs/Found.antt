@@ -38,7 +38,7 @@ module _ (key : ℕ) (ps : List Pair) where
   true-present e =
       record {
         inside = ltb-true (place key ps) (length ps) (and-left (ltb (place key ps) (length ps)) (eqb (keyAt ps (place key ps)) key) e);
-        equal = eqb-true (keyAt ps (place key ps)) key (and-right (ltb (place key ps) (length ps)) (eqb (keyAt ps (place key ps)) key) e)
+        equal = eqb-true (keyAt ps (place key ps)) key (and-right (ltb (place key ps) (length ps)) (eqb (keyAt ps (place key ps)) key) e);
       }
 
   pub false-absent : present key ps ≡ false → Absent key ps

@@ -75,7 +75,7 @@ module _ (kind : Kind) (ps : List Pair) (last upper : ℕ) (h : length ps ≡ su
   neat-upperHalf w =
       record {
         keys = within-drop (upperFrom kind) 0 bound32 ps w;
-        size = omega (arith, length-drop (upperFrom kind) ps, le-upperFrom kind)
+        size = omega (arith, length-drop (upperFrom kind) ps, le-upperFrom kind);
       }
 
 -- A leaf's halves are its pairs, cut; document 01's 25 keys: 12 and 13.

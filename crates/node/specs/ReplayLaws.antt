@@ -70,7 +70,7 @@ replay-puts kind l (p ∷ ps) done low v w h =
     let size : length (insert (p .0) (p .1) done) ≡ length done + 1 = ap length e ∙ length-append done (p ∷ []) in
     let next = done ++ (p ∷ []) in
     let v′ : Within 0 (suc (p .0)) next =
-        within-append 0 low (suc (p .0)) done (p ∷ []) (omega arith) (omega (arith, w .0)) v (w .0, omega arith, tt) in
+    within-append 0 low (suc (p .0)) done (p ∷ []) (omega arith) (omega (arith, w .0)) v (w .0, omega arith, tt) in
     let rest = replay-puts kind l ps next (suc (p .0)) v′ (w .2) (omega (arith, length-append done (p ∷ []))) in
     ap (λ (d : Draft). replayFrom d (map step (puts ps ++ (link kind l ∷ []))))
     (ifFits-room (insert (p .0) (p .1) done) (unlinked (insert (p .0) (p .1) done)) (omega arith) ∙ ap unlinked e) ∙

@@ -125,6 +125,7 @@ place-is wanted low high ps i w l before behind = omega (arith, lower (le-or i 0
     lower : (i ≤ 0) ⊎ (0 < i) → i ≤ place wanted ps
     lower (inl h) = omega arith
     lower (inr h) = omega (arith, lt-place wanted low high ps (i - 1) w (omega arith) (before h))
+
     upper : (length ps ≤ i) ⊎ (i < length ps) → place wanted ps ≤ i
     upper (inl h) = omega (arith, place-le-length wanted ps)
     upper (inr h) = place-le wanted ps i h (behind h)

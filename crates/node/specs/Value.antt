@@ -116,16 +116,16 @@ module _ (v : NodeValue) (h : Held v) (key i : ℕ) (e : i ≡ place key (pairsI
   pub found-at-value : i < v .count → getD (v .keys) i 0 ≡ key → At i ≡ found key (pairsIn v)
   found-at-value l f =
       let w : Present key (pairsIn v) =
-          record {
-            inside = omega (arith, length-pairsIn v (h .sized));
-            equal = ap (λ (j : ℕ). keyAt (pairsIn v) j) (sym e) ∙ keyAt-pairsIn v (h .sized) i l ∙ f
-          } in
+      record {
+        inside = omega (arith, length-pairsIn v (h .sized));
+        equal = ap (λ (j : ℕ). keyAt (pairsIn v) j) (sym e) ∙ keyAt-pairsIn v (h .sized) i l ∙ f;
+      } in
       rw (found-present key (pairsIn v) w, e)
 
   pub found-above-value : i < v .count → (getD (v .keys) i 0 ≡ key → ⊥) → Above i ≡ found key (pairsIn v)
   found-above-value l f =
       let a : Absent key (pairsIn v) =
-          record { other = λ z g. f (sym (keyAt-pairsIn v (h .sized) i l) ∙ ap (λ (j : ℕ). keyAt (pairsIn v) j) e ∙ g) } in
+      record { other = λ z g. f (sym (keyAt-pairsIn v (h .sized) i l) ∙ ap (λ (j : ℕ). keyAt (pairsIn v) j) e ∙ g) } in
       rw (found-absent key (pairsIn v) a, e)
 
   pub found-end-value : v .count ≤ i → Above i ≡ found key (pairsIn v)

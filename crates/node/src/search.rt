@@ -23,10 +23,11 @@ pub fn place(v: NodeValue, wanted: u64) -> usize
     let keys = v.keys;
     let mut i = v.count;
     while 0 < i {
-        if wide(keys[i - 1]) < wanted {
+        let below = i - 1;
+        if wide(keys[below]) < wanted {
             return i;
         }
-        i -= 1;
+        i = below;
     }
     i
 }

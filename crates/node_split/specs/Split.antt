@@ -115,10 +115,10 @@ module _ (v : NodeValue) (at key p : ℕ) (s : Splits v at key) where
       record {
         is = ap₂ (λ (qs : List Pair) (x : ℕ). node (v .kind) qs x) pairs link;
         held =
-          record {
-            sized = record { size = omega arith; keyRoom = a; pointerRoom = b };
-            ascending = rw pairs (within-take keptKeys 0 bound32 (insert key p (pairsIn v)) (ascending h))
-          }
+            record {
+              sized = record { size = omega arith; keyRoom = a; pointerRoom = b };
+              ascending = rw pairs (within-take keptKeys 0 bound32 (insert key p (pairsIn v)) (ascending h));
+            };
       }
 
   pub becomes-upper :
@@ -136,8 +136,8 @@ module _ (v : NodeValue) (at key p : ℕ) (s : Splits v at key) where
       record {
         is = ap (λ (qs : List Pair). node (v .kind) qs (v .link)) (pairs ∙ ap (λ (i : ℕ). drop i q) g);
         held =
-          record {
-            sized = record { size = k; keyRoom = a; pointerRoom = b };
-            ascending = rw pairs (within-drop from 0 bound32 q (ascending h))
-          }
+            record {
+              sized = record { size = k; keyRoom = a; pointerRoom = b };
+              ascending = rw pairs (within-drop from 0 bound32 q (ascending h));
+            };
       }

@@ -41,10 +41,11 @@ loop-again c =
     let a = c .before .before .before .args in
     let turn = c .before .before .loop in
     let room : length (a .a) ≡ 24 = search needs in
-    let whole = length-insertAt (a .at) (a .x) (a .a) in
-    (omega arith,
-    simp length-set (turn .inv .1),
-    part-turn (insertAt (a .at) (a .x) (a .a)) (turn .b) (a .from) (turn .i) (c .value-at .result) (omega arith) (omega arith) (c .value-at .ensures) (turn .inv .2))
+    let whole = length-insertAt (a .at) (a .x) (a .a) in (
+      omega arith,
+      simp length-set (turn .inv .1),
+      part-turn (insertAt (a .at) (a .x) (a .a)) (turn .b) (a .from) (turn .i) (c .value-at .result) (omega arith) (omega arith) (c .value-at .ensures) (turn .inv .2),
+    )
 
 returns : tie.Need-returns Inv-loop μ-loop
 returns c =

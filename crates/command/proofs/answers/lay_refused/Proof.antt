@@ -33,11 +33,12 @@ returns : tie.Need-returns
 unfolding answerBytes
 returns c =
     let entry = c .before .before .before .before .before .before .before .before .before .before in
-    let a = entry .args in
-    (c .before .before .lay-bytes .ensures ∙
-    ap (λ (s : List ℕ). lay s (a .at + 3) (a .number ∷ [])) (c .before .before .before .before .before .before .before .lay-head .ensures) ∙
-    lay-field (a .buffer .now) (a .at) 143 1 (a .number ∷ []) (omega (arith, entry .pre)) refl,
-    refl)
+    let a = entry .args in (
+      c .before .before .lay-bytes .ensures ∙
+          ap (λ (s : List ℕ). lay s (a .at + 3) (a .number ∷ [])) (c .before .before .before .before .before .before .before .lay-head .ensures) ∙
+          lay-field (a .buffer .now) (a .at) 143 1 (a .number ∷ []) (omega (arith, entry .pre)) refl,
+      refl,
+    )
 
 pub lay-refused-spec : {M : Type 1} → statement M
 lay-refused-spec =

@@ -29,11 +29,12 @@ same-length c = search needs
 returns : tie.Need-returns
 returns c =
     let entry = c .before .before .before .before .before .before .before .before .before in
-    let a = entry .args in
-    (c .before .before .write32 .ensures ∙
-    ap (λ (s : List ℕ). lay s (a .at + 3) (bigEndian 4 (a .value))) (c .before .before .before .before .before .before .lay-head .ensures) ∙
-    lay-field (a .buffer .now) (a .at) (a .tag) 4 (bigEndian 4 (a .value)) (omega (arith, entry .pre)) (length-bigEndian 4 (a .value)),
-    refl)
+    let a = entry .args in (
+      c .before .before .write32 .ensures ∙
+          ap (λ (s : List ℕ). lay s (a .at + 3) (bigEndian 4 (a .value))) (c .before .before .before .before .before .before .lay-head .ensures) ∙
+          lay-field (a .buffer .now) (a .at) (a .tag) 4 (bigEndian 4 (a .value)) (omega (arith, entry .pre)) (length-bigEndian 4 (a .value)),
+      refl,
+    )
 
 pub lay-value-spec : {M : Type 1} → statement M
 lay-value-spec =

@@ -63,11 +63,12 @@ loop-again c =
     let w = onward (c .before) in
     let turn = c .before .before .before .before .before .before .loop in
     let s = c .before .before .before .before .before .before .before .before .before .args .s .now in
-    let next = c .before .before .step .given .0 .1 .0 in
-    (w .1,
-    omega (arith, w .0, c .room-for .ensures, roomFor-le (c .before .before .step .given .0 .0) (w .2), turn .inv .1),
-    ap (λ (n : ℕ). askedWith (turn .bytes + n) (commandsFrom s next)) (c .room-for .ensures) ∙
-    asked-turn s (turn .at) (turn .bytes) (c .before .before .before .before .before .loop-test .taken) _ next (step-is (c .before)) (turn .inv .2))
+    let next = c .before .before .step .given .0 .1 .0 in (
+      w .1,
+      omega (arith, w .0, c .room-for .ensures, roomFor-le (c .before .before .step .given .0 .0) (w .2), turn .inv .1),
+      ap (λ (n : ℕ). askedWith (turn .bytes + n) (commandsFrom s next)) (c .room-for .ensures) ∙
+          asked-turn s (turn .at) (turn .bytes) (c .before .before .before .before .before .loop-test .taken) _ next (step-is (c .before)) (turn .inv .2),
+    )
 
 enum-told : tie.Need-enum-told Inv-loop μ-loop
 enum-told c = search needs

@@ -27,10 +27,11 @@ added-requires : tie.Need-added-requires
 added-requires c κs =
     let entry = c .before .before .before .before in
     let a = entry .args in
-    let e = sym (c .before .before .before .find .ensures) ∙ c .before .found2 .given .1 in
-    (entry .pre .0 .sized,
-    above-inside (a .v) (entry .pre .0) (a .key) _ e,
-    omega (arith, entry .pre .1, length-put-above (a .v) (entry .pre .0) (a .key) _ (a .pointer) e))
+    let e = sym (c .before .before .before .find .ensures) ∙ c .before .found2 .given .1 in (
+      entry .pre .0 .sized,
+      above-inside (a .v) (entry .pre .0) (a .key) _ e,
+      omega (arith, entry .pre .1, length-put-above (a .v) (entry .pre .0) (a .key) _ (a .pointer) e),
+    )
 
 returns : tie.Need-returns
 returns c =

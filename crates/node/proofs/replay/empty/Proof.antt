@@ -15,10 +15,10 @@ returns c =
     record {
       is = refl;
       held =
-        record {
-          sized = record { size = omega arith; keyRoom = length-replicate {A = ℕ} 24 0; pointerRoom = length-replicate {A = ℕ} 24 0 };
-          ascending = tt
-        }
+          record {
+            sized = record { size = omega arith; keyRoom = length-replicate {A = ℕ} 24 0; pointerRoom = length-replicate {A = ℕ} 24 0 };
+            ascending = tt;
+          };
     }
 
 pub empty-spec : {M : Type 1} → statement M

@@ -72,12 +72,13 @@ loop-again c =
     let key = keyAt-pairsIn v (entry .pre) (turn .i) inside in
     let size = length-pairsIn v (entry .pre) in
     let read = c .before .before .wide .ensures in
-    let least : c .before .before .wide .result + 1 ≡ suc (keyAt (pairsIn v) (turn .i)) = omega arith in
-    (omega arith,
-    ap (λ (n : ℕ). ascends (c .before .before .wide .result + 1) high (drop n (pairsIn v))) (add-one (turn .i)) ∙
-    ap (λ (n : ℕ). ascends n high (drop (suc (turn .i)) (pairsIn v))) least ∙
-    sym (ascends-next (turn .least) high (pairsIn v) (turn .i) (omega arith) (omega arith) (omega arith)) ∙
-    turn .inv .1)
+    let least : c .before .before .wide .result + 1 ≡ suc (keyAt (pairsIn v) (turn .i)) = omega arith in (
+      omega arith,
+      ap (λ (n : ℕ). ascends (c .before .before .wide .result + 1) high (drop n (pairsIn v))) (add-one (turn .i)) ∙
+          ap (λ (n : ℕ). ascends n high (drop (suc (turn .i)) (pairsIn v))) least ∙
+          sym (ascends-next (turn .least) high (pairsIn v) (turn .i) (omega arith) (omega arith) (omega arith)) ∙
+          turn .inv .1,
+    )
 
 returns-3 : tie.Need-returns-3 Inv-loop μ-loop
 returns-3 c =

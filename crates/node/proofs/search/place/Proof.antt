@@ -9,9 +9,6 @@ use borrow.Author.Needs.{needs}
 use Rattle.node.specs.Value.{place-value}
 use Rattle.node.proofs.search.place.Statement.{statement}
 use Rattle.node.proofs.search.place.Tie as tie
-use Rattle.node.proofs.search.place.Reads as reads
-use Rattle.node.proofs.search.place.Lts as lts
-use Rattle.node.proofs.search.wide.Reads as wide-reads
 
 abbrev Inv-loop : tie.InvT-loop
 Inv-loop wanted keys i₀ i = (i ≤ i₀) × (i < i₀ → wanted ≤ getD keys i 0)
@@ -22,8 +19,8 @@ abbrev μ-loop : tie.MeasureT-loop
 loop-holds : tie.Need-loop-holds Inv-loop μ-loop
 loop-holds c = (omega arith, λ z. omega arith)
 
-sub-wide : tie.Need-sub-wide Inv-loop μ-loop
-sub-wide c = omega arith
+sub-below : tie.Need-sub-below Inv-loop μ-loop
+sub-below c = omega arith
 
 mul-wide : tie.Need-mul-wide Inv-loop μ-loop
 mul-wide c = omega arith
@@ -39,9 +36,6 @@ returns c =
     let entry = c .before .before .before .before .before in
     let turn = c .before .before .before .loop in
     (place-value (entry .args .v) (entry .pre) (entry .args .wanted) (turn .i) (turn .inv .0) (λ z. omega (arith, c .before .wide .ensures)) (turn .inv .1), omega arith)
-
-sub-i : tie.Need-sub-i Inv-loop μ-loop
-sub-i c = omega arith
 
 loop-less : tie.Need-loop-less Inv-loop μ-loop
 loop-less c = omega arith
@@ -62,12 +56,11 @@ place-spec =
     Inv-loop
     μ-loop
     loop-holds
-    sub-wide
+    sub-below
     mul-wide
     array-read-wide
     wide-requires
     returns
-    sub-i
     loop-less
     loop-again
     returns-2)

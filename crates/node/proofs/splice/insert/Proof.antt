@@ -47,11 +47,12 @@ loop-again : tie.Need-loop-again Inv-loop μ-loop
 loop-again c =
     let a = c .before .before .args in
     let room : length (a .a) ≡ 24 = search needs in
-    let turn = c .before .loop in
-    (omega arith,
-    omega arith,
-    opened-turn 0 (a .a) (turn .b) (a .count) (turn .i) (omega arith) (omega arith) (turn .inv .1) (turn .inv .2),
-    simp length-set (turn .inv .3))
+    let turn = c .before .loop in (
+      omega arith,
+      omega arith,
+      opened-turn 0 (a .a) (turn .b) (a .count) (turn .i) (omega arith) (omega arith) (turn .inv .1) (turn .inv .2),
+      simp length-set (turn .inv .3),
+    )
 
 mul-b-2 : tie.Need-mul-b-2 Inv-loop μ-loop
 mul-b-2 c = omega arith
@@ -64,12 +65,13 @@ returns c =
     let a = c .before .before .args in
     let room : length (a .a) ≡ 24 = search needs in
     let turn = c .before .loop in
-    let e : turn .i ≡ a .at = omega arith in
-    (ap (λ (n : ℕ). take n (set (turn .b) (turn .i) (a .x))) (add-one (a .count)) ∙
-    ap (λ (b : List ℕ). take (suc (a .count)) (set b (turn .i) (a .x))) (turn .inv .2) ∙
-    opened-done 0 (a .a) (a .count) (omega arith) (turn .i) (a .x) (turn .inv .1) ∙
-    ap (λ (i : ℕ). insertAt i (a .x) (take (a .count) (a .a))) e,
-    simp length-set (turn .inv .3 ∙ room))
+    let e : turn .i ≡ a .at = omega arith in (
+      ap (λ (n : ℕ). take n (set (turn .b) (turn .i) (a .x))) (add-one (a .count)) ∙
+          ap (λ (b : List ℕ). take (suc (a .count)) (set b (turn .i) (a .x))) (turn .inv .2) ∙
+          opened-done 0 (a .a) (a .count) (omega arith) (turn .i) (a .x) (turn .inv .1) ∙
+          ap (λ (i : ℕ). insertAt i (a .x) (take (a .count) (a .a))) e,
+      simp length-set (turn .inv .3 ∙ room),
+    )
 
 pub insert-spec : {M : Type 1} → statement M
 insert-spec =

@@ -47,21 +47,23 @@ loop-again : tie.Need-loop-again Inv-loop μ-loop
 loop-again c =
     let a = c .before .before .args in
     let room : length (a .a) ≡ 24 = search needs in
-    let turn = c .before .loop in
-    (omega arith,
-    omega arith,
-    closed-turn 0 (a .a) (turn .b) (a .at) (turn .i) (turn .inv .0) (omega arith) (turn .inv .2),
-    simp length-set (turn .inv .3))
+    let turn = c .before .loop in (
+      omega arith,
+      omega arith,
+      closed-turn 0 (a .a) (turn .b) (a .at) (turn .i) (turn .inv .0) (omega arith) (turn .inv .2),
+      simp length-set (turn .inv .3),
+    )
 
 returns : tie.Need-returns Inv-loop μ-loop
 returns c =
     let a = c .before .before .args in
     let room : length (a .a) ≡ 24 = search needs in
     let turn = c .before .loop in
-    let e : turn .i ≡ a .count - 1 = omega arith in
-    (ap (λ (b : List ℕ). take (a .count - 1) b) (turn .inv .2 ∙ ap (λ (i : ℕ). closed 0 (a .a) (a .at) i) e) ∙
-    closed-done 0 (a .a) (a .at) (a .count) (omega arith) (omega arith),
-    turn .inv .3 ∙ room)
+    let e : turn .i ≡ a .count - 1 = omega arith in (
+      ap (λ (b : List ℕ). take (a .count - 1) b) (turn .inv .2 ∙ ap (λ (i : ℕ). closed 0 (a .a) (a .at) i) e) ∙
+          closed-done 0 (a .a) (a .at) (a .count) (omega arith) (omega arith),
+      turn .inv .3 ∙ room,
+    )
 
 pub remove-spec : {M : Type 1} → statement M
 remove-spec =
