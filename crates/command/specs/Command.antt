@@ -3,7 +3,6 @@
 use mathlib.Core.Bool.{Bool, true, false, _&&_}
 use mathlib.Core.List.{List, [], _∷_, _++_}
 use mathlib.Core.Option.{Option, none, some}
-use mathlib.Core.Path.{_≡_}
 use Prim.Native.Nat.{ℕ, _+_, _-_, _*_, _≤_, _<_}
 use lib.Dec.{eqb, leb}
 use lib.ListN.{length, getD}
@@ -65,8 +64,3 @@ Small (Scan low high most) = most ≤ mostPairs
 abbrev pub Onward : List ℕ → ℕ → Step → Type 0
 Onward s at (Next c next) = (at < next) × (next ≤ length s) × Small c
 Onward s at Invalid = Unit {0}
-
--- What the reader of one command answers.
-pub record Stepped (s : List ℕ) (at : ℕ) (r : Step) : Type 0 where
-  pub is : r ≡ commandAt s at
-  pub onward : Onward s at r

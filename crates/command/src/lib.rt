@@ -1,4 +1,6 @@
 // The commands of a batch and their answers, as bytes.
+pub mod answers;
+pub mod batch;
 
 // What a caller may ask: document 01's look up, hang, strip and sweep.
 pub enum Command {
