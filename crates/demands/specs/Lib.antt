@@ -5,7 +5,6 @@ pub mod Run
 pub mod Mount
 pub mod Close
 pub mod Prepare
-pub mod DemandOne
 pub mod EveryLaws
 pub mod StoreFits
 pub mod ReplayNarrow
@@ -21,3 +20,5 @@ pub mod PoolBytes
 pub mod MountFits
 pub mod PrepareFits
 pub mod PoolAfter
+pub mod DemandOne
+pub mod CommandBytes

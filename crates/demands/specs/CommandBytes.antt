@@ -1,0 +1,131 @@
+-- The commands that the bytes of a batch spell: keys and values have 32 bits, and each takes seven bytes or more, so there are at most 4,681
+-- of them. Assumes nothing.
+use mathlib.Core.Path.{_≡_, refl, sym, ap, _∙_, subst}
+use mathlib.Core.Bool.{Bool, true, false, _&&_}
+use mathlib.Core.List.{List, [], _∷_}
+use mathlib.Core.Option.{Option, none, some}
+use Prim.Native.Nat.{ℕ, zero, suc, _+_, _-_, _*_, _≤_, _<_}
+use native.Mathlib.Omega.{arith}
+use borrow.Author.Tests.{leb-true, leb-false, eqb-true}
+use lib.Dec.{eqb, leb}
+use lib.ListN.{length, getD}
+use Rattle.laws.specs.Tests.{choose, and-left}
+use Rattle.laws.specs.Lay.{part, length-part}
+use Rattle.laws.specs.BigEndian.{Bytes, numberAt, numberAt-lt, bytes-part}
+use Rattle.layout.specs.Layout.{mostBatchBytes, bound32}
+use Rattle.wire.specs.Tag.{lengthOf, allowed}
+use Rattle.wire.specs.Field.{lengthAt, fieldAt}
+use Rattle.wire.specs.declared.field.Field.{Field}
+use Rattle.wire.specs.declared.field.Field.the-variants.{Payload, Missing, Foreign, Overlong}
+use Rattle.command.specs.declared.Command.{Command}
+use Rattle.command.specs.declared.Command.the-variants.{Get, Put, Delete, Scan}
+use Rattle.command.specs.declared.Step.{Step}
+use Rattle.command.specs.declared.Step.the-variants.{Next, Invalid}
+use Rattle.command.specs.Command.{inRange, commandOf, stepAs, fieldStep, commandAt, Onward}
+use Rattle.command.specs.CommandLaws.{commandAt-onward, field-bounds, payload-get, payload-put, payload-delete, payload-scan}
+use Rattle.command.specs.Batch.{before, run, commandsFrom, commandsOf}
+use Rattle.demands.specs.Commands.{Valid, ValidAll}
+use Rattle.demands.specs.CommandFits.{ValueFits, ValuesFit}
+use Rattle.demands.specs.BatchFits.{mostCommands}
+
+-- A command read at a place.
+abbrev Reads : ℕ → Step → Type 0
+Reads at (Next c next) = (at + 7 ≤ next) × Valid c × ValueFits c
+Reads at Invalid = Unit {0}
+
+module _ (at n tag : ℕ) (p : List ℕ) (bytes : Bytes p) (size : length p ≡ n) (may : allowed (lengthOf tag) n ≡ true) where
+  small : (i : ℕ) → i + 4 ≤ n → numberAt 4 p i < bound32
+  small i l = numberAt-lt 4 p i bytes (omega arith)
+
+  commandOf-reads : Reads at (stepAs (at + 3 + n) (commandOf tag p))
+  unfolding commandOf
+  commandOf-reads = go (eqb tag 1) refl (eqb tag 2) refl (eqb tag 3) refl (eqb tag 4 && inRange (numberAt 2 p 8)) refl
+    where
+      go : (a : Bool) → eqb tag 1 ≡ a → (b : Bool) → eqb tag 2 ≡ b → (c : Bool) → eqb tag 3 ≡ c → (d : Bool) →
+          (eqb tag 4 && inRange (numberAt 2 p 8)) ≡ d →
+          Reads at
+          (stepAs (at + 3 + n)
+          (choose a (some (Get (numberAt 4 p 0)))
+          (choose b (some (Put (numberAt 4 p 0) (numberAt 4 p 4)))
+          (choose c (some (Delete (numberAt 4 p 0)))
+          (choose d (some (Scan (numberAt 4 p 0) (numberAt 4 p 4) (numberAt 2 p 8))) none)))))
+      go true e b f c g d h =
+          let l = payload-get tag n may (eqb-true tag 1 e) in
+          (omega arith, small 0 (omega arith), tt)
+      go false e true f c g d h =
+          let l = payload-put tag n may (eqb-true tag 2 f) in
+          (omega arith, small 0 (omega arith), small 4 (omega arith))
+      go false e false f true g d h =
+          let l = payload-delete tag n may (eqb-true tag 3 g) in
+          (omega arith, small 0 (omega arith), tt)
+      go false e false f false g true h =
+          let l = payload-scan tag n may (eqb-true tag 4 (and-left (eqb tag 4) (inRange (numberAt 2 p 8)) h)) in
+          (omega arith, small 0 (omega arith), tt)
+      go false e false f false g false h = tt
+
+commandAt-reads : (s : List ℕ) → Bytes s → (at : ℕ) → Reads at (commandAt s at)
+unfolding commandAt
+commandAt-reads s bytes at = go (fieldAt s at (getD s at 0)) refl
+  where
+    go : (f : Field) → fieldAt s at (getD s at 0) ≡ f → Reads at (fieldStep s (getD s at 0) f)
+    go (Payload start end) e =
+        let b = field-bounds s at (getD s at 0) start end e in
+        rw (b .last)
+        (commandOf-reads at (lengthAt s at) (getD s at 0) (part s start (at + 3 + lengthAt s at - start)) (bytes-part start _ bytes)
+        (length-part s start (at + 3 + lengthAt s at - start) (omega (arith, b .first, b .within)) ∙ omega (arith, b .first)) (b .may))
+    go Missing e = tt
+    go Foreign e = tt
+    go Overlong e = tt
+
+-- All commands from a place on.
+pub record Spelled (s : List ℕ) (at : ℕ) (cs : List Command) : Type 0 where
+  pub valid : ValidAll cs
+  pub values : ValuesFit cs
+  pub few : 7 * length cs ≤ length s - at
+
+module _ (s : List ℕ) (bytes : Bytes s) where
+  run-spelled : (fuel at : ℕ) (cs : List Command) → run fuel s at ≡ some cs → Spelled s at cs
+  unfolding run
+  run-spelled zero at cs e = let z : _≡_ {A = ℕ} 0 1 = cc in absurd (omega arith)
+  run-spelled (suc fuel) at cs e = go (leb (length s) at) refl (commandAt s at) refl (commandAt-reads s bytes at) (commandAt-onward s at) (λ next ds. run-spelled fuel next ds)
+    where
+      stop : (cs : List Command) → some [] ≡ some cs → Spelled s at cs
+      stop [] f = record { valid = tt; values = tt; few = omega arith }
+      stop (c ∷ cs) f = let z : _≡_ {A = ℕ} 0 1 = cc in absurd (omega arith)
+
+      next-one : (c : Command) (next : ℕ) (o : Option (List Command)) → (at + 7 ≤ next) × Valid c × ValueFits c → next ≤ length s →
+          ((ds : List Command) → o ≡ some ds → Spelled s next ds) → (cs : List Command) → before c o ≡ some cs → Spelled s at cs
+      next-one c next none r w rest cs f = let z : _≡_ {A = ℕ} 0 1 = cc in absurd (omega arith)
+      next-one c next (some ds) r w rest [] f = let z : _≡_ {A = ℕ} 0 1 = cc in absurd (omega arith)
+      next-one c next (some ds) r w rest (d ∷ es) f =
+          let p : c ≡ d = cc in
+          let q : ds ≡ es = cc in
+          let x = rest ds refl in
+          record {
+            valid = (subst Valid p (r .1), subst ValidAll q (x .valid));
+            values = (subst ValueFits p (r .2), subst ValuesFit q (x .values));
+            few = omega (arith, x .few, ap length q, r .0);
+          }
+
+      go : (b : Bool) → leb (length s) at ≡ b → (r : Step) → commandAt s at ≡ r → Reads at (commandAt s at) → Onward s at (commandAt s at) →
+          ((next : ℕ) (ds : List Command) → run fuel s next ≡ some ds → Spelled s next ds) → Spelled s at cs
+      go true f r g reads on rest = stop cs (rw (f, run) at e)
+      go false f (Next c next) g reads on rest =
+          next-one c next (run fuel s next) (rw g at reads) (rw g at on .1) (rest next) cs (rw (f, run, g) at e)
+      go false f Invalid g reads on rest = let h : none ≡ some cs = rw (f, run, g) at e in let z : _≡_ {A = ℕ} 0 1 = cc in absurd (omega arith)
+
+  -- THE COMMANDS OF A BATCH: valid, of 32 bits, and at most 4,681.
+  pub record Batch (cs : List Command) : Type 0 where
+    pub valid : ValidAll cs
+    pub values : ValuesFit cs
+    pub few : length cs ≤ mostCommands
+
+  pub commandsOf-batch : (cs : List Command) → commandsOf s ≡ some cs → Batch cs
+  unfolding commandsOf commandsFrom
+  commandsOf-batch cs e = go (leb (length s) mostBatchBytes) refl
+    where
+      go : (b : Bool) → leb (length s) mostBatchBytes ≡ b → Batch cs
+      go true f =
+          let x = run-spelled (suc (length s)) 0 cs (rw (f, commandsOf) at e) in
+          record { valid = x .valid; values = x .values; few = omega (arith, x .few, leb-true (length s) mostBatchBytes f) }
+      go false f = let h : none ≡ some cs = rw (f, commandsOf) at e in let z : _≡_ {A = ℕ} 0 1 = cc in absurd (omega arith)
