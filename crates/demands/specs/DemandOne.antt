@@ -25,11 +25,14 @@ use Rattle.model.specs.Bytes.{bytesOf, cellsOf}
 use Rattle.model.specs.Call.{Outcome, refuse, blocksOf, poolLength, cleared, mountBy, mountOf, accept, batchMounted, batchAsked, batchOf, Prepared, prepareOf}
 
 -- The three ways in which a batch ends. Refused with 1 or 2: every buffer is as found. Refused with 3 to 8: pool and answers are as found,
--- and the first 1,024 × B bytes of the table are zero. Done: the outcome of an accepted batch.
-pub data Ends (pool table buffer : List ℕ) : Outcome → Type 0 where
-  asFound : (n : ℕ) → 1 ≤ n → n ≤ 2 → Ends pool table buffer (refuse n pool table buffer)
-  tableCleared : (n : ℕ) → 3 ≤ n → n ≤ 8 → Ends pool table buffer (refuse n pool (cleared (blocksOf pool) table) buffer)
-  done : (t : Tariff) (cs : List Command) (s : State) → Ends pool table buffer (accept (blocksOf pool) t cs s table buffer)
+-- and the first 1,024 × B bytes of the table are zero. Done: the batch's bytes are commands, the answer buffer has room, the pool mounts, and
+-- the outcome is that of an accepted batch.
+pub data Ends (pool table batch buffer : List ℕ) : Outcome → Type 0 where
+  asFound : (n : ℕ) → 1 ≤ n → n ≤ 2 → Ends pool table batch buffer (refuse n pool table buffer)
+  tableCleared : (n : ℕ) → 3 ≤ n → n ≤ 8 → Ends pool table batch buffer (refuse n pool (cleared (blocksOf pool) table) buffer)
+  done : (t : Tariff) (cs : List Command) (s : State) → poolLength pool ≡ true → commandsOf batch ≡ some cs →
+      leb (roomForAll cs) (length buffer) ≡ true → mountOf pool ≡ opened t s →
+      Ends pool table batch buffer (accept (blocksOf pool) t cs s table buffer)
 
 -- Mount refuses with a number from 5 to 8.
 pub data Judged : Mounted → Type 0 where
@@ -61,32 +64,33 @@ mount-judged pool = go (cellsOf pool)
     go none = unmounted 5 (omega arith) (omega arith)
     go (some c) = cells-judged (blocksOf pool) c
 
-module _ (pool table buffer : List ℕ) where
-  mounted-ends : (m : Mounted) (cs : List Command) → Judged m → Ends pool table buffer (batchMounted m cs pool table buffer)
-  mounted-ends m cs (unmounted n l h) = tableCleared n (omega arith) h
-  mounted-ends m cs (mounted t s) = done t cs s
+module _ (pool table batch buffer : List ℕ) where
+  mounted-ends : (cs : List Command) → poolLength pool ≡ true → commandsOf batch ≡ some cs → leb (roomForAll cs) (length buffer) ≡ true →
+      (m : Mounted) → mountOf pool ≡ m → Judged m → Ends pool table batch buffer (batchMounted m cs pool table buffer)
+  mounted-ends cs p q r m e (unmounted n l h) = tableCleared n (omega arith) h
+  mounted-ends cs p q r m e (mounted t s) = done t cs s p q r e
 
-  asked-ends : (o : Option (List Command)) → Ends pool table buffer (batchAsked o pool table buffer)
-  asked-ends none = tableCleared 3 (omega arith) (omega arith)
-  asked-ends (some cs) = go (leb (roomForAll cs) (length buffer))
+  asked-ends : poolLength pool ≡ true → (o : Option (List Command)) → commandsOf batch ≡ o → Ends pool table batch buffer (batchAsked o pool table buffer)
+  asked-ends p none q = tableCleared 3 (omega arith) (omega arith)
+  asked-ends p (some cs) q = go (leb (roomForAll cs) (length buffer)) refl
     where
-      go : (b : Bool) →
-          Ends pool table buffer
+      go : (b : Bool) → leb (roomForAll cs) (length buffer) ≡ b →
+          Ends pool table batch buffer
           (choose b (batchMounted (mountOf pool) cs pool table buffer) (refuse 4 pool (cleared (blocksOf pool) table) buffer))
-      go true = mounted-ends (mountOf pool) cs (mount-judged pool)
-      go false = tableCleared 4 (omega arith) (omega arith)
+      go true r = mounted-ends cs p q r (mountOf pool) refl (mount-judged pool)
+      go false r = tableCleared 4 (omega arith) (omega arith)
 
   -- THE BATCH: for every byte in every buffer and every length.
-  pub batch-ends : (batch : List ℕ) → Ends pool table buffer (batchOf pool table batch buffer)
+  pub batch-ends : Ends pool table batch buffer (batchOf pool table batch buffer)
   unfolding batchOf
-  batch-ends batch = go (poolLength pool) (leb (tableBytes (blocksOf pool)) (length table))
+  batch-ends = go (poolLength pool) refl (leb (tableBytes (blocksOf pool)) (length table))
     where
-      go : (a b : Bool) →
-          Ends pool table buffer
+      go : (a : Bool) → poolLength pool ≡ a → (b : Bool) →
+          Ends pool table batch buffer
           (choose a (choose b (batchAsked (commandsOf batch) pool table buffer) (refuse 2 pool table buffer)) (refuse 1 pool table buffer))
-      go false b = asFound 1 (omega arith) (omega arith)
-      go true false = asFound 2 (omega arith) (omega arith)
-      go true true = asked-ends (commandsOf batch)
+      go false p b = asFound 1 (omega arith) (omega arith)
+      go true p false = asFound 2 (omega arith) (omega arith)
+      go true p true = asked-ends p (commandsOf batch) refl
 
 -- The same in the demand's own words: a number of document 01's, and where it is a refusal's, nothing is changed or returned.
 pub record DemandOne (before buffer : List ℕ) (o : Outcome) : Type 0 where
@@ -96,12 +100,12 @@ pub record DemandOne (before buffer : List ℕ) (o : Outcome) : Type 0 where
   pub length : 1 ≤ o .number → o .length ≡ 0
   pub charge : 1 ≤ o .number → o .charge ≡ 0
 
-ends-demand : {pool table buffer : List ℕ} {o : Outcome} → Ends pool table buffer o → DemandOne pool buffer o
+ends-demand : {pool table batch buffer : List ℕ} {o : Outcome} → Ends pool table batch buffer o → DemandOne pool buffer o
 ends-demand (asFound n l h) =
     record { numbered = omega arith; pool = λ r. refl; answers = λ r. refl; length = λ r. refl; charge = λ r. refl }
 ends-demand (tableCleared n l h) =
     record { numbered = h; pool = λ r. refl; answers = λ r. refl; length = λ r. refl; charge = λ r. refl }
-ends-demand (done t cs s) =
+ends-demand (done t cs s p q r e) =
     record {
       numbered = omega arith;
       pool = λ r. absurd (omega arith);
@@ -111,7 +115,7 @@ ends-demand (done t cs s) =
     }
 
 pub demand-one : (pool table batch buffer : List ℕ) → DemandOne pool buffer (batchOf pool table batch buffer)
-demand-one pool table batch buffer = ends-demand (batch-ends pool table buffer batch)
+demand-one pool table batch buffer = ends-demand (batch-ends pool table batch buffer)
 
 -- PREPARE: done, or refused with 1 or 10, and then the pool is as found.
 pub data Prepares (pool : List ℕ) (t : Tariff) : Prepared → Type 0 where

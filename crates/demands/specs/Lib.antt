@@ -22,3 +22,4 @@ pub mod PrepareFits
 pub mod PoolAfter
 pub mod DemandOne
 pub mod CommandBytes
+pub mod OneCall

@@ -1,0 +1,264 @@
+-- One batch on a pool that stands between calls, whatever its bytes, with any work table and answer buffer: what it returns and leaves is
+-- what the reference model and the ordered map say. Assumes nothing.
+use mathlib.Core.Path.{_≡_, refl, sym, ap, _∙_, subst}
+use mathlib.Core.Bool.{Bool, true, false, _&&_}
+use mathlib.Core.List.{List, [], _∷_, _++_, map}
+use mathlib.Core.Option.{Option, none, some}
+use Prim.Native.Nat.{ℕ, zero, suc, _+_, _*_, _/_, _≤_, _<_}
+use native.Mathlib.Nat.{mul-div-cancel-left}
+use native.Mathlib.Omega.{arith}
+use borrow.Author.Tests.{leb-true, eqb-true, le-leb, eq-eqb, ne-eqb}
+use lib.Dec.{eqb, leb}
+use lib.ListN.{length}
+use Rattle.laws.specs.Tests.{and-left, and-right, and-both}
+use Rattle.laws.specs.Every.{Every, every-weaken}
+use Rattle.laws.specs.Every as Every
+use Rattle.laws.specs.Lay.{lay, lay-nil}
+use Rattle.laws.specs.BigEndian.{Bytes}
+use Rattle.layout.specs.Layout.{blockBytes, fewestBlocks, mostBlocks, nodeLimit, mostLogPages, noLeaf}
+use Rattle.account.specs.declared.Tariff.{Tariff}
+use Rattle.account.specs.Range.{limit-some}
+use Rattle.pairs.specs.Pairs.{Pair}
+use Rattle.command.specs.declared.Command.{Command}
+use Rattle.command.specs.Batch.{commandsOf}
+use Rattle.tree.specs.NodeRequest.{NodeRequest}
+use Rattle.tree.specs.Fit.{Fits}
+use Rattle.store.specs.View.{pages}
+use Rattle.store.specs.Store.{Store, view}
+use Rattle.store.specs.Run.{Moment}
+use Rattle.store.specs.Checkpoint.{checkpointOf, tariffIn}
+use Rattle.store.specs.Reopen.{Cells, poolOf, reopened}
+use Rattle.storelaws.specs.Good.{LeanAt}
+use Rattle.book.specs.Book.{Book}
+use Rattle.book.specs.Command.{Reply, repliesBytes}
+use Rattle.book.specs.Batch.{runBook, booksPassed, chargeBook, requestsBook}
+use Rattle.book.specs.Bound.{Scored, scored-all}
+use Rattle.book.specs.OrderedMap.{mapAnswers, mapRun}
+use Rattle.model.specs.State.{State, bookOf}
+use Rattle.model.specs.Batch.{run, closed}
+use Rattle.model.specs.Mount.{opened, stateOf, mountCells}
+use Rattle.model.specs.Bytes.{bytesOf, cellsOf}
+use Rattle.model.specs.Call.{Outcome, refuse, blocksOf, poolLength, mountBy, mountOf, accept, batchOf}
+use Rattle.model.specs.Calls.{Lent, outcome, accepted, bookBy, bookIn, Work, workBy, workOf, statesBy, momentsBy, Fed, commandsBy, commandsIn, fedBook}
+use Rattle.demands.specs.Says.{Sound, Says}
+use Rattle.demands.specs.Run as Run
+use Rattle.demands.specs.Run.{Batched, batch-batched, runBook-requests}
+use Rattle.demands.specs.Mount.{Mounts, Ready, opened-mounts}
+use Rattle.demands.specs.Close.{Sealed, closed-says, closed-sealed, closed-ready}
+use Rattle.demands.specs.DemandOne.{Ends, asFound, tableCleared, done, batch-ends}
+use Rattle.demands.specs.CommandBytes.{Batch, commandsOf-batch}
+use Rattle.demands.specs.PoolAfter.{PoolAfter, batch-pool}
+
+-- A pool between calls: bytes of a length named in document 01, every page checks, questions 5 to 7 pass, and it says a book that spells a
+-- map.
+pub record OpenPool (t : Tariff) (pool : List ℕ) (b : Book) (ps : List Pair) : Type 0 where
+  pub bytes : Bytes pool
+  pub size : poolLength pool ≡ true
+  pub cells : Cells
+  pub reads : cellsOf pool ≡ some cells
+  pub sealed : Sealed (blocksOf pool) cells t
+  pub ready : Ready (blocksOf pool) t (stateOf (reopened (blocksOf pool) cells)) b ps
+
+-- A log node lies on at most three pages.
+abbrev pub Thin : Moment → Type 0
+Thin m = (n : ℕ) → n < m .nodes → pages (view (m .state)) n ≤ mostLogPages
+
+lean-thin : (m : Moment) → LeanAt m → Thin m
+lean-thin m h n l = omega (arith, h .each n l)
+
+-- What the length of a pool says.
+pub record Sized (pool : List ℕ) : Type 0 where
+  pub few : fewestBlocks ≤ blocksOf pool
+  pub most : blocksOf pool ≤ mostBlocks
+  pub bytes : length pool ≡ blockBytes * blocksOf pool
+
+pub sized : (pool : List ℕ) → poolLength pool ≡ true → Sized pool
+unfolding poolLength
+sized pool e =
+    let rest = and-right (leb fewestBlocks (blocksOf pool)) _ e in
+    record {
+      few = leb-true _ _ (and-left (leb fewestBlocks (blocksOf pool)) _ e);
+      most = leb-true _ _ (and-left (leb (blocksOf pool) mostBlocks) _ rest);
+      bytes = sym (eqb-true _ _ (and-right (leb (blocksOf pool) mostBlocks) _ rest));
+    }
+
+-- A pool of so many whole blocks.
+pub blocks-length : (pool : List ℕ) (blocks : ℕ) → length pool ≡ blockBytes * blocks → blocksOf pool ≡ blocks
+blocks-length pool blocks e = ap (λ (n : ℕ). n / blockBytes) e ∙ mul-div-cancel-left blocks (omega arith)
+
+pub whole-length : (pool : List ℕ) (blocks : ℕ) → length pool ≡ blockBytes * blocks → fewestBlocks ≤ blocks → blocks ≤ mostBlocks → poolLength pool ≡ true
+unfolding poolLength
+whole-length pool blocks e l m =
+    rw (blocks-length pool blocks e)
+    (and-both (leb fewestBlocks blocks) _ (le-leb fewestBlocks blocks l)
+    (and-both (leb blocks mostBlocks) (eqb (blockBytes * blocks) (length pool)) (le-leb blocks mostBlocks m) (eq-eqb _ _ (sym e))))
+
+-- The book that the pool spells is the book.
+pub bookIn-is : {t : Tariff} {pool : List ℕ} {b : Book} {ps : List Pair} → OpenPool t pool b ps → bookIn pool ≡ b
+unfolding bookIn
+bookIn-is o = rw (o .reads) (o .ready .says .is)
+
+-- What the reference model is fed of a call.
+abbrev pub fedOf : List ℕ → Lent → Fed
+fedOf pool l = record { batch = l .batch; accepted = accepted (outcome pool l) }
+
+-- What a call leaves, `r`, what it ran, `w`, and the commands that the reference model was fed.
+pub record CalledBy (t : Tariff) (pool buffer : List ℕ) (b : Book) (ps : List Pair) (r : Outcome) (w : Option Work) (cs : List Command) : Type 0 where
+  pub length : blocksOf (r .pool) ≡ blocksOf pool
+  pub stands : OpenPool t (r .pool) (runBook (nodeLimit (blocksOf pool)) t cs b) (mapRun (nodeLimit (blocksOf pool)) t cs b ps)
+  pub charge : r .charge ≡ chargeBook (nodeLimit (blocksOf pool)) t cs b
+  pub passed : map bookOf (statesBy (blocksOf pool) w) ≡ booksPassed (nodeLimit (blocksOf pool)) t cs b
+  pub thin : Every Thin (momentsBy (blocksOf pool) w)
+  pub answers : r .answers ≡ lay buffer 0 (repliesBytes (mapAnswers (nodeLimit (blocksOf pool)) t cs b ps))
+  pub fits :
+      Fits (nodeLimit (blocksOf pool)) (requestsBook (nodeLimit (blocksOf pool)) t cs b) (b .table) (b .count)
+      (runBook (nodeLimit (blocksOf pool)) t cs b .count)
+
+-- ONE CALL.
+abbrev pub Called : Tariff → List ℕ → Lent → Book → List Pair → Type 0
+Called t pool l b ps = CalledBy t pool (l .buffer) b ps (outcome pool l) (workOf pool l) (commandsIn (fedOf pool l))
+
+module _ {t : Tariff} {pool : List ℕ} {b : Book} {ps : List Pair} (o : OpenPool t pool b ps) (l : Lent) where
+  abbrev B : ℕ
+  B = blocksOf pool
+
+  abbrev limit : ℕ
+  limit = nodeLimit B
+
+  -- Where a call is known, what it ran and what the model is fed follow.
+  from-known : (r : Outcome) (w : Option Work) (cs : List Command) → outcome pool l ≡ r → workOf pool l ≡ w → commandsIn (fedOf pool l) ≡ cs →
+      CalledBy t pool (l .buffer) b ps r w cs → Called t pool l b ps
+  from-known r w cs e f g c =
+      subst (λ (x : Outcome). CalledBy t pool (l .buffer) b ps x (workOf pool l) (commandsIn (fedOf pool l))) (sym e)
+      (subst (λ (x : Option Work). CalledBy t pool (l .buffer) b ps r x (commandsIn (fedOf pool l))) (sym f)
+      (subst (λ (x : List Command). CalledBy t pool (l .buffer) b ps r w x) (sym g) c))
+
+  -- A refused call leaves the pool, and the reference model is fed no command.
+  refused-called : (n : ℕ) → 1 ≤ n → (table : List ℕ) → outcome pool l ≡ refuse n pool table (l .buffer) → Called t pool l b ps
+  unfolding workOf
+  refused-called n h table e =
+      from-known (refuse n pool table (l .buffer)) none [] e
+      (ap (λ (x : Bool). workBy x (commandsOf (l .batch)) (mountOf pool)) no) (ap (λ (x : Bool). commandsBy x (commandsOf (l .batch))) no)
+      (record {
+        length = refl;
+        stands = o;
+        charge = refl;
+        passed = refl;
+        thin = Every.none;
+        answers = sym (lay-nil (l .buffer) 0);
+        fits = refl;
+      })
+    where
+      no : accepted (outcome pool l) ≡ false
+      no = ap (λ (x : Outcome). eqb (x .number) 0) e ∙ ne-eqb n 0 (λ z. omega arith)
+
+  module _ (bytes : Bytes (l .batch)) (cs : List Command) (t′ : Tariff) (s : State) (p : poolLength pool ≡ true)
+      (q : commandsOf (l .batch) ≡ some cs) (m : mountOf pool ≡ opened t′ s) where
+    mounted : mountCells B (o .cells) ≡ opened t′ s
+    unfolding mountOf
+    mounted = sym (ap (mountBy B) (o .reads)) ∙ m
+
+    same-tariff : t′ ≡ t
+    same-tariff = let e = sym (opened-mounts mounted .mounts .tariff) ∙ o .sealed .tariff in inside t′ t e
+      where
+        inside : (a c : Tariff) → some a ≡ some c → a ≡ c
+        inside a c e = cc
+
+    same-state : s ≡ stateOf (reopened B (o .cells))
+    same-state = opened-mounts mounted .is
+
+    -- The state that the batch begins with.
+    start : Ready B t s b ps
+    start = rw same-state (o .ready)
+
+    abbrev commands : Batch (l .batch) bytes cs
+    commands = commandsOf-batch (l .batch) bytes cs q
+
+    small : limit < noLeaf
+    small = omega (arith, sized pool p .most)
+
+    ran : Batched B t cs s ps
+    ran =
+        batch-batched B t small cs s ps (commands .valid) (start .says .sound)
+        (subst (λ (z : Book). Run.Holds limit z ps) (sym (start .says .is)) (start .holds))
+
+    -- The state after the commands.
+    abbrev after : State
+    after = run limit t cs s
+
+    abbrev book : Book
+    book = runBook limit t cs b
+
+    says-after : Says B after book
+    says-after = subst (λ (z : Book). Says B after (runBook limit t cs z)) (start .says .is) (ran .says)
+
+    fits-after : Fits limit (requestsBook limit t cs b) (b .table) (b .count) (book .count)
+    fits-after =
+        subst (λ (z : Book). Fits limit (requestsBook limit t cs z) (z .table) (z .count) (runBook limit t cs z .count)) (start .says .is) (ran .fits)
+
+    ended : Ready B t after book (mapRun limit t cs b ps)
+    ended =
+        record {
+          says = says-after;
+          holds = subst (λ (z : Book). Run.Holds limit (runBook limit t cs z) (mapRun limit t cs z ps)) (start .says .is) (ran .holds);
+          ranged = start .ranged;
+          scored =
+              subst (Scored t) (sym (runBook-requests limit t cs b))
+              (scored-all limit t (limit-some (start .ranged)) (requestsBook limit t cs b) b (book .count) (start .scored) fits-after);
+        }
+
+    pool-after : PoolAfter B s (closed t after)
+    pool-after =
+        subst (λ (z : Tariff). PoolAfter B s (closed z (run limit z cs s))) same-tariff
+        (batch-pool (sized pool p .few) (sized pool p .most) pool (o .bytes) (sized pool p .bytes) (o .reads) mounted cs (commands .valid)
+        (commands .values) (commands .few))
+
+    abbrev left : List ℕ
+    left = bytesOf (poolOf (closed t after .run .now))
+
+    same-blocks : blocksOf left ≡ B
+    same-blocks = blocks-length left B (pool-after .size)
+
+    stands-left : OpenPool t left book (mapRun limit t cs b ps)
+    stands-left =
+        record {
+          bytes = pool-after .bytes;
+          size = whole-length left B (pool-after .size) (sized pool p .few) (sized pool p .most);
+          cells = poolOf (closed t after .run .now);
+          reads = pool-after .back;
+          sealed = rw same-blocks (closed-sealed (sized pool p .most) ended);
+          ready = rw same-blocks (closed-ready (sized pool p .most) ended);
+        }
+
+    accepted-called : outcome pool l ≡ accept B t′ cs s (l .table) (l .buffer) → Called t pool l b ps
+    unfolding workOf
+    accepted-called e =
+        from-known (accept B t cs s (l .table) (l .buffer)) (some (record { tariff = t; commands = cs; start = s })) cs
+        (e ∙ ap (λ (z : Tariff). accept B z cs s (l .table) (l .buffer)) same-tariff) work fed
+        (record {
+          length = same-blocks;
+          stands = stands-left;
+          charge = ran .charge ∙ ap (chargeBook limit t cs) (start .says .is);
+          passed = ran .passed ∙ ap (booksPassed limit t cs) (start .says .is);
+          thin = every-weaken lean-thin (closed-says (sized pool p .most) ended .sound .good .passed);
+          answers =
+              ap (λ (rs : List Reply). lay (l .buffer) 0 (repliesBytes rs))
+              (ran .answers ∙ ap (λ (z : Book). mapAnswers limit t cs z ps) (start .says .is));
+          fits = fits-after;
+        })
+      where
+        yes : accepted (outcome pool l) ≡ true
+        yes = ap (λ (x : Outcome). eqb (x .number) 0) e
+        work : workOf pool l ≡ some (record { tariff = t; commands = cs; start = s })
+        work = rw (yes, q, m, same-tariff) refl
+        fed : commandsIn (fedOf pool l) ≡ cs
+        fed = rw (yes, q) refl
+
+  -- EVERY CALL, accepted or refused.
+  pub called : Bytes (l .batch) → Called t pool l b ps
+  called bytes = go (outcome pool l) refl (batch-ends pool (l .table) (l .batch) (l .buffer))
+    where
+      go : (r : Outcome) → outcome pool l ≡ r → Ends pool (l .table) (l .batch) (l .buffer) r → Called t pool l b ps
+      go r e (asFound n x y) = refused-called n x (l .table) e
+      go r e (tableCleared n x y) = refused-called n (omega arith) _ e
+      go r e (done t′ cs s p q x m) = accepted-called bytes cs t′ s p q m e
