@@ -23,3 +23,4 @@ pub mod PoolAfter
 pub mod DemandOne
 pub mod CommandBytes
 pub mod OneCall
+pub mod DemandThree
