@@ -24,3 +24,4 @@ pub mod DemandOne
 pub mod CommandBytes
 pub mod OneCall
 pub mod DemandThree
+pub mod PreparedPool

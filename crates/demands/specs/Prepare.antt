@@ -86,7 +86,7 @@ module _ (blocks : ℕ) (t : Tariff) (four : fewestBlocks ≤ blocks) where
   abbrev st : Store
   st = storeOf bs
 
-  length-blocks : length bs ≡ blocks
+  pub length-blocks : length bs ≡ blocks
   length-blocks = omega (arith, length-replicate {A = List Page} k [])
 
   short : (i : ℕ) → length (block bs i) ≤ pagesInBlock

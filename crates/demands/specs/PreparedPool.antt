@@ -1,0 +1,61 @@
+-- The pool of an accepted prepare, as bytes, stands between calls: the first book, and the empty map. Assumes nothing.
+use mathlib.Core.Path.{_≡_, refl, sym, ap, _∙_, subst}
+use mathlib.Core.Bool.{true}
+use mathlib.Core.List.{List, []}
+use mathlib.Core.Option.{some}
+use Prim.Native.Nat.{ℕ, suc, _*_, _≤_}
+use native.Mathlib.Omega.{arith}
+use lib.ListN.{length}
+use Rattle.layout.specs.Layout.{pageBytes, blockBytes, pagesInBlock}
+use Rattle.account.specs.declared.Tariff.{Tariff}
+use Rattle.account.specs.Range.{inRange, Ranged, inRange-ranged}
+use Rattle.storelaws.specs.CellLaws.{length-cells}
+use Rattle.store.specs.Prepare.{preparedBlocks}
+use Rattle.model.specs.Prepare.{prepared, firstBook}
+use Rattle.model.specs.Bytes.{bytesOf}
+use Rattle.model.specs.Call.{blocksOf, poolLength, Prepared, prepareOf}
+use Rattle.demands.specs.Mount.{Mounts}
+use Rattle.demands.specs.Close.{Sealed}
+use Rattle.demands.specs.Prepare.{length-blocks, prepared-mounts, prepared-ready}
+use Rattle.demands.specs.PoolBytes.{length-bytesOf, bytes-bytesOf}
+use Rattle.demands.specs.PrepareFits.{prepared-fits, prepared-back}
+use Rattle.demands.specs.DemandOne.{Prepares, wrongLength, wrongTariff, fresh, prepare-ends}
+use Rattle.demands.specs.OneCall.{OpenPool, Sized, sized, blocks-length, whole-length}
+
+module _ (pool : List ℕ) (t : Tariff) (r : Ranged t) (p : poolLength pool ≡ true) where
+  abbrev B : ℕ
+  B = blocksOf pool
+
+  abbrev left : List ℕ
+  left = bytesOf (prepared B t)
+
+  left-length : length left ≡ blockBytes * B
+  unfolding prepared
+  left-length =
+      length-bytesOf (prepared B t) (prepared-fits t r B) ∙
+      omega (arith, length-cells pagesInBlock (preparedBlocks B t), length-blocks B t (sized pool p .few))
+
+  same-blocks : blocksOf left ≡ B
+  same-blocks = blocks-length left B left-length
+
+  prepared-stands : OpenPool t left firstBook []
+  prepared-stands =
+      let m = prepared-mounts B t (sized pool p .few) r in
+      record {
+        bytes = bytes-bytesOf (prepared B t);
+        size = whole-length left B left-length (sized pool p .few) (sized pool p .most);
+        cells = prepared B t;
+        reads = prepared-back t r B;
+        sealed = rw same-blocks (record { pass = m .pass; complete = m .complete; tariff = m .tariff; sound = m .sound });
+        ready = rw same-blocks (prepared-ready B t (sized pool p .few) r);
+      }
+
+-- AN ACCEPTED PREPARE, on a pool of any bytes.
+pub prepare-stands : (pool : List ℕ) (t : Tariff) → prepareOf pool t .number ≡ 0 → OpenPool t (prepareOf pool t .pool) firstBook []
+prepare-stands pool t e = go (prepareOf pool t) refl (prepare-ends pool t)
+  where
+    go : (q : Prepared) → prepareOf pool t ≡ q → Prepares pool t q → OpenPool t (prepareOf pool t .pool) firstBook []
+    go q f wrongLength = absurd (omega (arith, e, ap (λ (z : Prepared). z .number) f))
+    go q f wrongTariff = absurd (omega (arith, e, ap (λ (z : Prepared). z .number) f))
+    go q f (fresh r p) =
+        subst (λ (z : List ℕ). OpenPool t z firstBook []) (sym (ap (λ (z : Prepared). z .pool) f)) (prepared-stands pool t (inRange-ranged t r) p)
