@@ -36,12 +36,15 @@ use Rattle.demands.specs.Says.{modes, Sound, Says, bookOf-trimmed, score
 use Rattle.demands.specs.Run as Run
 use Rattle.demands.specs.Mount.{Mounts, Ready}
 
-three-all : (n : ℕ) (st : Store) (most : ℕ) → Lean most (view st) → n ≤ most → threePages n st ≡ true
+pub three-below : (n : ℕ) (st : Store) → ((k : ℕ) → k < n → pages (view st) k ≤ mostLogPages) → threePages n st ≡ true
 unfolding threePages
-three-all zero st most h l = refl
-three-all (suc n) st most h l =
-    and-both (leb (pages (view st) n) mostLogPages) (threePages n st)
-    (le-leb (pages (view st) n) mostLogPages (omega (arith, h .each n (omega arith)))) (three-all n st most h (omega arith))
+three-below zero st h = refl
+three-below (suc n) st h =
+    and-both (leb (pages (view st) n) mostLogPages) (threePages n st) (le-leb (pages (view st) n) mostLogPages (h n (omega arith)))
+    (three-below n st (λ k l. h k (omega arith)))
+
+three-all : (n : ℕ) (st : Store) (most : ℕ) → Lean most (view st) → n ≤ most → threePages n st ≡ true
+three-all n st most h l = three-below n st (λ k r. omega (arith, h .each k (omega arith)))
 
 scores-all : (most i k : ℕ) (score : ℕ → ℕ) → ((n : ℕ) → n < i + k → score n < most) → scoresBelow most (scoresFrom i k score) ≡ true
 unfolding scoresBelow

@@ -25,3 +25,4 @@ pub mod CommandBytes
 pub mod OneCall
 pub mod DemandThree
 pub mod PreparedPool
+pub mod DemandTwo

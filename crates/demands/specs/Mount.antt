@@ -109,7 +109,7 @@ pub record Ready (blocks : ℕ) (t : Tariff) (s : State) (b : Book) (ps : List P
   pub ranged : Ranged t
   pub scored : Scored t b
 
-three-each : (n : ℕ) (st : Store) → threePages n st ≡ true → (k : ℕ) → k < n → pages (view st) k ≤ mostLogPages
+pub three-each : (n : ℕ) (st : Store) → threePages n st ≡ true → (k : ℕ) → k < n → pages (view st) k ≤ mostLogPages
 unfolding threePages
 three-each zero st e k l = absurd (omega arith)
 three-each (suc n) st e k l =
@@ -165,20 +165,20 @@ module _ {blocks : ℕ} {c : Cells} {t : Tariff} (four : fewestBlocks ≤ blocks
   unfolding treeSound stateOf bookOf
   sound-test = and-left (sound (nodeLimit blocks) N (bookOf s .table)) _ (m .sound)
 
-  rest-tests : (threePages N st && (inRange t && scoresBelow (limit t) (scoresIn (checkpointOf st)))) ≡ true
+  pub rest-tests : (threePages N st && (inRange t && scoresBelow (limit t) (scoresIn (checkpointOf st)))) ≡ true
   unfolding treeSound stateOf
   rest-tests = and-right (sound (nodeLimit blocks) N (bookOf s .table)) _ (m .sound)
 
-  range-tests : (inRange t && scoresBelow (limit t) (scoresIn (checkpointOf st))) ≡ true
+  pub range-tests : (inRange t && scoresBelow (limit t) (scoresIn (checkpointOf st))) ≡ true
   range-tests = and-right (threePages N st) _ rest-tests
 
-  ranged : Ranged t
+  pub ranged : Ranged t
   ranged = inRange-ranged t (and-left (inRange t) _ range-tests)
 
-  spelled : Spells (bookOf s .table) (bookOf s .count) (mapOf (bookOf s .count) (bookOf s .table))
+  pub spelled : Spells (bookOf s .table) (bookOf s .count) (mapOf (bookOf s .count) (bookOf s .table))
   spelled = sound-spells (nodeLimit blocks) (bookOf s .count) (bookOf s .table) sound-test
 
-  kept : bookOf s .count ≤ nodeLimit blocks
+  pub kept : bookOf s .count ≤ nodeLimit blocks
   kept = sound-limit (nodeLimit blocks) (bookOf s .count) (bookOf s .table) sound-test
 
   proper : (n : ℕ) → n < N → Proper (nodeOf st n)
@@ -188,7 +188,7 @@ module _ {blocks : ℕ} {c : Cells} {t : Tariff} (four : fewestBlocks ≤ blocks
       (node-proper (bookOf s .table) (bookOf s .count) (mapOf (bookOf s .count) (bookOf s .table)) spelled n (omega (arith, count-is)))
 
   -- A complete checkpoint lies on a page.
-  some-page : 0 < newest (blocksIn pagesInBlock blocks c)
+  pub some-page : 0 < newest (blocksIn pagesInBlock blocks c)
   unfolding complete checkpointOf collect reopened
   some-page = go (newest (blocksIn pagesInBlock blocks c)) refl
     where

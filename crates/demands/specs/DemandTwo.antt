@@ -1,0 +1,212 @@
+-- DEMAND 2, the part about pools: "every pool that obeys the layout opens, any other is refused", whoever wrote it, and the map that it
+-- spells is unique. (That commands answer as the ordered map does, batch after batch, and that the pool left behind spells that map, is in
+-- DemandThree: `answers` and `stands`.) Assumes nothing.
+use mathlib.Core.Path.{_≡_, refl, sym, ap, _∙_, subst}
+use mathlib.Core.Bool.{Bool, true, false, _&&_}
+use mathlib.Core.List.{List, [], _∷_}
+use mathlib.Core.Option.{Option, none, some}
+use Prim.Native.Nat.{ℕ, zero, suc, _+_, _*_, _≤_, _<_}
+use native.Mathlib.Omega.{arith}
+use borrow.Author.Tests.{leb-true, le-leb, ltb-true, lt-ltb}
+use lib.Dec.{leb, ltb}
+use lib.ListN.{length}
+use Rattle.laws.specs.Tests.{and-left, and-right, and-both}
+use Rattle.laws.specs.Every.{Every, both}
+use Rattle.laws.specs.Every as Every
+use Rattle.laws.specs.BigEndian.{Bytes}
+use Rattle.layout.specs.Layout.{pagesInBlock, pageBytes, blockBytes, nodeLimit, mostLogPages, lastSequence}
+use Rattle.account.specs.declared.Tariff.{Tariff}
+use Rattle.account.specs.Tariff.{limit}
+use Rattle.account.specs.Range.{inRange, Ranged, inRange-ranged, ranged-inRange}
+use Rattle.pairs.specs.Pairs.{Pair}
+use Rattle.page.specs.Page.{Score}
+use Rattle.tree.specs.Spells.{Spells, mapOf}
+use Rattle.tree.specs.Sound.{sound}
+use Rattle.tree_map.specs.SoundLaws.{sound-limit, sound-spells, spells-sound, map-unique}
+use Rattle.store.specs.View.{pages}
+use Rattle.store.specs.Pool.{Blocks}
+use Rattle.store.specs.Store.{Store, view}
+use Rattle.store.specs.Checkpoint.{checkpointOf, tariffIn, scoresIn, countIn, complete}
+use Rattle.store.specs.Reopen.{Cells, cells, blocksIn, newest, blockOf, storeOf, reopened, blocksPass, pagePasses, everyPage, pagesPass}
+use Rattle.storelaws.specs.BlockRules.{BlockRules}
+use Rattle.storelaws.specs.BlockTests.{Passing, passing, passing-rules, rules-blocks, rules-current}
+use Rattle.storelaws.specs.CellLaws.{cells-blocksIn}
+use Rattle.storelaws.specs.PageTests.{passing-numbers, passing-versions}
+use Rattle.storelaws.specs.Versions.{VersionRules}
+use Rattle.storelaws.specs.Opening.{own-passes}
+use Rattle.model.specs.State.{State, bookOf}
+use Rattle.model.specs.Mount.{Mounted, refused, opened, stateOf, threePages, scoresBelow, treeSound, numbersLeft, mountCells}
+use Rattle.model.specs.Bytes.{bytesOf, cellsOf}
+use Rattle.model.specs.Call.{blocksOf, poolLength, mountBy, mountOf}
+use Rattle.demands.specs.Mount.{Mounts, mounts-opened, Opened, opened-mounts, three-each, some-page, ranged, rest-tests, range-tests, kept}
+use Rattle.demands.specs.Mount as Mount
+use Rattle.demands.specs.Close.{three-below}
+use Rattle.demands.specs.PoolBytes.{CellFits, cellsOf-bytesOf, IsPool, cellsOf-is}
+use Rattle.demands.specs.DemandOne.{Judged, unmounted, mounted, mount-judged}
+use Rattle.demands.specs.OneCall.{Sized, sized}
+
+-- THE LAYOUT: what document 01 asks of a pool, but for the greatest stamp.
+pub record Obeys (pool : List ℕ) (t : Tariff) (ps : List Pair) : Type 0 where
+  -- B blocks of 16,384 bytes, B from 4 to 64
+  pub size : poolLength pool ≡ true
+  -- the pool is the images of its written pages, block by block, and FF; each page is within its limits
+  pub blocks : Blocks
+  pub is : pool ≡ bytesOf (cells pagesInBlock blocks)
+  pub fits : Every CellFits (cells pagesInBlock blocks)
+  -- the rules on blocks and stamps, and those on versions
+  pub rules : BlockRules pagesInBlock (blocksOf pool) blocks (blockOf (newest blocks) blocks) (newest blocks)
+  pub versions : VersionRules (storeOf blocks)
+  -- a complete closing set with a tariff in range and scores below the limit T
+  pub set : complete (checkpointOf (storeOf blocks)) ≡ true
+  pub tariff : tariffIn (checkpointOf (storeOf blocks)) ≡ some t
+  pub ranged : Ranged t
+  pub scores : Every (λ (x : Score). x .score < limit t) (scoresIn (checkpointOf (storeOf blocks)))
+  -- a sound tree that spells the map, within the node limit, no log node on more than three pages
+  pub spells : Spells (bookOf (stateOf (storeOf blocks)) .table) (bookOf (stateOf (storeOf blocks)) .count) ps
+  pub kept : bookOf (stateOf (storeOf blocks)) .count ≤ nodeLimit (blocksOf pool)
+  pub three : (n : ℕ) → n < bookOf (stateOf (storeOf blocks)) .count → pages (view (storeOf blocks)) n ≤ mostLogPages
+
+count-of : (st : Store) → bookOf (stateOf st) .count ≡ countIn (checkpointOf st)
+unfolding bookOf stateOf
+count-of st = refl
+
+scores-test : (most : ℕ) (xs : List Score) → Every (λ (x : Score). x .score < most) xs → scoresBelow most xs ≡ true
+unfolding scoresBelow
+scores-test most [] Every.none = refl
+scores-test most (x ∷ xs) (both h e) = and-both (ltb (x .score) most) (scoresBelow most xs) (lt-ltb (x .score) most h) (scores-test most xs e)
+
+scores-each : (most : ℕ) (xs : List Score) → scoresBelow most xs ≡ true → Every (λ (x : Score). x .score < most) xs
+unfolding scoresBelow
+scores-each most [] e = Every.none
+scores-each most (x ∷ xs) e =
+    both (ltb-true (x .score) most (and-left (ltb (x .score) most) (scoresBelow most xs) e))
+    (scores-each most xs (and-right (ltb (x .score) most) (scoresBelow most xs) e))
+
+module _ {pool : List ℕ} {t : Tariff} {ps : List Pair} (o : Obeys pool t ps) where
+  abbrev st : Store
+  st = storeOf (o .blocks)
+
+  reads : cellsOf pool ≡ some (cells pagesInBlock (o .blocks))
+  reads = rw (o .is) (cellsOf-bytesOf (cells pagesInBlock (o .blocks)) (o .fits))
+
+  again : reopened (blocksOf pool) (cells pagesInBlock (o .blocks)) ≡ st
+  unfolding reopened
+  again = ap storeOf (rules-blocks (o .rules))
+
+  tree : treeSound (blocksOf pool) t st ≡ true
+  unfolding treeSound stateOf bookOf
+  tree =
+      and-both (sound (nodeLimit (blocksOf pool)) (countIn (checkpointOf st)) (bookOf (stateOf st) .table)) _
+      (spells-sound (nodeLimit (blocksOf pool)) (countIn (checkpointOf st)) (bookOf (stateOf st) .table) ps (o .spells) (o .kept))
+      (and-both (threePages (countIn (checkpointOf st)) st) _ (three-below (countIn (checkpointOf st)) st (o .three))
+      (and-both (inRange t) (scoresBelow (limit t) (scoresIn (checkpointOf st))) (ranged-inRange t (o .ranged))
+      (scores-test (limit t) (scoresIn (checkpointOf st)) (o .scores))))
+
+  -- EVERY POOL THAT OBEYS THE LAYOUT OPENS, with stamps left.
+  pub obeys-opens : newest (o .blocks) ≤ lastSequence → mountOf pool ≡ opened t (stateOf st)
+  unfolding mountOf
+  obeys-opens left =
+      ap (mountBy (blocksOf pool)) reads ∙
+      mounts-opened
+      (record {
+        pass = own-passes st (o .rules) (o .versions);
+        complete = rw again (o .set);
+        tariff = rw again (o .tariff);
+        sound = rw again tree;
+        left = rw again (le-leb (newest (o .blocks)) lastSequence left);
+      }) ∙
+      ap (λ (z : Store). opened t (stateOf z)) again
+
+  -- The map that it spells is unique: it is computed from the pages.
+  abbrev pub spelled : List Pair
+  spelled = mapOf (bookOf (stateOf st) .count) (bookOf (stateOf st) .table)
+
+  pub obeys-map : spelled ≡ ps
+  obeys-map = map-unique (bookOf (stateOf st) .table) (bookOf (stateOf st) .count) ps (o .spells)
+
+-- Two readings of one pool find the same pages, and so the same map.
+pub obeys-unique : {pool : List ℕ} {t t′ : Tariff} {ps qs : List Pair} → Obeys pool t ps → Obeys pool t′ qs → ps ≡ qs
+obeys-unique {pool} o p =
+    sym (obeys-map o) ∙ ap (λ (bs : Blocks). mapOf (bookOf (stateOf (storeOf bs)) .count) (bookOf (stateOf (storeOf bs)) .table)) same ∙ obeys-map p
+  where
+    inside : (c d : Cells) → some c ≡ some d → c ≡ d
+    inside c d e = cc
+    same : o .blocks ≡ p .blocks
+    same =
+        sym (rules-blocks (o .rules)) ∙
+        ap (blocksIn pagesInBlock (blocksOf pool)) (inside _ _ (sym (reads o) ∙ reads p)) ∙
+        rules-blocks (p .rules)
+
+-- A POOL THAT OPENS obeys the layout and has stamps left: any other is refused.
+pub record Opening (pool : List ℕ) (t : Tariff) (s : State) : Type 0 where
+  pub obeys : Obeys pool t (mapOf (bookOf s .count) (bookOf s .table))
+  pub left : newest (obeys .blocks) ≤ lastSequence
+
+-- The pages of a pool that opens, by its questions.
+module _ (pool : List ℕ) (bytes : Bytes pool) (t : Tariff) (size : poolLength pool ≡ true) (c : Cells) (r : cellsOf pool ≡ some c)
+    (m : Mounts (blocksOf pool) c t) where
+  abbrev B : ℕ
+  B = blocksOf pool
+
+  abbrev bs : Blocks
+  bs = blocksIn pagesInBlock B c
+
+  block-tests : Passing pagesInBlock B c
+  unfolding pagesPass
+  block-tests = passing pagesInBlock B c (and-left (blocksPass pagesInBlock B c) (everyPage (pagePasses bs) bs) (m .pass))
+
+  page-tests : everyPage (pagePasses bs) bs ≡ true
+  unfolding pagesPass
+  page-tests = and-right (blocksPass pagesInBlock B c) (everyPage (pagePasses bs) bs) (m .pass)
+
+  cells-are : cells pagesInBlock bs ≡ c
+  cells-are = cells-blocksIn pagesInBlock B c (omega (arith, block-tests .size)) (block-tests .filled)
+
+  image : IsPool pool c
+  image = cellsOf-is pool bytes (32 * B) (omega (arith, sized pool size .bytes)) c r
+
+  is-mounts : Obeys pool t (mapOf (bookOf (stateOf (reopened B c)) .count) (bookOf (stateOf (reopened B c)) .table))
+  unfolding reopened
+  is-mounts =
+      let four = sized pool size .few in
+      record {
+        size = size;
+        blocks = bs;
+        is = rw cells-are (image .is);
+        fits = rw cells-are (image .fits);
+        rules = passing-rules pagesInBlock B c block-tests (passing-numbers bs page-tests) (some-page four m);
+        versions = passing-versions bs page-tests;
+        set = m .complete;
+        tariff = m .tariff;
+        ranged = ranged four m;
+        scores =
+            scores-each (limit t) (scoresIn (checkpointOf (storeOf bs)))
+            (and-right (inRange t) (scoresBelow (limit t) (scoresIn (checkpointOf (storeOf bs)))) (range-tests four m));
+        spells = Mount.spelled four m;
+        kept = kept four m;
+        three = λ n l. three-each _ (storeOf bs) (and-left (threePages (countIn (checkpointOf (storeOf bs))) (storeOf bs)) _ (rest-tests four m)) n (count-in n l);
+      }
+    where
+      count-in : (n : ℕ) → n < bookOf (stateOf (storeOf bs)) .count → n < countIn (checkpointOf (storeOf bs))
+      count-in n l = rw (count-of (storeOf bs)) at l
+
+  left-is : newest bs ≤ lastSequence
+  unfolding reopened
+  left-is = leb-true (newest bs) lastSequence (m .left)
+
+  mounts-opening : Opening pool t (stateOf (reopened B c))
+  unfolding is-mounts
+  mounts-opening = record { obeys = is-mounts; left = left-is }
+
+module _ (pool : List ℕ) (bytes : Bytes pool) (t : Tariff) (s : State) (size : poolLength pool ≡ true) where
+  by-cells : (o : Option Cells) → cellsOf pool ≡ o → mountBy (blocksOf pool) o ≡ opened t s → Opening pool t s
+  by-cells none r f = let z : _≡_ {A = ℕ} 0 1 = cc in absurd (omega arith)
+  by-cells (some c) r f =
+      let x = opened-mounts f in
+      subst (λ (z : State). Opening pool t z) (sym (x .is)) (mounts-opening pool bytes t size c r (x .mounts))
+
+  pub opens-obeys : mountOf pool ≡ opened t s → Opening pool t s
+  unfolding mountOf
+  opens-obeys e = by-cells (cellsOf pool) refl e
+
+-- A pool opens, or is refused with a number from 5 to 8: there is no third way (`mount-judged`).
