@@ -93,13 +93,13 @@ values-command (Delete k) h = commandOf-delete 3 (bigEndian 4 k) refl ∙ ap (λ
 values-command (Scan low high most) h =
     let p = bigEndian 4 low ++ (bigEndian 4 high ++ bigEndian 2 most) in
     let second : numberAt 4 p 4 ≡ high =
-        number-behind 4 4 (bigEndian 4 low) (bigEndian 4 high ++ bigEndian 2 most) (length-bigEndian 4 low) ∙
-        number-front 4 high (bigEndian 2 most) (h .1) in
+    number-behind 4 4 (bigEndian 4 low) (bigEndian 4 high ++ bigEndian 2 most) (length-bigEndian 4 low) ∙
+    number-front 4 high (bigEndian 2 most) (h .1) in
     let third : numberAt 2 p 8 ≡ most =
-        ap (λ (l : List ℕ). numberAt 2 l 8) (sym (append-assoc (bigEndian 4 low) (bigEndian 4 high) (bigEndian 2 most))) ∙
-        number-behind 2 8 (bigEndian 4 low ++ bigEndian 4 high) (bigEndian 2 most)
-        (length-append (bigEndian 4 low) (bigEndian 4 high) ∙ omega (arith, length-bigEndian 4 low, length-bigEndian 4 high)) ∙
-        number-whole 2 most (omega (arith, h .3)) in
+    ap (λ (l : List ℕ). numberAt 2 l 8) (sym (append-assoc (bigEndian 4 low) (bigEndian 4 high) (bigEndian 2 most))) ∙
+    number-behind 2 8 (bigEndian 4 low ++ bigEndian 4 high) (bigEndian 2 most)
+    (length-append (bigEndian 4 low) (bigEndian 4 high) ∙ omega (arith, length-bigEndian 4 low, length-bigEndian 4 high)) ∙
+    number-whole 2 most (omega (arith, h .3)) in
     commandOf-scan p (omega (arith, h .2)) (omega (arith, h .3)) ∙
     ap₂ (λ (x y : ℕ). some (Scan x y (numberAt 2 p 8))) (number-front 4 low (bigEndian 4 high ++ bigEndian 2 most) (h .0)) second ∙
     ap (λ (z : ℕ). some (Scan low high z)) third
@@ -147,7 +147,7 @@ read-on front (c ∷ cs) (both h hs) =
     let s = front ++ (commandBytes c ++ batchBytes cs) in
     let next = length front + length (commandBytes c) in
     let inside : length front < length s =
-        omega (arith, length-append front (commandBytes c ++ batchBytes cs), length-append (commandBytes c) (batchBytes cs), ap length (bytes-field c), length-field (tagOf c) (valuesOf c)) in
+    omega (arith, length-append front (commandBytes c ++ batchBytes cs), length-append (commandBytes c) (batchBytes cs), ap length (bytes-field c), length-field (tagOf c) (valuesOf c)) in
     let rest = read-on (front ++ commandBytes c) cs hs in
     commandsFrom-next s (length front) inside c next (command-laid front (batchBytes cs) c h) ∙
     ap (before c)
