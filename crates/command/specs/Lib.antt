@@ -2,5 +2,7 @@ pub mod Command
 pub mod CommandLaws
 pub mod Batch
 pub mod BatchLaws
+pub mod Spelled
 pub mod Answer
 pub mod AnswerLaws
+pub mod Worked

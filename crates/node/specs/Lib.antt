@@ -11,3 +11,4 @@ pub mod Halves
 pub mod ReplayLaws
 pub mod Drafts
 pub mod Repoint
+pub mod BothEdits

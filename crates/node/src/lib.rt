@@ -1,6 +1,5 @@
-// A tree node by value: the search in it, its edits, and its replay from log entries.
+// A tree node by value: the search in it, and its edits.
 pub mod edit;
-pub mod replay;
 pub mod search;
 pub mod splice;
 

@@ -1,12 +1,12 @@
--- `node::replay::nothing` meets its contract: an empty node whose link does not count. Assumes nothing.
+-- `node_replay::nothing` meets its contract: an empty node whose link does not count. Assumes nothing.
 use mathlib.Core.Path.{_≡_, refl, sym, ap, _∙_}
 use Prim.Native.Nat.{ℕ, _≤_, _<_}
 use native.Mathlib.Omega.{arith}
 use borrow.Author.Needs.{needs}
 use Rattle.node.specs.Node.{Node, pairsOf}
 use Rattle.node.specs.Replay.{unlinked}
-use Rattle.node.proofs.replay.nothing.Statement.{statement}
-use Rattle.node.proofs.replay.nothing.Tie as tie
+use Rattle.node_replay.proofs.nothing.Statement.{statement}
+use Rattle.node_replay.proofs.nothing.Tie as tie
 
 empty-requires : tie.Need-empty-requires
 empty-requires c κs = search needs

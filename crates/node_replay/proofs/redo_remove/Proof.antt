@@ -1,11 +1,11 @@
--- `node::replay::redo_remove` meets its contract: the key is taken out, in whatever state the draft is. Assumes nothing.
+-- `node_replay::redo_remove` meets its contract: the key is taken out, in whatever state the draft is. Assumes nothing.
 use mathlib.Core.Path.{_≡_, refl, sym, ap, _∙_}
 use Prim.Native.Nat.{ℕ, _≤_, _<_}
 use native.Mathlib.Omega.{arith}
 use borrow.Author.Needs.{needs}
 use Rattle.node.specs.Drafts.{redone-remove}
-use Rattle.node.proofs.replay.redo_remove.Statement.{statement}
-use Rattle.node.proofs.replay.redo_remove.Tie as tie
+use Rattle.node_replay.proofs.redo_remove.Statement.{statement}
+use Rattle.node_replay.proofs.redo_remove.Tie as tie
 
 delete-requires : tie.Need-delete-requires
 delete-requires c κs = search needs

@@ -1,19 +1,19 @@
 // The replay of a node from the changes of its log entries, one by one.
 ghost use mathlib.Core.Path.{_≡_};
 ghost use mathlib.Core.List.{[]};
 ghost use Rattle.node.specs.Node.{node};
 ghost use Rattle.node.specs.Change.{put, remove, link};
 ghost use Rattle.node.specs.Replay.{unlinked, redo, sameKind};
 ghost use Rattle.node.specs.Value.{nodeOf, Held, Becomes};
 ghost use Rattle.node.specs.Drafts.{draftOf, changeOf, brokenAt, Redone};
-use crate::ChangeValue;
-use crate::DraftState;
-use crate::DraftValue;
-use crate::Found;
-use crate::Kind;
-use crate::NodeValue;
-use crate::edit;
-use crate::search;
+use node::ChangeValue;
+use node::DraftState;
+use node::DraftValue;
+use node::Found;
+use node::Kind;
+use node::NodeValue;
+use node::edit;
+use node::search;
 
 // A node with no key.
 pub fn empty(kind: Kind, to: u32) -> NodeValue

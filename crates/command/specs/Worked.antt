@@ -1,0 +1,70 @@
+-- Worked batches and answers of document 01, computed. Assumes nothing.
+use mathlib.Core.Path.{_≡_, refl}
+use mathlib.Core.List.{List, [], _∷_, map}
+use mathlib.Core.Option.{Option, none, some}
+use Prim.Native.Nat.{ℕ}
+use Rattle.laws.specs.Lay.{part}
+use Rattle.laws.specs.BigEndian.{numberAt}
+use Rattle.wire.specs.Tag.{lengthOf, find, rows, isNodeBytes}
+use Rattle.wire.specs.Field.{field, fieldAt}
+use Rattle.command.specs.declared.Command.{Command}
+use Rattle.command.specs.declared.Command.the-variants.{Get, Put, Delete, Scan}
+use Rattle.command.specs.declared.Answer.{Answer}
+use Rattle.command.specs.declared.Answer.the-variants.{Absent, Got, Replaced, Removed, Refused}
+use Rattle.command.specs.declared.Asked.{Asked}
+use Rattle.command.specs.declared.Asked.the-variants.{Bytes, Invalid}
+use Rattle.command.specs.Command.{inRange, commandOf, commandAt}
+use Rattle.command.specs.Batch.{run, commandsFrom, commandsOf, askedOf}
+use Rattle.command.specs.Answer.{answerBytes, scanBytes}
+
+-- hang 7 with 100, look up 7, strip 7, look up 7
+pub workedBatch : List ℕ
+workedBatch =
+    0x02 ∷ 0 ∷ 8 ∷ 0 ∷ 0 ∷ 0 ∷ 7 ∷ 0 ∷ 0 ∷ 0 ∷ 100 ∷
+    0x01 ∷ 0 ∷ 4 ∷ 0 ∷ 0 ∷ 0 ∷ 7 ∷
+    0x03 ∷ 0 ∷ 4 ∷ 0 ∷ 0 ∷ 0 ∷ 7 ∷
+    0x01 ∷ 0 ∷ 4 ∷ 0 ∷ 0 ∷ 0 ∷ 7 ∷
+    []
+
+-- a sweep from 9 to 3 with a most
+pub sweepBatch : ℕ → List ℕ
+sweepBatch most = 0x04 ∷ 0 ∷ 10 ∷ 0 ∷ 0 ∷ 0 ∷ 9 ∷ 0 ∷ 0 ∷ 0 ∷ 3 ∷ 0 ∷ most ∷ []
+
+pub worked-commands : commandsOf workedBatch ≡ some (Put 7 100 ∷ Get 7 ∷ Delete 7 ∷ Get 7 ∷ [])
+unfolding workedBatch commandsOf commandsFrom run commandAt commandOf inRange fieldAt lengthOf find rows isNodeBytes numberAt part
+worked-commands = refl
+
+-- The empty batch; sweeps of 0, 1, 32 and 33; a tag that is no command's; a length off by one; a payload cut short.
+pub worked-room :
+    map askedOf
+    ([] ∷
+    workedBatch ∷
+    sweepBatch 0 ∷
+    sweepBatch 1 ∷
+    sweepBatch 32 ∷
+    sweepBatch 33 ∷
+    (0x10 ∷ 0 ∷ 4 ∷ 0 ∷ 0 ∷ 0 ∷ 7 ∷ []) ∷
+    (0x01 ∷ 0 ∷ 5 ∷ 0 ∷ 0 ∷ 0 ∷ 7 ∷ 0 ∷ []) ∷
+    (0x01 ∷ 0 ∷ 4 ∷ 0 ∷ 0 ∷ 0 ∷ []) ∷
+    []) ≡
+    Bytes 0 ∷ Bytes 28 ∷ Invalid ∷ Bytes 11 ∷ Bytes 259 ∷ Invalid ∷ Invalid ∷ Invalid ∷ Invalid ∷ []
+unfolding workedBatch sweepBatch askedOf commandsOf commandsFrom run commandAt commandOf inRange fieldAt lengthOf find rows isNodeBytes numberAt part
+worked-room = refl
+
+-- The answers of the worked output, a refusal with 9, and the sweep 9 to 3.
+pub worked-answers :
+    map answerBytes (Absent ∷ Got 100 ∷ Replaced 100 ∷ Removed 100 ∷ Refused 9 ∷ []) ≡
+    (0x80 ∷ 0 ∷ 0 ∷ []) ∷
+    (0x81 ∷ 0 ∷ 4 ∷ 0 ∷ 0 ∷ 0 ∷ 100 ∷ []) ∷
+    (0x82 ∷ 0 ∷ 4 ∷ 0 ∷ 0 ∷ 0 ∷ 100 ∷ []) ∷
+    (0x83 ∷ 0 ∷ 4 ∷ 0 ∷ 0 ∷ 0 ∷ 100 ∷ []) ∷
+    (0x8F ∷ 0 ∷ 1 ∷ 9 ∷ []) ∷
+    []
+unfolding answerBytes field
+worked-answers = refl
+
+pub worked-sweeps :
+    map scanBytes ([] ∷ ((7, 100) ∷ []) ∷ []) ≡
+    (0x84 ∷ 0 ∷ 0 ∷ []) ∷ (0x84 ∷ 0 ∷ 8 ∷ 0 ∷ 0 ∷ 0 ∷ 7 ∷ 0 ∷ 0 ∷ 0 ∷ 100 ∷ []) ∷ []
+unfolding scanBytes field
+worked-sweeps = refl
