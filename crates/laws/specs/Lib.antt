@@ -5,3 +5,4 @@ pub mod Every
 pub mod Update
 pub mod Lay
 pub mod BigEndian
+pub mod Chunks
