@@ -45,6 +45,32 @@ fn mode_byte(mode: Mode) -> u8
     }
 }
 
+// The sixteen bytes of a row.
+fn encode(r: Row) -> [u8; 16]
+    ensures { λ b. ⌜ b ≡ def.encode r ⌝ }
+{
+    let mode = r.mode;
+    let m = mode_byte(mode);
+    [
+        (r.version / 256 / 256 / 256 % 256) as u8,
+        (r.version / 256 / 256 % 256) as u8,
+        (r.version / 256 % 256) as u8,
+        (r.version % 256) as u8,
+        (r.score / 256 / 256 / 256 % 256) as u8,
+        (r.score / 256 / 256 % 256) as u8,
+        (r.score / 256 % 256) as u8,
+        (r.score % 256) as u8,
+        m,
+        r.pages,
+        (r.first / 256 % 256) as u8,
+        (r.first % 256) as u8,
+        (r.second / 256 % 256) as u8,
+        (r.second % 256) as u8,
+        (r.third / 256 % 256) as u8,
+        (r.third % 256) as u8,
+    ]
+}
+
 // Whether slot k is one of the slots in use and holds the page.
 fn holds(k: u8, pages: u8, slot: u16, page: u16) -> bool
     ensures { λ r. ⌜ r ≡ step.holds k pages slot page ⌝ }
