@@ -6,3 +6,4 @@ pub mod Update
 pub mod Lay
 pub mod BigEndian
 pub mod Chunks
+pub mod Loops

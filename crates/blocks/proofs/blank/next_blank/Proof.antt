@@ -1,0 +1,35 @@
+use borrow.Author.Needs.{needs}
+use Rattle.blocks.proofs.blank.next_blank.Statement.{statement}
+use Rattle.blocks.proofs.blank.next_blank.Tie as tie
+use Rattle.blocks.proofs.blank.next_blank.Reads as reads
+use Rattle.blocks.proofs.blank.next_blank.Lts as lts
+use Rattle.blocks.proofs.blank.blank_from.Reads as blank-from-reads
+
+-- src/blank.rt:63:42
+add-blank-from : tie.Need-add-blank-from
+add-blank-from c = search needs
+
+-- src/blank.rt:63:9
+blank-from-requires : tie.Need-blank-from-requires
+blank-from-requires c κs = search needs
+
+-- src/blank.rt:65:9
+returns : tie.Need-returns
+returns c = ?
+
+-- src/blank.rt:67:9
+blank-from-requires-2 : tie.Need-blank-from-requires-2
+blank-from-requires-2 c κs = search needs
+
+-- src/blank.rt:69:9
+returns-2 : tie.Need-returns-2
+returns-2 c = ?
+
+-- src/blank.rt:59:1
+returns-3 : tie.Need-returns-3
+returns-3 c = ?
+
+pub next-blank-spec : {M : Type 1} → statement M
+next-blank-spec =
+    tie.close
+    (tie.spec add-blank-from blank-from-requires returns blank-from-requires-2 returns-2 returns-3)
