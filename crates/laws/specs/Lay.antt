@@ -4,6 +4,7 @@ use mathlib.Core.Path.{_≡_, refl, sym, ap, _∙_}
 use mathlib.Core.List.{List, [], _∷_, _++_, append-assoc, append-nil}
 use Prim.Native.Nat.{ℕ, zero, suc, _+_, _-_, _≤_, _<_}
 use native.Mathlib.Nat.{add-assoc, add-zero, zero-add, sub-zero, zero-sub, suc-sub-suc}
+use native.Mathlib.Numerals.{add-one}
 use native.Mathlib.Omega.{arith}
 use lib.ListN.{
   List·getD-append,
@@ -28,6 +29,10 @@ use lib.Seq.{
   drop-at,
   drop-append-le,
   take-append-le,
+  take-add,
+  take-take,
+  take-all,
+  drop-cons,
   getD-append-add,
   getD-take,
   getD-drop,
@@ -177,3 +182,48 @@ unfolding part
 length-part s at n h =
     let d : length (drop at s) ≡ length s - at = length-drop at s in
     length-take-le n (drop at s) (omega arith)
+
+-- Parts one behind the other, of one byte more, and within parts.
+pub part-add : (s : List ℕ) (at m n : ℕ) → part s at (m + n) ≡ part s at m ++ part s (at + m) n
+unfolding part
+part-add s at m n = take-add m n (drop at s) ∙ ap (λ (l : List ℕ). take m (drop at s) ++ take n l) (drop-drop m at s)
+
+pub part-cons : (s : List ℕ) (at n : ℕ) → at < length s → part s at (suc n) ≡ getD s at 0 ∷ part s (at + 1) n
+unfolding part
+part-cons s at n h = rw (drop-cons s at 0, add-one)
+
+pub part-drop : (s : List ℕ) (k at n : ℕ) → part (drop k s) at n ≡ part s (k + at) n
+unfolding part
+part-drop s k at n = ap (λ (l : List ℕ). take n l) (drop-drop at k s)
+
+pub part-take : (s : List ℕ) (k at n : ℕ) → at + n ≤ k → part (take k s) at n ≡ part s at n
+unfolding part
+part-take s k zero n h = take-take n k s (omega arith)
+part-take [] zero (suc at) n h = refl
+part-take [] (suc k) (suc at) n h = refl
+part-take (x ∷ s) zero (suc at) n h = absurd (omega arith)
+part-take (x ∷ s) (suc k) (suc at) n h = part-take s k at n (omega arith)
+
+pub part-part : (s : List ℕ) (at n i m : ℕ) → i + m ≤ n → part (part s at n) i m ≡ part s (at + i) m
+unfolding part
+part-part s at n i m h = part-take (drop at s) n i m h ∙ part-drop s at i m
+
+-- Parts of joined lists: of the second, and the whole first.
+pub part-append : (a b : List ℕ) (i n : ℕ) → part (a ++ b) (length a + i) n ≡ part b i n
+unfolding part
+part-append a b i n = ap (λ (l : List ℕ). take n l) (drop-append-add a b i)
+
+pub part-front : (a b : List ℕ) (n : ℕ) → length a ≡ n → part (a ++ b) 0 n ≡ a
+unfolding part
+part-front a b n e = take-at a b n e
+
+-- The whole buffer, and the rest of it from a place on.
+pub part-whole : (s : List ℕ) (n : ℕ) → length s ≡ n → part s 0 n ≡ s
+unfolding part
+part-whole s n e = take-all n s (omega arith)
+
+pub part-rest : (s : List ℕ) (at : ℕ) → part s at (length s - at) ≡ drop at s
+unfolding part
+part-rest s at =
+    let d : length (drop at s) ≡ length s - at = length-drop at s in
+    take-all (length s - at) (drop at s) (omega arith)

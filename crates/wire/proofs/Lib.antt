@@ -1,0 +1,4 @@
+pub mod Copying
+pub mod Table
+pub mod Lengths
+pub mod Cases

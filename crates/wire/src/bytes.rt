@@ -1,0 +1,28 @@
+// Bytes laid over buffers.
+ghost use mathlib.Core.Path.{_≡_};
+ghost use Prim.Native.Nat.{_+_, _≤_, _<_};
+ghost use lib.ListN.{length, replicate, set};
+ghost use Rattle.laws.specs.Lay.{lay};
+
+// Lays bytes over a buffer at a place.
+pub fn lay_bytes(dst: &mut [u8], at: usize, src: &[u8])
+    requires { ⌜ at + length (now src) ≤ length (now dst) ⌝ }
+    ensures { λ _. ⌜ now (dst .exit) ≡ lay (now (dst .entry)) at (now (src .entry)) ⌝ }
+{
+    let mut i = 0;
+    while i < src.len() {
+        dst[at + i] = src[i];
+        i += 1;
+    }
+}
+
+// Fills a whole buffer with one byte.
+pub fn fill(dst: &mut [u8], byte: u8)
+    ensures { λ _. ⌜ now (dst .exit) ≡ replicate (length (now (dst .entry))) byte ⌝ }
+{
+    let mut i = 0;
+    while i < dst.len() {
+        dst[i] = byte;
+        i += 1;
+    }
+}
