@@ -1,3 +1,6 @@
+use native.Mathlib.Omega.{arith}
+use Rattle.blocks.specs.Pages.{pagesOf}
+use Rattle.blocks.proofs.Laws.{next-above, next-lowest, next-none}
 use borrow.Author.Needs.{needs}
 use Rattle.blocks.proofs.blank.next_blank.Statement.{statement}
 use Rattle.blocks.proofs.blank.next_blank.Tie as tie
@@ -15,7 +18,9 @@ blank-from-requires c κs = search needs
 
 -- src/blank.rt:65:9
 returns : tie.Need-returns
-returns c = ?
+returns c = let a = c .before .before .before .args in
+    let x = c .before .blank-from in
+    (next-above (a .blocks) (a .current) (pagesOf (a .pool .now)) (x .result) (x .ensures .0) (c .if1 .taken), c .if1 .taken)
 
 -- src/blank.rt:67:9
 blank-from-requires-2 : tie.Need-blank-from-requires-2
@@ -23,11 +28,17 @@ blank-from-requires-2 c κs = search needs
 
 -- src/blank.rt:69:9
 returns-2 : tie.Need-returns-2
-returns-2 c = ?
+returns-2 c = let a = c .before .before .before .before .before .args in
+    let x = c .before .before .before .blank-from in
+    let y = c .before .blank-from2 in
+    (next-lowest (a .blocks) (a .current) (pagesOf (a .pool .now)) (x .result) (x .ensures .0) (y .result) (y .ensures .0) (c .before .before .if1 .left) (c .if2 .taken), c .if2 .taken)
 
 -- src/blank.rt:59:1
 returns-3 : tie.Need-returns-3
-returns-3 c = ?
+returns-3 c = let a = c .before .before .before .before .before .args in
+    let x = c .before .before .before .blank-from in
+    let y = c .before .blank-from2 in
+    (next-none (a .blocks) (a .current) (pagesOf (a .pool .now)) (x .result) (x .ensures .0) (y .result) (y .ensures .0) (c .before .before .if1 .left) (c .if2 .left), omega arith)
 
 pub next-blank-spec : {M : Type 1} → statement M
 next-blank-spec =

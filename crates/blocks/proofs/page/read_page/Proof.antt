@@ -1,3 +1,4 @@
+use Prim.Native.Nat.{_+_, _-_, _*_}
 use mathlib.Core.Path.{refl, _∙_}
 use Prim.Native.Nat.{ℕ}
 use native.Mathlib.Omega.{arith}
@@ -41,7 +42,7 @@ lay-bytes-requires c κs = search needs
 -- src/page.rt:8:1
 returns : tie.Need-returns
 returns c = let a = c .before .before .before .before .before .args in
-    c .before .lay-bytes .ensures ∙ read-pages (a .pool .now) (a .page) (omega arith) (replicate 512 255) (length-replicate {A = ℕ} 512 255) _ (omega arith)
+    c .before .lay-bytes .ensures ∙ read-pages (a .pool .now) (a .page) (omega arith) (replicate 512 255) (length-replicate {A = ℕ} 512 255) (512 * a .page + 512 - 512 * a .page) (omega arith)
 
 pub read-page-spec : {M : Type 1} → statement M
 read-page-spec =
