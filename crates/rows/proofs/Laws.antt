@@ -5,7 +5,7 @@ use mathlib.Core.List.{List, map}
 use Prim.Native.Nat.{ℕ, _+_, _*_, _/_, _≤_, _<_}
 use native.Mathlib.Omega.{arith}
 use lib.Dec.{eqb}
-use lib.ListN.{length, getD, set, length-map, List·getD-map}
+use lib.ListN.{length, getD, set, take, drop, length-map, List·getD-map}
 use Rattle.laws.specs.Lay.{lay, part}
 use Rattle.laws.specs.BigEndian.{numberAt, number-bigEndian}
 use Rattle.laws.specs.Chunks.{chunks, length-chunks, get-chunks, lay-chunks, map-set}
@@ -78,3 +78,8 @@ lay-rows table n r f h =
     ap (map decode) (lay-chunks 16 table n (encode r) (length-encode r) (omega arith) h) ∙
     map-set decode (chunks 16 table) n (encode r) ∙
     ap (set (map decode (chunks 16 table)) n) (decode-encode r f)
+
+-- A row read from its part of the table.
+pub part-rows : (table : List ℕ) (n size : ℕ) → size ≡ 16 → 16 * n + 16 ≤ length table → decode (take size (drop (16 * n) table)) ≡ getD (rowsOf table) n noRow
+unfolding part
+part-rows table n size e h = ap (λ (k : ℕ). decode (take k (drop (16 * n) table))) e ∙ sym (get-rows table n h)

@@ -2,11 +2,14 @@
 ghost use mathlib.Core.Path.{_≡_};
 ghost use Prim.Native.Nat.{_+_, _*_, _≤_, _<_};
 ghost use lib.ListN.{length, getD, set};
+ghost use Rattle.laws.specs.BigEndian.{numberAt};
 ghost use Rattle.rows.specs.Row as def;
-ghost use Rattle.rows.specs.Row.{modeByte, modeFrom, Fits, rowsOf, noRow};
+ghost use Rattle.rows.specs.Row.{modeByte, modeFrom, rowsOf, noRow};
 ghost use Rattle.rows.specs.Step as step;
 
 use account::Mode;
+use wire::bytes::lay_bytes;
+use wire::number::{read16, read32};
 
 // A node's row: its version, score and mode, and the one to three pages that it lies on.
 pub struct Row {
@@ -45,6 +48,37 @@ fn mode_byte(mode: Mode) -> u8
     }
 }
 
+// The row that sixteen bytes spell.
+fn decode(part: &[u8]) -> Row
+    requires { ⌜ length (now part) ≡ 16 ⌝ }
+    ensures { λ r. ⌜ r ≡ def.decode (now (part .entry)) ⌝ }
+{
+    let version = read32(part, 0);
+    let score = read32(part, 4);
+    let mode = mode_from(part[8]);
+    let pages = part[9];
+    let first = read_page_number(part, 10);
+    let second = read_page_number(part, 12);
+    let third = read_page_number(part, 14);
+    Row {
+        version,
+        score,
+        mode,
+        pages,
+        first,
+        second,
+        third,
+    }
+}
+
+// The page number at a place.
+fn read_page_number(part: &[u8], at: usize) -> u16
+    requires { ⌜ at + 2 ≤ length (now part) ⌝ }
+    ensures { λ r. ⌜ r ≡ numberAt 2 (now (part .entry)) at ⌝ }
+{
+    read16(part, at) as u16
+}
+
 // The sixteen bytes of a row.
 fn encode(r: Row) -> [u8; 16]
     ensures { λ b. ⌜ b ≡ def.encode r ⌝ }
@@ -69,6 +103,25 @@ fn encode(r: Row) -> [u8; 16]
         (r.third / 256 % 256) as u8,
         (r.third % 256) as u8,
     ]
+}
+
+// The row of a node, or of a checkpoint page being written.
+pub fn load(table: &[u8], n: usize) -> Row
+    requires { ⌜ 16 * n + 16 ≤ length (now table) ⌝ }
+    ensures { λ r. ⌜ r ≡ getD (rowsOf (now (table .entry))) n noRow ⌝ }
+{
+    let from = 16 * n;
+    let to = from + 16;
+    decode(&table[from..to])
+}
+
+// The row laid in its place.
+pub fn store(table: &mut [u8], n: usize, r: Row)
+    requires { ⌜ 16 * n + 16 ≤ length (now table) ⌝ }
+    ensures { λ _. ⌜ rowsOf (now (table .exit)) ≡ set (rowsOf (now (table .entry))) n r ⌝ }
+{
+    let bytes = encode(r);
+    lay_bytes(table, 16 * n, &bytes);
 }
 
 // Whether slot k is one of the slots in use and holds the page.
