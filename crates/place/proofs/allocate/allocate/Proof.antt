@@ -1,0 +1,74 @@
+use borrow.Author.Needs.{needs}
+use Rattle.place.proofs.allocate.allocate.Statement.{statement}
+use Rattle.place.proofs.allocate.allocate.Tie as tie
+use Rattle.place.proofs.allocate.allocate.Reads as reads
+use Rattle.place.proofs.allocate.allocate.Lts as lts
+use Rattle.blocks.proofs.blank.count_blank.Reads as count-blank-reads
+use Rattle.blocks.proofs.blank.next_blank.Reads as next-blank-reads
+use Rattle.place.proofs.compact.compact.Reads as compact-reads
+use Rattle.place.proofs.state.State.at.Reads as at-reads
+
+-- src/allocate.rt:19:9
+returns : tie.Need-returns
+returns c = ?
+
+-- src/allocate.rt:21:9
+next-blank-requires : tie.Need-next-blank-requires
+next-blank-requires c κs = search needs
+
+-- src/allocate.rt:22:13
+count-blank-requires : tie.Need-count-blank-requires
+count-blank-requires c κs = search needs
+
+-- src/allocate.rt:23:9
+at-requires : tie.Need-at-requires
+at-requires c κs = search needs
+
+-- src/allocate.rt:23:9
+same-length : tie.Need-same-length
+same-length c = search needs
+
+-- src/allocate.rt:23:9
+returns-2 : tie.Need-returns-2
+returns-2 c = ?
+
+-- src/allocate.rt:25:37
+add-compact : tie.Need-add-compact
+add-compact c = search needs
+
+-- src/allocate.rt:25:9
+compact-requires : tie.Need-compact-requires
+compact-requires c κs = search needs
+
+-- src/allocate.rt:26:5
+at-requires-2 : tie.Need-at-requires-2
+at-requires-2 c κs = search needs
+
+-- src/allocate.rt:14:1
+same-length-2 : tie.Need-same-length-2
+same-length-2 c = search needs
+
+-- src/allocate.rt:14:1
+same-length-3 : tie.Need-same-length-3
+same-length-3 c = search needs
+
+-- src/allocate.rt:14:1
+returns-3 : tie.Need-returns-3
+returns-3 c = ?
+
+pub allocate-spec : {M : Type 1} → statement M
+allocate-spec =
+    tie.close
+    (tie.spec
+    returns
+    next-blank-requires
+    count-blank-requires
+    at-requires
+    same-length
+    returns-2
+    add-compact
+    compact-requires
+    at-requires-2
+    same-length-2
+    same-length-3
+    returns-3)
