@@ -10,7 +10,7 @@ use Rattle.blocks.specs.Blank.{blankBlocks, nextBlank}
 use Rattle.live.specs.Live.{liveMap}
 use Rattle.live.specs.Choose.{victim}
 use Rattle.place.specs.Compact.{Copying, copying, copyBlock, renameRows, Compacted, compacted, emptied, compactBlock, compact}
-use Rattle.place.specs.World.{World, world, used}
+use Rattle.place.specs.World.{World, world, used, Good}
 use Rattle.place.specs.Allocate.{at, behind, nextBlock, allocate}
 use Rattle.place.specs.declared.state.State.{State}
 
@@ -41,3 +41,19 @@ module _ (pages : List (List ℕ)) (rows : List Row) (s : State) (to blank : ℕ
       world pages′ rows′ s′ ≡ allocate (world pages rows s)
   unfolding allocate nextBlock
   allocate-compact k pages′ rows′ fill c s′ e = rw (le-ltb (s .fill) 32 h, ← t, ← b, lt-leb 2 blank k, e) (ap (behind to s) c)
+
+-- A good state with another current block is good.
+pub good-at : {P T P′ T′ to fill : ℕ} {s s′ : State} → Good P T s → P′ ≡ P → T′ ≡ T → to < s .blocks → fill ≤ 32 → s′ ≡ at to fill s → Good P′ T′ s′
+unfolding at
+good-at g p t i f e =
+    rw e
+    (record {
+      few = g .few;
+      most = g .most;
+      pool = p ∙ g .pool;
+      table = t ∙ g .table;
+      inside = i;
+      full = f;
+      used = g .used;
+      entries = g .entries
+    })

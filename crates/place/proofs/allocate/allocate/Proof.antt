@@ -1,3 +1,9 @@
+use mathlib.Core.Path.{refl}
+use native.Mathlib.Omega.{arith}
+use Rattle.rows.specs.Row.{rowsOf}
+use Rattle.blocks.specs.Pages.{pagesOf}
+use Rattle.place.specs.World.{world}
+use Rattle.place.proofs.Laws.{allocate-room, allocate-next, allocate-compact, good-at}
 use borrow.Author.Needs.{needs}
 use Rattle.place.proofs.allocate.allocate.Statement.{statement}
 use Rattle.place.proofs.allocate.allocate.Tie as tie
@@ -10,7 +16,8 @@ use Rattle.place.proofs.state.State.at.Reads as at-reads
 
 -- src/allocate.rt:19:9
 returns : tie.Need-returns
-returns c = ?
+returns c = let a = c .before .before .before .before .args in
+    record { is = allocate-room (world (pagesOf (a .pool .now)) (rowsOf (a .table .now)) (a .state)) (c .if1 .taken); good = c .before .before .before .before .pre }
 
 -- src/allocate.rt:21:9
 next-blank-requires : tie.Need-next-blank-requires
@@ -30,7 +37,11 @@ same-length c = search needs
 
 -- src/allocate.rt:23:9
 returns-2 : tie.Need-returns-2
-returns-2 c = ?
+returns-2 c = let a = c .before .before .before .before .before .before .before .before .before .before .args in
+    let n = c .before .before .before .before .next-blank in
+    let b = c .before .before .count-blank in
+    record { is = allocate-next (pagesOf (a .pool .now)) (rowsOf (a .table .now)) (a .state) (n .result) (b .result) (c .before .before .before .before .before .before .if1 .left) (n .ensures .0) (b .ensures) (c .before .if2 .taken) (c .at .result) (c .at .ensures)
+           ; good = good-at (c .before .before .before .before .before .before .before .before .before .before .pre) refl refl (n .ensures .1) (omega arith) (c .at .ensures) }
 
 -- src/allocate.rt:25:37
 add-compact : tie.Need-add-compact
@@ -54,7 +65,12 @@ same-length-3 c = search needs
 
 -- src/allocate.rt:14:1
 returns-3 : tie.Need-returns-3
-returns-3 c = ?
+returns-3 c = let a = c .before .before .before .before .before .before .before .before .before .before .before .before .before .before .before .before .before .before .args in
+    let n = c .before .before .before .before .before .before .before .before .before .before .before .before .next-blank in
+    let b = c .before .before .before .before .before .before .before .before .before .before .count-blank in
+    let m = c .before .before .before .before .before .compact in
+    record { is = allocate-compact (pagesOf (a .pool .now)) (rowsOf (a .table .now)) (a .state) (n .result) (b .result) (c .before .before .before .before .before .before .before .before .before .before .before .before .before .before .if1 .left) (n .ensures .0) (b .ensures) (c .before .before .before .before .before .before .before .before .before .if2 .left) (pagesOf (m .last .0)) (rowsOf (m .last .1 .0)) (m .result) (m .ensures .0) (c .at2 .result) (c .at2 .ensures)
+           ; good = good-at (c .before .before .before .before .before .before .before .before .before .before .before .before .before .before .before .before .before .before .pre) (m .kept .0) (m .kept .1 .0) (n .ensures .1) (m .ensures .1) (c .at2 .ensures) }
 
 pub allocate-spec : {M : Type 1} → statement M
 allocate-spec =

@@ -1,3 +1,6 @@
+use Rattle.rows.specs.Row.{rowsOf}
+use Rattle.blocks.specs.Pages.{pagesOf}
+use Rattle.place.proofs.Laws.{compact-steps}
 use borrow.Author.Needs.{needs}
 use Rattle.place.proofs.compact.compact.Statement.{statement}
 use Rattle.place.proofs.compact.compact.Tie as tie
@@ -51,7 +54,13 @@ same-length-2 c = search needs
 
 -- src/compact.rt:52:1
 returns : tie.Need-returns
-returns c = ?
+returns c = let a = c .before .before .before .before .before .before .before .before .before .before .before .before .before .before .before .before .before .before .before .before .before .before .args in
+    let m = c .before .before .before .before .before .before .before .before .before .before .before .before .before .before .before .before .before .before .live-map in
+    let v = c .before .before .before .before .before .before .before .before .before .before .before .before .before .before .before .victim in
+    let k = c .before .before .before .before .before .before .before .before .before .before .before .copy-block in
+    let r = c .before .before .before .before .before .before .rename-rows in
+    let e = c .before .before .erase-block in
+    (compact-steps (a .used) (a .blocks) (a .to) (pagesOf (a .pool .now)) (rowsOf (a .table .now)) (m .result) (v .result) (m .ensures) (v .ensures .0) (pagesOf (k .last .0)) (k .last .1 .0) (k .result) (k .ensures .0) (rowsOf (r .last .0)) (r .ensures) (pagesOf (e .last .0)) (e .ensures), k .ensures .1)
 
 pub compact-spec : {M : Type 1} → statement M
 compact-spec =
