@@ -48,17 +48,20 @@ pub erase-pages : (pool : List ℕ) (block from to : ℕ) (bytes : List ℕ) →
 unfolding pagesOf erased blankPage
 erase-pages pool block from to bytes a b h e =
     ap (chunks 512)
-      (lay-lent from to pool bytes (omega arith) (ap length e ∙ length-replicate size 255 ∙ whole) ∙
-      ap (lay pool from) (e ∙ ap (λ (k : ℕ). replicate k 255) (whole ∙ pages)) ∙
-      ap (λ (k : ℕ). lay pool k (replicate (512 * 32) 255)) at) ∙
+    (lay-lent from to pool bytes (omega arith) (ap length e ∙ length-replicate size 255 ∙ whole) ∙
+    ap (lay pool from) (e ∙ ap (λ (k : ℕ). replicate k 255) (whole ∙ pages)) ∙
+    ap (λ (k : ℕ). lay pool k (replicate (512 * 32) 255)) at) ∙
     lay-run 512 32 pool (32 * block) 255 (omega arith) (omega arith)
   where
     size : ℕ
     size = length (take (to - from) (drop from pool))
+
     whole : size ≡ to - from
     whole = length-take-le (to - from) (drop from pool) (rw (length-drop from pool) (omega arith))
+
     pages : to - from ≡ 512 * 32
     pages = omega arith
+
     at : from ≡ 512 * (32 * block)
     at = omega arith
 

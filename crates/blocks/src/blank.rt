@@ -4,7 +4,6 @@ ghost use Prim.Native.Nat.{_+_, _*_, _≤_, _<_};
 ghost use lib.ListN.{length};
 ghost use Rattle.blocks.specs.Pages.{pagesOf};
 ghost use Rattle.blocks.specs.Blank.{blankBlock, blankBit, blankBlocks, blankFrom, nextBlank};
-
 use super::page::is_blank;
 
 // Whether a block is blank.

@@ -35,7 +35,7 @@ module _ (s : List ℕ) (front at : ℕ) (xs : List ℕ) (h : front + at ≤ len
       ap (λ (l : List ℕ). l ++ (xs ++ drop (front + at + length xs) s)) (take-add front at s) ∙
       append-assoc (take front s) (take at (drop front s)) (xs ++ drop (front + at + length xs) s) ∙
       ap (λ (l : List ℕ). take front s ++ (take at (drop front s) ++ (xs ++ l)))
-        (ap (λ (n : ℕ). drop n s) (add-assoc front at (length xs)) ∙ sym (drop-drop (at + length xs) front s))
+      (ap (λ (n : ℕ). drop n s) (add-assoc front at (length xs)) ∙ sym (drop-drop (at + length xs) front s))
 
   length-front : length (take front s) ≡ front
   length-front = length-take-le front s (omega arith)
@@ -82,20 +82,23 @@ module _ (size : ℕ) where
     where
       first : part (lay s 0 p) 0 size ≡ p
       first = ap (part (lay s 0 p) 0) (sym e) ∙ part-lay s 0 p (omega arith)
+
       ends : 0 + length p + 0 ≡ size
       ends = omega arith
+
       rest : drop size (lay s 0 p) ≡ drop size s
       rest =
           ap (λ (k : ℕ). drop k (lay s 0 p)) (sym ends) ∙ drop-lay s 0 p 0 (omega arith) ∙ ap (λ (k : ℕ). drop k s) ends
   lay-firstChunks (suc n) s (suc i) p e h k =
       ap (λ (at : ℕ). firstChunks size (suc n) (lay s at p)) (mul-front size i) ∙
       ap₂ _∷_
-        (part-zero (lay s (size + size * i) p) size ∙ take-lay-front s size (size * i) p front ∙ sym (part-zero s size))
-        (ap (firstChunks size n) (drop-lay-front s size (size * i) p front) ∙
-        lay-firstChunks n (drop size s) i p e (le-of-suc-le-suc h) rest)
+      (part-zero (lay s (size + size * i) p) size ∙ take-lay-front s size (size * i) p front ∙ sym (part-zero s size))
+      (ap (firstChunks size n) (drop-lay-front s size (size * i) p front) ∙
+      lay-firstChunks n (drop size s) i p e (le-of-suc-le-suc h) rest)
     where
       front : size + size * i ≤ length s
       front = omega (arith, mul-front size i)
+
       rest : size * i + size ≤ length (drop size s)
       rest = rw (length-drop size s) (omega (arith, mul-front size i))
 
@@ -128,12 +131,16 @@ module _ (size : ℕ) where
     where
       one : List ℕ
       one = replicate size a
+
       len : length one ≡ size
       len = length-replicate size a
+
       next : size * (i + 1) ≡ size * i + size
       next = rw add-one (mul-suc size i)
+
       run : replicate (size * suc k) a ≡ one ++ replicate (size * k) a
       run = ap (λ (n : ℕ). replicate n a) (mul-front size k) ∙ sym (replicate-append-replicate size (size * k) a)
+
       same : length (lay s (size * i) one) ≡ length s
       same = length-lay s (size * i) one (omega (arith, mul-front size k, len))
 
@@ -160,6 +167,7 @@ module _ {A : Type 0} (a d : A) where
       above : (j ≡ i → ⊥) → (j ≤ i) ⊎ (i < j) → i + 1 ≤ j
       above n (inl b) = absurd (n (omega arith))
       above n (inr b) = omega arith
+
       go : (j ≡ i) ⊎ (j ≡ i → ⊥) → (i + 1 ≤ j → getD (setRun k (i + 1) a (set xs i a)) j d ≡ a) → getD (setRun k (i + 1) a (set xs i a)) j d ≡ a
       go (inl e) r =
           get-setRun-outside k (i + 1) (set xs i a) j (inl (omega arith)) ∙ rw e (getD-set-same xs i a d (omega arith))

@@ -7,7 +7,6 @@ ghost use Rattle.blocks.specs.Pages.{pagesOf};
 ghost use Rattle.live.specs.Live.{markSlot, markRow, liveMap, marked, liveIn};
 ghost use Rattle.live.specs.Choose as def;
 ghost use Rattle.laws.specs.Counts.{bit};
-
 use rows::Row;
 
 // A block, and how many live pages it has.

@@ -55,5 +55,5 @@ good-at g p t i f e =
       inside = i;
       full = f;
       used = g .used;
-      entries = g .entries
+      entries = g .entries;
     })

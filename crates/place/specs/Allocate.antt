@@ -21,7 +21,7 @@ at current fill s =
       checkpoint = s .checkpoint;
       last = s .last;
       entries = s .entries;
-      buffer = s .buffer
+      buffer = s .buffer;
     }
 
 -- Going on behind the copies of a compaction.

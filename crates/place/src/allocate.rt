@@ -5,10 +5,10 @@ ghost use Rattle.rows.specs.Row.{rowsOf};
 ghost use Rattle.blocks.specs.Pages.{pagesOf};
 ghost use Rattle.place.specs.World.{Good, Made, world};
 ghost use Rattle.place.specs.Allocate as def;
-
 use super::compact::compact;
 use super::state::State;
-use blocks::blank::{count_blank, next_blank};
+use blocks::blank::count_blank;
+use blocks::blank::next_blank;
 
 // The current block, or the next one, with room for a page.
 pub fn allocate(pool: &mut [u8], table: &mut [u8], state: State) -> State
@@ -22,6 +22,12 @@ pub fn allocate(pool: &mut [u8], table: &mut [u8], state: State) -> State
     if 2 <= count_blank(pool, state.blocks) {
         return state.at(to, 0);
     }
-    let fill = compact(pool, table, state.nodes + state.checkpoint, state.blocks, to);
+    let fill = compact(
+        pool,
+        table,
+        state.nodes + state.checkpoint,
+        state.blocks,
+        to,
+    );
     state.at(to, fill)
 }

@@ -8,7 +8,15 @@ ghost use Rattle.place.specs.Compact.{copying, copyLive, copyBlock, rena
 ghost use Rattle.place.specs.Compact as def;
 
 // Page k of the block at `base`, where it is live, copied to the block at `first` behind the pages that went before.
-fn copy_live(pool: &mut [u8], places: &mut [u16; 32], live: &[u8; 2048], base: usize, first: usize, k: usize, fill: usize) -> usize
+fn copy_live(
+    pool: &mut [u8],
+    places: &mut [u16; 32],
+    live: &[u8; 2048],
+    base: usize,
+    first: usize,
+    k: usize,
+    fill: usize,
+) -> usize
     requires { ⌜ (k < 32) × (fill < 32) × (base + k < 2048) × (first < 2048) × (512 * (base + k) + 512 ≤ length (now pool)) × (512 * (first + fill) + 512 ≤ length (now pool)) ⌝ }
     ensures { λ r. ⌜ (copying (pagesOf (now (pool .exit))) (now (places .exit)) r ≡ copyLive (now (live .entry)) base first k (copying (pagesOf (now (pool .entry))) (now (places .entry)) fill)) × (r ≤ fill + 1) ⌝ }
 {
@@ -22,7 +30,13 @@ fn copy_live(pool: &mut [u8], places: &mut [u16; 32], live: &[u8; 2048], base: u
 }
 
 // The live pages of the block at `base`, copied to the block at `first`: how many went, and where each went.
-fn copy_block(pool: &mut [u8], places: &mut [u16; 32], live: &[u8; 2048], base: usize, first: usize) -> usize
+fn copy_block(
+    pool: &mut [u8],
+    places: &mut [u16; 32],
+    live: &[u8; 2048],
+    base: usize,
+    first: usize,
+) -> usize
     requires { ⌜ (base + 32 ≤ 2048) × (first + 32 ≤ 2048) × (512 * base + 16384 ≤ length (now pool)) × (512 * first + 16384 ≤ length (now pool)) ⌝ }
     ensures { λ r. ⌜ (copying (pagesOf (now (pool .exit))) (now (places .exit)) r ≡ copyBlock (now (live .entry)) base first (copying (pagesOf (now (pool .entry))) (now (places .entry)) 0)) × (r ≤ 32) ⌝ }
 {

@@ -44,21 +44,21 @@ mode-back Disk = refl
 
 row-same : {v v′ s s′ n n′ a a′ b b′ c c′ : ℕ} {m m′ : Mode} → v ≡ v′ → s ≡ s′ → m ≡ m′ → n ≡ n′ → a ≡ a′ → b ≡ b′ → c ≡ c′ →
     _≡_ {A = Row}
-      (record { version = v; score = s; mode = m; pages = n; first = a; second = b; third = c })
-      (record { version = v′; score = s′; mode = m′; pages = n′; first = a′; second = b′; third = c′ })
+    (record { version = v; score = s; mode = m; pages = n; first = a; second = b; third = c })
+    (record { version = v′; score = s′; mode = m′; pages = n′; first = a′; second = b′; third = c′ })
 row-same ev es em en ea eb ec = cc
 
 pub decode-encode : (r : Row) → Fits r → decode (encode r) ≡ r
 unfolding decode encode numberAt part
 decode-encode r f =
     row-same
-      (number-bigEndian 4 (r .version) (f .version))
-      (number-bigEndian 4 (r .score) (f .score))
-      (mode-back (r .mode))
-      refl
-      (number-bigEndian 2 (r .first) (f .first))
-      (number-bigEndian 2 (r .second) (f .second))
-      (number-bigEndian 2 (r .third) (f .third))
+    (number-bigEndian 4 (r .version) (f .version))
+    (number-bigEndian 4 (r .score) (f .score))
+    (mode-back (r .mode))
+    refl
+    (number-bigEndian 2 (r .first) (f .first))
+    (number-bigEndian 2 (r .second) (f .second))
+    (number-bigEndian 2 (r .third) (f .third))
 
 length-encode : (r : Row) → length (encode r) ≡ 16
 unfolding encode

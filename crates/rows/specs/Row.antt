@@ -35,7 +35,7 @@ decode s =
       pages = getD s 9 0;
       first = numberAt 2 s 10;
       second = numberAt 2 s 12;
-      third = numberAt 2 s 14
+      third = numberAt 2 s 14;
     }
 
 -- The 16 bytes of a row.

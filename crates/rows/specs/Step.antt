@@ -72,5 +72,5 @@ moved base places r =
       pages = r .pages;
       first = newPlace base places (r .first);
       second = newPlace base places (r .second);
-      third = newPlace base places (r .third)
+      third = newPlace base places (r .third);
     }

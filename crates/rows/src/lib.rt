@@ -6,10 +6,10 @@ ghost use Rattle.laws.specs.BigEndian.{numberAt};
 ghost use Rattle.rows.specs.Row as def;
 ghost use Rattle.rows.specs.Row.{modeByte, modeFrom, rowsOf, noRow};
 ghost use Rattle.rows.specs.Step as step;
-
 use account::Mode;
 use wire::bytes::lay_bytes;
-use wire::number::{read16, read32};
+use wire::number::read16;
+use wire::number::read32;
 
 // A node's row: its version, score and mode, and the one to three pages that it lies on.
 pub struct Row {

@@ -1,3 +1,4 @@
+-- `live::count_live` meets its contract. The invariant: what was counted and the live pages left are all of the block. Assumes nothing.
 use mathlib.Core.Path.{_≡_, sym, _∙_}
 use Prim.Native.Nat.{_+_, _-_, _≤_}
 use native.Mathlib.Omega.{arith}
@@ -5,9 +6,6 @@ use Rattle.laws.specs.Loops.{sumFrom, sum-begin, sum-more, sum-done}
 use Rattle.live.specs.Live.{liveBit, liveIn}
 use Rattle.live.proofs.count_live.Statement.{statement}
 use Rattle.live.proofs.count_live.Tie as tie
-use Rattle.live.proofs.count_live.Reads as reads
-use Rattle.live.proofs.count_live.Lts as lts
-use Rattle.live.proofs.mark_bit.Reads as mark-bit-reads
 
 abbrev Inv-loop : tie.InvT-loop
 Inv-loop live block n₀ k₀ n k = ((k ≤ 32) × (n ≤ k)) × (n + sumFrom (liveBit live block) (32 - k) k ≡ sumFrom (liveBit live block) 32 0)
@@ -15,47 +13,37 @@ Inv-loop live block n₀ k₀ n k = ((k ≤ 32) × (n ≤ k)) × (n + sumFrom (l
 abbrev μ-loop : tie.MeasureT-loop
 μ-loop live block n₀ k₀ n k = 32 - k
 
--- src/lib.rt:73:5
 loop-holds : tie.Need-loop-holds Inv-loop μ-loop
 loop-holds c = let a = c .args in
     (omega arith, sum-begin (liveBit (a .live .now) (a .block)) 32)
 
--- src/lib.rt:74:28
 mul-mark-bit : tie.Need-mul-mark-bit Inv-loop μ-loop
 mul-mark-bit c = omega arith
 
--- src/lib.rt:74:28
 add-mark-bit : tie.Need-add-mark-bit Inv-loop μ-loop
 add-mark-bit c = omega arith
 
--- src/lib.rt:74:23
 element-copy-out-mark-bit : tie.Need-element-copy-out-mark-bit Inv-loop μ-loop
 element-copy-out-mark-bit c = omega arith
 
--- src/lib.rt:74:14
 mark-bit-requires : tie.Need-mark-bit-requires Inv-loop μ-loop
 mark-bit-requires c κs = omega arith
 
--- src/lib.rt:74:9
 add-n : tie.Need-add-n Inv-loop μ-loop
 add-n c = omega arith
 
--- src/lib.rt:75:9
 add-k : tie.Need-add-k Inv-loop μ-loop
 add-k c = omega arith
 
--- src/lib.rt:73:5
 loop-less : tie.Need-loop-less Inv-loop μ-loop
 loop-less c = omega arith
 
--- src/lib.rt:73:5
 loop-again : tie.Need-loop-again Inv-loop μ-loop
 unfolding liveBit
 loop-again c = let l = c .before .before .before .loop in
     let a = c .before .before .before .before .args in
     (omega (arith, c .mark-bit .ensures .1), rw (c .mark-bit .ensures .0) (sum-more (liveBit (a .live .now) (a .block)) 32 (l .k) (l .n) (omega arith) ∙ l .inv .1))
 
--- src/lib.rt:67:1
 returns : tie.Need-returns Inv-loop μ-loop
 unfolding liveIn
 returns c = let l = c .before .loop in

@@ -1,3 +1,4 @@
+-- `live::live_map` meets its contract. The invariant: marking the rows left gives the whole map. Assumes nothing.
 use borrow.Author.Needs.{needs}
 use mathlib.Core.Path.{_≡_, sym, _∙_}
 use Prim.Native.Nat.{_+_, _-_, _≤_}
@@ -8,10 +9,6 @@ use Rattle.rows.specs.Row.{rowsOf}
 use Rattle.live.specs.Live.{markNth, liveMap}
 use Rattle.live.proofs.live_map.Statement.{statement}
 use Rattle.live.proofs.live_map.Tie as tie
-use Rattle.live.proofs.live_map.Reads as reads
-use Rattle.live.proofs.live_map.Lts as lts
-use Rattle.live.proofs.mark_row.Reads as mark-row-reads
-use Rattle.rows.proofs.load.Reads as load-reads
 
 abbrev Inv-loop : tie.InvT-loop
 Inv-loop table used live₀ n₀ live n = (n ≤ used) × (steps (markNth (rowsOf table)) (used - n) n live ≡ steps (markNth (rowsOf table)) used 0 (replicate 2048 0))
@@ -19,35 +16,28 @@ Inv-loop table used live₀ n₀ live n = (n ≤ used) × (steps (markNth (rowsO
 abbrev μ-loop : tie.MeasureT-loop
 μ-loop table used live₀ n₀ live n = used - n
 
--- src/lib.rt:49:5
 loop-holds : tie.Need-loop-holds Inv-loop μ-loop
 loop-holds c = let a = c .before .args in
     (omega arith, steps-begin (markNth (rowsOf (a .table .now))) (a .used) (replicate 2048 0))
 
--- src/lib.rt:50:29
 load-requires : tie.Need-load-requires Inv-loop μ-loop
 load-requires c κs = omega arith
 
--- src/lib.rt:50:9
 mark-row-requires : tie.Need-mark-row-requires Inv-loop μ-loop
 mark-row-requires c κs = search needs
 
--- src/lib.rt:51:9
 add-n : tie.Need-add-n Inv-loop μ-loop
 add-n c = omega arith
 
--- src/lib.rt:49:5
 loop-less : tie.Need-loop-less Inv-loop μ-loop
 loop-less c = omega arith
 
--- src/lib.rt:49:5
 loop-again : tie.Need-loop-again Inv-loop μ-loop
 unfolding markNth
 loop-again c = let l = c .before .before .before .before .loop in
     let a = c .before .before .before .before .before .before .args in
     (omega arith, rw (c .mark-row .ensures, c .before .load .ensures) (steps-more (markNth (rowsOf (a .table .now))) (a .used) (l .n) (l .live) (omega arith) ∙ l .inv .1))
 
--- src/lib.rt:43:1
 returns : tie.Need-returns Inv-loop μ-loop
 unfolding liveMap
 returns c = let l = c .before .loop in

@@ -1,3 +1,4 @@
+-- `live::mark_row` meets its contract: the three slots in order. Assumes nothing.
 use mathlib.Core.Path.{ap, _∙_}
 use mathlib.Core.List.{List}
 use Prim.Native.Nat.{ℕ}
@@ -5,23 +6,16 @@ use Rattle.live.specs.Live.{markSlot, markRow}
 use borrow.Author.Needs.{needs}
 use Rattle.live.proofs.mark_row.Statement.{statement}
 use Rattle.live.proofs.mark_row.Tie as tie
-use Rattle.live.proofs.mark_row.Reads as reads
-use Rattle.live.proofs.mark_row.Lts as lts
-use Rattle.live.proofs.mark_slot.Reads as mark-slot-reads
 
--- src/lib.rt:37:5
 mark-slot-requires : tie.Need-mark-slot-requires
 mark-slot-requires c κs = search needs
 
--- src/lib.rt:38:5
 mark-slot-requires-2 : tie.Need-mark-slot-requires-2
 mark-slot-requires-2 c κs = search needs
 
--- src/lib.rt:39:5
 mark-slot-requires-3 : tie.Need-mark-slot-requires-3
 mark-slot-requires-3 c κs = search needs
 
--- src/lib.rt:34:1
 returns : tie.Need-returns
 unfolding markRow
 returns c = let r = c .before .before .before .before .before .before .args .r in

@@ -1,3 +1,4 @@
+-- `live::victim` meets its contract. The invariant: weighing the blocks left gives the best of all. Assumes nothing.
 use mathlib.Core.Path.{_≡_, sym, ap, _∙_}
 use Prim.Native.Nat.{_+_, _-_, _≤_, _<_}
 use native.Mathlib.Omega.{arith}
@@ -7,9 +8,6 @@ use Rattle.live.specs.Choose.{choice, weigh, best, victim}
 use Rattle.live.specs.declared.Choice.{Choice}
 use Rattle.live.proofs.victim.Statement.{statement}
 use Rattle.live.proofs.victim.Tie as tie
-use Rattle.live.proofs.victim.Reads as reads
-use Rattle.live.proofs.victim.Lts as lts
-use Rattle.live.proofs.weigh.Reads as weigh-reads
 
 abbrev Inv-loop : tie.InvT-loop
 Inv-loop pool live blocks best₀ block₀ best block = ((block ≤ blocks) × (best .block < blocks)) × (steps (weigh (pagesOf pool) live) (blocks - block) block best ≡ steps (weigh (pagesOf pool) live) blocks 0 (choice 0 33))
@@ -17,30 +15,24 @@ Inv-loop pool live blocks best₀ block₀ best block = ((block ≤ blocks) × (
 abbrev μ-loop : tie.MeasureT-loop
 μ-loop pool live blocks best₀ block₀ best block = blocks - block
 
--- src/lib.rt:102:5
 loop-holds : tie.Need-loop-holds Inv-loop μ-loop
 loop-holds c = let a = c .before .args in
     (omega arith, steps-begin (weigh (pagesOf (a .pool .now)) (a .live .now)) (a .blocks) (choice 0 33))
 
--- src/lib.rt:103:9
 weigh-requires : tie.Need-weigh-requires Inv-loop μ-loop
 weigh-requires c κs = omega arith
 
--- src/lib.rt:104:9
 add-block : tie.Need-add-block Inv-loop μ-loop
 add-block c = omega arith
 
--- src/lib.rt:102:5
 loop-less : tie.Need-loop-less Inv-loop μ-loop
 loop-less c = omega arith
 
--- src/lib.rt:102:5
 loop-again : tie.Need-loop-again Inv-loop μ-loop
 loop-again c = let l = c .before .before .loop in
     let a = c .before .before .before .before .args in
     (omega (arith, c .weigh .ensures .inside), rw (c .weigh .ensures .is) (steps-more (weigh (pagesOf (a .pool .now)) (a .live .now)) (a .blocks) (l .block) (l .best) (omega arith) ∙ l .inv .1))
 
--- src/lib.rt:96:1
 returns : tie.Need-returns Inv-loop μ-loop
 unfolding victim best
 returns c = let l = c .before .loop in

@@ -1,72 +1,54 @@
+-- `rows::encode` meets its contract: the bytes are written as the definition computes them. Assumes nothing.
 use mathlib.Core.Path.{refl}
 use borrow.Author.Needs.{needs}
 use Rattle.rows.proofs.encode.Statement.{statement}
 use Rattle.rows.proofs.encode.Tie as tie
-use Rattle.rows.proofs.encode.Reads as reads
-use Rattle.rows.proofs.encode.Lts as lts
-use Rattle.rows.proofs.mode_byte.Reads as mode-byte-reads
 
--- src/lib.rt:53:9
 mode-byte-requires : tie.Need-mode-byte-requires
 mode-byte-requires c κs = search needs
 
--- src/lib.rt:55:9
 cast-t8 : tie.Need-cast-t8
 cast-t8 c = search needs
 
--- src/lib.rt:56:9
 cast-t12 : tie.Need-cast-t12
 cast-t12 c = search needs
 
--- src/lib.rt:57:9
 cast-t15 : tie.Need-cast-t15
 cast-t15 c = search needs
 
--- src/lib.rt:58:9
 cast-t17 : tie.Need-cast-t17
 cast-t17 c = search needs
 
--- src/lib.rt:59:9
 cast-t22 : tie.Need-cast-t22
 cast-t22 c = search needs
 
--- src/lib.rt:60:9
 cast-t26 : tie.Need-cast-t26
 cast-t26 c = search needs
 
--- src/lib.rt:61:9
 cast-t29 : tie.Need-cast-t29
 cast-t29 c = search needs
 
--- src/lib.rt:62:9
 cast-t31 : tie.Need-cast-t31
 cast-t31 c = search needs
 
--- src/lib.rt:65:9
 cast-t34 : tie.Need-cast-t34
 cast-t34 c = search needs
 
--- src/lib.rt:66:9
 cast-t36 : tie.Need-cast-t36
 cast-t36 c = search needs
 
--- src/lib.rt:67:9
 cast-t39 : tie.Need-cast-t39
 cast-t39 c = search needs
 
--- src/lib.rt:68:9
 cast-t41 : tie.Need-cast-t41
 cast-t41 c = search needs
 
--- src/lib.rt:69:9
 cast-t44 : tie.Need-cast-t44
 cast-t44 c = search needs
 
--- src/lib.rt:70:9
 cast-t46 : tie.Need-cast-t46
 cast-t46 c = search needs
 
--- src/lib.rt:49:1
 returns : tie.Need-returns
 unfolding Rattle.rows.specs.Row.encode
 returns c = rw (c .before .before .before .before .before .before .before .before .before .before .before .before .before .before .mode-byte .ensures) refl

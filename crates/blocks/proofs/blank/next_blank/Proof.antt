@@ -1,39 +1,31 @@
+-- `blank::next_blank` meets its contract: above the current block, else the lowest, else block 0. Assumes nothing.
 use native.Mathlib.Omega.{arith}
 use Rattle.blocks.specs.Pages.{pagesOf}
 use Rattle.blocks.proofs.Laws.{next-above, next-lowest, next-none}
 use borrow.Author.Needs.{needs}
 use Rattle.blocks.proofs.blank.next_blank.Statement.{statement}
 use Rattle.blocks.proofs.blank.next_blank.Tie as tie
-use Rattle.blocks.proofs.blank.next_blank.Reads as reads
-use Rattle.blocks.proofs.blank.next_blank.Lts as lts
-use Rattle.blocks.proofs.blank.blank_from.Reads as blank-from-reads
 
--- src/blank.rt:63:42
 add-blank-from : tie.Need-add-blank-from
 add-blank-from c = search needs
 
--- src/blank.rt:63:9
 blank-from-requires : tie.Need-blank-from-requires
 blank-from-requires c κs = search needs
 
--- src/blank.rt:65:9
 returns : tie.Need-returns
 returns c = let a = c .before .before .before .args in
     let x = c .before .blank-from in
     (next-above (a .blocks) (a .current) (pagesOf (a .pool .now)) (x .result) (x .ensures .0) (c .if1 .taken), c .if1 .taken)
 
--- src/blank.rt:67:9
 blank-from-requires-2 : tie.Need-blank-from-requires-2
 blank-from-requires-2 c κs = search needs
 
--- src/blank.rt:69:9
 returns-2 : tie.Need-returns-2
 returns-2 c = let a = c .before .before .before .before .before .args in
     let x = c .before .before .before .blank-from in
     let y = c .before .blank-from2 in
     (next-lowest (a .blocks) (a .current) (pagesOf (a .pool .now)) (x .result) (x .ensures .0) (y .result) (y .ensures .0) (c .before .before .if1 .left) (c .if2 .taken), c .if2 .taken)
 
--- src/blank.rt:59:1
 returns-3 : tie.Need-returns-3
 returns-3 c = let a = c .before .before .before .before .before .args in
     let x = c .before .before .before .blank-from in

@@ -1,3 +1,4 @@
+-- `allocate::allocate` meets its contract: room, two blank blocks or more, or a compaction. Assumes nothing.
 use mathlib.Core.Path.{refl}
 use native.Mathlib.Omega.{arith}
 use Rattle.rows.specs.Row.{rowsOf}
@@ -7,70 +8,56 @@ use Rattle.place.proofs.Laws.{allocate-room, allocate-next, allocate-co
 use borrow.Author.Needs.{needs}
 use Rattle.place.proofs.allocate.allocate.Statement.{statement}
 use Rattle.place.proofs.allocate.allocate.Tie as tie
-use Rattle.place.proofs.allocate.allocate.Reads as reads
-use Rattle.place.proofs.allocate.allocate.Lts as lts
-use Rattle.blocks.proofs.blank.count_blank.Reads as count-blank-reads
-use Rattle.blocks.proofs.blank.next_blank.Reads as next-blank-reads
-use Rattle.place.proofs.compact.compact.Reads as compact-reads
-use Rattle.place.proofs.state.State.at.Reads as at-reads
 
--- src/allocate.rt:19:9
 returns : tie.Need-returns
 returns c = let a = c .before .before .before .before .args in
     record { is = allocate-room (world (pagesOf (a .pool .now)) (rowsOf (a .table .now)) (a .state)) (c .if1 .taken); good = c .before .before .before .before .pre }
 
--- src/allocate.rt:21:9
 next-blank-requires : tie.Need-next-blank-requires
 next-blank-requires c κs = search needs
 
--- src/allocate.rt:22:13
 count-blank-requires : tie.Need-count-blank-requires
 count-blank-requires c κs = search needs
 
--- src/allocate.rt:23:9
 at-requires : tie.Need-at-requires
 at-requires c κs = search needs
 
--- src/allocate.rt:23:9
 same-length : tie.Need-same-length
 same-length c = search needs
 
--- src/allocate.rt:23:9
 returns-2 : tie.Need-returns-2
 returns-2 c = let a = c .before .before .before .before .before .before .before .before .before .before .args in
     let n = c .before .before .before .before .next-blank in
     let b = c .before .before .count-blank in
-    record { is = allocate-next (pagesOf (a .pool .now)) (rowsOf (a .table .now)) (a .state) (n .result) (b .result) (c .before .before .before .before .before .before .if1 .left) (n .ensures .0) (b .ensures) (c .before .if2 .taken) (c .at .result) (c .at .ensures)
-           ; good = good-at (c .before .before .before .before .before .before .before .before .before .before .pre) refl refl (n .ensures .1) (omega arith) (c .at .ensures) }
+    record {
+      is = allocate-next (pagesOf (a .pool .now)) (rowsOf (a .table .now)) (a .state) (n .result) (b .result) (c .before .before .before .before .before .before .if1 .left) (n .ensures .0) (b .ensures) (c .before .if2 .taken) (c .at .result) (c .at .ensures);
+      good = good-at (c .before .before .before .before .before .before .before .before .before .before .pre) refl refl (n .ensures .1) (omega arith) (c .at .ensures);
+    }
 
--- src/allocate.rt:25:37
 add-compact : tie.Need-add-compact
 add-compact c = search needs
 
--- src/allocate.rt:25:9
 compact-requires : tie.Need-compact-requires
 compact-requires c κs = search needs
 
--- src/allocate.rt:26:5
 at-requires-2 : tie.Need-at-requires-2
 at-requires-2 c κs = search needs
 
--- src/allocate.rt:14:1
 same-length-2 : tie.Need-same-length-2
 same-length-2 c = search needs
 
--- src/allocate.rt:14:1
 same-length-3 : tie.Need-same-length-3
 same-length-3 c = search needs
 
--- src/allocate.rt:14:1
 returns-3 : tie.Need-returns-3
 returns-3 c = let a = c .before .before .before .before .before .before .before .before .before .before .before .before .before .before .before .before .before .before .args in
     let n = c .before .before .before .before .before .before .before .before .before .before .before .before .next-blank in
     let b = c .before .before .before .before .before .before .before .before .before .before .count-blank in
     let m = c .before .before .before .before .before .compact in
-    record { is = allocate-compact (pagesOf (a .pool .now)) (rowsOf (a .table .now)) (a .state) (n .result) (b .result) (c .before .before .before .before .before .before .before .before .before .before .before .before .before .before .if1 .left) (n .ensures .0) (b .ensures) (c .before .before .before .before .before .before .before .before .before .if2 .left) (pagesOf (m .last .0)) (rowsOf (m .last .1 .0)) (m .result) (m .ensures .0) (c .at2 .result) (c .at2 .ensures)
-           ; good = good-at (c .before .before .before .before .before .before .before .before .before .before .before .before .before .before .before .before .before .before .pre) (m .kept .0) (m .kept .1 .0) (n .ensures .1) (m .ensures .1) (c .at2 .ensures) }
+    record {
+      is = allocate-compact (pagesOf (a .pool .now)) (rowsOf (a .table .now)) (a .state) (n .result) (b .result) (c .before .before .before .before .before .before .before .before .before .before .before .before .before .before .if1 .left) (n .ensures .0) (b .ensures) (c .before .before .before .before .before .before .before .before .before .if2 .left) (pagesOf (m .last .0)) (rowsOf (m .last .1 .0)) (m .result) (m .ensures .0) (c .at2 .result) (c .at2 .ensures);
+      good = good-at (c .before .before .before .before .before .before .before .before .before .before .before .before .before .before .before .before .before .before .pre) (m .kept .0) (m .kept .1 .0) (n .ensures .1) (m .ensures .1) (c .at2 .ensures);
+    }
 
 pub allocate-spec : {M : Type 1} → statement M
 allocate-spec =

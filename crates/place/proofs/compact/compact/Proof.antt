@@ -1,58 +1,41 @@
+-- `compact::compact` meets its contract: its five calls are the five steps of the definition. Assumes nothing.
 use Rattle.rows.specs.Row.{rowsOf}
 use Rattle.blocks.specs.Pages.{pagesOf}
 use Rattle.place.proofs.Laws.{compact-steps}
 use borrow.Author.Needs.{needs}
 use Rattle.place.proofs.compact.compact.Statement.{statement}
 use Rattle.place.proofs.compact.compact.Tie as tie
-use Rattle.place.proofs.compact.compact.Reads as reads
-use Rattle.place.proofs.compact.compact.Lts as lts
-use Rattle.blocks.proofs.page.erase_block.Reads as erase-block-reads
-use Rattle.live.proofs.live_map.Reads as live-map-reads
-use Rattle.live.proofs.victim.Reads as victim-reads
-use Rattle.place.proofs.compact.copy_block.Reads as copy-block-reads
-use Rattle.place.proofs.compact.rename_rows.Reads as rename-rows-reads
 
--- src/compact.rt:56:16
 live-map-requires : tie.Need-live-map-requires
 live-map-requires c κs = search needs
 
--- src/compact.rt:57:9
 victim-requires : tie.Need-victim-requires
 victim-requires c κs = search needs
 
--- src/compact.rt:59:53
 mul-copy-block : tie.Need-mul-copy-block
 mul-copy-block c = search needs
 
--- src/compact.rt:59:65
 mul-copy-block-2 : tie.Need-mul-copy-block-2
 mul-copy-block-2 c = search needs
 
--- src/compact.rt:59:9
 copy-block-requires : tie.Need-copy-block-requires
 copy-block-requires c κs = search needs
 
--- src/compact.rt:60:30
 mul-rename-rows : tie.Need-mul-rename-rows
 mul-rename-rows c = search needs
 
--- src/compact.rt:60:5
 rename-rows-requires : tie.Need-rename-rows-requires
 rename-rows-requires c κs = search needs
 
--- src/compact.rt:61:5
 erase-block-requires : tie.Need-erase-block-requires
 erase-block-requires c κs = search needs
 
--- src/compact.rt:52:1
 same-length : tie.Need-same-length
 same-length c = search needs
 
--- src/compact.rt:52:1
 same-length-2 : tie.Need-same-length-2
 same-length-2 c = search needs
 
--- src/compact.rt:52:1
 returns : tie.Need-returns
 returns c = let a = c .before .before .before .before .before .before .before .before .before .before .before .before .before .before .before .before .before .before .before .before .before .before .args in
     let m = c .before .before .before .before .before .before .before .before .before .before .before .before .before .before .before .before .before .before .live-map in

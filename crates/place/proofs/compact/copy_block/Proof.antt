@@ -1,3 +1,4 @@
+-- `compact::copy_block` meets its contract. The invariant: copying the pages left gives the whole block copied. Assumes nothing.
 use mathlib.Core.Path.{_≡_, sym, ap, _∙_}
 use Prim.Native.Nat.{_+_, _-_, _≤_}
 use native.Mathlib.Omega.{arith}
@@ -7,9 +8,6 @@ use Rattle.blocks.specs.Pages.{pagesOf}
 use Rattle.place.specs.Compact.{Copying, copying, copyLive, copyBlock}
 use Rattle.place.proofs.compact.copy_block.Statement.{statement}
 use Rattle.place.proofs.compact.copy_block.Tie as tie
-use Rattle.place.proofs.compact.copy_block.Reads as reads
-use Rattle.place.proofs.compact.copy_block.Lts as lts
-use Rattle.place.proofs.compact.copy_live.Reads as copy-live-reads
 
 abbrev Inv-loop : tie.InvT-loop
 Inv-loop pool₀ places₀ live base first fill₀ k₀ pool places fill k = ((k ≤ 32) × ((fill ≤ k) × (length pool ≡ length pool₀))) × (steps (copyLive live base first) (32 - k) k (copying (pagesOf pool) places fill) ≡ steps (copyLive live base first) 32 0 (copying (pagesOf pool₀) places₀ 0))
@@ -17,24 +15,19 @@ Inv-loop pool₀ places₀ live base first fill₀ k₀ pool places fill k = ((k
 abbrev μ-loop : tie.MeasureT-loop
 μ-loop pool₀ places₀ live base first fill₀ k₀ pool places fill k = 32 - k
 
--- src/compact.rt:31:5
 loop-holds : tie.Need-loop-holds Inv-loop μ-loop
 loop-holds c = let a = c .before .args in
     (omega arith, steps-begin (copyLive (a .live .now) (a .base) (a .first)) 32 (copying (pagesOf (a .pool .now)) (a .places .now) 0))
 
--- src/compact.rt:32:9
 copy-live-requires : tie.Need-copy-live-requires Inv-loop μ-loop
 copy-live-requires c κs = omega arith
 
--- src/compact.rt:33:9
 add-k : tie.Need-add-k Inv-loop μ-loop
 add-k c = omega arith
 
--- src/compact.rt:31:5
 loop-less : tie.Need-loop-less Inv-loop μ-loop
 loop-less c = omega arith
 
--- src/compact.rt:31:5
 loop-again : tie.Need-loop-again Inv-loop μ-loop
 loop-again c = let l = c .before .before .before .before .before .before .loop in
     let a = c .before .before .before .before .before .before .before .before .args in
@@ -42,11 +35,9 @@ loop-again c = let l = c .before .before .before .before .before .before .loop i
     let o = c .before .before .copy-live in
     (omega (arith, o .ensures .1), ap (λ (w : Copying). steps f (32 - (l .k + 1)) (l .k + 1) w) (o .ensures .0) ∙ (steps-more f 32 (l .k) (copying (pagesOf (l .pool)) (l .places) (l .fill)) (omega arith) ∙ l .inv .1))
 
--- src/compact.rt:25:1
 same-length : tie.Need-same-length Inv-loop μ-loop
 same-length c = omega arith
 
--- src/compact.rt:25:1
 returns : tie.Need-returns Inv-loop μ-loop
 unfolding copyBlock
 returns c = let l = c .before .loop in

@@ -1,3 +1,4 @@
+-- `compact::copy_live` meets its contract: dead, or copied and its place noted. Assumes nothing.
 use mathlib.Core.Path.{refl}
 use native.Mathlib.Omega.{arith}
 use borrow.Author.Tests.{eq-eqb, ne-eqb}
@@ -5,56 +6,41 @@ use Rattle.place.specs.Compact.{copyPage, copyLive}
 use borrow.Author.Needs.{needs}
 use Rattle.place.proofs.compact.copy_live.Statement.{statement}
 use Rattle.place.proofs.compact.copy_live.Tie as tie
-use Rattle.place.proofs.compact.copy_live.Reads as reads
-use Rattle.place.proofs.compact.copy_live.Lts as lts
-use Rattle.blocks.proofs.page.copy_page.Reads as copy-page-reads
 
--- src/compact.rt:15:13
 add-if1 : tie.Need-add-if1
 add-if1 c = search needs
 
--- src/compact.rt:15:8
 element-copy-out-if1 : tie.Need-element-copy-out-if1
 element-copy-out-if1 c = search needs
 
--- src/compact.rt:16:9
 returns : tie.Need-returns
 unfolding copyLive
 returns c = (rw (eq-eqb _ _ (c .if1 .taken)) refl, omega arith)
 
--- src/compact.rt:18:14
 add-to : tie.Need-add-to
 add-to c = search needs
 
--- src/compact.rt:19:35
 add-copy-page : tie.Need-add-copy-page
 add-copy-page c = search needs
 
--- src/compact.rt:19:5
 copy-page-requires : tie.Need-copy-page-requires
 copy-page-requires c κs = search needs
 
--- src/compact.rt:20:17
 cast-places : tie.Need-cast-places
 cast-places c = search needs
 
--- src/compact.rt:20:5
 mul-places : tie.Need-mul-places
 mul-places c = search needs
 
--- src/compact.rt:20:5
 element-write-places : tie.Need-element-write-places
 element-write-places c = search needs
 
--- src/compact.rt:21:5
 add-result : tie.Need-add-result
 add-result c = search needs
 
--- src/compact.rt:11:1
 same-length : tie.Need-same-length
 same-length c = search needs
 
--- src/compact.rt:11:1
 returns-2 : tie.Need-returns-2
 unfolding copyLive copyPage
 returns-2 c = (rw (ne-eqb _ _ (c .before .before .before .before .if1 .left), c .before .before .copy-page .ensures) refl, omega arith)

@@ -1,3 +1,4 @@
+-- `compact::rename_rows` meets its contract. The invariant: renaming the rows left gives all rows renamed. Assumes nothing.
 use borrow.Author.Needs.{needs}
 use mathlib.Core.Path.{_≡_, sym, _∙_}
 use Prim.Native.Nat.{_+_, _-_, _≤_}
@@ -8,11 +9,6 @@ use Rattle.rows.specs.Row.{rowsOf}
 use Rattle.place.specs.Compact.{renameRow, renameRows}
 use Rattle.place.proofs.compact.rename_rows.Statement.{statement}
 use Rattle.place.proofs.compact.rename_rows.Tie as tie
-use Rattle.place.proofs.compact.rename_rows.Reads as reads
-use Rattle.place.proofs.compact.rename_rows.Lts as lts
-use Rattle.rows.proofs.Row.moved.Reads as moved-reads
-use Rattle.rows.proofs.load.Reads as load-reads
-use Rattle.rows.proofs.store.Reads as store-reads
 
 abbrev Inv-loop : tie.InvT-loop
 Inv-loop table₀ used base places n₀ table n = ((n ≤ used) × (length table ≡ length table₀)) × (steps (renameRow base places) (used - n) n (rowsOf table) ≡ steps (renameRow base places) used 0 (rowsOf table₀))
@@ -20,43 +16,34 @@ Inv-loop table₀ used base places n₀ table n = ((n ≤ used) × (length table
 abbrev μ-loop : tie.MeasureT-loop
 μ-loop table₀ used base places n₀ table n = used - n
 
--- src/compact.rt:44:5
 loop-holds : tie.Need-loop-holds Inv-loop μ-loop
 loop-holds c = let a = c .before .args in
     (omega arith, steps-begin (renameRow (a .base) (a .places .now)) (a .used) (rowsOf (a .table .now)))
 
--- src/compact.rt:45:13
 load-requires : tie.Need-load-requires Inv-loop μ-loop
 load-requires c κs = omega arith
 
--- src/compact.rt:46:31
 moved-requires : tie.Need-moved-requires Inv-loop μ-loop
 moved-requires c κs = search needs
 
--- src/compact.rt:46:9
 store-requires : tie.Need-store-requires Inv-loop μ-loop
 store-requires c κs = omega arith
 
--- src/compact.rt:47:9
 add-n : tie.Need-add-n Inv-loop μ-loop
 add-n c = omega arith
 
--- src/compact.rt:44:5
 loop-less : tie.Need-loop-less Inv-loop μ-loop
 loop-less c = omega arith
 
--- src/compact.rt:44:5
 loop-again : tie.Need-loop-again Inv-loop μ-loop
 unfolding renameRow
 loop-again c = let l = c .before .before .before .before .before .before .before .before .loop in
     let a = c .before .before .before .before .before .before .before .before .before .before .args in
     (omega arith, rw (c .before .before .store .ensures, c .before .before .before .moved .ensures, c .before .before .before .before .before .load .ensures) (steps-more (renameRow (a .base) (a .places .now)) (a .used) (l .n) (rowsOf (l .table)) (omega arith) ∙ l .inv .1))
 
--- src/compact.rt:39:1
 same-length : tie.Need-same-length Inv-loop μ-loop
 same-length c = omega arith
 
--- src/compact.rt:39:1
 returns : tie.Need-returns Inv-loop μ-loop
 unfolding renameRows
 returns c = let l = c .before .loop in

@@ -1,11 +1,9 @@
+-- `State::at` meets its contract: two fields are others. Assumes nothing.
 use mathlib.Core.Path.{refl}
 use Rattle.place.specs.Allocate.{at}
 use Rattle.place.proofs.state.State.at.Statement.{statement}
 use Rattle.place.proofs.state.State.at.Tie as tie
-use Rattle.place.proofs.state.State.at.Reads as reads
-use Rattle.place.proofs.state.State.at.Lts as lts
 
--- src/state.rt:20:5
 returns : tie.Need-returns
 unfolding at
 returns c = refl
