@@ -9,7 +9,7 @@ use lib.Seq.{length-take-le, getD-take, getD-drop}
 use borrow.Author.Tests.{lt-ltb, le-ltb}
 use borrow.Rule.Slice.PartMut.{putMid}
 use Rattle.laws.specs.Lay.{lay, part, lay-whole, lay-lent}
-use Rattle.laws.specs.Chunks.{chunks, setRun, length-chunks, get-chunks, lay-chunks, lay-run}
+use Rattle.laws.specs.Chunks.{chunks, setRun, length-chunks, get-chunks, lay-chunks, lent-chunks, lay-run}
 use Rattle.blocks.specs.Pages.{pagesOf, blankPage, pageAt, erased}
 use Rattle.blocks.specs.Blank.{blankFrom, nextBlank}
 
@@ -25,6 +25,11 @@ module _ (pool : List ℕ) (q : ℕ) (h : 512 * q + 512 ≤ length pool) where
   pub lay-pages : (bytes : List ℕ) → length bytes ≡ 512 → pagesOf (lay pool (512 * q) bytes) ≡ set (pagesOf pool) q bytes
   unfolding pagesOf
   lay-pages bytes e = lay-chunks 512 pool q bytes e (omega arith) h
+
+  -- a page's part of the pool that was lent, and came back with other bytes
+  pub lent-pages : (bytes : List ℕ) → length bytes ≡ 512 → (from to : ℕ) → from ≡ 512 * q → to ≡ from + 512 → pagesOf (putMid from (to - from) pool bytes) ≡ set (pagesOf pool) q bytes
+  unfolding pagesOf
+  lent-pages bytes e from to a b = lent-chunks 512 pool q bytes e (omega arith) h from to a b
 
   -- a page read into a buffer of its size
   pub read-pages : (buffer : List ℕ) → length buffer ≡ 512 → (n : ℕ) → n ≡ 512 → lay buffer 0 (take n (drop (512 * q) pool)) ≡ pageAt (pagesOf pool) q

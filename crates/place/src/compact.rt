@@ -20,11 +20,12 @@ fn copy_live(
     requires { ⌜ (k < 32) × (fill < 32) × (base + k < 2048) × (first < 2048) × (512 * (base + k) + 512 ≤ length (now pool)) × (512 * (first + fill) + 512 ≤ length (now pool)) ⌝ }
     ensures { λ r. ⌜ (copying (pagesOf (now (pool .exit))) (now (places .exit)) r ≡ copyLive (now (live .entry)) base first k (copying (pagesOf (now (pool .entry))) (now (places .entry)) fill)) × (r ≤ fill + 1) ⌝ }
 {
-    if live[base + k] == 0 {
+    let from = base + k;
+    if live[from] == 0 {
         return fill;
     }
     let to = first + fill;
-    blocks::page::copy_page(pool, base + k, to);
+    blocks::page::copy_page(pool, from, to);
     places[k] = to as u16;
     fill + 1
 }

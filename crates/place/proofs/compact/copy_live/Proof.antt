@@ -7,8 +7,8 @@ use borrow.Author.Needs.{needs}
 use Rattle.place.proofs.compact.copy_live.Statement.{statement}
 use Rattle.place.proofs.compact.copy_live.Tie as tie
 
-add-if1 : tie.Need-add-if1
-add-if1 c = search needs
+add-from : tie.Need-add-from
+add-from c = search needs
 
 element-copy-out-if1 : tie.Need-element-copy-out-if1
 element-copy-out-if1 c = search needs
@@ -19,9 +19,6 @@ returns c = (rw (eq-eqb _ _ (c .if1 .taken)) refl, omega arith)
 
 add-to : tie.Need-add-to
 add-to c = search needs
-
-add-copy-page : tie.Need-add-copy-page
-add-copy-page c = search needs
 
 copy-page-requires : tie.Need-copy-page-requires
 copy-page-requires c κs = search needs
@@ -49,11 +46,10 @@ pub copy-live-spec : {M : Type 1} → statement M
 copy-live-spec =
     tie.close
     (tie.spec
-    add-if1
+    add-from
     element-copy-out-if1
     returns
     add-to
-    add-copy-page
     copy-page-requires
     cast-places
     mul-places
