@@ -1,6 +1,6 @@
 -- What a counting loop does, as one definition for each kind: steps taken from a number on, a sum, a search. A loop's invariant says that what
 -- is left, done from here, gives the whole; `-more` is a turn of the loop and `-done` its end. Assumes nothing.
-use mathlib.Core.Path.{_≡_, refl, ap, _∙_}
+use mathlib.Core.Path.{_≡_, refl, ap, _∙_, subst}
 use mathlib.Core.Bool.{Bool, true, false}
 use Prim.Native.Nat.{ℕ, zero, suc, _+_, _-_, _≤_, _<_}
 use native.Mathlib.Nat.{add-zero, sub-zero}
@@ -66,3 +66,13 @@ module _ (f : ℕ → Bool) (n : ℕ) where
   pub first-done : (i : ℕ) → n ≤ i → i ≡ firstFrom f (n - i) i
   unfolding firstFrom
   first-done i h = rw (over n i h) refl
+
+-- What holds at the start, and is kept by every step, holds at the end.
+pub steps-keep : {A : Type 0} (P : ℕ → A → Type 0) (f : ℕ → A → A) (n : ℕ) → ((i : ℕ) (a : A) → i < n → P i a → P (i + 1) (f i a)) →
+    (a : A) → P 0 a → P n (steps f n 0 a)
+unfolding steps
+steps-keep {A} P f n keep a p = go n 0 a (omega arith) p
+  where
+    go : (k i : ℕ) (x : A) → i + k ≡ n → P i x → P n (steps f k i x)
+    go zero i x e q = subst (λ (j : ℕ). P j x) (omega arith) q
+    go (suc k) i x e q = go k (i + 1) (f i x) (omega arith) (keep i x (omega arith) q)
