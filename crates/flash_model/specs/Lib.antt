@@ -1,0 +1,9 @@
+pub mod Mirror
+pub mod Pages
+pub mod Blank
+pub mod Names
+pub mod Live
+pub mod Choice
+pub mod Copies
+pub mod Moves
+pub mod Allocate

@@ -1,0 +1,12 @@
+pub mod Item
+pub mod View
+pub mod Pool
+pub mod Store
+pub mod Live
+pub mod Allocate
+pub mod Write
+pub mod Run
+pub mod Serve
+pub mod Checkpoint
+pub mod Reopen
+pub mod Worked

@@ -1,0 +1,383 @@
+-- The end of a batch: the buffer's page, then the checkpoint. No node notices; the checkpoint's pages are live while it is written, so all
+-- of them stand at its end, under the greatest numbers, and are read back; and the cells are this very store again. Assumes nothing.
+use mathlib.Core.Path.{_≡_, refl, sym, ap, _∙_, subst}
+use mathlib.Core.Bool.{Bool, true, false, _&&_}
+use mathlib.Core.Option.{Option, none, some}
+use mathlib.Core.List.{List, [], _∷_, _++_, map, append-nil}
+use Prim.Native.Nat.{ℕ, zero, suc, _+_, _≤_, _<_}
+use native.Mathlib.Nat.{le-trans}
+use native.Mathlib.Omega.{arith}
+use borrow.Author.Tests.{eq-eqb, lt-ltb}
+use lib.Dec.{eqb}
+use lib.ListN.{length, take}
+use Rattle.laws.specs.Tests.{and-right}
+use Rattle.laws.specs.Counts.{bit, bit-le-one, tally, tally-mono}
+use Rattle.laws.specs.Every.{Every, every-append, every-map}
+use Rattle.layout.specs.Layout.{firstScores, mostBlocks, nodeLimit}
+use Rattle.account.specs.declared.Mode.{Mode}
+use Rattle.account.specs.declared.Tariff.{Tariff}
+use Rattle.node.specs.Node.{Node}
+use Rattle.page.specs.Page.{Entry, Score, Content, Page, page}
+use Rattle.store.specs.Pool.{Blocks, numbered, above, find}
+use Rattle.store.specs.Store.{Store, view}
+use Rattle.store.specs.Live.{live, noClosing, isCheckpoint, closingSince}
+use Rattle.store.specs.Write.{next, place}
+use Rattle.store.specs.Run.{Moment, Run, moment, written, write, flushRun}
+use Rattle.store.specs.Checkpoint.{
+  Sheet,
+  sheet,
+  sheetContent,
+  scoresFrom,
+  countIfLast,
+  laterSheets,
+  laterParts,
+  sheets,
+  drainBy,
+  drain,
+  writeSheets,
+  close,
+  collect,
+  checkpointOf,
+  tariffIn,
+  scoresIn,
+  countIn,
+  scoreIn,
+  complete,
+}
+use Rattle.store.specs.Reopen.{reopened, poolOf, pagesPass}
+use Rattle.storelaws.specs.LiveLaws.{live-closing}
+use Rattle.storelaws.specs.Placing.{
+  mostSheets,
+  Invariant,
+  place-find,
+  place-find-live,
+  place-tally,
+  place-has,
+  silent-same,
+  silent-invariant,
+}
+use Rattle.storelaws.specs.Versions.{says, late, VersionRules, silent-versions, place-mode}
+use Rattle.storelaws.specs.Passed.{written-lean}
+use Rattle.storelaws.specs.Good.{LeanAt, Good, Keep, keep-refl, keep-trans, flushRun-good, flushRun-keep}
+use Rattle.storelaws.specs.Keeps.{Keeps, keep-holds}
+use Rattle.storelaws.specs.Numbers.{last, write-last}
+use Rattle.storelaws.specs.Opening.{none-closing, own-passes, reopen}
+use Rattle.storelaws.specs.SheetLaws.{
+  length-laterSheets,
+  sheets-few,
+  scoresIn-sheets,
+  countIn-sheets,
+  tariffIn-sheets,
+  length-scoresFrom,
+  scoreIn-scoresFrom,
+  sheets-complete,
+}
+
+-- What a checkpoint page, or several, leave of a run.
+pub record Left (B : ℕ) (closing : Page → Bool) (run run′ : Run) : Type 0 where
+  pub nodes : run′ .nodes ≡ run .nodes
+  pub invariant : Invariant B (run′ .nodes) closing (run′ .now)
+  pub versions : VersionRules (run′ .now)
+  pub buffer : run′ .now .buffer ≡ run .now .buffer
+  pub passed : Every LeanAt (run′ .passed)
+  pub keep : (m : ℕ) → m < run .nodes → Keep (run .now) (run′ .now) m
+
+left-trans : {B : ℕ} {closing : Page → Bool} {a b c : Run} → Left B closing a b → Left B closing b c → Left B closing a c
+left-trans p q =
+    record {
+      nodes = q .nodes ∙ p .nodes;
+      invariant = q .invariant;
+      versions = q .versions;
+      buffer = q .buffer ∙ p .buffer;
+      passed = q .passed;
+      keep = λ m l. keep-trans (p .keep m l) (q .keep m (omega (arith, p .nodes)));
+    }
+
+-- the run with one sheet written
+abbrev writeSheet : (Page → Bool) → Sheet → Run → Run
+writeSheet closing x run = write closing (sheetContent x) (run .now .buffer) run
+
+module _ {B : ℕ} {closing : Page → Bool} (run : Run) (v : Invariant B (run .nodes) closing (run .now)) (x : Sheet) where
+  writeSheet-left : VersionRules (run .now) → Every LeanAt (run .passed) → tally closing (run .now .blocks) < mostSheets →
+      Left B closing run (writeSheet closing x run)
+  unfolding write place late says
+  writeSheet-left r p l =
+      let st = run .now in
+      let c = sheetContent x in
+      let w = silent-invariant v c refl l in
+      record {
+        nodes = refl;
+        invariant = w;
+        versions = silent-versions v c refl (λ u. refl) r;
+        buffer = refl;
+        passed = every-append p (every-map (moment (run .nodes)) (written-lean v c (st .buffer) (w .lean)));
+        keep =
+            λ m k.
+            let o = silent-same v c refl m k in
+            record {
+              greatest = o .greatest;
+              pieces = o .pieces;
+              mode = λ y h. place-mode v m y c (st .buffer) k (o .greatest) h;
+            };
+      }
+
+  -- it stands under the next number, and every page of the checkpoint stays
+  writeSheet-find : find (suc (last run)) (writeSheet closing x run .now .blocks) ≡ some (page (suc (last run)) (sheetContent x))
+  unfolding write
+  writeSheet-find = place-find v (sheetContent x) (run .now .buffer)
+
+  writeSheet-stays : (s : ℕ) (q : Page) → find s (run .now .blocks) ≡ some q → closing q ≡ true → s ≤ last run →
+      find s (writeSheet closing x run .now .blocks) ≡ some q
+  unfolding write
+  writeSheet-stays s q e c l =
+      place-find-live v (sheetContent x) (run .now .buffer) s q l e (live-closing (view (run .now)) closing (run .nodes) q c)
+
+  writeSheet-tally : (k : ℕ) → tally closing (run .now .blocks) + suc k ≤ mostSheets →
+      tally closing (writeSheet closing x run .now .blocks) + k ≤ mostSheets
+  unfolding write
+  writeSheet-tally k l =
+      omega (arith, place-tally v closing (sheetContent x) (run .now .buffer), bit-le-one (closing (next (run .now) (sheetContent x))))
+
+  writeSheet-has : 0 < tally (numbered (last (writeSheet closing x run))) (writeSheet closing x run .now .blocks)
+  unfolding write place
+  writeSheet-has =
+      le-trans (omega (arith, ap bit (eq-eqb (suc (last run)) (suc (last run)) refl)))
+      (place-has v (numbered (suc (last run))) (sheetContent x) (run .now .buffer))
+
+module _ {B : ℕ} {closing : Page → Bool} where
+  pub writeSheets-left : (xs : List Sheet) (run : Run) → Invariant B (run .nodes) closing (run .now) → VersionRules (run .now) →
+      Every LeanAt (run .passed) → tally closing (run .now .blocks) + length xs ≤ mostSheets → Left B closing run (writeSheets closing xs run)
+  writeSheets-left [] run v r p l =
+      record { nodes = refl; invariant = v; versions = r; buffer = refl; passed = p; keep = λ m k. keep-refl (run .now) m }
+  writeSheets-left (x ∷ xs) run v r p l =
+      let a = writeSheet-left run v x r p (omega arith) in
+      left-trans a (writeSheets-left xs (writeSheet closing x run) (a .invariant) (a .versions) (a .passed) (writeSheet-tally run v x (length xs) l))
+
+  -- its last page has the last number
+  writeSheets-has : (x : Sheet) (xs : List Sheet) (run : Run) → Invariant B (run .nodes) closing (run .now) → VersionRules (run .now) →
+      Every LeanAt (run .passed) → tally closing (run .now .blocks) + suc (length xs) ≤ mostSheets →
+      0 < tally (numbered (last (writeSheets closing (x ∷ xs) run))) (writeSheets closing (x ∷ xs) run .now .blocks)
+  writeSheets-has x [] run v r p l = writeSheet-has run v x
+  writeSheets-has x (y ∷ xs) run v r p l =
+      let a = writeSheet-left run v x r p (omega arith) in
+      writeSheets-has y xs (writeSheet closing x run) (a .invariant) (a .versions) (a .passed) (writeSheet-tally run v x (suc (length xs)) l)
+
+  -- THE CHECKPOINT STANDS where it was written: no page of it is lost
+  writeSheets-stays : (xs : List Sheet) (run : Run) → Invariant B (run .nodes) closing (run .now) → VersionRules (run .now) →
+      Every LeanAt (run .passed) → tally closing (run .now .blocks) + length xs ≤ mostSheets → (s : ℕ) (q : Page) →
+      find s (run .now .blocks) ≡ some q → closing q ≡ true → s ≤ last run → find s (writeSheets closing xs run .now .blocks) ≡ some q
+  writeSheets-stays [] run v r p l s q e c h = e
+  writeSheets-stays (x ∷ xs) run v r p l s q e c h =
+      let a = writeSheet-left run v x r p (omega arith) in
+      writeSheets-stays xs (writeSheet closing x run) (a .invariant) (a .versions) (a .passed) (writeSheet-tally run v x (length xs) l) s q
+      (writeSheet-stays run v x s q e c h) c
+      (omega (arith, write-last closing (sheetContent x) (run .now .buffer) run))
+
+-- sheets under the numbers after k
+abbrev Stand : Blocks → ℕ → List Sheet → Type 0
+Stand bs k [] = Unit {0}
+Stand bs k (x ∷ xs) = (find (suc k) bs ≡ some (page (suc k) (sheetContent x))) × Stand bs (suc k) xs
+
+writeSheets-stand : {B : ℕ} {closing : Page → Bool} (xs : List Sheet) (run : Run) → Invariant B (run .nodes) closing (run .now) → VersionRules (run .now) →
+    Every LeanAt (run .passed) → tally closing (run .now .blocks) + length xs ≤ mostSheets →
+    ((s : ℕ) (x : Sheet) → last run < s → closing (page s (sheetContent x)) ≡ true) → Stand (writeSheets closing xs run .now .blocks) (last run) xs
+writeSheets-stand [] run v r p l c = tt
+writeSheets-stand {closing = closing} (x ∷ xs) run v r p l c =
+    let a = writeSheet-left run v x r p (omega arith) in
+    let few = writeSheet-tally run v x (length xs) l in
+    let e = write-last closing (sheetContent x) (run .now .buffer) run in (
+      writeSheets-stays xs (writeSheet closing x run) (a .invariant) (a .versions) (a .passed) few (suc (last run))
+          (page (suc (last run)) (sheetContent x)) (writeSheet-find run v x) (c (suc (last run)) x (omega arith)) (omega arith),
+      subst (λ k. Stand (writeSheets closing xs (writeSheet closing x run) .now .blocks) k xs) e
+          (writeSheets-stand xs (writeSheet closing x run) (a .invariant) (a .versions) (a .passed) few (λ s y h. c s y (omega arith))),
+    )
+
+pub writeSheets-last : (closing : Page → Bool) (xs : List Sheet) (run : Run) → last (writeSheets closing xs run) ≡ last run + length xs
+writeSheets-last closing [] run = omega arith
+writeSheets-last closing (x ∷ xs) run =
+    writeSheets-last closing xs (writeSheet closing x run) ∙ omega (arith, write-last closing (sheetContent x) (run .now .buffer) run)
+
+-- READ BACK, from the greatest number down to the tariff
+collect-later : (bs : Blocks) (n : ℕ) (xs : List (List Score)) (k : ℕ) (later : List Sheet) → Stand bs k (laterSheets n xs) →
+    collect (λ s. find s bs) (k + length (laterSheets n xs)) later ≡ collect (λ s. find s bs) k (laterSheets n xs ++ later)
+unfolding collect
+collect-later bs n [] k later h =
+    let e : k + 0 ≡ k = omega arith in
+    ap (λ z. collect (λ s. find s bs) z later) e
+collect-later bs n (x ∷ xs) k later h =
+    let e : k + suc (length (laterSheets n xs)) ≡ suc k + length (laterSheets n xs) = omega arith in
+    ap (λ z. collect (λ s. find s bs) z later) e ∙ collect-later bs n xs (suc k) later (h .1) ∙ rw (h .0) refl
+
+collect-sheets : (bs : Blocks) (t : Tariff) (scores : List Score) (k : ℕ) → Stand bs k (sheets t scores) →
+    collect (λ s. find s bs) (k + length (sheets t scores)) [] ≡ sheets t scores
+unfolding collect sheets
+collect-sheets bs t scores k h =
+    let n = length scores in
+    let rest = laterSheets n (laterParts scores) in
+    let first = sheet (some t) (take firstScores scores) (countIfLast n (laterParts scores)) in
+    let e : k + suc (length rest) ≡ suc k + length rest = omega arith in
+    ap (λ z. collect (λ s. find s bs) z []) e ∙
+    collect-later bs n (laterParts scores) (suc k) [] (h .1) ∙
+    rw (h .0) (ap {B = List Sheet} (λ z. first ∷ z) (append-nil rest))
+
+-- The buffer is written first, if it has anything.
+pub record Drained (B : ℕ) (run run′ : Run) : Type 0 where
+  pub good : Good B run′
+  pub nodes : run′ .nodes ≡ run .nodes
+  pub buffer : run′ .now .buffer ≡ []
+  pub number : last run′ ≤ suc (last run)
+  pub keep : (m : ℕ) → m < run .nodes → Keep (run .now) (run′ .now) m
+
+drained : {B : ℕ} {run : Run} → Good B run → Drained B run (drain run)
+unfolding write place
+drained {B} {run} v = go (run .now .buffer) refl
+  where
+    go : (b : List Entry) → run .now .buffer ≡ b → Drained B run (drainBy b run)
+    go [] e =
+        record { good = v; nodes = refl; buffer = e; number = omega arith; keep = λ m l. keep-refl (run .now) m }
+    go (x ∷ b) e = record { good = flushRun-good v; nodes = refl; buffer = refl; number = omega arith; keep = flushRun-keep v }
+
+-- Nothing is in the checkpoint when it begins: older ones are dead.
+closing-none : {B N : ℕ} {st : Store} → Invariant B N noClosing st → tally (closingSince (st .last)) (st .blocks) ≡ 0
+unfolding closingSince
+closing-none {st = st} v =
+    omega (
+      arith,
+      v .rules .within,
+      tally-mono (closingSince (st .last)) (above (st .last)) (st .blocks) (λ p. and-right (isCheckpoint p) (above (st .last) p)),
+    )
+
+closing-begins : {B N : ℕ} {st : Store} → Invariant B N noClosing st → Invariant B N (closingSince (st .last)) st
+closing-begins v =
+    record {
+      blocks = v .blocks;
+      nodes = v .nodes;
+      sheets = omega (arith, closing-none v);
+      rules = v .rules;
+      fit = v .fit;
+      lean = v .lean;
+    }
+
+closing-over : {B N : ℕ} {closing : Page → Bool} {st : Store} → Invariant B N closing st → Invariant B N noClosing st
+closing-over {st = st} v =
+    record {
+      blocks = v .blocks;
+      nodes = v .nodes;
+      sheets = omega (arith, none-closing (st .blocks));
+      rules = v .rules;
+      fit = v .fit;
+      lean = v .lean;
+    }
+
+closing-new : (k s : ℕ) (x : Sheet) → k < s → closingSince k (page s (sheetContent x)) ≡ true
+unfolding closingSince above
+closing-new k s x l = rw (lt-ltb k s l) refl
+
+-- WHAT A CLOSED RUN IS: it keeps what it kept, its pool passes the tests and is found as this very store, and its checkpoint gives back
+-- tariff, scores and count
+pub record Closed (B N : ℕ) (table : ℕ → Node) (modes : ℕ → Mode) (t : Tariff) (score : ℕ → ℕ) (run run′ : Run) : Type 0 where
+  pub keeps : Keeps B N table modes run′
+  pub passes : pagesPass B (poolOf (run′ .now)) ≡ true
+  pub again : reopened B (poolOf (run′ .now)) ≡ run′ .now
+  pub checkpoint : checkpointOf (run′ .now) ≡ sheets t (scoresFrom 0 N score)
+  pub complete : complete (checkpointOf (run′ .now)) ≡ true
+  pub tariff : tariffIn (checkpointOf (run′ .now)) ≡ some t
+  pub count : countIn (checkpointOf (run′ .now)) ≡ N
+  pub scores : (n : ℕ) → n < N → scoreIn (scoresIn (checkpointOf (run′ .now))) n ≡ score n
+  pub number : last run′ ≤ 13 + last run
+
+module _ {B N : ℕ} {table : ℕ → Node} {modes : ℕ → Mode} {run : Run} (v : Keeps B N table modes run) (small : B ≤ mostBlocks) (t : Tariff)
+    (score : ℕ → ℕ) where
+  scores : List Score
+  scores = scoresFrom 0 (run .nodes) score
+
+  closing : Page → Bool
+  closing = closingSince (last (drain run))
+
+  d : Drained B run (drain run)
+  d = drained (v .good)
+
+  few : length (sheets t scores) ≤ mostSheets
+  unfolding scores
+  few =
+      sheets-few t (scoresFrom 0 (run .nodes) score)
+      (omega (arith, length-scoresFrom 0 (run .nodes) score, v .good .invariant .nodes))
+
+  fits : tally closing (drain run .now .blocks) + length (sheets t scores) ≤ mostSheets
+  unfolding closing
+  fits = omega (arith, few, closing-none (d .good .invariant))
+
+  begins : Invariant B (drain run .nodes) closing (drain run .now)
+  unfolding closing
+  begins = closing-begins (d .good .invariant)
+
+  left : Left B closing (drain run) (close t score run)
+  unfolding close closing scores
+  left = writeSheets-left (sheets t scores) (drain run) begins (d .good .versions) (d .good .passed) fits
+
+  close-empty : close t score run .now .buffer ≡ []
+  close-empty = left .buffer ∙ d .buffer
+
+  close-has : 0 < tally (numbered (last (close t score run))) (close t score run .now .blocks)
+  unfolding close closing scores sheets
+  close-has =
+      let n = length scores in
+      writeSheets-has (sheet (some t) (take firstScores scores) (countIfLast n (laterParts scores))) (laterSheets n (laterParts scores))
+      (drain run) begins (d .good .versions) (d .good .passed) fits
+
+  close-last : last (close t score run) ≡ last (drain run) + length (sheets t scores)
+  unfolding close scores
+  close-last = writeSheets-last (closingSince (last (drain run))) (sheets t (scoresFrom 0 (run .nodes) score)) (drain run)
+
+  close-good : Good B (close t score run)
+  close-good =
+      record {
+        invariant = closing-over (left .invariant);
+        versions = left .versions;
+        small = rw close-empty (omega arith);
+        passed = left .passed;
+      }
+
+  close-keeps : Keeps B N table modes (close t score run)
+  close-keeps =
+      record {
+        good = close-good;
+        nodes = left .nodes ∙ d .nodes ∙ v .nodes;
+        holds =
+            λ n l.
+            keep-holds
+            (keep-trans (d .keep n (omega (arith, v .nodes))) (left .keep n (omega (arith, v .nodes, d .nodes)))) (v .holds n l);
+        neat = v .neat;
+      }
+
+  close-checkpoint : checkpointOf (close t score run .now) ≡ sheets t scores
+  unfolding checkpointOf close closing scores
+  close-checkpoint =
+      ap (λ k. collect (λ s. find s (close t score run .now .blocks)) k []) close-last ∙
+      collect-sheets (close t score run .now .blocks) t scores (last (drain run))
+      (writeSheets-stand (sheets t scores) (drain run) begins (d .good .versions) (d .good .passed) fits
+      (λ s x l. closing-new (last (drain run)) s x l))
+
+  scores-are : scores ≡ scoresFrom 0 N score
+  unfolding scores
+  scores-are = ap (λ k. scoresFrom 0 k score) (v .nodes)
+
+  -- THE END OF A BATCH
+  pub close-closed : Closed B N table modes t score run (close t score run)
+  close-closed =
+      let set : checkpointOf (close t score run .now) ≡ sheets t (scoresFrom 0 N score) = close-checkpoint ∙ ap (sheets t) scores-are in
+      record {
+        keeps = close-keeps;
+        passes = own-passes (left .invariant) (left .versions);
+        again = reopen (left .invariant) close-has close-empty;
+        checkpoint = set;
+        complete = ap complete set ∙ sheets-complete t N score;
+        tariff = ap tariffIn set ∙ tariffIn-sheets t (scoresFrom 0 N score);
+        count = ap countIn set ∙ countIn-sheets t (scoresFrom 0 N score) ∙ length-scoresFrom 0 N score;
+        scores =
+            λ n l.
+            ap (λ z. scoreIn (scoresIn z) n) set ∙
+            ap (λ z. scoreIn z n) (scoresIn-sheets t (scoresFrom 0 N score)) ∙
+            scoreIn-scoresFrom 0 N score n (omega arith) (omega arith);
+        number = omega (arith, close-last, few, d .number);
+      }

@@ -1,0 +1,1 @@
+// Theorems of the flash store stand in specs/; there is no code here.
