@@ -45,21 +45,21 @@ use Rattle.flash_model.specs.Names.{mapped}
 use Rattle.flash_model.specs.Moves.{Compaction, compactBlock-is}
 
 -- What pages, rows and state say of the blocks, before and after.
-record Stands (image : Page → List ℕ) (own : ℕ → Page → Bool) (w : World) (bs : Blocks) (current : ℕ) : Type 0 where
+pub record Stands (image : Page → List ℕ) (own : ℕ → Page → Bool) (w : World) (bs : Blocks) (here : ℕ) : Type 0 where
   pub pages : PagesAre (w .state .blocks) image (w .pages) bs
   pub names : RowsName (w .state .blocks) (used (w .state)) own (w .rows) bs
-  pub current : w .state .current ≡ current
-  pub fill : w .state .fill ≡ length (block bs current)
+  pub current : w .state .current ≡ here
+  pub fill : w .state .fill ≡ length (block bs here)
 
 -- What no step of an allocation changes: how many there are of everything but the fill, and of each row all but where its pages are.
-record Kept (w w′ : World) : Type 0 where
+pub record Kept (w w′ : World) : Type 0 where
   pub blocks : w′ .state .blocks ≡ w .state .blocks
   pub nodes : w′ .state .nodes ≡ w .state .nodes
   pub checkpoint : w′ .state .checkpoint ≡ w .state .checkpoint
   pub last : w′ .state .last ≡ w .state .last
   pub rows : (n : ℕ) → n < used (w .state) → (g : ℕ → ℕ) × (rowAt (w′ .rows) n ≡ mapped g (rowAt (w .rows) n))
 
-record Allocated (image : Page → List ℕ) (own : ℕ → Page → Bool) (w : World) (place : Spot) (w′ : World) : Type 0 where
+pub record Allocated (image : Page → List ℕ) (own : ℕ → Page → Bool) (w : World) (place : Spot) (w′ : World) : Type 0 where
   pub stands : Stands image own w′ (place .blocks) (place .current)
   pub kept : Kept w w′
 
@@ -94,10 +94,13 @@ module _ (image : Page → List ℕ) (written : Images image) (own : ℕ → Pag
       where
         j : ℕ
         j = Model.nextBlank bs (s .current)
+
         goal : Bool → Bool → World → Type 0
         goal a two w′ = Allocated image own (world ps rows s) (spotBy a two keep bs (s .current)) w′
+
         full : 32 ≤ s .fill → ltb (length (block bs (s .current))) 32 ≡ false
         full l = le-ltb (length (block bs (s .current))) 32 (omega (arith, r .fill))
+
         go : (32 ≤ s .fill) ⊎ (s .fill < 32) → (two : Bool) → leb 2 (blanks bs) ≡ two → goal (ltb (length (block bs (s .current))) 32) (leb 2 (blanks bs)) (allocate (world ps rows s))
         go (inr l) two e =
             rw (lt-ltb (length (block bs (s .current))) 32 (omega (arith, r .fill)))
@@ -108,7 +111,7 @@ module _ (image : Page → List ℕ) (written : Images image) (own : ℕ → Pag
             (subst (goal false true) (allocate-next ps rows s j (blanks bs) l (sym next-is) (sym blanks-is) (leb-true 2 (blanks bs) e) (at j 0 s) refl)
             (record {
               stands = record { pages = r .pages; names = r .names; current = refl; fill = rw (nextBlank-blank bs (s .current) (blank .number) (blank .inside) (blank .blank) .1) refl };
-              kept = record { blocks = refl; nodes = refl; checkpoint = refl; last = refl; rows = stays }
+              kept = record { blocks = refl; nodes = refl; checkpoint = refl; last = refl; rows = stays };
             }))
         go (inl l) false e =
             rw (full l, e)
@@ -116,23 +119,28 @@ module _ (image : Page → List ℕ) (written : Images image) (own : ℕ → Pag
             (allocate-compact ps rows s j (blanks bs) l (sym next-is) (sym blanks-is) (leb-false 2 (blanks bs) e) (z .pages) (z .rows) (z .fill) whole (at j (z .fill) s) refl)
             (record {
               stands = record { pages = c .pages; names = c .names; current = refl; fill = c .fill };
-              kept = record { blocks = refl; nodes = refl; checkpoint = refl; last = refl; rows = c .same }
+              kept = record { blocks = refl; nodes = refl; checkpoint = refl; last = refl; rows = c .same };
             }))
           where
             i : ℕ
             i = Model.victim keep bs
+
             v : Moves bs (Model.victim keep bs) (Model.nextBlank bs (s .current))
             v = moves e .0
+
             z : Compacted
             z = compactBlock (Model.victim keep bs) (liveMap (s .nodes + s .checkpoint) rows) (s .nodes + s .checkpoint) (Model.nextBlank bs (s .current)) ps rows
+
             c : Compaction (s .blocks) image (used s) own rows bs keep (Model.victim keep bs) (Model.nextBlank bs (s .current)) z
             c =
                 compactBlock-is keep v (r .pages) (r .names) o (liveMap (s .nodes + s .checkpoint) rows)
                 (λ q lq. mark-is (Model.victim keep bs) q (omega (arith, v .from, r .pages .size)) lq)
+
             chosen : victim (s .blocks) ps (liveMap (s .nodes + s .checkpoint) rows) ≡ Model.victim keep bs
             chosen =
                 ap (λ (n : ℕ). victim n ps (liveMap (s .nodes + s .checkpoint) rows)) (sym (r .pages .size)) ∙
                 victim-is keep ps (liveMap (s .nodes + s .checkpoint) rows) bs blank-is live-is (omega (arith, moves e .1))
+
             whole : z ≡ compact (used s) (s .blocks) (Model.nextBlank bs (s .current)) ps rows
             whole =
                 sym
@@ -161,6 +169,7 @@ owned-live {own} {closing} {N} {C} {st} h =
     owner : (p : Page) → ((n : ℕ) × (n < N) × (carries (view st) n p ≡ true)) ⊎ (closing p ≡ true) → (n : ℕ) × (n < N + C) × (own n p ≡ true)
     owner p (inl f) = (f .0, omega (arith, f .1), h .nodes (f .0) (f .1) p ∙ f .2)
     owner p (inr f) = let x = h .sheets p f in (x .0, x .2, x .3)
+
     owned : (n : ℕ) → n < N + C → (p : Page) → own n p ≡ true → (N ≤ n) ⊎ (n < N) → live (view st) closing N p ≡ true
     owned n l p e (inr g) = live-carries (view st) closing N p n g (sym (h .nodes n g p) ∙ e)
     owned n l p e (inl g) = live-closing (view st) closing N p (h .sheet n g l p e)
@@ -178,16 +187,16 @@ module _ {image : Page → List ℕ} {own : ℕ → Page → Bool} {closing : Pa
         pages = h .pages;
         names = h .names;
         current = refl;
-        fill = h .fill ∙ ap (λ (c : ℕ). length (block (st .blocks) c)) (sym (h .current))
+        fill = h .fill ∙ ap (λ (c : ℕ). length (block (st .blocks) c)) (sym (h .current));
       })
       (owned-live (h .owners))
       (omega (arith, h .current, v .rules .inside))
       (v .rules .spare)
       (λ e. subst
-        (λ (c : ℕ). Moves (st .blocks) (Model.victim (live (view st) closing (w .state .nodes)) (st .blocks)) (Model.nextBlank (st .blocks) c) ×
-          (count (live (view st) closing (w .state .nodes)) (block (st .blocks) (Model.victim (live (view st) closing (w .state .nodes)) (st .blocks))) < 32))
-        (sym (h .current))
-        (spot-moves (live (view st) closing (w .state .nodes)) (v .rules) (live-fits v) e)))
+      (λ (c : ℕ). Moves (st .blocks) (Model.victim (live (view st) closing (w .state .nodes)) (st .blocks)) (Model.nextBlank (st .blocks) c) ×
+      (count (live (view st) closing (w .state .nodes)) (block (st .blocks) (Model.victim (live (view st) closing (w .state .nodes)) (st .blocks))) < 32))
+      (sym (h .current))
+      (spot-moves (live (view st) closing (w .state .nodes)) (v .rules) (live-fits v) e)))
 
   -- THE PLACE FOUND is the model's: the world that the code leaves stands for the store that the model leaves.
   pub allocate-mirrors : Mirrors image own closing (allocate w) (found closing (w .state .nodes) st)
@@ -200,26 +209,30 @@ module _ {image : Page → List ℕ} {own : ℕ → Page → Bool} {closing : Pa
         rows = subst (λ (n : ℕ). RowsSay n (allocate w .rows) st′) (sym (a .kept .nodes)) rows;
         current = a .stands .current;
         fill = a .stands .fill;
-        last = a .kept .last ∙ h .last
+        last = a .kept .last ∙ h .last;
       }
     where
       st′ : Store
       st′ = found closing (w .state .nodes) st
+
       a : Allocated image own w (spot 32 (live (view st) closing (w .state .nodes)) (st .blocks) (st .current)) (allocate w)
       a = found-place
+
       owners : Owners own closing (w .state .nodes) (w .state .checkpoint) st′
       owners =
           record {
             nodes = λ n l p. h .owners .nodes n l p ∙ ap (λ (u : ℕ). not (empty (piecesIn n u (itemsOf p)))) (sym (found-same v n l .greatest));
             sheet = h .owners .sheet;
-            sheets = h .owners .sheets
+            sheets = h .owners .sheets;
           }
+
       row : (n : ℕ) → n < w .state .nodes → (g : ℕ → ℕ) × (rowAt (allocate w .rows) n ≡ mapped g (rowAt (w .rows) n))
       row n l = a .kept .rows n (omega arith)
+
       rows : RowsSay (w .state .nodes) (allocate w .rows) st′
       rows =
           record {
             version = λ n l. ap (λ (x : Row). x .version) (row n l .1) ∙ h .rows .version n l ∙ sym (found-same v n l .greatest);
             mode = λ n l. subst (λ (x : Row). InMode (x .mode) st′ n) (sym (row n l .1)) (found-unmoved v n l .mode (rowAt (w .rows) n .mode) (h .rows .mode n l));
-            pages = λ n l. ap (λ (x : Row). x .pages) (row n l .1) ∙ h .rows .pages n l ∙ sym (found-same v n l .pages)
+            pages = λ n l. ap (λ (x : Row). x .pages) (row n l .1) ∙ h .rows .pages n l ∙ sym (found-same v n l .pages);
           }

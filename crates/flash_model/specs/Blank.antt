@@ -15,7 +15,6 @@ use Rattle.page.specs.Page.{Page}
 use Rattle.store.specs.Pool.{Blocks, block}
 use Rattle.store.specs.Allocate.{blanks, later, hereOr, firstOf}
 use Rattle.store.specs.Allocate as Model
-use Rattle.storelaws.specs.AllocateLaws.{blankFrom-first}
 use Rattle.blocks.specs.Blank.{blankBlock, blankBit, blankBlocks, blankFrom, firstBelow, nextBlank}
 
 -- A sum over the blocks.
@@ -54,6 +53,29 @@ blankFrom-look (b ∷ bs) (suc x) l = ap later (blankFrom-look bs x (le-of-suc-l
     shift true found = refl
     shift false found = refl
 
+-- What is found is one of the blocks.
+abbrev Below : ℕ → Option ℕ → Type 0
+Below n none = 0 ≤ n
+Below n (some i) = i < n
+
+found-all : (bs : Blocks) (x : ℕ) → Below (length bs) (Model.blankFrom x bs)
+found-all [] zero = omega arith
+found-all [] (suc x) = omega arith
+found-all (b ∷ bs) zero = here (empty b) (Model.blankFrom 0 bs) (found-all bs 0)
+  where
+    here : (t : Bool) (o : Option ℕ) → Below (length bs) o → Below (suc (length bs)) (hereOr t o)
+    here true o h = omega arith
+    here false none h = omega arith
+    here false (some i) h = suc-le-suc h
+found-all (b ∷ bs) (suc x) = next (Model.blankFrom x bs) (found-all bs x)
+  where
+    next : (o : Option ℕ) → Below (length bs) o → Below (suc (length bs)) (later o)
+    next none h = omega arith
+    next (some i) h = suc-le-suc h
+
+found-below : (bs : Blocks) (x i : ℕ) → Model.blankFrom x bs ≡ some i → i < length bs
+found-below bs x i e = subst (Below (length bs)) e (found-all bs x)
+
 module _ (ps : List (List ℕ)) (bs : Blocks) (blank : (i : ℕ) → i < length bs → blankBlock ps i ≡ empty (block bs i)) where
   pub blankBlocks-is : blankBlocks (length bs) ps ≡ blanks bs
   unfolding blankBlocks blankBit
@@ -71,13 +93,6 @@ module _ (ps : List (List ℕ)) (bs : Blocks) (blank : (i : ℕ) → i < length 
       by true found = refl
       by false found = refl
 
-  found-below : (x i : ℕ) → Model.blankFrom x bs ≡ some i → i < length bs
-  found-below x i e = go (Model.blankFrom x bs) (blankFrom-first x bs) e
-    where
-      go : (o : Option ℕ) → Rattle.storelaws.specs.AllocateLaws.First x bs o → o ≡ some i → i < length bs
-      go none h q = let z : _≡_ {A = ℕ} 0 1 = cc in omega arith
-      go (some k) h q = let z : k ≡ i = cc in omega (arith, h .1)
-
   pub nextBlank-is : (current : ℕ) → current < length bs → nextBlank (length bs) current ps ≡ Model.nextBlank bs current
   unfolding nextBlank blankFrom
   nextBlank-is current l =
@@ -88,6 +103,6 @@ module _ (ps : List (List ℕ)) (bs : Blocks) (blank : (i : ℕ) → i < length 
     where
       go : (a : Option ℕ) → Model.blankFrom (suc current) bs ≡ a → (b : Option ℕ) → Model.blankFrom 0 bs ≡ b →
           firstBelow (length bs) (orAll (length bs) a) (orAll (length bs) b) ≡ firstOf a b
-      go (some i) e b f = rw (lt-ltb i (length bs) (found-below (suc current) i e)) refl
-      go none e (some i) f = rw (le-ltb (length bs) (length bs) (omega arith), lt-ltb i (length bs) (found-below 0 i f)) refl
+      go (some i) e b f = rw (lt-ltb i (length bs) (found-below bs (suc current) i e)) refl
+      go none e (some i) f = rw (le-ltb (length bs) (length bs) (omega arith), lt-ltb i (length bs) (found-below bs 0 i f)) refl
       go none e none f = rw (le-ltb (length bs) (length bs) (omega arith)) refl

@@ -46,8 +46,8 @@ module _ (f : Page → Bool) where
   filter-rank (x ∷ b) (suc q) p e t = go (f x) (filter-rank b q p e t)
     where
       go : (s : Bool) → getElem? (filter f b) (rank q b) ≡ some p → getElem? (consIf s x (filter f b)) (bit s + rank q b) ≡ some p
-      go true h = ap (getElem? (x ∷ filter f b)) (omega arith) ∙ h
-      go false h = ap (getElem? (filter f b)) (omega arith) ∙ h
+      go true h = let z : 1 + rank q b ≡ suc (rank q b) = omega arith in ap (getElem? (x ∷ filter f b)) z ∙ h
+      go false h = let z : 0 + rank q b ≡ rank q b = omega arith in ap (getElem? (filter f b)) z ∙ h
 
   -- and each of the filtered list comes from such a place
   pub record From (b : List Page) (r : ℕ) (p : Page) : Type 0 where
@@ -62,6 +62,7 @@ module _ (f : Page → Bool) where
     where
       behind : (r s : ℕ) → From b s p → bit (f x) + s ≡ r → From (x ∷ b) r p
       behind r s h d = record { place = suc (h .place); here = h .here; passes = h .passes; ranked = omega (arith, h .ranked) }
+
       go : (t : Bool) → f x ≡ t → (r : ℕ) → getElem? (consIf t x (filter f b)) r ≡ some p → ((s : ℕ) → getElem? (filter f b) s ≡ some p → From b s p) → From (x ∷ b) r p
       go true d zero h rec = record { place = 0; here = h; passes = (let q : x ≡ p = cc in rw (← q) d); ranked = refl }
       go true d (suc r) h rec = behind (suc r) r (rec r h) (omega (arith, ap bit d))
@@ -140,26 +141,33 @@ module _ {B : ℕ} {image : Page → List ℕ} (live : Page → Bool) {ps : List
         pages = rw more (subst (λ (n : ℕ). PagesAre B image (set (w .pages) n (pageAt (w .pages) (32 * i + k))) (set bs j (cp ++ (p ∷ [])))) (sym at) (rw content added));
         fill = omega (arith, h .fill, counted);
         long = length-set (w .places) k (32 * j + w .fill) ∙ h .long;
-        places = λ q g p′ e′ t′. place q g p′ e′ t′ (eq-or q k)
+        places = λ q g p′ e′ t′. place q g p′ e′ t′ (eq-or q k);
       }
     where
       cp : List Page
       cp = filter live (take k (block bs i))
+
       here : block (set bs j cp) j ≡ cp
       here = getD-set-same bs j cp [] (v .to)
+
       at : 32 * j + w .fill ≡ 32 * j + length cp
       at = omega (arith, h .fill, length-filter live (take k (block bs i)))
+
       content : pageAt (w .pages) (32 * i + k) ≡ image p
       content = h .pages .each i k inside l ∙ ap (λ (x : List Page). imageAt image (getElem? x k)) (getD-set-other bs j i cp [] (v .apart)) ∙ ap (imageAt image) e
+
       added : PagesAre B image (set (w .pages) (32 * j + length cp) (image p)) (set bs j (cp ++ (p ∷ [])))
       added =
           subst (λ (x : List Page). PagesAre B image (set (w .pages) (32 * j + length x) (image p)) (set bs j (x ++ (p ∷ [])))) here
           (subst (λ (y : Blocks). PagesAre B image (set (w .pages) (32 * j + length (block (set bs j cp) j)) (image p)) y) (set-set bs j cp (block (set bs j cp) j ++ (p ∷ [])))
           (pages-add (h .pages) j target p (rw here (omega (arith, few-copies k)))))
+
       more : filter live (take (k + 1) (block bs i)) ≡ cp ++ (p ∷ [])
       more = ap (filter live) (take-page live (block bs i) k p e) ∙ filter-append live (take k (block bs i)) (p ∷ []) ∙ ap (λ (x : Bool). cp ++ consIf x p []) t
+
       counted : rank live (k + 1) (block bs i) ≡ rank live k (block bs i) + 1
       counted = ap (count live) (take-page live (block bs i) k p e) ∙ count-append live (take k (block bs i)) (p ∷ []) ∙ omega (arith, ap bit t)
+
       place : (q : ℕ) → q < k + 1 → (p′ : Page) → getElem? (block bs i) q ≡ some p′ → live p′ ≡ true → (q ≡ k) ⊎ (q ≡ k → ⊥) →
           getD (set (w .places) k (32 * j + w .fill)) q 0 ≡ 32 * j + rank live q (block bs i)
       place q g p′ e′ t′ (inl d) =
@@ -194,8 +202,10 @@ module _ {B : ℕ} {image : Page → List ℕ} (live : Page → Bool) {ps : List
                   filter-append live (take k (block bs i)) (p ∷ []) ∙
                   ap (λ (x : Bool). filter live (take k (block bs i)) ++ consIf x p []) t ∙
                   append-nil (filter live (take k (block bs i)))
+
               counted : rank live (k + 1) (block bs i) ≡ rank live k (block bs i)
               counted = ap (count live) (take-page live (block bs i) k p e) ∙ count-append live (take k (block bs i)) (p ∷ []) ∙ omega (arith, ap bit t)
+
               other : (p′ : Page) → getElem? (block bs i) k ≡ some p′ → live p′ ≡ true → ⊥
               other p′ d t′ = let z : p ≡ p′ = cc in test-clash (live p) (ap live z ∙ t′) t
 
@@ -208,7 +218,7 @@ module _ {B : ℕ} {image : Page → List ℕ} (live : Page → Bool) {ps : List
         pages = rw (ap (set bs j) (sym (v .blank)) ∙ set-getD bs j []) r;
         fill = refl;
         long = length-replicate {A = ℕ} 32 0;
-        places = λ q l p e t. absurd (omega arith)
+        places = λ q l p e t. absurd (omega arith);
       })
 
   pub take-block : take 32 (block bs i) ≡ block bs i

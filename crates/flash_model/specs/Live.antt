@@ -103,8 +103,8 @@ module _ (r : Row) (m : List ℕ) where
       let e₂ : length m₂ ≡ 2048 = length-markSlot 1 (r .pages) (r .second) m₁ ∙ e₁ in
       mark-slot 2 (r .pages) (r .third) m₂ x e₂ l ∙
       ap (λ (t : Bool). holds 2 (r .pages) (r .third) x || t)
-        (mark-slot 1 (r .pages) (r .second) m₁ x e₁ l ∙
-        ap (λ (t : Bool). holds 1 (r .pages) (r .second) x || t) (mark-slot 0 (r .pages) (r .first) m x e l)) ∙
+      (mark-slot 1 (r .pages) (r .second) m₁ x e₁ l ∙
+      ap (λ (t : Bool). holds 1 (r .pages) (r .second) x || t) (mark-slot 0 (r .pages) (r .first) m x e l)) ∙
       turn-or (holds 0 (r .pages) (r .first) x) (holds 1 (r .pages) (r .second) x) (holds 2 (r .pages) (r .third) x) (marked (getD m x 0))
 
 -- The map after k rows.
@@ -117,7 +117,7 @@ unfolding markNth
 marked-more rows k m h =
     record {
       long = length-markRow (rowAt rows k) m ∙ h .long;
-      is = λ x l. mark-row (rowAt rows k) m x (h .long) l ∙ ap (λ (t : Bool). names x (rowAt rows k) || t) (h .is x l) ∙ ap (λ (n : ℕ). anyNames n x rows) (sym (add-one k))
+      is = λ x l. mark-row (rowAt rows k) m x (h .long) l ∙ ap (λ (t : Bool). names x (rowAt rows k) || t) (h .is x l) ∙ ap (λ (n : ℕ). anyNames n x rows) (sym (add-one k));
     }
 
 pub map-names : (used : ℕ) (rows : List Row) (x : ℕ) → x < 2048 → marked (getD (liveMap used rows) x 0) ≡ anyNames used x rows
@@ -140,8 +140,10 @@ module _ {B rowsUsed : ℕ} {own : ℕ → Page → Bool} {rows : List Row} {bs 
       raise : (n : ℕ) → n < rowsUsed → (c : Option Page) → test (own n) c ≡ true → test live c ≡ true
       raise n l none e = e
       raise n l (some p) e = o .owned n l p e
+
       to : anyNames rowsUsed (32 * i + q) rows ≡ true → test live (getElem? (block bs i) q) ≡ true
       to e = let f = any-elim rowsUsed (32 * i + q) rows e in raise (f .0) (f .1) (getElem? (block bs i) q) (sym (named .each (f .0) i q (f .1) li lq) ∙ f .2)
+
       from : (c : Option Page) → getElem? (block bs i) q ≡ c → test live c ≡ true → anyNames rowsUsed (32 * i + q) rows ≡ true
       from none d e = absurd (let z : _≡_ {A = ℕ} 0 1 = cc in omega arith)
       from (some p) d e =

@@ -49,16 +49,16 @@ pub record RowsName (B rowsUsed : ℕ) (own : ℕ → Page → Bool) (rows : Lis
   pub each : (n i q : ℕ) → n < rowsUsed → i < B → q < 32 → names (32 * i + q) (rowAt rows n) ≡ test (own n) (getElem? (block bs i) q)
 
 -- The rows of nodes say what the store says of them.
-pub record RowsSay (nodes : ℕ) (rows : List Row) (st : Store) : Type 0 where
-  pub version : (n : ℕ) → n < nodes → rowAt rows n .version ≡ greatest (view st) n
-  pub mode : (n : ℕ) → n < nodes → InMode (rowAt rows n .mode) st n
-  pub pages : (n : ℕ) → n < nodes → rowAt rows n .pages ≡ pages (view st) n
+pub record RowsSay (nodeCount : ℕ) (rows : List Row) (st : Store) : Type 0 where
+  pub version : (n : ℕ) → n < nodeCount → rowAt rows n .version ≡ greatest (view st) n
+  pub mode : (n : ℕ) → n < nodeCount → InMode (rowAt rows n .mode) st n
+  pub pages : (n : ℕ) → n < nodeCount → rowAt rows n .pages ≡ pages (view st) n
 
 -- A node's row owns the pages that carry the node; the rows behind them own the pages of the checkpoint being written.
-pub record Owners (own : ℕ → Page → Bool) (closing : Page → Bool) (nodes sheets : ℕ) (st : Store) : Type 0 where
-  pub nodes : (n : ℕ) → n < nodes → (p : Page) → own n p ≡ carries (view st) n p
-  pub sheet : (n : ℕ) → nodes ≤ n → n < nodes + sheets → (p : Page) → own n p ≡ true → closing p ≡ true
-  pub sheets : (p : Page) → closing p ≡ true → (n : ℕ) × (nodes ≤ n) × (n < nodes + sheets) × (own n p ≡ true)
+pub record Owners (own : ℕ → Page → Bool) (closing : Page → Bool) (nodeCount sheetCount : ℕ) (st : Store) : Type 0 where
+  pub nodes : (n : ℕ) → n < nodeCount → (p : Page) → own n p ≡ carries (view st) n p
+  pub sheet : (n : ℕ) → nodeCount ≤ n → n < nodeCount + sheetCount → (p : Page) → own n p ≡ true → closing p ≡ true
+  pub sheets : (p : Page) → closing p ≡ true → (n : ℕ) × (nodeCount ≤ n) × (n < nodeCount + sheetCount) × (own n p ≡ true)
 
 -- A world stands for a store, up to the log buffer.
 pub record Mirrors (image : Page → List ℕ) (own : ℕ → Page → Bool) (closing : Page → Bool) (w : World) (st : Store) : Type 0 where

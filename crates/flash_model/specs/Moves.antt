@@ -67,6 +67,7 @@ module _ {B rowsUsed : ℕ} {own : ℕ → Page → Bool} {rows : List Row} {bs 
       within q lq d (some p) g =
           let mine : own n p ≡ true = ap (test (own n)) (sym g) ∙ sym (named .each n i q ln (omega (arith, v .from)) lq) ∙ ap (λ (y : ℕ). names y (rowAt rows n)) (sym d) ∙ e in
           inside q p lq d g mine (ap (newPlace (32 * i) places) d ∙ new-inside (32 * i) places q lq ∙ went q lq p g (o .owned n ln p mine))
+
       go : (32 * i ≤ x) ⊎ (x < 32 * i) → (32 * i + 32 ≤ x) ⊎ (x < 32 * i + 32) → Origin n x
       go (inr l) h = outside (inl l) (new-outside (32 * i) places x (inl l))
       go (inl l) (inl h) = outside (inr h) (new-outside (32 * i) places x (inr h))
@@ -115,6 +116,7 @@ module _ {B rowsUsed : ℕ} {own : ℕ → Page → Bool} {rows : List Row} {bs 
             let now : newPlace (32 * i) places (32 * i + h .place) ≡ 32 * a + r =
             new-inside (32 * i) places (h .place) lq ∙ went (h .place) lq p (h .here) (h .passes) ∙ omega (arith, h .ranked, aj) in
             ap (λ (k : ℕ). names k (mapped (newPlace (32 * i) places) (rowAt rows n))) (sym now) ∙ names-mapped (newPlace (32 * i) places) (rowAt rows n) (32 * i + h .place) was
+
         go : (a ≡ i) ⊎ (a ≡ i → ⊥) → (a ≡ j) ⊎ (a ≡ j → ⊥) → names (32 * a + r) (mapped (newPlace (32 * i) places) (rowAt rows n)) ≡ true
         go (inl ai) aj =
             let z = ap (λ (k : List Page). test (own n) (getElem? k r)) (sym (ap (block (Model.compact live bs i j)) ai ∙ compact-from live v)) ∙ e in
@@ -143,7 +145,7 @@ module _ {B rowsUsed : ℕ} {own : ℕ → Page → Bool} {rows : List Row} {bs 
         long = rw (length-renameRows (32 * i) places rows rowsUsed) (named .long);
         each = λ n a r ln la lr.
             ap (names (32 * a + r)) (rowAt-renameRows (32 * i) places rows rowsUsed n ln (named .long)) ∙
-            same-test _ _ (names-own n a r ln la lr) (own-named n a r ln la lr)
+            same-test _ _ (names-own n a r ln la lr) (own-named n a r ln la lr);
       }
 
 -- The whole compaction.
@@ -162,16 +164,18 @@ module _ {B rowsUsed : ℕ} {image : Page → List ℕ} {own : ℕ → Page → 
       record {
         pages =
             pages-erased (subst (λ (b : List Page). PagesAre B image (w .pages) (set bs j (filter live b))) whole (c .pages)) i
-              (omega (arith, v .from, pages .size));
+            (omega (arith, v .from, pages .size));
         names = rows-compacted live v (pages .size) (pages .most i) named o (w .places) (c .places);
         fill =
             c .fill ∙ ap (count live) whole ∙ sym (length-filter live (block bs i)) ∙ ap length (sym (compact-to live v));
-        same = λ n l. (newPlace (32 * i) (w .places), rowAt-renameRows (32 * i) (w .places) rows rowsUsed n l (named .long))
+        same = λ n l. (newPlace (32 * i) (w .places), rowAt-renameRows (32 * i) (w .places) rows rowsUsed n l (named .long));
       }
     where
       w : Copying
       w = copyBlock m (32 * i) (32 * j) (copying ps (replicate 32 0) 0)
+
       c : Copied live v pages m mark 32 w
       c = copied-all live v pages m mark
+
       whole : take 32 (block bs i) ≡ block bs i
       whole = take-block live v pages m mark

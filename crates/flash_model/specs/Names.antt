@@ -38,7 +38,7 @@ mapped f r =
       pages = r .pages;
       first = f (r .first);
       second = f (r .second);
-      third = f (r .third)
+      third = f (r .third);
     }
 
 holds-slot : (k n y x : ℕ) → holds k n y x ≡ true → y ≡ x
@@ -56,21 +56,29 @@ module _ (f : ℕ → ℕ) (r : Row) where
     where
       n : ℕ
       n = r .pages
+
       a : Bool
       a = holds 0 n (r .first) x
+
       b : Bool
       b = holds 1 n (r .second) x
+
       c : Bool
       c = holds 2 n (r .third) x
+
       a′ : Bool
       a′ = holds 0 n (f (r .first)) (f x)
+
       b′ : Bool
       b′ = holds 1 n (f (r .second)) (f x)
+
       c′ : Bool
       c′ = holds 2 n (f (r .third)) (f x)
+
       late : (b ≡ true) ⊎ (c ≡ true) → (b′ || c′) ≡ true
       late (inl h) = or-first b′ c′ (holds-other 1 n (r .second) x (f (r .second)) (f x) h (ap f (holds-slot 1 n (r .second) x h)))
       late (inr h) = or-second b′ c′ (holds-other 2 n (r .third) x (f (r .third)) (f x) h (ap f (holds-slot 2 n (r .third) x h)))
+
       go : (a ≡ true) ⊎ ((b || c) ≡ true) → (a′ || (b′ || c′)) ≡ true
       go (inl h) = or-first a′ (b′ || c′) (holds-other 0 n (r .first) x (f (r .first)) (f x) h (ap f (holds-slot 0 n (r .first) x h)))
       go (inr h) = or-second a′ (b′ || c′) (late (or-cases b c h))
@@ -81,25 +89,32 @@ module _ (f : ℕ → ℕ) (r : Row) where
     where
       n : ℕ
       n = r .pages
+
       a : Bool
       a = holds 0 n (f (r .first)) y
+
       b : Bool
       b = holds 1 n (f (r .second)) y
+
       c : Bool
       c = holds 2 n (f (r .third)) y
+
       late : (b ≡ true) ⊎ (c ≡ true) → (x : ℕ) × (names x r ≡ true) × (f x ≡ y)
       late (inl h) =
-          let x : ℕ = r .second in
-          (x,
-           or-second (holds 0 n (r .first) x) (holds 1 n x x || holds 2 n (r .third) x)
-             (or-first (holds 1 n x x) (holds 2 n (r .third) x) (holds-other 1 n (f x) y x x h refl)),
-           holds-slot 1 n (f x) y h)
+          let x : ℕ = r .second in (
+            x,
+            or-second (holds 0 n (r .first) x) (holds 1 n x x || holds 2 n (r .third) x)
+                (or-first (holds 1 n x x) (holds 2 n (r .third) x) (holds-other 1 n (f x) y x x h refl)),
+            holds-slot 1 n (f x) y h,
+          )
       late (inr h) =
-          let x : ℕ = r .third in
-          (x,
-           or-second (holds 0 n (r .first) x) (holds 1 n (r .second) x || holds 2 n x x)
-             (or-second (holds 1 n (r .second) x) (holds 2 n x x) (holds-other 2 n (f x) y x x h refl)),
-           holds-slot 2 n (f x) y h)
+          let x : ℕ = r .third in (
+            x,
+            or-second (holds 0 n (r .first) x) (holds 1 n (r .second) x || holds 2 n x x)
+                (or-second (holds 1 n (r .second) x) (holds 2 n x x) (holds-other 2 n (f x) y x x h refl)),
+            holds-slot 2 n (f x) y h,
+          )
+
       go : (a ≡ true) ⊎ ((b || c) ≡ true) → (x : ℕ) × (names x r ≡ true) × (f x ≡ y)
       go (inl h) =
           let x : ℕ = r .first in
@@ -119,11 +134,12 @@ module _ (base : ℕ) (places : List ℕ) (rows : List Row) where
       record {
         long = length-set now k new ∙ h .long;
         done = λ n l m. done n l m (eq-or n k);
-        left = λ n l. getD-set-other now k n new noRow (λ e. absurd (omega arith)) ∙ h .left n (omega arith)
+        left = λ n l. getD-set-other now k n new noRow (λ e. absurd (omega arith)) ∙ h .left n (omega arith);
       }
     where
       new : Row
       new = moved base places (rowAt now k)
+
       done : (n : ℕ) → n < k + 1 → n < length rows → (n ≡ k) ⊎ (n ≡ k → ⊥) → rowAt (set now k new) n ≡ moved base places (rowAt rows n)
       done n l m (inl e) = rw e (getD-set-same now k new noRow (omega (arith, h .long)) ∙ ap (moved base places) (h .left k (omega arith)))
       done n l m (inr e) = getD-set-other now k n new noRow e ∙ h .done n (below (le-or k n)) m

@@ -60,18 +60,22 @@ module _ {B : ℕ} {image : Page → List ℕ} {ps : List (List ℕ)} {bs : Bloc
           size = length-set bs j new ∙ r .size;
           long = length-set ps at (image p) ∙ r .long;
           most = λ i. most i (eq-or i j);
-          each = λ i q li lq. each i q li lq (eq-or i j) (eq-or q (length (block bs j)))
+          each = λ i q li lq. each i q li lq (eq-or i j) (eq-or q (length (block bs j)));
         }
       where
         new : List Page
         new = block bs j ++ (p ∷ [])
+
         at : ℕ
         at = 32 * j + length (block bs j)
+
         here : block (addTo bs j p) j ≡ new
         here = getD-set-same bs j new [] inside
+
         most : (i : ℕ) → (i ≡ j) ⊎ (i ≡ j → ⊥) → length (block (addTo bs j p) i) ≤ 32
         most i (inl e) = rw (e, here) (omega (arith, length-append (block bs j) (p ∷ [])))
         most i (inr e) = rw (getD-set-other bs j i new [] e) (r .most i)
+
         each : (i q : ℕ) → i < B → q < 32 → (i ≡ j) ⊎ (i ≡ j → ⊥) → (q ≡ length (block bs j)) ⊎ (q ≡ length (block bs j) → ⊥) →
             getD (set ps at (image p)) (32 * i + q) blankPage ≡ imageAt image (getElem? (block (addTo bs j p) i) q)
         each i q li lq (inl e) (inl d) =
@@ -90,14 +94,16 @@ module _ {B : ℕ} {image : Page → List ℕ} {ps : List (List ℕ)} {bs : Bloc
           size = length-set bs j [] ∙ r .size;
           long = length-setRun blankPage blankPage 32 (32 * j) ps ∙ r .long;
           most = λ i. most i (eq-or i j);
-          each = λ i q li lq. each i q li lq (eq-or i j)
+          each = λ i q li lq. each i q li lq (eq-or i j);
         }
       where
         here : block (set bs j []) j ≡ []
         here = getD-set-same bs j [] [] inside
+
         most : (i : ℕ) → (i ≡ j) ⊎ (i ≡ j → ⊥) → length (block (set bs j []) i) ≤ 32
         most i (inl e) = rw (e, here) (omega arith)
         most i (inr e) = rw (getD-set-other bs j i [] [] e) (r .most i)
+
         side : (i q : ℕ) → q < 32 → (i ≡ j → ⊥) → (i ≤ j) ⊎ (j < i) → (32 * i + q < 32 * j) ⊎ (32 * j + 32 ≤ 32 * i + q)
         side i q lq e (inr h) = inr (omega arith)
         side i q lq e (inl h) = inl (below (le-or j i))
@@ -105,6 +111,7 @@ module _ {B : ℕ} {image : Page → List ℕ} {ps : List (List ℕ)} {bs : Bloc
             below : (j ≤ i) ⊎ (i < j) → 32 * i + q < 32 * j
             below (inl g) = absurd (e (omega arith))
             below (inr g) = omega arith
+
         each : (i q : ℕ) → i < B → q < 32 → (i ≡ j) ⊎ (i ≡ j → ⊥) → getD (erased j ps) (32 * i + q) blankPage ≡ imageAt image (getElem? (block (set bs j []) i) q)
         each i q li lq (inl e) =
             rw (e, here) (get-setRun-inside blankPage blankPage 32 (32 * j) ps (32 * j + q) (omega arith) (omega arith) (omega (arith, r .long)))
