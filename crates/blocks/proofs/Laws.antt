@@ -9,7 +9,7 @@ use lib.Seq.{length-take-le, getD-take, getD-drop}
 use borrow.Author.Tests.{lt-ltb, le-ltb}
 use borrow.Rule.Slice.PartMut.{putMid}
 use Rattle.laws.specs.Lay.{lay, part, lay-whole, lay-lent}
-use Rattle.laws.specs.Chunks.{chunks, setRun, length-chunks, get-chunks, lay-chunks, lent-chunks, lay-run}
+use Rattle.laws.specs.Chunks.{chunks, length-chunks, get-chunks, lay-chunks, lent-chunks, lay-run}
 use Rattle.blocks.specs.Pages.{pagesOf, blankPage, pageAt, erased}
 use Rattle.blocks.specs.Blank.{blankFrom, nextBlank}
 

@@ -2,15 +2,14 @@
 use mathlib.Core.Path.{_≡_, refl, sym, ap, _∙_, subst}
 use mathlib.Core.Bool.{Bool, true, false, not, _||_}
 use mathlib.Core.Logic.{_⊎_, inl, inr}
-use mathlib.Core.List.{List, []}
+use mathlib.Core.List.{List}
 use Prim.Native.Nat.{ℕ, zero, suc, _+_, _-_, _*_, _≤_, _<_}
 use native.Mathlib.Omega.{arith}
 use borrow.Author.Tests.{lt-ltb, le-ltb, leb-true, leb-false}
 use lib.Dec.{leb, ltb}
-use lib.ListN.{length, getD}
+use lib.ListN.{length, getD, getElem?}
 use Rattle.laws.specs.Order.{le-or}
-use Rattle.laws.specs.Counts.{count, tally, empty}
-use Rattle.layout.specs.Layout.{pagesInBlock}
+use Rattle.laws.specs.Counts.{count, empty}
 use Rattle.page.specs.Page.{Page}
 use Rattle.store.specs.Item.{itemsOf, piecesIn}
 use Rattle.store.specs.View.{View, greatest}
@@ -22,21 +21,21 @@ use Rattle.store.specs.Allocate.{blanks, Spot, spotBy, spot}
 use Rattle.store.specs.Allocate as Model
 use Rattle.storelaws.specs.AllocateLaws.{BlankAt, nextBlank-blank}
 use Rattle.storelaws.specs.PoolLaws.{Moves}
-use Rattle.storelaws.specs.BlockRules.{BlockRules, spot-moves}
+use Rattle.storelaws.specs.BlockRules.{spot-moves}
 use Rattle.storelaws.specs.Placing.{Invariant, live-fits, found-same}
 use Rattle.storelaws.specs.Compaction.{found-unmoved}
 use Rattle.storelaws.specs.Versions.{InMode}
 use Rattle.store.specs.Write.{found}
 use Rattle.rows.specs.declared.Row.{Row}
 use Rattle.blocks.specs.Blank.{blankBlock, blankBlocks, nextBlank}
-use Rattle.live.specs.Live.{liveMap, liveIn}
+use Rattle.live.specs.Live.{liveMap, marked, liveIn}
 use Rattle.live.specs.Choose.{victim}
 use Rattle.place.specs.declared.state.State.{State}
 use Rattle.place.specs.Compact.{Compacted, compactBlock, compact}
 use Rattle.place.specs.World.{World, world, used}
 use Rattle.place.specs.Allocate.{at, allocate}
 use Rattle.place.proofs.Laws.{allocate-room, allocate-next, allocate-compact}
-use Rattle.flash_model.specs.Mirror.{rowAt, Images, PagesAre, RowsName, RowsSay, Owners, Mirrors}
+use Rattle.flash_model.specs.Mirror.{rowAt, test, Images, PagesAre, RowsName, RowsSay, Owners, Mirrors}
 use Rattle.flash_model.specs.Pages.{blank-block}
 use Rattle.flash_model.specs.Blank.{blankBlocks-is, nextBlank-is}
 use Rattle.flash_model.specs.Live.{Owned, mark-live, liveIn-is}
@@ -65,13 +64,10 @@ pub record Allocated (image : Page → List ℕ) (own : ℕ → Page → Bool) (
 
 module _ (image : Page → List ℕ) (written : Images image) (own : ℕ → Page → Bool) (keep : Page → Bool) (ps : List (List ℕ)) (rows : List Row) (s : State) (bs : Blocks)
     (small : s .blocks ≤ 64) (r : Stands image own (world ps rows s) bs (s .current)) (o : Owned keep own (used s)) (inside : s .current < s .blocks) where
-  m : List ℕ
-  m = liveMap (s .nodes + s .checkpoint) rows
-
   blank-is : (i : ℕ) → i < length bs → blankBlock ps i ≡ empty (block bs i)
   blank-is i l = blank-block (r .pages) written i (omega (arith, r .pages .size))
 
-  mark-is : (i q : ℕ) → i < s .blocks → q < 32 → Rattle.live.specs.Live.marked (getD (liveMap (s .nodes + s .checkpoint) rows) (32 * i + q) 0) ≡ Rattle.flash_model.specs.Mirror.test keep (lib.ListN.getElem? (block bs i) q)
+  mark-is : (i q : ℕ) → i < s .blocks → q < 32 → marked (getD (liveMap (s .nodes + s .checkpoint) rows) (32 * i + q) 0) ≡ test keep (getElem? (block bs i) q)
   mark-is i q li lq = mark-live small (r .names) o i q li lq
 
   live-is : (i : ℕ) → i < length bs → liveIn (liveMap (s .nodes + s .checkpoint) rows) i ≡ count keep (block bs i)
@@ -122,9 +118,6 @@ module _ (image : Page → List ℕ) (written : Images image) (own : ℕ → Pag
               kept = record { blocks = refl; nodes = refl; checkpoint = refl; last = refl; rows = c .same };
             }))
           where
-            i : ℕ
-            i = Model.victim keep bs
-
             v : Moves bs (Model.victim keep bs) (Model.nextBlank bs (s .current))
             v = moves e .0
 
@@ -176,9 +169,6 @@ owned-live {own} {closing} {N} {C} {st} h =
 
 module _ {image : Page → List ℕ} {own : ℕ → Page → Bool} {closing : Page → Bool} {w : World} {st : Store} (written : Images image) (small : w .state .blocks ≤ 64)
     (v : Invariant (w .state .blocks) (w .state .nodes) closing st) (h : Mirrors image own closing w st) where
-  keep : Page → Bool
-  keep = live (view st) closing (w .state .nodes)
-
   found-place : Allocated image own w (spot 32 (live (view st) closing (w .state .nodes)) (st .blocks) (st .current)) (allocate w)
   found-place =
       subst (λ (c : ℕ). Allocated image own w (spot 32 (live (view st) closing (w .state .nodes)) (st .blocks) c) (allocate w)) (h .current)

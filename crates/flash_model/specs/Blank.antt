@@ -11,7 +11,6 @@ use lib.ListN.{length}
 use Rattle.laws.specs.Tests.{choose}
 use Rattle.laws.specs.Counts.{bit, empty}
 use Rattle.laws.specs.Loops.{sumFrom, firstFrom}
-use Rattle.page.specs.Page.{Page}
 use Rattle.store.specs.Pool.{Blocks, block}
 use Rattle.store.specs.Allocate.{blanks, later, hereOr, firstOf}
 use Rattle.store.specs.Allocate as Model

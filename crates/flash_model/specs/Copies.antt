@@ -6,7 +6,6 @@ use mathlib.Core.Logic.{_⊎_, inl, inr}
 use mathlib.Core.Option.{Option, none, some}
 use mathlib.Core.List.{List, [], _∷_, _++_, append-nil}
 use Prim.Native.Nat.{ℕ, zero, suc, _+_, _*_, _≤_, _<_}
-use native.Mathlib.Nat.{add-zero}
 use native.Mathlib.Numerals.{add-one}
 use native.Mathlib.Omega.{arith}
 use lib.Dec.{eqb}
@@ -15,9 +14,9 @@ use lib.Seq.{getD-set-same, getD-set-other, set-set, set-getD, take-all}
 use Rattle.laws.specs.Tests.{choose, test-clash}
 use Rattle.laws.specs.Order.{eq-or, le-or}
 use Rattle.laws.specs.Counts.{bit, count, count-append, count-le-length, consIf, filter, length-filter}
-use Rattle.laws.specs.Loops.{steps, steps-keep}
+use Rattle.laws.specs.Loops.{steps-keep}
 use Rattle.page.specs.Page.{Page}
-use Rattle.store.specs.Pool.{Blocks, block, addTo}
+use Rattle.store.specs.Pool.{Blocks, block}
 use Rattle.store.specs.Allocate as Model
 use Rattle.storelaws.specs.PoolLaws.{Moves}
 use Rattle.blocks.specs.Pages.{pageAt, copied}

@@ -1,7 +1,9 @@
 pub mod Mirror
 pub mod Pages
+pub mod Cells
 pub mod Blank
 pub mod Names
+pub mod Notes
 pub mod Live
 pub mod Choice
 pub mod Copies

@@ -1,6 +1,6 @@
 -- The live map is the model's test of live pages, by the rows; and a block has as many live pages as the model counts. Assumes nothing.
 use mathlib.Core.Path.{_≡_, refl, sym, ap, ap₂, _∙_}
-use mathlib.Core.Bool.{Bool, true, false, not, _&&_, _||_, or-true, or-false}
+use mathlib.Core.Bool.{Bool, true, false, _&&_, _||_, or-true}
 use mathlib.Core.Logic.{_⊎_, inl, inr}
 use mathlib.Core.Option.{Option, none, some}
 use mathlib.Core.List.{List, [], _∷_}
@@ -13,9 +13,9 @@ use lib.Dec.{eqb, ltb}
 use lib.ListN.{length, getD, set, getElem?, replicate, length-set, length-replicate, getD-replicate}
 use lib.Seq.{getD-set-same, getD-set-other}
 use Rattle.laws.specs.Tests.{choose}
-use Rattle.laws.specs.Order.{eq-or, le-suc-or}
+use Rattle.laws.specs.Order.{eq-or}
 use Rattle.laws.specs.Counts.{bit, count}
-use Rattle.laws.specs.Loops.{steps, steps-keep, sumFrom}
+use Rattle.laws.specs.Loops.{steps-keep, sumFrom}
 use Rattle.page.specs.Page.{Page}
 use Rattle.store.specs.Pool.{Blocks, block}
 use Rattle.rows.specs.Step.{holds, names}

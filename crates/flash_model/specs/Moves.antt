@@ -24,7 +24,7 @@ use Rattle.flash_model.specs.Mirror.{rowAt, test, PagesAre, RowsName}
 use Rattle.flash_model.specs.Pages.{place-apart, pages-erased}
 use Rattle.flash_model.specs.Names.{mapped, names-mapped, names-unmapped, length-renameRows, rowAt-renameRows}
 use Rattle.flash_model.specs.Live.{same-test, Owned}
-use Rattle.flash_model.specs.Copies.{rank, filter-rank, From, rank-filter, Copied, copied-all, take-block}
+use Rattle.flash_model.specs.Copies.{rank, filter-rank, rank-filter, Copied, copied-all, take-block}
 
 -- Places inside and outside of the block that moved.
 new-inside : (base : ℕ) (places : List ℕ) (q : ℕ) → q < 32 → newPlace base places (base + q) ≡ getD places q 0
@@ -46,9 +46,6 @@ page-below (x ∷ b) (suc q) p e = omega (arith, page-below b q p e)
 module _ {B rowsUsed : ℕ} {own : ℕ → Page → Bool} {rows : List Row} {bs : Blocks} (live : Page → Bool) {i j : ℕ} (v : Moves bs i j) (size : length bs ≡ B)
     (most : length (block bs i) ≤ 32) (named : RowsName B rowsUsed own rows bs) (o : Owned live own rowsUsed) (places : List ℕ)
     (went : (q : ℕ) → q < 32 → (p : Page) → getElem? (block bs i) q ≡ some p → live p ≡ true → getD places q 0 ≡ 32 * j + rank live q (block bs i)) where
-  f : ℕ → ℕ
-  f = newPlace (32 * i) places
-
   rank-below : (q : ℕ) → q < 32 → rank live q (block bs i) < 32
   rank-below q l = omega (arith, count-le-length live (take q (block bs i)), length-take q (block bs i))
 
@@ -74,9 +71,6 @@ module _ {B rowsUsed : ℕ} {own : ℕ → Page → Bool} {rows : List Row} {bs 
       go (inl l) (inr h) = within (x - 32 * i) (omega arith) (omega arith) (getElem? (block bs i) (x - 32 * i)) refl
 
   module _ (n a r : ℕ) (ln : n < rowsUsed) (la : a < B) (lr : r < 32) where
-    row : Row
-    row = rowAt rows n
-
     -- a page that is named now is the row's own
     names-own : names (32 * a + r) (mapped (newPlace (32 * i) places) (rowAt rows n)) ≡ true → test (own n) (getElem? (block (Model.compact live bs i j) a) r) ≡ true
     names-own e =
@@ -110,7 +104,6 @@ module _ {B rowsUsed : ℕ} {own : ℕ → Page → Bool} {rows : List Row} {bs 
         came none d t aj = absurd (test-clash false t refl)
         came (some p) d t aj =
             let h = rank-filter live (block bs i) r p d in
-            let q : ℕ = h .place in
             let lq : h .place < 32 = omega (arith, page-below (block bs i) (h .place) p (h .here)) in
             let was : names (32 * i + h .place) (rowAt rows n) ≡ true = named .each n i (h .place) ln (omega (arith, v .from)) lq ∙ ap (test (own n)) (h .here) ∙ t in
             let now : newPlace (32 * i) places (32 * i + h .place) ≡ 32 * a + r =

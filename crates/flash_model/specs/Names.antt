@@ -1,17 +1,17 @@
 -- What a row names after its slots were read through a function, and the rows after all of them were. Assumes nothing.
-use mathlib.Core.Path.{_≡_, refl, sym, ap, _∙_}
-use mathlib.Core.Bool.{Bool, true, false, _&&_, _||_, or-true}
+use mathlib.Core.Path.{_≡_, refl, ap, _∙_}
+use mathlib.Core.Bool.{Bool, true, false, _||_, or-true}
 use mathlib.Core.Logic.{_⊎_, inl, inr}
 use mathlib.Core.List.{List}
 use Prim.Native.Nat.{ℕ, _+_, _≤_, _<_}
 use native.Mathlib.Omega.{arith}
 use borrow.Author.Tests.{eqb-true, eq-eqb}
 use lib.Dec.{eqb, ltb}
-use lib.ListN.{length, getD, set, length-set}
+use lib.ListN.{length, set, length-set}
 use lib.Seq.{getD-set-same, getD-set-other}
 use Rattle.laws.specs.Tests.{and-left, and-right, and-both}
 use Rattle.laws.specs.Order.{eq-or, le-or}
-use Rattle.laws.specs.Loops.{steps, steps-keep}
+use Rattle.laws.specs.Loops.{steps-keep}
 use Rattle.rows.specs.Row.{noRow}
 use Rattle.rows.specs.Step.{holds, names, newPlace, moved}
 use Rattle.rows.specs.declared.Row.{Row}

@@ -4,11 +4,11 @@ use mathlib.Core.Path.{_≡_, refl, sym, ap, ap₂, _∙_}
 use mathlib.Core.Logic.{_⊎_, inl, inr}
 use mathlib.Core.List.{List, [], _∷_, _++_, map, append-assoc}
 use Prim.Native.Nat.{ℕ, zero, suc, _+_, _-_, _*_, _/_, _≤_, _<_}
-use native.Mathlib.Nat.{add-assoc, add-zero, zero-add, mul-suc, mul-zero, not-suc-le-zero, le-of-suc-le-suc}
+use native.Mathlib.Nat.{add-assoc, mul-suc, mul-zero, not-suc-le-zero, le-of-suc-le-suc}
 use native.Mathlib.Numerals.{add-one}
 use native.Mathlib.Omega.{arith}
-use lib.ListN.{length, getD, set, take, drop, replicate, length-set, length-append, length-drop, length-replicate, replicate-append-replicate}
-use lib.Seq.{length-take-le, take-at, drop-at, take-append-le, drop-append-le, take-add, drop-drop, getD-set-same, getD-set-other}
+use lib.ListN.{length, getD, set, take, drop, replicate, length-set, length-drop, length-replicate, replicate-append-replicate}
+use lib.Seq.{length-take-le, take-at, drop-at, take-add, drop-drop, getD-set-same, getD-set-other}
 use borrow.Rule.Slice.PartMut.{putMid}
 use Rattle.laws.specs.Order.{eq-or, le-or}
 use Rattle.laws.specs.Lay.{lay, part, lay-next, lay-nil, lay-lent, length-lay, drop-lay, part-lay}

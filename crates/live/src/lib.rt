@@ -1,7 +1,7 @@
 // Which pages are live, and the written block that has fewest of them.
 ghost use mathlib.Core.Path.{_≡_};
 ghost use Prim.Native.Nat.{_+_, _*_, _≤_, _<_};
-ghost use lib.ListN.{length, getD};
+ghost use lib.ListN.{length};
 ghost use Rattle.rows.specs.Row.{rowsOf};
 ghost use Rattle.blocks.specs.Pages.{pagesOf};
 ghost use Rattle.live.specs.Live.{markSlot, markRow, liveMap, marked, liveIn};

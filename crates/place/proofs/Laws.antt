@@ -1,7 +1,7 @@
 -- The steps of a compaction put together, and the cases of an allocation. Assumes nothing.
-use mathlib.Core.Path.{_≡_, refl, sym, ap, _∙_}
+use mathlib.Core.Path.{_≡_, refl, ap, _∙_}
 use mathlib.Core.List.{List}
-use Prim.Native.Nat.{ℕ, _+_, _*_, _≤_, _<_}
+use Prim.Native.Nat.{ℕ, _*_, _≤_, _<_}
 use lib.ListN.{replicate}
 use borrow.Author.Tests.{lt-ltb, le-ltb, le-leb, lt-leb}
 use Rattle.rows.specs.declared.Row.{Row}
@@ -9,7 +9,7 @@ use Rattle.blocks.specs.Pages.{erased}
 use Rattle.blocks.specs.Blank.{blankBlocks, nextBlank}
 use Rattle.live.specs.Live.{liveMap}
 use Rattle.live.specs.Choose.{victim}
-use Rattle.place.specs.Compact.{Copying, copying, copyBlock, renameRows, Compacted, compacted, emptied, compactBlock, compact}
+use Rattle.place.specs.Compact.{copying, copyBlock, renameRows, compacted, emptied, compactBlock, compact}
 use Rattle.place.specs.World.{World, world, used, Good}
 use Rattle.place.specs.Allocate.{at, behind, nextBlock, allocate}
 use Rattle.place.specs.declared.state.State.{State}

@@ -1,7 +1,6 @@
 -- "Page needed and the current block full: if two or more blocks are blank, take the next blank one upwards and round. Otherwise" compact into the
 -- blank one "and go on behind the copies" (document 01, "Pages", its last paragraph).
-use mathlib.Core.List.{List}
-use Prim.Native.Nat.{ℕ, _+_}
+use Prim.Native.Nat.{ℕ}
 use lib.Dec.{ltb, leb}
 use Rattle.laws.specs.Tests.{choose}
 use Rattle.layout.specs.Layout.{pagesInBlock}

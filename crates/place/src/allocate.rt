@@ -1,5 +1,4 @@
 // The place of the next page.
-ghost use mathlib.Core.Path.{_≡_};
 ghost use lib.ListN.{length};
 ghost use Rattle.rows.specs.Row.{rowsOf};
 ghost use Rattle.blocks.specs.Pages.{pagesOf};

@@ -1,8 +1,8 @@
 -- The cases of a claim, and a row stored in bytes as a row set. Assumes nothing.
 use mathlib.Core.Path.{_≡_, refl, sym, ap, _∙_}
-use mathlib.Core.Bool.{Bool, true, false}
+use mathlib.Core.Bool.{true, false}
 use mathlib.Core.List.{List, map}
-use Prim.Native.Nat.{ℕ, _+_, _*_, _/_, _≤_, _<_}
+use Prim.Native.Nat.{ℕ, _+_, _*_, _/_, _≤_}
 use native.Mathlib.Omega.{arith}
 use lib.Dec.{eqb}
 use lib.ListN.{length, getD, set, take, drop, length-map, List·getD-map}
@@ -14,7 +14,6 @@ use Rattle.account.specs.declared.Mode.the-variants.{Log, Disk}
 use Rattle.rows.specs.Row.{modeByte, modeFrom, decode, encode, rowsOf, noRow, Fits}
 use Rattle.rows.specs.Step.{names, noted, byMode, claim}
 use Rattle.rows.specs.declared.Row.{Row}
-use Rattle.rows.specs.declared.Claim.{Claim}
 use Rattle.rows.specs.declared.Claim.the-variants.{Same, Noted}
 
 module _ (version page : ℕ) (r : Row) where

@@ -1,7 +1,5 @@
 -- A node's row in the work table, which "holds, while a batch runs, the mode, the score and the pages of each node" (document 01,
 -- "Pool and buffers"): 16 bytes, version (4), score (4), mode (1), number of pages (1), three page numbers (2 each).
-use mathlib.Core.Path.{_≡_}
-use mathlib.Core.Bool.{Bool}
 use mathlib.Core.List.{List, [], _∷_, _++_, map}
 use Prim.Native.Nat.{ℕ, _<_}
 use lib.Dec.{eqb}

@@ -1,7 +1,7 @@
 -- `live::live_map` meets its contract. The invariant: marking the rows left gives the whole map. Assumes nothing.
 use borrow.Author.Needs.{needs}
 use mathlib.Core.Path.{_≡_, sym, _∙_}
-use Prim.Native.Nat.{_+_, _-_, _≤_}
+use Prim.Native.Nat.{_-_, _≤_}
 use native.Mathlib.Omega.{arith}
 use lib.ListN.{replicate}
 use Rattle.laws.specs.Loops.{steps, steps-begin, steps-more, steps-done}

@@ -1,6 +1,6 @@
 -- `live::victim` meets its contract. The invariant: weighing the blocks left gives the best of all. Assumes nothing.
 use mathlib.Core.Path.{_≡_, sym, ap, _∙_}
-use Prim.Native.Nat.{_+_, _-_, _≤_, _<_}
+use Prim.Native.Nat.{_-_, _≤_, _<_}
 use native.Mathlib.Omega.{arith}
 use Rattle.laws.specs.Loops.{steps, steps-begin, steps-more, steps-done}
 use Rattle.blocks.specs.Pages.{pagesOf}

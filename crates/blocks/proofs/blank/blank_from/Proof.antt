@@ -1,6 +1,6 @@
 -- `blank::blank_from` meets its contract. The invariant: the first blank block from here on is the first from the start on. Assumes nothing.
 use mathlib.Core.Path.{_≡_, refl, sym, _∙_}
-use Prim.Native.Nat.{_+_, _-_, _≤_}
+use Prim.Native.Nat.{_-_, _≤_}
 use native.Mathlib.Omega.{arith}
 use Rattle.laws.specs.Loops.{firstFrom, first-more, first-found, first-done}
 use Rattle.blocks.specs.Pages.{pagesOf}

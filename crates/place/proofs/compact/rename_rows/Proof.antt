@@ -1,7 +1,7 @@
 -- `compact::rename_rows` meets its contract. The invariant: renaming the rows left gives all rows renamed. Assumes nothing.
 use borrow.Author.Needs.{needs}
 use mathlib.Core.Path.{_≡_, sym, _∙_}
-use Prim.Native.Nat.{_+_, _-_, _≤_}
+use Prim.Native.Nat.{_-_, _≤_}
 use native.Mathlib.Omega.{arith}
 use lib.ListN.{length}
 use Rattle.laws.specs.Loops.{steps, steps-begin, steps-more, steps-done}

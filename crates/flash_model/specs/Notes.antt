@@ -1,0 +1,60 @@
+-- What a row names after a page was noted, after a fresh start, and with another score. Assumes nothing.
+use mathlib.Core.Path.{_≡_, refl}
+use mathlib.Core.Bool.{Bool, true, false, _||_}
+use Prim.Native.Nat.{ℕ, zero, suc, _+_, _<_}
+use native.Mathlib.Omega.{arith}
+use lib.Dec.{eqb}
+use Rattle.account.specs.declared.Mode.{Mode}
+use Rattle.rows.specs.Step.{holds, names, noted, fresh, scored}
+use Rattle.rows.specs.declared.Row.{Row}
+
+-- The last of one, two and three tests, put behind the others.
+last-first : (a : Bool) → (a || (false || false)) ≡ (false || a)
+last-first true = refl
+last-first false = refl
+
+last-second : (a b : Bool) → (a || (b || false)) ≡ ((a || (false || false)) || b)
+last-second true b = refl
+last-second false true = refl
+last-second false false = refl
+
+last-third : (a b c : Bool) → (a || (b || c)) ≡ ((a || (b || false)) || c)
+last-third true b c = refl
+last-third false true c = refl
+last-third false false c = refl
+
+module _ (version score : ℕ) (mode : Mode) (a b c q : ℕ) where
+  abbrev row : ℕ → Row
+  row k = record { version = version; score = score; mode = mode; pages = k; first = a; second = b; third = c }
+
+  noted-names : (k x : ℕ) → k < 3 → names x (noted q (row k)) ≡ (names x (row k) || eqb q x)
+  unfolding names noted holds
+  noted-names zero x l = last-first (eqb q x)
+  noted-names (suc zero) x l = last-second (eqb a x) (eqb q x)
+  noted-names (suc (suc zero)) x l = last-third (eqb a x) (eqb b x) (eqb q x)
+  noted-names (suc (suc (suc k))) x l = absurd (omega arith)
+
+  noted-pages : (k : ℕ) → k < 3 → noted q (row k) .pages ≡ k + 1
+  unfolding noted
+  noted-pages zero l = refl
+  noted-pages (suc zero) l = refl
+  noted-pages (suc (suc zero)) l = refl
+  noted-pages (suc (suc (suc k))) l = absurd (omega arith)
+
+module _ (r : Row) where
+  -- one page more, where there is a slot
+  pub names-noted : (q x : ℕ) → r .pages < 3 → names x (noted q r) ≡ (names x r || eqb q x)
+  names-noted q x l = noted-names (r .version) (r .score) (r .mode) (r .first) (r .second) (r .third) q (r .pages) x l
+
+  pub pages-noted : (q : ℕ) → r .pages < 3 → noted q r .pages ≡ r .pages + 1
+  pages-noted q l = noted-pages (r .version) (r .score) (r .mode) (r .first) (r .second) (r .third) q (r .pages) l
+
+  -- no page
+  pub names-fresh : (version : ℕ) (mode : Mode) (x : ℕ) → names x (fresh version mode r) ≡ false
+  unfolding names fresh holds
+  names-fresh version mode x = refl
+
+  -- the same pages
+  pub names-scored : (score x : ℕ) → names x (scored score r) ≡ names x r
+  unfolding names scored
+  names-scored score x = refl
