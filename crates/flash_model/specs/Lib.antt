@@ -9,3 +9,4 @@ pub mod Choice
 pub mod Copies
 pub mod Moves
 pub mod Allocate
+pub mod Written
