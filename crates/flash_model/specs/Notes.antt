@@ -1,12 +1,17 @@
--- What a row names after a page was noted, after a fresh start, and with another score. Assumes nothing.
-use mathlib.Core.Path.{_≡_, refl}
-use mathlib.Core.Bool.{Bool, true, false, _||_}
+-- What a row names after a page was noted, after a fresh start, with another score, and after a claim. Assumes nothing.
+use mathlib.Core.Path.{_≡_, refl, sym, ap, _∙_}
+use mathlib.Core.Bool.{Bool, true, false, _&&_, _||_, or-true, or-false}
 use Prim.Native.Nat.{ℕ, zero, suc, _+_, _<_}
 use native.Mathlib.Omega.{arith}
+use borrow.Author.Tests.{eqb-true}
 use lib.Dec.{eqb}
+use Rattle.laws.specs.Tests.{choose}
 use Rattle.account.specs.declared.Mode.{Mode}
-use Rattle.rows.specs.Step.{holds, names, noted, fresh, scored}
+use Rattle.account.specs.declared.Mode.the-variants.{Log, Disk}
+use Rattle.rows.specs.Step.{holds, names, noted, fresh, scored, byMode, claim}
 use Rattle.rows.specs.declared.Row.{Row}
+use Rattle.rows.specs.declared.Claim.{Claim}
+use Rattle.rows.specs.declared.Claim.the-variants.{Same, Noted}
 
 -- The last of one, two and three tests, put behind the others.
 last-first : (a : Bool) → (a || (false || false)) ≡ (false || a)
@@ -58,3 +63,56 @@ module _ (r : Row) where
   pub names-scored : (score x : ℕ) → names x (scored score r) ≡ names x r
   unfolding names scored
   names-scored score x = refl
+
+-- The row after a claim.
+abbrev pub after : Claim → Row → Row
+after Same r = r
+after (Noted r′) r = r′
+
+module _ (r : Row) (version page x : ℕ) where
+  -- A claim names the page for an entry of the row's version in log mode, and nothing else; it finds a slot where there is one.
+  pub names-claimed : (names page r ≡ false → r .pages < 3) →
+      names x (after (claim version page r) r) ≡ (names x r || byMode (r .mode) (eqb (r .version) version && eqb page x) false)
+  unfolding claim
+  names-claimed room = go (r .mode) (eqb (r .version) version) (names page r) refl
+    where
+      again : (t : Bool) → names page r ≡ true → eqb page x ≡ t → names x r ≡ (names x r || t)
+      again true n e = ap (λ (y : ℕ). names y r) (sym (eqb-true page x e)) ∙ n ∙ sym (or-true (names x r))
+      again false n e = sym (or-false (names x r))
+
+      go : (m : Mode) (v n : Bool) → names page r ≡ n →
+          names x (after (byMode m (choose v (choose n Same (Noted (noted page r))) Same) Same) r) ≡ (names x r || byMode m (v && eqb page x) false)
+      go Disk v n e = sym (or-false (names x r))
+      go Log false n e = sym (or-false (names x r))
+      go Log true true e = again (eqb page x) e refl
+      go Log true false e = names-noted r page x (room e)
+
+-- Version, mode and score stay.
+pub record Keeps (r r′ : Row) : Type 0 where
+  pub version : r′ .version ≡ r .version
+  pub mode : r′ .mode ≡ r .mode
+  pub score : r′ .score ≡ r .score
+
+keeps-same : {r : Row} → Keeps r r
+keeps-same = record { version = refl; mode = refl; score = refl }
+
+keeps-choose : {r x y : Row} (t : Bool) → Keeps r x → Keeps r y → Keeps r (choose t x y)
+keeps-choose true a b = a
+keeps-choose false a b = b
+
+pub keeps-noted : (r : Row) (page : ℕ) → Keeps r (noted page r)
+unfolding noted
+keeps-noted r page =
+    keeps-choose (eqb (r .pages) 0) (record { version = refl; mode = refl; score = refl })
+    (keeps-choose (eqb (r .pages) 1) (record { version = refl; mode = refl; score = refl })
+    (keeps-choose (eqb (r .pages) 2) (record { version = refl; mode = refl; score = refl }) keeps-same))
+
+pub keeps-claimed : (r : Row) (version page : ℕ) → Keeps r (after (claim version page r) r)
+unfolding claim
+keeps-claimed r version page = go (r .mode) (eqb (r .version) version) (names page r)
+  where
+    go : (m : Mode) (v n : Bool) → Keeps r (after (byMode m (choose v (choose n Same (Noted (noted page r))) Same) Same) r)
+    go Disk v n = keeps-same
+    go Log false n = keeps-same
+    go Log true true = keeps-same
+    go Log true false = keeps-noted r page
