@@ -5,3 +5,5 @@ pub mod Every
 pub mod Update
 pub mod Lay
 pub mod BigEndian
+pub mod Chunks
+pub mod Loops

@@ -1,0 +1,12 @@
+pub mod Mirror
+pub mod Pages
+pub mod Cells
+pub mod Blank
+pub mod Names
+pub mod Notes
+pub mod Live
+pub mod Choice
+pub mod Copies
+pub mod Moves
+pub mod Allocate
+pub mod Written
