@@ -10,6 +10,7 @@ use Rattle.laws.specs.BigEndian.{Bytes, bytes-part}
 use Rattle.wire.specs.Field.{field}
 use Rattle.wire.specs.FieldLaws.{length-field}
 use Rattle.page.specs.Image.{fields}
+use Rattle.page.specs.ReadBack.{length-fields}
 
 -- The n records of a size from a place on.
 unfoldable pub chunks : ℕ → ℕ → List ℕ → ℕ → List (List ℕ)
@@ -28,6 +29,17 @@ unfolding chunks
 every-chunk size zero s at b h = none
 every-chunk size (suc n) s at b h =
     both (length-part s at size (omega arith), bytes-part at size b) (every-chunk size n s (at + size) b (omega arith))
+
+pub every-size : (size n : ℕ) (s : List ℕ) (at : ℕ) → at + size * n ≤ length s → Every (λ p. length p ≡ size) (chunks size n s at)
+unfolding chunks
+every-size size zero s at h = none
+every-size size (suc n) s at h = both (length-part s at size (omega arith)) (every-size size n s (at + size) (omega arith))
+
+-- So their fields take as many bytes together.
+pub length-chunk-fields : (tag size n : ℕ) (s : List ℕ) → size * n ≤ length s → length (fields tag (chunks size n s 0)) ≡ (3 + size) * n
+length-chunk-fields tag size n s h =
+    length-fields tag size (chunks size n s 0) (every-size size n s 0 (omega arith)) ∙
+    ap (λ (k : ℕ). (3 + size) * k) (length-chunks size n s 0)
 
 -- A turn lays the field of the first record that is left.
 pub run-next : (tag size left : ℕ) (dst src : List ℕ) (at from : ℕ) → 0 < left → at ≤ length dst → from + size ≤ length src →

@@ -6,7 +6,6 @@ use mathlib.Core.Option.{Option, none, some}
 use Prim.Native.Nat.{ℕ, zero, suc, _+_, _-_, _*_, _≤_, _<_}
 use native.Mathlib.Omega.{arith}
 use lib.ListN.{length, getD, length-append}
-use Rattle.laws.specs.Every.{Every, every-weaken}
 use Rattle.laws.specs.Lay.{lay, lay-nil, lay-next, length-lay}
 use Rattle.laws.specs.BigEndian.{bigEndian, Bytes}
 use Rattle.account.specs.declared.Costs.{Costs}
@@ -18,12 +17,12 @@ use Rattle.wire.specs.Field.{field, head}
 use Rattle.wire.specs.FieldLaws.{lay-field, length-field}
 use Rattle.page.specs.Page.{Content, checkpoint, whole}
 use Rattle.page.specs.Image.{kindNumber, pairsBytes, wholeBytes, tariffBytes, scoreBytes, countBytes, fields, fieldIf, contentBytes, numbered}
+use Rattle.page.specs.Decode.{mostScores}
 use Rattle.page.specs.Spelled.{length-tariffBytes, length-scoreBytes}
 use Rattle.page.specs.SpelledNode.{length-pairsBytes, length-wholeBytes}
-use Rattle.page.specs.ReadBack.{length-fields}
-use Rattle.page_write.specs.Chunks.{chunks, every-chunk, length-chunks}
+use Rattle.page_write.specs.Chunks.{chunks, length-chunk-fields}
 use Rattle.page_write.specs.Laid.{numbered-laid}
-use Rattle.page_write.specs.Pages.{onlyIf, scoresIn, scoresIn-bytes, firstPairs, bodyOf, checkpointPage, nodePage}
+use Rattle.page_write.specs.Pages.{logBody, onlyIf, scoresIn, scoresIn-bytes, firstPairs, bodyOf, checkpointPage, nodePage}
 
 -- Something laid at a place, and the place behind it.
 pub record LaidTo (before after : List ℕ) (at : ℕ) (bytes : List ℕ) (next : ℕ) : Type 0 where
@@ -71,7 +70,39 @@ pub length-tariffIf : (b : Bool) (t : Tariff) → length (fieldIf 0x13 tariffByt
 length-tariffIf true t = omega (arith, length-field 0x13 (tariffBytes t), length-tariffBytes t)
 length-tariffIf false t = omega arith
 
+-- ---- log pages
+
+pub length-logBody : (s n : ℕ) (buffer : List ℕ) → 15 * n ≤ length buffer → 7 + 18 * n ≡ length (logBody s n buffer)
+unfolding logBody numbered field
+length-logBody s n buffer h = omega (arith, length-chunk-fields 0x12 15 n buffer h)
+
 -- ---- checkpoint pages
+
+-- The scores leave room for the count and the sums; so does the count for the sums.
+pub scores-room : (first : Bool) (t : Tariff) (n : ℕ) → n ≤ mostScores first → length (fieldIf 0x13 tariffBytes (onlyIf first t)) + 9 * n ≤ 493
+scores-room true t n h = omega (arith, length-field 0x13 (tariffBytes t), length-tariffBytes t)
+scores-room false t n h = omega arith
+
+pub count-room : (last : Bool) (count : ℕ) → length (fieldIf 0x15 countBytes (onlyIf last count)) ≤ 5
+count-room true count = omega (arith, length-field 0x15 (countBytes count))
+count-room false count = omega arith
+
+pub length-checkpointBody : (s : ℕ) (first : Bool) (t : Tariff) (n : ℕ) (records : List ℕ) (last : Bool) (count at end : ℕ) →
+    Bytes records → 6 * n ≤ length records → at ≡ 7 + length (fieldIf 0x13 tariffBytes (onlyIf first t)) →
+    end ≡ at + 9 * n + length (fieldIf 0x15 countBytes (onlyIf last count)) → end ≡ length (bodyOf (checkpointPage s first t n records last count))
+unfolding bodyOf checkpointPage contentBytes numbered
+length-checkpointBody s first t n records last count at end b h ea ee =
+    let f = fieldIf 0x13 tariffBytes (onlyIf first t) in
+    let m = fields 0x14 (map scoreBytes (scoresIn n records)) in
+    let z = fieldIf 0x15 countBytes (onlyIf last count) in
+    let lm : length m ≡ 9 * n = ap (λ (ps : List (List ℕ)). length (fields 0x14 ps)) (scoresIn-bytes n records b h) ∙ length-chunk-fields 0x14 6 n records h in
+    omega (
+      arith,
+      length-append (field 0x10 (bigEndian 4 s)) (f ++ (m ++ z)),
+      length-field 0x10 (bigEndian 4 s),
+      length-append f (m ++ z),
+      length-append m z
+    )
 
 -- The tariff, the scores and the count one behind another, behind field 10.
 pub checkpoint-laid :
@@ -90,9 +121,7 @@ checkpoint-laid p s first t n records last count at end b h l ea ee le =
     let k : length (field 0x10 (bigEndian 4 s)) ≡ 7 = length-field 0x10 (bigEndian 4 s) in
     let l₁ : length p₁ ≡ length p = length-lay p 0 (field 0x10 (bigEndian 4 s)) (omega arith) in
     let l₂ : length p₂ ≡ length p₁ = length-lay p₁ 7 f (omega (arith, length-tariffIf first t)) in
-    let lm : length m ≡ 9 * n =
-        length-fields 0x14 6 (chunks 6 n records 0) (every-weaken (λ x y. y .0) (every-chunk 6 n records 0 b (omega arith))) ∙
-        ap (λ (i : ℕ). 9 * i) (length-chunks 6 n records 0) in
+    let lm : length m ≡ 9 * n = length-chunk-fields 0x14 6 n records h in
     lay-next p₂ at m z end (omega arith) (ee ∙ ap (λ (i : ℕ). at + i) (sym lm)) ∙
     lay-next p₁ 7 f (m ++ z) at (omega arith) ea ∙
     ap (λ (ps : List (List ℕ)). lay p₁ 7 (f ++ (fields 0x14 ps ++ z))) (sym (scoresIn-bytes n records b h)) ∙
@@ -165,3 +194,17 @@ node-laid p s id kind n keys pointers l h =
     lay-next p₁ 7 (nodeHead id kind l n) (pairsBytes ps) 17 (omega arith) refl ∙
     ap (λ (bs : List ℕ). lay p₁ 7 bs) (head-and-pairs id kind l n (pairsBytes ps) w refl lw) ∙
     numbered-laid p s (field 0x11 w)
+
+pub length-nodeBody : (s id : ℕ) (kind : Kind) (n : ℕ) (keys pointers : List ℕ) (l : ℕ) → 17 + 8 * n ≡ length (bodyOf (nodePage s id kind n keys pointers l))
+unfolding bodyOf nodePage contentBytes numbered
+length-nodeBody s id kind n keys pointers l =
+    let ps = firstPairs n keys pointers 0 in
+    let w = wholeBytes id (node kind ps l) in
+    omega (
+      arith,
+      length-append (field 0x10 (bigEndian 4 s)) (field 0x11 w),
+      length-field 0x10 (bigEndian 4 s),
+      length-field 0x11 w,
+      length-wholeBytes id kind ps l,
+      length-firstPairs n keys pointers 0
+    )

@@ -1,3 +1,6 @@
+use mathlib.Core.Path.{_∙_}
+use Rattle.page_write.specs.Laid.{summed-blank}
+use Rattle.page_write.specs.Pages.{checkpointPage, bodyOf, image-sealed}
 use borrow.Author.Needs.{needs}
 use Rattle.page_write.proofs.checkpoint_page.checkpoint_image.Statement.{statement}
 use Rattle.page_write.proofs.checkpoint_page.checkpoint_image.Tie as tie
@@ -15,7 +18,9 @@ lay-checkpoint-requires c κs = search needs
 
 -- src/checkpoint_page.rt:85:1
 returns : tie.Need-returns
-returns c = ?
+returns c = let a = c .before .before .before .before .args in
+    let p = checkpointPage (a .sequence) (a .first) (a .tariff) (a .n) (a .records .now) (a .last) (a .count) in
+    c .before .lay-checkpoint .ensures ∙ summed-blank 512 (bodyOf p) ∙ image-sealed p
 
 pub checkpoint-image-spec : {M : Type 1} → statement M
 checkpoint-image-spec =

@@ -1,3 +1,9 @@
+use mathlib.Core.Path.{refl, sym, _∙_}
+use native.Mathlib.Nat.{add-zero}
+use native.Mathlib.Omega.{arith}
+use Rattle.laws.specs.Lay.{lay-nil}
+use Rattle.laws.specs.BigEndian.{bigEndian}
+use Rattle.wire.specs.FieldLaws.{lay-field, length-field}
 use borrow.Author.Needs.{needs}
 use Rattle.page_write.proofs.checkpoint_page.lay_closing.Statement.{statement}
 use Rattle.page_write.proofs.checkpoint_page.lay_closing.Tie as tie
@@ -28,11 +34,18 @@ same-length c = search needs
 
 -- src/checkpoint_page.rt:66:9
 returns : tie.Need-returns
-returns c = ?
+returns c = let a = c .before .before .before .before .before .before .before .before .before .before .args in
+    rw (c .before .before .before .before .before .before .before .before .if1 .taken)
+    (record {
+      is =
+        c .before .before .write16 .ensures ∙
+        rw (c .before .before .before .before .before .before .lay-head .ensures) (lay-field (a .p .now) (a .at) 0x15 2 (bigEndian 2 (a .count)) (omega arith) refl);
+      behind = omega (arith, length-field 0x15 (bigEndian 2 (a .count)))
+    })
 
 -- src/checkpoint_page.rt:58:1
 returns-2 : tie.Need-returns-2
-returns-2 c = ?
+returns-2 c = rw (c .if1 .left) (record { is = sym (lay-nil (c .before .before .args .p .now) (c .before .before .args .at)); behind = sym (add-zero (c .before .before .args .at)) })
 
 pub lay-closing-spec : {M : Type 1} → statement M
 lay-closing-spec =

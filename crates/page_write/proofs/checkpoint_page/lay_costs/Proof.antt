@@ -1,3 +1,6 @@
+use mathlib.Core.Path.{_∙_}
+use native.Mathlib.Omega.{arith}
+use Rattle.page_write.specs.Parts.{three-laid}
 use borrow.Author.Needs.{needs}
 use Rattle.page_write.proofs.checkpoint_page.lay_costs.Statement.{statement}
 use Rattle.page_write.proofs.checkpoint_page.lay_costs.Tie as tie
@@ -31,7 +34,9 @@ same-length c = search needs
 
 -- src/checkpoint_page.rt:22:1
 returns : tie.Need-returns
-returns c = ?
+returns c = let a = c .before .before .before .before .before .before .before .before .before .before .before .before .before .args in
+    c .before .before .write323 .ensures ∙
+    rw (c .before .before .before .before .before .before .write322 .ensures, c .before .before .before .before .before .before .before .before .before .before .write32 .ensures) (three-laid (a .p .now) (a .at) (a .read) (a .edit) (a .rewrite) (c .before .before .before .before .before .before .before .before .before .before .before .before .before .pre))
 
 pub lay-costs-spec : {M : Type 1} → statement M
 lay-costs-spec =

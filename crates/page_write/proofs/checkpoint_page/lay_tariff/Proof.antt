@@ -1,3 +1,6 @@
+use mathlib.Core.Path.{_∙_}
+use native.Mathlib.Omega.{arith}
+use Rattle.page_write.specs.Parts.{tariff-laid}
 use borrow.Author.Needs.{needs}
 use Rattle.page_write.proofs.checkpoint_page.lay_tariff.Statement.{statement}
 use Rattle.page_write.proofs.checkpoint_page.lay_tariff.Tie as tie
@@ -49,7 +52,10 @@ same-length c = search needs
 
 -- src/checkpoint_page.rt:32:1
 returns : tie.Need-returns
-returns c = ?
+returns c = let a = c .before .before .before .before .before .before .before .before .before .before .before .before .before .before .before .before .before .before .before .before .before .before .before .args in
+    c .before .before .write322 .ensures ∙
+    rw (c .before .before .before .before .before .before .write32 .ensures, c .before .before .before .before .before .before .before .before .before .before .lay-costs2 .ensures, c .before .before .before .before .before .before .before .before .before .before .before .before .before .before .lay-costs .ensures, c .before .before .before .before .before .before .before .before .before .before .before .before .before .before .before .before .before .before .lay-head .ensures)
+    (tariff-laid (a .p .now) (a .at) (a .tariff) (c .before .before .before .before .before .before .before .before .before .before .before .before .before .before .before .before .before .before .before .before .before .before .before .pre))
 
 pub lay-tariff-spec : {M : Type 1} → statement M
 lay-tariff-spec =

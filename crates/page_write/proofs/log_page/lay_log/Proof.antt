@@ -1,3 +1,12 @@
+use mathlib.Core.Path.{_≡_, _∙_}
+use Prim.Native.Nat.{_+_, _*_}
+use native.Mathlib.Omega.{arith}
+use Rattle.laws.specs.Lay.{lay}
+use Rattle.page.specs.Image.{fields}
+use Rattle.page_write.specs.Chunks.{chunks}
+use Rattle.page_write.specs.Laid.{numbered-laid, summed-laid}
+use Rattle.page_write.specs.Pages.{logBody}
+use Rattle.page_write.specs.Parts.{length-logBody}
 use borrow.Author.Needs.{needs}
 use Rattle.page_write.proofs.log_page.lay_log.Statement.{statement}
 use Rattle.page_write.proofs.log_page.lay_log.Tie as tie
@@ -33,7 +42,14 @@ same-length c = search needs
 
 -- src/log_page.rt:13:1
 returns : tie.Need-returns
-returns c = ?
+unfolding logBody
+returns c = let a = c .before .before .before .before .before .before .before .before .before .before .before .before .before .before .args in
+    let body = logBody (a .sequence) (a .n) (a .buffer .now) in
+    let e : c .before .before .before .before .before .before .lay-run .last .0 ≡ lay (a .p .now) 0 body =
+        c .before .before .before .before .before .before .lay-run .ensures ∙
+        rw (c .before .before .before .before .before .before .before .before .before .before .lay-sequence .ensures) (numbered-laid (a .p .now) (a .sequence) (fields 0x12 (chunks 15 (a .n) (a .buffer .now) 0))) in
+    c .before .before .lay-sums .ensures ∙
+    rw e (summed-laid (a .p .now) body (7 + 18 * a .n) (length-logBody (a .sequence) (a .n) (a .buffer .now) (omega arith)))
 
 pub lay-log-spec : {M : Type 1} → statement M
 lay-log-spec =

@@ -1,3 +1,6 @@
+use mathlib.Core.Path.{_∙_}
+use Rattle.page_write.specs.Laid.{summed-blank}
+use Rattle.page_write.specs.Pages.{logBody, logImage}
 use borrow.Author.Needs.{needs}
 use Rattle.page_write.proofs.log_page.log_image.Statement.{statement}
 use Rattle.page_write.proofs.log_page.log_image.Tie as tie
@@ -15,7 +18,9 @@ lay-log-requires c κs = search needs
 
 -- src/log_page.rt:23:1
 returns : tie.Need-returns
-returns c = ?
+unfolding logImage
+returns c = let a = c .before .before .before .before .args in
+    c .before .lay-log .ensures ∙ summed-blank 512 (logBody (a .sequence) (a .n) (a .buffer .now))
 
 pub log-image-spec : {M : Type 1} → statement M
 log-image-spec = tie.close (tie.spec slice-aggregate-lay-log lay-log-requires returns)

@@ -1,3 +1,6 @@
+use mathlib.Core.Path.{_∙_}
+use native.Mathlib.Omega.{arith}
+use Rattle.page_write.specs.Parts.{nodeHead-laid}
 use borrow.Author.Needs.{needs}
 use Rattle.page_write.proofs.node_page.lay_node_head.Statement.{statement}
 use Rattle.page_write.proofs.node_page.lay_node_head.Tie as tie
@@ -59,7 +62,10 @@ same-length c = search needs
 
 -- src/node_page.rt:37:1
 returns : tie.Need-returns
-returns c = ?
+returns c = let a = c .before .before .before .before .before .before .before .before .before .before .before .before .before .before .before .before .before .before .args in
+    c .before .before .write32 .ensures ∙
+    rw (c .before .before .before .before .before .before .lay-byte .ensures, c .before .before .before .before .before .before .before .before .before .before .write16 .ensures, c .before .before .before .before .before .before .before .before .before .before .before .before .before .before .lay-head .ensures)
+    (nodeHead-laid (a .p .now) (a .at) (a .id) (c .before .before .before .before .before .before .before .before .before .before .before .before .before .before .before .before .kind-number .result) (a .kind) (a .link) (a .n) (omega arith) (c .before .before .before .before .before .before .before .before .before .before .before .before .before .before .before .before .kind-number .ensures))
 
 pub lay-node-head-spec : {M : Type 1} → statement M
 lay-node-head-spec =
