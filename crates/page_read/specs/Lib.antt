@@ -1,3 +1,4 @@
+pub mod Asked
 pub mod View
 pub mod Payload
 pub mod Steps

@@ -62,3 +62,15 @@ node-size b at l =
     let m : isNodeBytes n ≡ true = sym (allowed-11 n) ∙ allowed-payload b at 0x11 (stands-payload b at 0x11 l) in
     let r : n % 8 ≡ 7 = eqb-true (n % 8) 7 (and-left (eqb (n % 8) 7) _ m) in
     omega arith
+
+-- Where the sums are found, they lie within the page.
+pub sums-within : (b : List ℕ) (end : ℕ) → length (payloadAt b end 0x1F) ≡ 4 → end + 7 ≤ length b
+sums-within b end e = omega (arith, stands-within b end 0x1F (stands-payload b end 0x1F (omega arith)))
+
+-- A node's payload that is too short for a node is empty.
+pub node-short : (b : List ℕ) (at : ℕ) → length (payloadAt b at 0x11) < 7 → length (payloadAt b at 0x11) < 1
+node-short b at h = go (empty-or (payloadAt b at 0x11))
+  where
+    go : (payloadAt b at 0x11 ≡ []) ⊎ (1 ≤ length (payloadAt b at 0x11)) → length (payloadAt b at 0x11) < 1
+    go (inl e) = omega (arith, ap length e)
+    go (inr l) = absurd (omega (arith, node-size b at l))

@@ -35,6 +35,7 @@ use Rattle.page.specs.Decode.{
   nodeOk,
   nodeOf,
   tariffOf,
+  scoreOk,
   scoreOf,
   readIf,
   when,
@@ -42,6 +43,8 @@ use Rattle.page.specs.Decode.{
   decodeLog,
   decodeNode,
   decodeScores,
+  decodeCounted,
+  decodeCheckpoint,
 }
 use Rattle.page.specs.Limits.{given}
 use Rattle.page.specs.Runs.{run-goes, run-stops, length-payloads}
@@ -51,7 +54,7 @@ use Rattle.page_read.specs.View.{view, nodesOf}
 use Rattle.page_read.specs.declared.view.Nodes.{Nodes}
 use Rattle.page_read.specs.declared.view.Nodes.the-variants.{Count, Open}
 use Rattle.page_read.specs.declared.view.PageView.{PageView}
-use Rattle.page_read.specs.declared.view.PageView.the-variants.{Blank, Log, Node, Checkpoint, Bad}
+use Rattle.page_read.specs.declared.view.PageView.the-variants.{Blank, Log, Whole, Checkpoint, Bad}
 
 -- ---- FF to the end
 
@@ -176,10 +179,10 @@ module _ (s : ℕ) (p b : List ℕ) where
       unfolding decodeNode
       node-unsealed t = view-bad _ _ (rw (node-passes, t))
 
-      pub node-sealed : sealedAt b (7 + taken p) ≡ true → Node s (numberAt 2 p 0) (kindOfNumber x) (pairsIn p) ≡ view (decodeNode s p b)
+      pub node-sealed : sealedAt b (7 + taken p) ≡ true → Whole s (numberAt 2 p 0) (kindOfNumber x) (pairsIn p) ≡ view (decodeNode s p b)
       unfolding decodeNode nodeOf
       node-sealed t =
-          ap₂ (λ y z. Node s (numberAt 2 p 0) (kindOfNumber y) z) (sym k) (sym (length-pairsFrom (pairsIn p) p 7)) ∙
+          ap₂ (λ y z. Whole s (numberAt 2 p 0) (kindOfNumber y) z) (sym k) (sym (length-pairsFrom (pairsIn p) p 7)) ∙
           view-page _ (page s (whole (numberAt 2 p 0) (nodeOf p))) (rw (node-passes, t))
 
 module _ (s : ℕ) (t : List ℕ) (at n : ℕ) (c b : List ℕ) where
@@ -214,3 +217,9 @@ nodes-none c f = rw f
 
 pub nodes-some : (c : List ℕ) → found c ≡ true → Count (number c) ≡ nodesOf (readIf number c)
 nodes-some c f = rw f
+
+-- The rest of a checkpoint page, from where its scores begin.
+pub checkpoint-is : (s : ℕ) (t b : List ℕ) (at most n : ℕ) → at ≡ 7 + taken t → most ≡ mostScores (found t) → n ≡ run scoreOk 0x14 9 most b at →
+    view (decodeCounted s t at n b) ≡ view (decodeCheckpoint s t b)
+unfolding decodeCheckpoint
+checkpoint-is s t b at most n ea em en = rw en (rw em (rw ea))

@@ -11,7 +11,7 @@ use Rattle.page.specs.Limits.{given}
 use Rattle.page_read.specs.declared.view.Nodes.{Nodes}
 use Rattle.page_read.specs.declared.view.Nodes.the-variants.{Count, Open}
 use Rattle.page_read.specs.declared.view.PageView.{PageView}
-use Rattle.page_read.specs.declared.view.PageView.the-variants.{Blank, Log, Node, Checkpoint, Bad}
+use Rattle.page_read.specs.declared.view.PageView.the-variants.{Blank, Log, Whole, Checkpoint, Bad}
 
 -- The node count of a last checkpoint page, or none.
 abbrev pub nodesOf : Option ℕ → Nodes
@@ -21,7 +21,7 @@ nodesOf (some n) = Count n
 -- Sequence number and counts of each kind of content.
 abbrev pub contentView : ℕ → Content → PageView
 contentView s (log es) = Log s (length es)
-contentView s (whole id n) = Node s id (kindOf n) (length (pairsOf n))
+contentView s (whole id n) = Whole s id (kindOf n) (length (pairsOf n))
 contentView s (checkpoint t ss c) = Checkpoint s (given t) (length ss) (nodesOf c)
 
 abbrev pub pageView : Page → PageView
