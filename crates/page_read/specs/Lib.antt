@@ -2,3 +2,4 @@ pub mod Asked
 pub mod View
 pub mod Payload
 pub mod Steps
+pub mod Value

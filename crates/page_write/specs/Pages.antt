@@ -7,20 +7,30 @@ use Prim.Native.Nat.{ℕ, zero, suc, _+_, _*_, _≤_, _<_}
 use native.Mathlib.Omega.{arith}
 use lib.ListN.{length, getD}
 use Rattle.laws.specs.Every.{Every, every-weaken}
-use Rattle.laws.specs.BigEndian.{Bytes}
+use Rattle.laws.specs.BigEndian.{Bytes, bigEndian}
 use Rattle.layout.specs.Layout.{pageBytes, firstScores, otherScores}
 use Rattle.account.specs.declared.Tariff.{Tariff}
 use Rattle.pairs.specs.Pairs.{Pair}
 use Rattle.node.specs.declared.Kind.{Kind}
 use Rattle.node.specs.Node.{Node, node}
 use Rattle.page.specs.Page.{Entry, Score, Content, log, whole, checkpoint, Page, page}
-use Rattle.page.specs.Image.{entryBytes, scoreBytes, fields, contentBytes, numbered, sealed, image}
+use Rattle.node.specs.Change.{Change}
+use Rattle.page.specs.Image.{changeNumber, changeKey, changePointer, entryBytes, scoreBytes, fields, contentBytes, numbered, sealed, image}
 use Rattle.page.specs.Decode.{entryOk, entryOf, scoreOf}
 use Rattle.page.specs.Spelled.{entryBytes-of, scoreBytes-of}
 use Rattle.page.specs.ReadBack.{map-back}
 use Rattle.page_write.specs.Chunks.{chunks, every-chunk}
 
 -- ---- log pages: from the log buffer, 15 bytes an entry
+
+-- The bytes of one, from its numbers; those of an entry where the numbers are its change's.
+unfoldable pub entryRecord : ℕ → ℕ → ℕ → ℕ → ℕ → List ℕ
+entryRecord id version kind key pointer = bigEndian 2 id ++ (bigEndian 4 version ++ (kind ∷ (bigEndian 4 key ++ bigEndian 4 pointer)))
+
+pub entryRecord-bytes : (id version : ℕ) (c : Change) →
+    entryRecord id version (changeNumber c) (changeKey c) (changePointer c) ≡ entryBytes (record { id = id; version = version; change = c })
+unfolding entryRecord entryBytes
+entryRecord-bytes id version c = refl
 
 -- What stands before the sums of a log page of the first n entries of a buffer.
 unfoldable pub logBody : ℕ → ℕ → List ℕ → List ℕ
@@ -42,6 +52,14 @@ logImage-is s n buffer h =
     ap (λ (ps : List (List ℕ)). sealed pageBytes (numbered s (fields 0x12 ps))) (sym forth)
 
 -- ---- checkpoint pages: from records of 6 bytes, id and score
+
+-- The bytes of one.
+unfoldable pub scoreRecord : ℕ → ℕ → List ℕ
+scoreRecord id score = bigEndian 2 id ++ bigEndian 4 score
+
+pub scoreRecord-bytes : (id score : ℕ) → scoreRecord id score ≡ scoreBytes (record { id = id; score = score })
+unfolding scoreRecord scoreBytes
+scoreRecord-bytes id score = refl
 
 -- What there is where a flag says so.
 abbrev pub onlyIf : {A : Type 0} → Bool → A → Option A

@@ -10,13 +10,22 @@ ghost use Rattle.wire.specs.Field.{field};
 ghost use Rattle.page.specs.Image.{tariffBytes, countBytes, fieldIf, image};
 ghost use Rattle.page.specs.Decode.{mostScores};
 ghost use Rattle.page_write.specs.Laid.{summed};
-ghost use Rattle.page_write.specs.Pages.{onlyIf, bodyOf, checkpointPage};
+ghost use Rattle.page_write.specs.Pages.{scoreRecord, onlyIf, bodyOf, checkpointPage};
 ghost use Rattle.page_write.specs.Parts.{LaidTo};
 
 use super::frame::{lay_run, lay_sequence, lay_sums};
 use account::Tariff;
 use wire::field::lay_head;
 use wire::number::{write16, write32};
+
+// Lays the 6 bytes of a record: a node's id and its score.
+pub fn lay_score(records: &mut [u8], at: usize, id: u32, score: u32)
+    requires { ⌜ (at + 6 ≤ length (now records)) × (id < 65536) ⌝ }
+    ensures { λ _. ⌜ now (records .exit) ≡ lay (now (records .entry)) at (scoreRecord id score) ⌝ }
+{
+    write16(records, at, id);
+    write32(records, at + 2, score);
+}
 
 // Lays three numbers: what reads, edits and rewrites cost in one mode.
 fn lay_costs(p: &mut [u8], at: usize, read: u32, edit: u32, rewrite: u32)

@@ -1,5 +1,6 @@
 // What every page has around its content: field 10 before it, field 1F behind it; and a page's place in the pool.
 ghost use mathlib.Core.Path.{_≡_};
+ghost use mathlib.Core.List.{[], _∷_};
 ghost use Prim.Native.Nat.{_+_, _*_, _≤_, _<_};
 ghost use lib.ListN.{length, take};
 ghost use Rattle.laws.specs.Lay.{lay};
@@ -13,6 +14,14 @@ use wire::bytes::lay_bytes;
 use wire::field::{lay_field, lay_head};
 use wire::number::{write16, write32};
 use wire::sum::sum_bytes;
+
+// Lays one byte at a place.
+pub fn lay_byte(p: &mut [u8], at: usize, byte: u8)
+    requires { ⌜ at < length (now p) ⌝ }
+    ensures { λ _. ⌜ now (p .exit) ≡ lay (now (p .entry)) at (byte ∷ []) ⌝ }
+{
+    p[at] = byte;
+}
 
 // Lays field 10.
 pub fn lay_sequence(p: &mut [u8], sequence: u32)

@@ -1,6 +1,5 @@
 // Node pages, from a node's keys and the pointers beside them.
 ghost use mathlib.Core.Path.{_≡_};
-ghost use mathlib.Core.List.{[], _∷_};
 ghost use Prim.Native.Nat.{_+_, _*_, _≤_, _<_};
 ghost use lib.ListN.{length};
 ghost use Rattle.laws.specs.Lay.{lay};
@@ -10,7 +9,7 @@ ghost use Rattle.page_write.specs.Laid.{summed};
 ghost use Rattle.page_write.specs.Pages.{firstPairs, bodyOf, nodePage};
 ghost use Rattle.page_write.specs.Parts.{nodeHead};
 
-use super::frame::{lay_sequence, lay_sums};
+use super::frame::{lay_byte, lay_sequence, lay_sums};
 use node::Kind;
 use wire::field::lay_head;
 use wire::number::{write16, write32};
@@ -23,14 +22,6 @@ fn kind_number(kind: Kind) -> u8
         Kind::Leaf => 3,
         Kind::Branch => 4,
     }
-}
-
-// Lays one byte at a place.
-fn lay_byte(p: &mut [u8], at: usize, byte: u8)
-    requires { ⌜ at < length (now p) ⌝ }
-    ensures { λ _. ⌜ now (p .exit) ≡ lay (now (p .entry)) at (byte ∷ []) ⌝ }
-{
-    p[at] = byte;
 }
 
 // Lays field 11 up to its pairs, of which there are n.

@@ -7,7 +7,7 @@ use Rattle.page_write.proofs.node_page.lay_node_head.Tie as tie
 use Rattle.page_write.proofs.node_page.lay_node_head.Reads as reads
 use Rattle.page_write.proofs.node_page.lay_node_head.Lts as lts
 use Rattle.page_write.proofs.node_page.kind_number.Reads as kind-number-reads
-use Rattle.page_write.proofs.node_page.lay_byte.Reads as lay-byte-reads
+use Rattle.page_write.proofs.frame.lay_byte.Reads as lay-byte-reads
 use Rattle.wire.proofs.field.lay_head.Reads as lay-head-reads
 use Rattle.wire.proofs.number.write16.Reads as write16-reads
 use Rattle.wire.proofs.number.write32.Reads as write32-reads

@@ -2,10 +2,10 @@ use native.Mathlib.Omega.{arith}
 use mathlib.Core.List.{[], _∷_}
 use Rattle.laws.specs.Lay.{lay-sets}
 use borrow.Author.Needs.{needs}
-use Rattle.page_write.proofs.node_page.lay_byte.Statement.{statement}
-use Rattle.page_write.proofs.node_page.lay_byte.Tie as tie
-use Rattle.page_write.proofs.node_page.lay_byte.Reads as reads
-use Rattle.page_write.proofs.node_page.lay_byte.Lts as lts
+use Rattle.page_write.proofs.frame.lay_byte.Statement.{statement}
+use Rattle.page_write.proofs.frame.lay_byte.Tie as tie
+use Rattle.page_write.proofs.frame.lay_byte.Reads as reads
+use Rattle.page_write.proofs.frame.lay_byte.Lts as lts
 
 -- src/node_page.rt:33:5
 slice-write-p : tie.Need-slice-write-p
