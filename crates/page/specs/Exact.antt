@@ -157,7 +157,7 @@ module _ (s : ℕ) (b : List ℕ) (bs : Bytes b) (h : 1 ≤ s) (l : s < bound32)
       record {
         fits = f;
         reads = (no, r);
-        is = λ size k. sealedAt-is b end bs t size (numbered s (contentBytes c)) k (body-is end n (contentBytes c) e p)
+        is = λ size k. sealedAt-is b end bs t size (numbered s (contentBytes c)) k (body-is end n (contentBytes c) e p);
       }
 
   module _ (n : ℕ) (r : Ran (entryOk s) 0x12 18 mostEntries b 7 n) (t : (leb 1 n && sealedAt b (7 + 18 * n)) ≡ true) where
@@ -168,7 +168,7 @@ module _ (s : ℕ) (b : List ℕ) (bs : Bytes b) (h : 1 ≤ s) (l : s < bound32)
     unfolding contentBytes
     exact-log =
         let forth : map entryBytes (map entryOf entries) ≡ entries =
-            map-back entryOf entryBytes (λ p f. entryBytes-of s p (f .1) (f .0)) entries (r .pass) in
+        map-back entryOf entryBytes (λ p f. entryBytes-of s p (f .1) (f .0)) entries (r .pass) in
         let k : length (map entryOf entries) ≡ n = length-map entries entryOf ∙ length-payloads 0x12 18 n b 7 in
         exact-of (log (map entryOf entries)) (7 + 18 * n) (18 * n) refl (r .are ∙ ap (fields 0x12) (sym forth)) (and-right (leb 1 n) _ t)
         (ap (λ (i : ℕ). map entryOf (payloads 0x12 18 i b 7)) (sym k))
@@ -176,11 +176,11 @@ module _ (s : ℕ) (b : List ℕ) (bs : Bytes b) (h : 1 ≤ s) (l : s < bound32)
           from = h;
           below = l;
           content =
-            record {
-              some = omega (arith, leb-true 1 n (and-left (leb 1 n) _ t));
-              few = omega (arith, r .few);
-              entries = every-to entryOf (λ p f. entryOf-fits s p (f .1) (f .0)) entries (r .pass)
-            }
+              record {
+                some = omega (arith, leb-true 1 n (and-left (leb 1 n) _ t));
+                few = omega (arith, r .few);
+                entries = every-to entryOf (λ p f. entryOf-fits s p (f .1) (f .0)) entries (r .pass);
+              };
         })
 
   module _ (t : (nodeOk (payloadAt b 7 0x11) && sealedAt b (7 + taken (payloadAt b 7 0x11))) ≡ true) where
@@ -208,7 +208,7 @@ module _ (s : ℕ) (b : List ℕ) (bs : Bytes b) (h : 1 ≤ s) (l : s < bound32)
         (record {
           from = h;
           below = l;
-          content = record { id = numberAt-lt 2 node-payload 0 y (omega (arith, node-long node-payload m)); node = nodeOf-fits node-payload y m }
+          content = record { id = numberAt-lt 2 node-payload 0 y (omega (arith, node-long node-payload m)); node = nodeOf-fits node-payload y m };
         })
 
   abbrev tariff : List ℕ
@@ -225,63 +225,62 @@ module _ (s : ℕ) (b : List ℕ) (bs : Bytes b) (h : 1 ≤ s) (l : s < bound32)
       (n : ℕ) (r : Ran scoreOk 0x14 9 (mostScores (found tariff)) b start n)
       (t : (leb 1 n && ((found (payloadAt b (start + 9 * n) 0x15) || eqb n (mostScores (found tariff))) && sealedAt b (start + 9 * n + taken (payloadAt b (start + 9 * n) 0x15)))) ≡ true)
     where
-    abbrev scores : List (List ℕ)
-    scores = payloads 0x14 9 n b start
+      abbrev scores : List (List ℕ)
+      scores = payloads 0x14 9 n b start
 
-    abbrev count : List ℕ
-    count = payloadAt b (start + 9 * n) 0x15
+      abbrev count : List ℕ
+      count = payloadAt b (start + 9 * n) 0x15
 
-    rest-test : ((found count || eqb n (mostScores (found tariff))) && sealedAt b (start + 9 * n + taken count)) ≡ true
-    rest-test = and-right (leb 1 n) _ t
+      rest-test : ((found count || eqb n (mostScores (found tariff))) && sealedAt b (start + 9 * n + taken count)) ≡ true
+      rest-test = and-right (leb 1 n) _ t
 
-    scores-forth : map scoreBytes (map scoreOf scores) ≡ scores
-    scores-forth = map-back scoreOf scoreBytes (λ p f. scoreBytes-of p (f .1) (eqb-true (length p) 6 (f .0))) scores (r .pass)
+      scores-forth : map scoreBytes (map scoreOf scores) ≡ scores
+      scores-forth = map-back scoreOf scoreBytes (λ p f. scoreBytes-of p (f .1) (eqb-true (length p) 6 (f .0))) scores (r .pass)
 
-    length-read : length (map scoreOf scores) ≡ n
-    length-read = length-map scores scoreOf ∙ length-payloads 0x14 9 n b start
+      length-read : length (map scoreOf scores) ≡ n
+      length-read = length-map scores scoreOf ∙ length-payloads 0x14 9 n b start
 
-    spelled : Content
-    spelled = checkpoint (readIf tariffOf tariff) (map scoreOf scores) (readIf number count)
+      spelled : Content
+      spelled = checkpoint (readIf tariffOf tariff) (map scoreOf scores) (readIf number count)
 
-    content-is : part b 7 (taken tariff + (9 * n + taken count)) ≡ contentBytes spelled
-    unfolding contentBytes spelled
-    content-is =
-        part-add b 7 (taken tariff) (9 * n + taken count) ∙
-        ap₂ _++_ (if-stands b bs 7 0x13 32 tariffOf tariffBytes only-13 tariffBytes-of)
-        (part-add b start (9 * n) (taken count) ∙
-        ap₂ _++_ (r .are ∙ ap (fields 0x14) (sym scores-forth))
-        (if-stands b bs (start + 9 * n) 0x15 2 number countBytes only-15 (λ p y k. ap (λ (w : ℕ). bigEndian w (number p)) (sym k) ∙ bigEndian-number p y)))
+      content-is : part b 7 (taken tariff + (9 * n + taken count)) ≡ contentBytes spelled
+      unfolding contentBytes spelled
+      content-is =
+          part-add b 7 (taken tariff) (9 * n + taken count) ∙
+          ap₂ _++_ (if-stands b bs 7 0x13 32 tariffOf tariffBytes only-13 tariffBytes-of)
+          (part-add b start (9 * n) (taken count) ∙
+          ap₂ _++_ (r .are ∙ ap (fields 0x14) (sym scores-forth))
+          (if-stands b bs (start + 9 * n) 0x15 2 number countBytes only-15 (λ p y k. ap (λ (w : ℕ). bigEndian w (number p)) (sym k) ∙ bigEndian-number p y)))
 
-    full : found count ≡ false → length (map scoreOf scores) ≡ mostScores (given (readIf tariffOf tariff))
-    full e =
-        let q : (found count || eqb n (mostScores (found tariff))) ≡ true = and-left (found count || eqb n (mostScores (found tariff))) _ rest-test in
-        length-read ∙ eqb-true n (mostScores (found tariff)) (rw e at q) ∙ ap mostScores (found-given tariff)
+      full : found count ≡ false → length (map scoreOf scores) ≡ mostScores (given (readIf tariffOf tariff))
+      full e =
+          let q : (found count || eqb n (mostScores (found tariff))) ≡ true = and-left (found count || eqb n (mostScores (found tariff))) _ rest-test in
+          length-read ∙ eqb-true n (mostScores (found tariff)) (rw e at q) ∙ ap mostScores (found-given tariff)
 
-    exact-checkpoint : Exact b (page s (checkpoint (readIf tariffOf tariff) (map scoreOf scores) (readIf number count)))
-    unfolding spelled
-    exact-checkpoint =
-        exact-of spelled (start + 9 * n + taken count) (taken tariff + (9 * n + taken count)) (omega arith) content-is
-        (and-right (found count || eqb n (mostScores (found tariff))) _ rest-test)
-        (
-          refl,
-          ap (λ (i : ℕ). map scoreOf (payloads 0x14 9 i b start)) (sym length-read),
-          ap (λ (i : ℕ). readIf number (payloadAt b (start + 9 * i) 0x15)) (sym length-read),
-        )
-        (record {
-          from = h;
-          below = l;
-          content =
-            record {
-              tariff = if-fits b bs 7 0x13 32 tariffOf tariffBytes TariffIfFits only-13 (λ e. tt) tariffOf-fits;
-              some = omega (arith, length-read, leb-true 1 n (and-left (leb 1 n) _ t));
-              few = rw (← (found-given tariff)) (omega (arith, length-read, r .few));
-              scores = every-to scoreOf (λ p f. scoreOf-fits p (f .1) (eqb-true (length p) 6 (f .0))) scores (r .pass);
-              filled =
-                if-fits b bs (start + 9 * n) 0x15 2 number countBytes
-                    (λ o. Filled (mostScores (given (readIf tariffOf tariff))) (length (map scoreOf scores)) o) only-15
-                    full (λ p y k. rw k at (number-lt p y))
-            }
-        })
+      exact-checkpoint : Exact b (page s (checkpoint (readIf tariffOf tariff) (map scoreOf scores) (readIf number count)))
+      unfolding spelled
+      exact-checkpoint =
+          exact-of spelled (start + 9 * n + taken count) (taken tariff + (9 * n + taken count)) (omega arith) content-is
+          (and-right (found count || eqb n (mostScores (found tariff))) _ rest-test) (
+            refl,
+            ap (λ (i : ℕ). map scoreOf (payloads 0x14 9 i b start)) (sym length-read),
+            ap (λ (i : ℕ). readIf number (payloadAt b (start + 9 * i) 0x15)) (sym length-read),
+          )
+          (record {
+            from = h;
+            below = l;
+            content =
+                record {
+                  tariff = if-fits b bs 7 0x13 32 tariffOf tariffBytes TariffIfFits only-13 (λ e. tt) tariffOf-fits;
+                  some = omega (arith, length-read, leb-true 1 n (and-left (leb 1 n) _ t));
+                  few = rw (← (found-given tariff)) (omega (arith, length-read, r .few));
+                  scores = every-to scoreOf (λ p f. scoreOf-fits p (f .1) (eqb-true (length p) 6 (f .0))) scores (r .pass);
+                  filled =
+                      if-fits b bs (start + 9 * n) 0x15 2 number countBytes
+                      (λ o. Filled (mostScores (given (readIf tariffOf tariff))) (length (map scoreOf scores)) o) only-15
+                      full (λ p y k. rw k at (number-lt p y));
+                };
+          })
 
 entry-size : (s : ℕ) (p : List ℕ) → entryOk s p ≡ true → length p ≡ 15
 unfolding entryOk
@@ -346,7 +345,7 @@ module _ (b : List ℕ) (bs : Bytes b) (p : Page) where
           let l : number ten-payload < bound32 = rw k at (number-lt ten-payload y) in
           let four : ten-payload ≡ bigEndian 4 (number ten-payload) = sym (rw k at (bigEndian-number ten-payload y)) in
           let ten : part b 0 7 ≡ field 0x10 (bigEndian 4 (number ten-payload)) =
-              ap (λ (n : ℕ). part b 0 (3 + n)) (sym k) ∙ part-payload b 0 0x10 st bs ∙ ap (field 0x10) four in
+          ap (λ (n : ℕ). part b 0 (3 + n)) (sym k) ∙ part-payload b 0 0x10 st bs ∙ ap (field 0x10) four in
           content-case (number ten-payload) h l refl ten (getD b 7 0) (sym (written-from (number ten-payload) b h) ∙ e)
       go false f = never _ p e (written-zero (number ten-payload) b (leb-false 1 (number ten-payload) f))
 

@@ -26,7 +26,7 @@ entryValue p =
       version = numberAt 4 p 2;
       kind = getD p 6 0;
       key = numberAt 4 p 7;
-      pointer = numberAt 4 p 11
+      pointer = numberAt 4 p 11;
     }
 
 -- A payload of field 14.

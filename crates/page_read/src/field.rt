@@ -4,7 +4,6 @@ ghost use Prim.Native.Nat.{_+_, _*_, _≤_, _<_};
 ghost use lib.ListN.{length};
 ghost use Rattle.layout.specs.Layout.{mostEntries};
 ghost use Rattle.page.specs.Decode.{changeOk, entryOk, scoreOk, run};
-
 use wire::field::payload;
 use wire::number::read32;
 
@@ -55,8 +54,7 @@ pub fn count_entries(page: &[u8], sequence: u32) -> usize
     let mut at: usize = 7;
     while n < 27 {
         let p = payload(page, at, 0x12);
-        if entry_ok(p, sequence) {
-        } else {
+        if entry_ok(p, sequence) {} else {
             return n;
         }
         n += 1;

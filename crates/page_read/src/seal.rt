@@ -6,9 +6,9 @@ ghost use Rattle.laws.specs.BigEndian.{number};
 ghost use Rattle.wire.specs.Sum.{mostSummed};
 ghost use Rattle.wire.specs.Field.{payloadAt};
 ghost use Rattle.page.specs.Decode.{allBlank, sealedAt};
-
 use wire::field::payload;
-use wire::number::{read16, read32};
+use wire::number::read16;
+use wire::number::read32;
 use wire::sum::sum_bytes;
 
 // Whether every byte is FF.

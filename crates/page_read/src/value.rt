@@ -6,10 +6,11 @@ ghost use Rattle.layout.specs.Layout.{mostEntries, mostKeys, otherScores};
 ghost use Rattle.wire.specs.Field.{payloadAt};
 ghost use Rattle.page.specs.Decode.{tariffOf};
 ghost use Rattle.page_read.specs.Value.{entryValue, scoreValue, costsAt, pairValue, linkValue};
-
-use account::{Costs, Tariff};
+use account::Costs;
+use account::Tariff;
 use wire::field::payload;
-use wire::number::{read16, read32};
+use wire::number::read16;
+use wire::number::read32;
 
 // A log entry as it stands.
 pub struct EntryValue {

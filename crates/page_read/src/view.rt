@@ -7,9 +7,11 @@ ghost use Rattle.wire.specs.Field.{payloadAt};
 ghost use Rattle.page.specs.Decode.{entryOk, run, found, taken, mostScores, decodeLog, decodeNode, decodeCounted, decodeCheckpoint};
 ghost use Rattle.page_read.specs.View.{view, viewOf};
 ghost use Rattle.page_read.specs.Asked.{Asked};
-
-use super::field::{count_entries, count_scores};
-use super::seal::{all_blank, is_sealed, sequence};
+use super::field::count_entries;
+use super::field::count_scores;
+use super::seal::all_blank;
+use super::seal::is_sealed;
+use super::seal::sequence;
 use node::Kind;
 use wire::field::payload;
 use wire::number::read16;
@@ -24,7 +26,10 @@ pub enum Nodes {
 pub enum PageView {
     Blank,
     // A log page and how many entries it has.
-    Log { sequence: u32, entries: usize },
+    Log {
+        sequence: u32,
+        entries: usize,
+    },
     // A node page: the node's id, its kind and how many keys it has.
     Whole {
         sequence: u32,
@@ -100,7 +105,14 @@ fn view_node(page: &[u8], sequence: u32) -> PageView
 }
 
 // A checkpoint page whose n scores stand from a place on.
-fn view_scores(page: &[u8], sequence: u32, first: bool, at: usize, n: usize, most: usize) -> PageView
+fn view_scores(
+    page: &[u8],
+    sequence: u32,
+    first: bool,
+    at: usize,
+    n: usize,
+    most: usize,
+) -> PageView
     requires { ⌜ Asked (now page) first at n most ⌝ }
     ensures { λ r. ⌜ r ≡ view (decodeCounted sequence (payloadAt (now (page .entry)) 7 0x13) at n (now (page .entry))) ⌝ }
 {

@@ -3,18 +3,20 @@
 // tariff 0 0 0, 0 0 0, 1 1 and what a batch adds that hangs routes 0 to 24 with word 100 + route.
 ghost use Prim.Native.Nat.{_+_, _*_, _≤_, _<_};
 ghost use lib.ListN.{length};
+use account::Costs;
+use account::Tariff;
+use page_write::checkpoint_page::checkpoint_image;
+use page_write::checkpoint_page::lay_score;
+use page_write::log_page::lay_entry;
+use page_write::log_page::log_image;
 
-use account::{Costs, Tariff};
-use page_write::checkpoint_page::{checkpoint_image, lay_score};
-use page_write::log_page::{lay_entry, log_image};
-
-fn digit(n: u8) -> u8
-    requires { ⌜ n < 16 ⌝ }
-{
-    if n < 10 {
-        return n + 48;
+// The digit of a number's last four bits.
+fn digit(n: u8) -> u8 {
+    let d = n % 16;
+    if d < 10 {
+        return d + 48;
     }
-    n + 87
+    d + 87
 }
 
 // Prints a page.
@@ -24,7 +26,7 @@ fn show(image: [u8; 512]) {
     while i < 512 {
         let b = image[i];
         line[2 * i] = digit(b / 16);
-        line[2 * i + 1] = digit(b % 16);
+        line[2 * i + 1] = digit(b);
         i += 1;
     }
     io::write_all(1, &line);

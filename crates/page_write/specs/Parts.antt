@@ -117,7 +117,7 @@ length-checkpointBody s first t n records last count at end b h ea ee =
       length-append (field 0x10 (bigEndian 4 s)) (f ++ (m ++ z)),
       length-field 0x10 (bigEndian 4 s),
       length-append f (m ++ z),
-      length-append m z
+      length-append m z,
     )
 
 -- The tariff, the scores and the count one behind another, behind field 10.
@@ -222,5 +222,5 @@ length-nodeBody s id kind n keys pointers l =
       length-field 0x10 (bigEndian 4 s),
       length-field 0x11 w,
       length-wholeBytes id kind ps l,
-      length-firstPairs n keys pointers 0
+      length-firstPairs n keys pointers 0,
     )

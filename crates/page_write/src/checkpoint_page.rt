@@ -12,11 +12,13 @@ ghost use Rattle.page.specs.Decode.{mostScores};
 ghost use Rattle.page_write.specs.Laid.{summed};
 ghost use Rattle.page_write.specs.Pages.{scoreRecord, onlyIf, bodyOf, checkpointPage};
 ghost use Rattle.page_write.specs.Parts.{LaidTo};
-
-use super::frame::{lay_run, lay_sequence, lay_sums};
+use super::frame::lay_run;
+use super::frame::lay_sequence;
+use super::frame::lay_sums;
 use account::Tariff;
 use wire::field::lay_head;
-use wire::number::{write16, write32};
+use wire::number::write16;
+use wire::number::write32;
 
 // Lays the 6 bytes of a record: a node's id and its score.
 pub fn lay_score(records: &mut [u8], at: usize, id: u32, score: u32)
@@ -64,8 +66,7 @@ fn lay_opening(p: &mut [u8], first: bool, tariff: Tariff) -> usize
 }
 
 // Lays field 15 at a place where the page is the last; the place behind it.
-fn lay_closing(p: &mut [u8], at: usize, last: bool, count: u32)
-    -> usize
+fn lay_closing(p: &mut [u8], at: usize, last: bool, count: u32) -> usize
     requires { ⌜ (at + 5 ≤ length (now p)) × (count < 65536) ⌝ }
     ensures { λ r. ⌜ LaidTo (now (p .entry)) (now (p .exit)) at (fieldIf 0x15 countBytes (onlyIf last count)) r ⌝ }
 {
@@ -78,7 +79,16 @@ fn lay_closing(p: &mut [u8], at: usize, last: bool, count: u32)
 }
 
 // Lays a checkpoint page of the first n records, but for the FF behind the sums.
-fn lay_checkpoint(p: &mut [u8], sequence: u32, first: bool, tariff: Tariff, records: &[u8], n: usize, last: bool, count: u32)
+fn lay_checkpoint(
+    p: &mut [u8],
+    sequence: u32,
+    first: bool,
+    tariff: Tariff,
+    records: &[u8],
+    n: usize,
+    last: bool,
+    count: u32,
+)
     requires { ⌜ (length (now p) ≡ pageBytes) × ((n ≤ mostScores first) × ((6 * n ≤ length (now records)) × (count < 65536))) ⌝ }
     ensures { λ _. ⌜ now (p .exit) ≡ lay (now (p .entry)) 0 (summed (bodyOf (checkpointPage sequence first tariff n (now (records .entry)) last count))) ⌝ }
 {
@@ -91,7 +101,15 @@ fn lay_checkpoint(p: &mut [u8], sequence: u32, first: bool, tariff: Tariff, reco
 
 // The image of a checkpoint page of the first n records: with the tariff where it is the first page of its checkpoint, with
 // the node count where it is the last.
-pub fn checkpoint_image(sequence: u32, first: bool, tariff: Tariff, records: &[u8], n: usize, last: bool, count: u32) -> [u8; 512]
+pub fn checkpoint_image(
+    sequence: u32,
+    first: bool,
+    tariff: Tariff,
+    records: &[u8],
+    n: usize,
+    last: bool,
+    count: u32,
+) -> [u8; 512]
     requires { ⌜ (n ≤ mostScores first) × ((6 * n ≤ length (now records)) × (count < 65536)) ⌝ }
     ensures { λ r. ⌜ r ≡ image (checkpointPage sequence first tariff n (now (records .entry)) last count) ⌝ }
 {

@@ -9,10 +9,11 @@ ghost use Rattle.layout.specs.Layout.{pageBytes};
 ghost use Rattle.wire.specs.Field.{field};
 ghost use Rattle.page.specs.Image.{fields, sumsField};
 ghost use Rattle.page_write.specs.Chunks.{chunks};
-
 use wire::bytes::lay_bytes;
-use wire::field::{lay_field, lay_head};
-use wire::number::{write16, write32};
+use wire::field::lay_field;
+use wire::field::lay_head;
+use wire::number::write16;
+use wire::number::write32;
 use wire::sum::sum_bytes;
 
 // Lays one byte at a place.

@@ -6,12 +6,23 @@ ghost use Rattle.laws.specs.Lay.{lay};
 ghost use Rattle.layout.specs.Layout.{pageBytes, mostEntries};
 ghost use Rattle.page_write.specs.Laid.{summed};
 ghost use Rattle.page_write.specs.Pages.{entryRecord, logBody, logImage};
-
-use super::frame::{lay_byte, lay_run, lay_sequence, lay_sums};
-use wire::number::{write16, write32};
+use super::frame::lay_byte;
+use super::frame::lay_run;
+use super::frame::lay_sequence;
+use super::frame::lay_sums;
+use wire::number::write16;
+use wire::number::write32;
 
 // Lays an entry's 15 bytes in the log buffer.
-pub fn lay_entry(buffer: &mut [u8], at: usize, id: u32, version: u32, kind: u8, key: u32, pointer: u32)
+pub fn lay_entry(
+    buffer: &mut [u8],
+    at: usize,
+    id: u32,
+    version: u32,
+    kind: u8,
+    key: u32,
+    pointer: u32,
+)
     requires { ⌜ (at + 15 ≤ length (now buffer)) × (id < 65536) ⌝ }
     ensures { λ _. ⌜ now (buffer .exit) ≡ lay (now (buffer .entry)) at (entryRecord id version kind key pointer) ⌝ }
 {

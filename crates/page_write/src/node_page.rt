@@ -8,11 +8,13 @@ ghost use Rattle.page.specs.Image.{kindNumber, pairsBytes, image};
 ghost use Rattle.page_write.specs.Laid.{summed};
 ghost use Rattle.page_write.specs.Pages.{firstPairs, bodyOf, nodePage};
 ghost use Rattle.page_write.specs.Parts.{nodeHead};
-
-use super::frame::{lay_byte, lay_sequence, lay_sums};
+use super::frame::lay_byte;
+use super::frame::lay_sequence;
+use super::frame::lay_sums;
 use node::Kind;
 use wire::field::lay_head;
-use wire::number::{write16, write32};
+use wire::number::write16;
+use wire::number::write32;
 
 // 3 for a leaf, 4 for a branch.
 fn kind_number(kind: Kind) -> u8
@@ -53,7 +55,16 @@ fn lay_pairs(p: &mut [u8], at: usize, keys: &[u32], pointers: &[u32], n: usize)
 }
 
 // Lays a node page, but for the FF behind the sums.
-fn lay_node(p: &mut [u8], sequence: u32, id: u32, kind: Kind, keys: &[u32], pointers: &[u32], n: usize, link: u32)
+fn lay_node(
+    p: &mut [u8],
+    sequence: u32,
+    id: u32,
+    kind: Kind,
+    keys: &[u32],
+    pointers: &[u32],
+    n: usize,
+    link: u32,
+)
     requires { ⌜ (length (now p) ≡ pageBytes) × ((id < 65536) × (n ≤ mostKeys)) ⌝ }
     requires { ⌜ (n ≤ length (now keys)) × (n ≤ length (now pointers)) ⌝ }
     ensures { λ _. ⌜ now (p .exit) ≡ lay (now (p .entry)) 0 (summed (bodyOf (nodePage sequence id kind n (now (keys .entry)) (now (pointers .entry)) link))) ⌝ }
@@ -65,7 +76,15 @@ fn lay_node(p: &mut [u8], sequence: u32, id: u32, kind: Kind, keys: &[u32], poin
 }
 
 // The image of a node page of the first n keys, each with its pointer, and the link.
-pub fn node_image(sequence: u32, id: u32, kind: Kind, keys: &[u32], pointers: &[u32], n: usize, link: u32) -> [u8; 512]
+pub fn node_image(
+    sequence: u32,
+    id: u32,
+    kind: Kind,
+    keys: &[u32],
+    pointers: &[u32],
+    n: usize,
+    link: u32,
+) -> [u8; 512]
     requires { ⌜ (id < 65536) × (n ≤ mostKeys) ⌝ }
     requires { ⌜ (n ≤ length (now keys)) × (n ≤ length (now pointers)) ⌝ }
     ensures { λ r. ⌜ r ≡ image (nodePage sequence id kind n (now (keys .entry)) (now (pointers .entry)) link) ⌝ }

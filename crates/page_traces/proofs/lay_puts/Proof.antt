@@ -1,58 +1,50 @@
+-- `page_traces::lay_puts` meets its contract. The invariant: the place is 15 bytes behind for each entry laid, and the buffer
+-- keeps its length. Assumes nothing.
+use mathlib.Core.Path.{_≡_}
+use Prim.Native.Nat.{_+_, _*_, _-_, _≤_}
+use native.Mathlib.Omega.{arith}
+use lib.ListN.{length}
 use Rattle.page_traces.proofs.lay_puts.Statement.{statement}
 use Rattle.page_traces.proofs.lay_puts.Tie as tie
-use Rattle.page_traces.proofs.lay_puts.Reads as reads
-use Rattle.page_traces.proofs.lay_puts.Lts as lts
-use Rattle.page_write.proofs.log_page.lay_entry.Reads as lay-entry-reads
 
 abbrev Inv-loop : tie.InvT-loop
-Inv-loop buffer₀ at id version from n place₀ i₀ buffer place i = ?
+Inv-loop buffer₀ at id version from n place₀ i₀ buffer place i = (i ≤ n) × ((place ≡ at + 15 * i) × (length buffer ≡ length buffer₀))
 
 abbrev μ-loop : tie.MeasureT-loop
-μ-loop buffer₀ at id version from n place₀ i₀ buffer place i = ?
+μ-loop buffer₀ at id version from n place₀ i₀ buffer place i = n - i
 
--- src/main.rt:39:5
 loop-holds : tie.Need-loop-holds Inv-loop μ-loop
-loop-holds c = ?
+loop-holds c = omega arith
 
--- src/main.rt:40:50
 add-lay-entry : tie.Need-add-lay-entry Inv-loop μ-loop
-add-lay-entry c = ?
+add-lay-entry c = omega arith
 
--- src/main.rt:40:60
 add-lay-entry-2 : tie.Need-add-lay-entry-2 Inv-loop μ-loop
-add-lay-entry-2 c = ?
+add-lay-entry-2 c = omega arith
 
--- src/main.rt:40:60
 add-lay-entry-3 : tie.Need-add-lay-entry-3 Inv-loop μ-loop
-add-lay-entry-3 c = ?
+add-lay-entry-3 c = omega arith
 
--- src/main.rt:40:9
 lay-entry-requires : tie.Need-lay-entry-requires Inv-loop μ-loop
-lay-entry-requires c κs = ?
+lay-entry-requires c κs = omega arith
 
--- src/main.rt:41:9
 add-place : tie.Need-add-place Inv-loop μ-loop
-add-place c = ?
+add-place c = omega arith
 
--- src/main.rt:42:9
 add-i : tie.Need-add-i Inv-loop μ-loop
-add-i c = ?
+add-i c = omega arith
 
--- src/main.rt:39:5
 loop-less : tie.Need-loop-less Inv-loop μ-loop
-loop-less c = ?
+loop-less c = omega arith
 
--- src/main.rt:39:5
 loop-again : tie.Need-loop-again Inv-loop μ-loop
-loop-again c = ?
+loop-again c = omega arith
 
--- src/main.rt:34:1
 same-length : tie.Need-same-length Inv-loop μ-loop
-same-length c = ?
+same-length c = omega arith
 
--- src/main.rt:34:1
 returns : tie.Need-returns Inv-loop μ-loop
-returns c = ?
+returns c = tt
 
 pub lay-puts-spec : {M : Type 1} → statement M
 lay-puts-spec =

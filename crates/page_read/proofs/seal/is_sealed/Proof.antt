@@ -1,15 +1,17 @@
+-- `page_read::seal::is_sealed` meets its contract. Each return is the case of the definition that the tests before it pick;
+-- where the sums are found they lie within the page. Assumes nothing.
 use mathlib.Core.Path.{_≡_, sym, ap, _∙_}
 use mathlib.Core.List.{List}
 use Prim.Native.Nat.{ℕ, _+_, _-_, _≤_}
 use native.Mathlib.Omega.{arith}
 use lib.ListN.{length, take, drop, length-drop}
 use lib.Seq.{length-take-le, take-all}
+use borrow.Author.Needs.{needs}
 use Rattle.laws.specs.BigEndian.{numberAt}
 use Rattle.wire.specs.declared.sum.Sums.{Sums}
 use Rattle.page.specs.Decode.{allBlank}
 use Rattle.page_read.specs.Payload.{sums-within}
 use Rattle.page_read.specs.Steps.{no-sums, other-b, other-a, both-sums}
-use borrow.Author.Needs.{needs}
 use Rattle.page_read.proofs.seal.is_sealed.Statement.{statement}
 use Rattle.page_read.proofs.seal.is_sealed.Tie as tie
 

@@ -1,15 +1,17 @@
+-- `page_read::view::view_checkpoint` meets its contract. Where the scores begin and how many there may be goes by whether field
+-- 13 was found. Assumes nothing.
 use mathlib.Core.Path.{_≡_, refl, sym, ap, _∙_}
 use mathlib.Core.Bool.{true}
 use mathlib.Core.List.{List}
 use Prim.Native.Nat.{ℕ, _+_, _≤_}
 use native.Mathlib.Omega.{arith}
 use lib.ListN.{length}
+use borrow.Author.Needs.{needs}
 use Rattle.wire.specs.Field.{payloadAt}
 use Rattle.page.specs.Decode.{found, taken, mostScores}
 use Rattle.page.specs.Tags.{only-13}
 use Rattle.page_read.specs.Payload.{payload-empty, found-true, taken-some}
 use Rattle.page_read.specs.Steps.{checkpoint-is}
-use borrow.Author.Needs.{needs}
 use Rattle.page_read.proofs.view.view_checkpoint.Statement.{statement}
 use Rattle.page_read.proofs.view.view_checkpoint.Tie as tie
 
@@ -27,7 +29,7 @@ view-scores-requires c κs = let b = c .before .before .before .before .args .pa
       tariff = sym (ap found z);
       limit = sym (ap (λ (p : List ℕ). mostScores (found p)) z);
       place = omega arith;
-      few = c .count-scores .ensures .1
+      few = c .count-scores .ensures .1;
     }
 
 returns : tie.Need-returns
@@ -50,7 +52,7 @@ view-scores-requires-2 c κs = let b = c .before .before .before .before .args .
       tariff = sym f;
       limit = sym (ap mostScores f);
       place = omega arith;
-      few = omega (arith, c .count-scores2 .ensures .1)
+      few = omega (arith, c .count-scores2 .ensures .1);
     }
 
 returns-2 : tie.Need-returns-2

@@ -1,10 +1,12 @@
+-- `page_read::view::view_log` meets its contract. Each return is the view of the case that the tests before it pick. Assumes
+-- nothing.
 use mathlib.Core.Path.{sym, ap, _∙_}
 use Prim.Native.Nat.{ℕ}
 use native.Mathlib.Omega.{arith}
+use borrow.Author.Needs.{needs}
 use Rattle.page.specs.Decode.{decodeLog}
 use Rattle.page_read.specs.View.{view}
 use Rattle.page_read.specs.Steps.{log-none, log-unsealed, log-sealed}
-use borrow.Author.Needs.{needs}
 use Rattle.page_read.proofs.view.view_log.Statement.{statement}
 use Rattle.page_read.proofs.view.view_log.Tie as tie
 

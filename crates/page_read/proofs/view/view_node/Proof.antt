@@ -1,8 +1,11 @@
+-- `page_read::view::view_node` meets its contract. Each return is the view of the case that the tests before it pick; a payload
+-- that is too short for a node is none. Assumes nothing.
 use mathlib.Core.Path.{_≡_, refl, sym, ap, ap₂, _∙_}
 use mathlib.Core.List.{List}
 use Prim.Native.Nat.{ℕ, _+_, _-_, _/_, _≤_, _<_}
 use native.Mathlib.Omega.{arith}
 use lib.ListN.{length, getD}
+use borrow.Author.Needs.{needs}
 use Rattle.laws.specs.BigEndian.{numberAt}
 use Rattle.node.specs.declared.Kind.the-variants.{Leaf, Branch}
 use Rattle.wire.specs.Field.{payloadAt}
@@ -10,7 +13,6 @@ use Rattle.page.specs.Decode.{sealedAt, taken}
 use Rattle.page_read.specs.declared.view.PageView.the-variants.{Whole}
 use Rattle.page_read.specs.Payload.{found-true, found-false, taken-some, node-short}
 use Rattle.page_read.specs.Steps.{node-none, node-other, node-unsealed, node-sealed}
-use borrow.Author.Needs.{needs}
 use Rattle.page_read.proofs.view.view_node.Statement.{statement}
 use Rattle.page_read.proofs.view.view_node.Tie as tie
 

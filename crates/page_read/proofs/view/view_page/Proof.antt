@@ -1,11 +1,13 @@
+-- `page_read::view::view_page` meets its contract. Each return is the view of the case that the tests before it pick. Assumes
+-- nothing.
 use mathlib.Core.Path.{_≡_, refl, sym, ap, _∙_}
 use Prim.Native.Nat.{ℕ, _≤_}
 use native.Mathlib.Omega.{arith}
 use lib.ListN.{getD}
+use borrow.Author.Needs.{needs}
 use Rattle.page.specs.Decode.{decodeWritten}
 use Rattle.page.specs.Cases.{decode-blank, decode-other, written-zero, written-from, content-log, content-node, content-checkpoint}
 use Rattle.page_read.specs.View.{view, viewOf}
-use borrow.Author.Needs.{needs}
 use Rattle.page_read.proofs.view.view_page.Statement.{statement}
 use Rattle.page_read.proofs.view.view_page.Tie as tie
 

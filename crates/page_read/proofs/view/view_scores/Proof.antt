@@ -1,3 +1,5 @@
+-- `page_read::view::view_scores` meets its contract. Each return is the view of the case that the tests before it pick. Assumes
+-- nothing.
 use mathlib.Core.Path.{_≡_, refl, sym, ap, ap₂, _∙_}
 use mathlib.Core.Bool.{Bool, true, false, _||_}
 use mathlib.Core.List.{List}
@@ -6,6 +8,7 @@ use native.Mathlib.Omega.{arith}
 use lib.Dec.{eqb}
 use lib.ListN.{length}
 use borrow.Author.Tests.{eq-eqb}
+use borrow.Author.Needs.{needs}
 use Rattle.laws.specs.BigEndian.{number}
 use Rattle.wire.specs.Field.{payloadAt}
 use Rattle.page.specs.Decode.{sealedAt, taken, found, mostScores, decodeCounted}
@@ -15,7 +18,6 @@ use Rattle.page_read.specs.declared.view.Nodes.the-variants.{Count}
 use Rattle.page_read.specs.declared.view.PageView.the-variants.{Checkpoint}
 use Rattle.page_read.specs.Payload.{payload-empty, found-true, taken-some, taken-none, number-whole}
 use Rattle.page_read.specs.Steps.{scores-none, scores-unfilled, scores-unsealed, scores-sealed, given-read, nodes-none, nodes-some}
-use borrow.Author.Needs.{needs}
 use Rattle.page_read.proofs.view.view_scores.Statement.{statement}
 use Rattle.page_read.proofs.view.view_scores.Tie as tie
 
@@ -53,7 +55,7 @@ returns-3 c = let a = c .before .before .before .before .before .before .before 
     let z = payload-empty b (a .at + 9 * a .n) 0x15 2 only-15 (λ y. c .before .before .before .if2 .taken (ap length (c .before .before .before .before .payload .ensures) ∙ y)) in
     let f : found count ≡ false = ap found z in
     let m : (found count || eqb (a .n) (mostScores (found t))) ≡ true =
-        ap (λ (x : Bool). x || eqb (a .n) (mostScores (found t))) f ∙ eq-eqb (a .n) (mostScores (found t)) (c .before .before .if3 .left ∙ c .before .before .before .before .before .before .before .pre .limit) in
+    ap (λ (x : Bool). x || eqb (a .n) (mostScores (found t))) f ∙ eq-eqb (a .n) (mostScores (found t)) (c .before .before .if3 .left ∙ c .before .before .before .before .before .before .before .pre .limit) in
     let e : a .at + 9 * a .n ≡ a .at + 9 * a .n + taken count = omega (arith, ap taken z) in
     ap₂ (λ (x : Bool) (y : Nodes). Checkpoint (a .sequence) x (a .n) y) (c .before .before .before .before .before .before .before .pre .tariff ∙ given-read t) (nodes-none count f) ∙
     scores-sealed (a .sequence) t (a .at) (a .n) count b (c .before .before .before .before .before .if1 .left) m (ap (sealedAt b) (sym e) ∙ sym (c .before .is-sealed .ensures) ∙ c .if4 .taken)
@@ -67,7 +69,7 @@ returns-4 c = let a = c .before .before .before .before .before .before .before 
     let z = payload-empty b (a .at + 9 * a .n) 0x15 2 only-15 (λ y. c .before .before .before .if2 .taken (ap length (c .before .before .before .before .payload .ensures) ∙ y)) in
     let f : found count ≡ false = ap found z in
     let m : (found count || eqb (a .n) (mostScores (found t))) ≡ true =
-        ap (λ (x : Bool). x || eqb (a .n) (mostScores (found t))) f ∙ eq-eqb (a .n) (mostScores (found t)) (c .before .before .if3 .left ∙ c .before .before .before .before .before .before .before .pre .limit) in
+    ap (λ (x : Bool). x || eqb (a .n) (mostScores (found t))) f ∙ eq-eqb (a .n) (mostScores (found t)) (c .before .before .if3 .left ∙ c .before .before .before .before .before .before .before .pre .limit) in
     let e : a .at + 9 * a .n ≡ a .at + 9 * a .n + taken count = omega (arith, ap taken z) in
     scores-unsealed (a .sequence) t (a .at) (a .n) count b (c .before .before .before .before .before .if1 .left) m (ap (sealedAt b) (sym e) ∙ sym (c .before .is-sealed .ensures) ∙ c .if4 .left)
 
