@@ -5,8 +5,8 @@ ghost use Prim.Native.Nat.{_+_, _*_, _≤_, _<_};
 ghost use lib.ListN.{length};
 use account::Costs;
 use account::Tariff;
-use page_write::checkpoint_page::checkpoint_image;
-use page_write::checkpoint_page::lay_score;
+use checkpoint_write::checkpoint_image;
+use checkpoint_write::lay_score;
 use page_write::log_page::lay_entry;
 use page_write::log_page::log_image;
 

@@ -1,25 +1,32 @@
 -- What the writers of each kind of page are given, and the page that they write. Assumes nothing.
-use mathlib.Core.Path.{_≡_, refl, sym, ap, ap₂, _∙_}
-use mathlib.Core.Bool.{Bool, true, false}
+use mathlib.Core.Path.{_≡_, refl, sym, ap}
+use mathlib.Core.Bool.{true}
 use mathlib.Core.List.{List, [], _∷_, _++_, map}
-use mathlib.Core.Option.{Option, none, some}
-use Prim.Native.Nat.{ℕ, zero, suc, _+_, _*_, _≤_, _<_}
-use native.Mathlib.Omega.{arith}
-use lib.ListN.{length, getD}
-use Rattle.laws.specs.Every.{Every, every-weaken}
+use Prim.Native.Nat.{ℕ, zero, suc, _+_}
+use lib.ListN.{getD}
+use Rattle.laws.specs.Every.{Every}
 use Rattle.laws.specs.BigEndian.{Bytes, bigEndian}
-use Rattle.layout.specs.Layout.{pageBytes, firstScores, otherScores}
-use Rattle.account.specs.declared.Tariff.{Tariff}
+use Rattle.layout.specs.Layout.{pageBytes}
 use Rattle.pairs.specs.Pairs.{Pair}
 use Rattle.node.specs.declared.Kind.{Kind}
-use Rattle.node.specs.Node.{Node, node}
-use Rattle.page.specs.Page.{Entry, Score, Content, log, whole, checkpoint, Page, page}
+use Rattle.node.specs.Node.{node}
 use Rattle.node.specs.Change.{Change}
-use Rattle.page.specs.Image.{changeNumber, changeKey, changePointer, entryBytes, scoreBytes, fields, contentBytes, numbered, sealed, image}
-use Rattle.page.specs.Decode.{entryOk, entryOf, scoreOf}
-use Rattle.page.specs.Spelled.{entryBytes-of, scoreBytes-of}
+use Rattle.page.specs.Page.{Entry, log, whole, Page, page}
+use Rattle.page.specs.Image.{
+  changeNumber,
+  changeKey,
+  changePointer,
+  entryBytes,
+  fields,
+  contentBytes,
+  numbered,
+  sealed,
+  image,
+}
+use Rattle.page.specs.Decode.{entryOk, entryOf}
+use Rattle.page.specs.Spelled.{entryBytes-of}
 use Rattle.page.specs.ReadBack.{map-back}
-use Rattle.page_write.specs.Chunks.{chunks, every-chunk}
+use Rattle.page_write.specs.Chunks.{chunks}
 
 -- ---- log pages: from the log buffer, 15 bytes an entry
 
@@ -51,33 +58,7 @@ logImage-is s n buffer h =
     let forth = map-back entryOf entryBytes (λ p f. entryBytes-of s p (f .1) (f .0)) (chunks 15 n buffer 0) h in
     ap (λ (ps : List (List ℕ)). sealed pageBytes (numbered s (fields 0x12 ps))) (sym forth)
 
--- ---- checkpoint pages: from records of 6 bytes, id and score
-
--- The bytes of one.
-unfoldable pub scoreRecord : ℕ → ℕ → List ℕ
-scoreRecord id score = bigEndian 2 id ++ bigEndian 4 score
-
-pub scoreRecord-bytes : (id score : ℕ) → scoreRecord id score ≡ scoreBytes (record { id = id; score = score })
-unfolding scoreRecord scoreBytes
-scoreRecord-bytes id score = refl
-
--- What there is where a flag says so.
-abbrev pub onlyIf : {A : Type 0} → Bool → A → Option A
-onlyIf true a = some a
-onlyIf false a = none
-
--- The scores that a buffer of records spells.
-unfoldable pub scoresIn : ℕ → List ℕ → List Score
-scoresIn n records = map scoreOf (chunks 6 n records 0)
-
--- The page of the first n records: with the tariff where it is the first, with the node count where it is the last.
-unfoldable pub checkpointPage : ℕ → Bool → Tariff → ℕ → List ℕ → Bool → ℕ → Page
-checkpointPage s first t n records last count = page s (checkpoint (onlyIf first t) (scoresIn n records) (onlyIf last count))
-
-pub scoresIn-bytes : (n : ℕ) (records : List ℕ) → Bytes records → 6 * n ≤ length records → map scoreBytes (scoresIn n records) ≡ chunks 6 n records 0
-unfolding scoresIn
-scoresIn-bytes n records b h =
-    map-back scoreOf scoreBytes (λ p f. scoreBytes-of p (f .1) (f .0)) (chunks 6 n records 0) (every-chunk 6 n records 0 b (omega arith))
+-- ---- every page
 
 -- What stands before the sums.
 unfoldable pub bodyOf : Page → List ℕ

@@ -1,74 +1,20 @@
 -- The pieces of a content laid one behind another make the content. Assumes nothing.
-use mathlib.Core.Path.{_≡_, refl, sym, ap, ap₂, _∙_}
-use mathlib.Core.Bool.{Bool, true, false}
-use mathlib.Core.List.{List, [], _∷_, _++_, map, append-assoc}
-use mathlib.Core.Option.{Option, none, some}
+use mathlib.Core.Path.{_≡_, refl, sym, ap, _∙_}
+use mathlib.Core.List.{List, [], _∷_, _++_}
 use Prim.Native.Nat.{ℕ, zero, suc, _+_, _-_, _*_, _≤_, _<_}
 use native.Mathlib.Omega.{arith}
 use lib.ListN.{length, getD, length-append}
 use Rattle.laws.specs.Lay.{lay, lay-nil, lay-next, length-lay}
-use Rattle.laws.specs.BigEndian.{bigEndian, Bytes}
-use Rattle.account.specs.declared.Costs.{Costs}
-use Rattle.account.specs.declared.Tariff.{Tariff}
+use Rattle.laws.specs.BigEndian.{bigEndian}
 use Rattle.node.specs.declared.Kind.{Kind}
-use Rattle.node.specs.Node.{Node, node}
-use Rattle.pairs.specs.Pairs.{Pair}
+use Rattle.node.specs.Node.{node}
 use Rattle.wire.specs.Field.{field, head}
-use Rattle.wire.specs.FieldLaws.{lay-field, length-field}
-use Rattle.page.specs.Page.{Content, checkpoint, whole}
-use Rattle.page.specs.Image.{kindNumber, pairsBytes, wholeBytes, tariffBytes, scoreBytes, countBytes, fields, fieldIf, contentBytes, numbered}
-use Rattle.page.specs.Decode.{mostScores}
-use Rattle.page.specs.Spelled.{length-tariffBytes, length-scoreBytes}
-use Rattle.page.specs.SpelledNode.{length-pairsBytes, length-wholeBytes}
-use Rattle.page_write.specs.Chunks.{chunks, length-chunk-fields}
+use Rattle.wire.specs.FieldLaws.{length-field}
+use Rattle.page.specs.Image.{kindNumber, pairsBytes, wholeBytes, contentBytes, numbered}
+use Rattle.page.specs.SpelledNode.{length-wholeBytes}
+use Rattle.page_write.specs.Chunks.{length-chunk-fields}
 use Rattle.page_write.specs.Laid.{numbered-laid}
-use Rattle.page_write.specs.Pages.{entryRecord, logBody, onlyIf, scoresIn, scoresIn-bytes, firstPairs, bodyOf, checkpointPage, nodePage}
-
--- Something laid at a place, and the place behind it.
-pub record LaidTo (before after : List ℕ) (at : ℕ) (bytes : List ℕ) (next : ℕ) : Type 0 where
-  pub is : after ≡ lay before at bytes
-  pub behind : next ≡ at + length bytes
-
--- ---- the tariff
-
-module _ (s : List ℕ) (at : ℕ) (a b c : ℕ) where
-  pub three-laid : at + 12 ≤ length s →
-      lay (lay (lay s at (bigEndian 4 a)) (at + 4) (bigEndian 4 b)) (at + 8) (bigEndian 4 c) ≡ lay s at (bigEndian 4 a ++ (bigEndian 4 b ++ bigEndian 4 c))
-  three-laid h =
-      let l : length (lay s at (bigEndian 4 a)) ≡ length s = length-lay s at (bigEndian 4 a) (omega arith) in
-      lay-next (lay s at (bigEndian 4 a)) (at + 4) (bigEndian 4 b) (bigEndian 4 c) (at + 8) (omega arith) (omega arith) ∙
-      lay-next s at (bigEndian 4 a) (bigEndian 4 b ++ bigEndian 4 c) (at + 4) (omega arith) refl
-
--- Field 13 in five pieces.
-module _ (s : List ℕ) (at : ℕ) (t : Tariff) (h : at + 35 ≤ length s) where
-  abbrev logs : List ℕ
-  logs = bigEndian 4 (t .log .read) ++ (bigEndian 4 (t .log .edit) ++ bigEndian 4 (t .log .rewrite))
-
-  abbrev disks : List ℕ
-  disks = bigEndian 4 (t .disk .read) ++ (bigEndian 4 (t .disk .edit) ++ bigEndian 4 (t .disk .rewrite))
-
-  abbrev enters : List ℕ
-  enters = bigEndian 4 (t .disk .enter) ++ bigEndian 4 (t .log .enter)
-
-  pub tariff-laid :
-      lay (lay (lay (lay (lay s at (head 0x13 32)) (at + 3) logs) (at + 15) disks) (at + 27) (bigEndian 4 (t .disk .enter))) (at + 31) (bigEndian 4 (t .log .enter)) ≡
-      lay s at (field 0x13 (tariffBytes t))
-  unfolding tariffBytes
-  tariff-laid =
-      let s₁ = lay s at (head 0x13 32) in
-      let s₂ = lay s₁ (at + 3) logs in
-      let s₃ = lay s₂ (at + 15) disks in
-      let l₁ : length s₁ ≡ length s = length-lay s at (head 0x13 32) (omega arith) in
-      let l₂ : length s₂ ≡ length s₁ = length-lay s₁ (at + 3) logs (omega arith) in
-      let l₃ : length s₃ ≡ length s₂ = length-lay s₂ (at + 15) disks (omega arith) in
-      lay-next s₃ (at + 27) (bigEndian 4 (t .disk .enter)) (bigEndian 4 (t .log .enter)) (at + 31) (omega arith) (omega arith) ∙
-      lay-next s₂ (at + 15) disks enters (at + 27) (omega arith) (omega arith) ∙
-      lay-next s₁ (at + 3) logs (disks ++ enters) (at + 15) (omega arith) (omega arith) ∙
-      lay-field s at 0x13 32 (tariffBytes t) (omega arith) refl
-
-pub length-tariffIf : (b : Bool) (t : Tariff) → length (fieldIf 0x13 tariffBytes (onlyIf b t)) ≤ 35
-length-tariffIf true t = omega (arith, length-field 0x13 (tariffBytes t), length-tariffBytes t)
-length-tariffIf false t = omega arith
+use Rattle.page_write.specs.Pages.{entryRecord, logBody, firstPairs, bodyOf, nodePage}
 
 -- ---- log pages
 
@@ -91,57 +37,6 @@ entry-laid s at id version kind key pointer h =
 pub length-logBody : (s n : ℕ) (buffer : List ℕ) → 15 * n ≤ length buffer → 7 + 18 * n ≡ length (logBody s n buffer)
 unfolding logBody numbered field
 length-logBody s n buffer h = omega (arith, length-chunk-fields 0x12 15 n buffer h)
-
--- ---- checkpoint pages
-
--- The scores leave room for the count and the sums; so does the count for the sums.
-pub scores-room : (first : Bool) (t : Tariff) (n : ℕ) → n ≤ mostScores first → length (fieldIf 0x13 tariffBytes (onlyIf first t)) + 9 * n ≤ 493
-scores-room true t n h = omega (arith, length-field 0x13 (tariffBytes t), length-tariffBytes t)
-scores-room false t n h = omega arith
-
-pub count-room : (last : Bool) (count : ℕ) → length (fieldIf 0x15 countBytes (onlyIf last count)) ≤ 5
-count-room true count = omega (arith, length-field 0x15 (countBytes count))
-count-room false count = omega arith
-
-pub length-checkpointBody : (s : ℕ) (first : Bool) (t : Tariff) (n : ℕ) (records : List ℕ) (last : Bool) (count at end : ℕ) →
-    Bytes records → 6 * n ≤ length records → at ≡ 7 + length (fieldIf 0x13 tariffBytes (onlyIf first t)) →
-    end ≡ at + 9 * n + length (fieldIf 0x15 countBytes (onlyIf last count)) → end ≡ length (bodyOf (checkpointPage s first t n records last count))
-unfolding bodyOf checkpointPage contentBytes numbered
-length-checkpointBody s first t n records last count at end b h ea ee =
-    let f = fieldIf 0x13 tariffBytes (onlyIf first t) in
-    let m = fields 0x14 (map scoreBytes (scoresIn n records)) in
-    let z = fieldIf 0x15 countBytes (onlyIf last count) in
-    let lm : length m ≡ 9 * n = ap (λ (ps : List (List ℕ)). length (fields 0x14 ps)) (scoresIn-bytes n records b h) ∙ length-chunk-fields 0x14 6 n records h in
-    omega (
-      arith,
-      length-append (field 0x10 (bigEndian 4 s)) (f ++ (m ++ z)),
-      length-field 0x10 (bigEndian 4 s),
-      length-append f (m ++ z),
-      length-append m z,
-    )
-
--- The tariff, the scores and the count one behind another, behind field 10.
-pub checkpoint-laid :
-    (p : List ℕ) (s : ℕ) (first : Bool) (t : Tariff) (n : ℕ) (records : List ℕ) (last : Bool) (count at end : ℕ) →
-    Bytes records → 6 * n ≤ length records → 42 ≤ length p →
-    at ≡ 7 + length (fieldIf 0x13 tariffBytes (onlyIf first t)) → end ≡ at + 9 * n → end ≤ length p →
-    lay (lay (lay (lay p 0 (field 0x10 (bigEndian 4 s))) 7 (fieldIf 0x13 tariffBytes (onlyIf first t))) at (fields 0x14 (chunks 6 n records 0))) end (fieldIf 0x15 countBytes (onlyIf last count)) ≡
-    lay p 0 (bodyOf (checkpointPage s first t n records last count))
-unfolding bodyOf checkpointPage contentBytes
-checkpoint-laid p s first t n records last count at end b h l ea ee le =
-    let f = fieldIf 0x13 tariffBytes (onlyIf first t) in
-    let m = fields 0x14 (chunks 6 n records 0) in
-    let z = fieldIf 0x15 countBytes (onlyIf last count) in
-    let p₁ = lay p 0 (field 0x10 (bigEndian 4 s)) in
-    let p₂ = lay p₁ 7 f in
-    let k : length (field 0x10 (bigEndian 4 s)) ≡ 7 = length-field 0x10 (bigEndian 4 s) in
-    let l₁ : length p₁ ≡ length p = length-lay p 0 (field 0x10 (bigEndian 4 s)) (omega arith) in
-    let l₂ : length p₂ ≡ length p₁ = length-lay p₁ 7 f (omega (arith, length-tariffIf first t)) in
-    let lm : length m ≡ 9 * n = length-chunk-fields 0x14 6 n records h in
-    lay-next p₂ at m z end (omega arith) (ee ∙ ap (λ (i : ℕ). at + i) (sym lm)) ∙
-    lay-next p₁ 7 f (m ++ z) at (omega arith) ea ∙
-    ap (λ (ps : List (List ℕ)). lay p₁ 7 (f ++ (fields 0x14 ps ++ z))) (sym (scoresIn-bytes n records b h)) ∙
-    numbered-laid p s (f ++ (fields 0x14 (map scoreBytes (scoresIn n records)) ++ z))
 
 -- ---- node pages
 

@@ -1,10 +1,11 @@
--- `page_write::checkpoint_page::checkpoint_image` meets its contract. The page laid over FF. Assumes nothing.
+-- `checkpoint_write::checkpoint_image` meets its contract. The page laid over FF. Assumes nothing.
 use mathlib.Core.Path.{_∙_}
 use borrow.Author.Needs.{needs}
 use Rattle.page_write.specs.Laid.{summed-blank}
-use Rattle.page_write.specs.Pages.{checkpointPage, bodyOf, image-sealed}
-use Rattle.page_write.proofs.checkpoint_page.checkpoint_image.Statement.{statement}
-use Rattle.page_write.proofs.checkpoint_page.checkpoint_image.Tie as tie
+use Rattle.checkpoint_write.specs.Checkpoint.{checkpointPage}
+use Rattle.page_write.specs.Pages.{bodyOf, image-sealed}
+use Rattle.checkpoint_write.proofs.checkpoint_image.Statement.{statement}
+use Rattle.checkpoint_write.proofs.checkpoint_image.Tie as tie
 
 slice-aggregate-lay-checkpoint : tie.Need-slice-aggregate-lay-checkpoint
 slice-aggregate-lay-checkpoint c = search needs

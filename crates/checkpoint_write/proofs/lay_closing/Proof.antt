@@ -1,4 +1,4 @@
--- `page_write::checkpoint_page::lay_closing` meets its contract. Field 15 where the page is the last, nothing else. Assumes
+-- `checkpoint_write::lay_closing` meets its contract. Field 15 where the page is the last, nothing else. Assumes
 -- nothing.
 use mathlib.Core.Path.{refl, sym, _∙_}
 use native.Mathlib.Nat.{add-zero}
@@ -7,8 +7,8 @@ use borrow.Author.Needs.{needs}
 use Rattle.laws.specs.Lay.{lay-nil}
 use Rattle.laws.specs.BigEndian.{bigEndian}
 use Rattle.wire.specs.FieldLaws.{lay-field, length-field}
-use Rattle.page_write.proofs.checkpoint_page.lay_closing.Statement.{statement}
-use Rattle.page_write.proofs.checkpoint_page.lay_closing.Tie as tie
+use Rattle.checkpoint_write.proofs.lay_closing.Statement.{statement}
+use Rattle.checkpoint_write.proofs.lay_closing.Tie as tie
 
 lay-head-requires : tie.Need-lay-head-requires
 lay-head-requires c κs = search needs

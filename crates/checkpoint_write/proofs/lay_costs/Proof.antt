@@ -1,10 +1,10 @@
--- `page_write::checkpoint_page::lay_costs` meets its contract. Three numbers laid one behind another. Assumes nothing.
+-- `checkpoint_write::lay_costs` meets its contract. Three numbers laid one behind another. Assumes nothing.
 use mathlib.Core.Path.{_∙_}
 use native.Mathlib.Omega.{arith}
 use borrow.Author.Needs.{needs}
-use Rattle.page_write.specs.Parts.{three-laid}
-use Rattle.page_write.proofs.checkpoint_page.lay_costs.Statement.{statement}
-use Rattle.page_write.proofs.checkpoint_page.lay_costs.Tie as tie
+use Rattle.checkpoint_write.specs.Checkpoint.{three-laid}
+use Rattle.checkpoint_write.proofs.lay_costs.Statement.{statement}
+use Rattle.checkpoint_write.proofs.lay_costs.Tie as tie
 
 write32-requires : tie.Need-write32-requires
 write32-requires c κs = search needs

@@ -1,11 +1,11 @@
--- `page_write::checkpoint_page::lay_tariff` meets its contract. Five pieces laid one behind another are field 13. Assumes
+-- `checkpoint_write::lay_tariff` meets its contract. Five pieces laid one behind another are field 13. Assumes
 -- nothing.
 use mathlib.Core.Path.{_∙_}
 use native.Mathlib.Omega.{arith}
 use borrow.Author.Needs.{needs}
-use Rattle.page_write.specs.Parts.{tariff-laid}
-use Rattle.page_write.proofs.checkpoint_page.lay_tariff.Statement.{statement}
-use Rattle.page_write.proofs.checkpoint_page.lay_tariff.Tie as tie
+use Rattle.checkpoint_write.specs.Checkpoint.{tariff-laid}
+use Rattle.checkpoint_write.proofs.lay_tariff.Statement.{statement}
+use Rattle.checkpoint_write.proofs.lay_tariff.Tie as tie
 
 lay-head-requires : tie.Need-lay-head-requires
 lay-head-requires c κs = search needs

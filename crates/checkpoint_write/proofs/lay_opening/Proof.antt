@@ -1,4 +1,4 @@
--- `page_write::checkpoint_page::lay_opening` meets its contract. Field 13 where the page is the first, nothing else. Assumes
+-- `checkpoint_write::lay_opening` meets its contract. Field 13 where the page is the first, nothing else. Assumes
 -- nothing.
 use mathlib.Core.Path.{sym, _∙_}
 use native.Mathlib.Nat.{add-zero}
@@ -8,8 +8,8 @@ use Rattle.laws.specs.Lay.{lay-nil}
 use Rattle.wire.specs.FieldLaws.{length-field}
 use Rattle.page.specs.Image.{tariffBytes}
 use Rattle.page.specs.Spelled.{length-tariffBytes}
-use Rattle.page_write.proofs.checkpoint_page.lay_opening.Statement.{statement}
-use Rattle.page_write.proofs.checkpoint_page.lay_opening.Tie as tie
+use Rattle.checkpoint_write.proofs.lay_opening.Statement.{statement}
+use Rattle.checkpoint_write.proofs.lay_opening.Tie as tie
 
 lay-tariff-requires : tie.Need-lay-tariff-requires
 lay-tariff-requires c κs = search needs

@@ -1,13 +1,13 @@
--- `page_write::checkpoint_page::lay_score` meets its contract. Two numbers laid one behind the other. Assumes nothing.
+-- `checkpoint_write::lay_score` meets its contract. Two numbers laid one behind the other. Assumes nothing.
 use mathlib.Core.Path.{refl, _∙_}
 use Prim.Native.Nat.{_+_}
 use native.Mathlib.Omega.{arith}
 use borrow.Author.Needs.{needs}
 use Rattle.laws.specs.Lay.{lay-next}
 use Rattle.laws.specs.BigEndian.{bigEndian}
-use Rattle.page_write.specs.Pages.{scoreRecord}
-use Rattle.page_write.proofs.checkpoint_page.lay_score.Statement.{statement}
-use Rattle.page_write.proofs.checkpoint_page.lay_score.Tie as tie
+use Rattle.checkpoint_write.specs.Checkpoint.{scoreRecord}
+use Rattle.checkpoint_write.proofs.lay_score.Statement.{statement}
+use Rattle.checkpoint_write.proofs.lay_score.Tie as tie
 
 write16-requires : tie.Need-write16-requires
 write16-requires c κs = search needs

@@ -1,4 +1,4 @@
-// Checkpoint pages, from records of 6 bytes: a node's id (2) and its score (4).
+// Writer of checkpoint pages, from records of 6 bytes: a node's id (2) and its score (4).
 ghost use mathlib.Core.Path.{_≡_};
 ghost use mathlib.Core.List.{_++_};
 ghost use Prim.Native.Nat.{_+_, _*_, _≤_, _<_};
@@ -9,13 +9,13 @@ ghost use Rattle.layout.specs.Layout.{pageBytes};
 ghost use Rattle.wire.specs.Field.{field};
 ghost use Rattle.page.specs.Image.{tariffBytes, countBytes, fieldIf, image};
 ghost use Rattle.page.specs.Decode.{mostScores};
 ghost use Rattle.page_write.specs.Laid.{summed};
-ghost use Rattle.page_write.specs.Pages.{scoreRecord, onlyIf, bodyOf, checkpointPage};
-ghost use Rattle.page_write.specs.Parts.{LaidTo};
-use super::frame::lay_run;
-use super::frame::lay_sequence;
-use super::frame::lay_sums;
+ghost use Rattle.page_write.specs.Pages.{bodyOf};
+ghost use Rattle.checkpoint_write.specs.Checkpoint.{scoreRecord, onlyIf, checkpointPage, LaidTo};
 use account::Tariff;
+use page_write::frame::lay_run;
+use page_write::frame::lay_sequence;
+use page_write::frame::lay_sums;
 use wire::field::lay_head;
 use wire::number::write16;
 use wire::number::write32;
