@@ -82,7 +82,7 @@ entryOf p =
     record {
       id = numberAt 2 p 0;
       version = numberAt 4 p 2;
-      change = changeOf (getD p 6 0) (numberAt 4 p 7) (numberAt 4 p 11)
+      change = changeOf (getD p 6 0) (numberAt 4 p 7) (numberAt 4 p 11);
     }
 
 -- So many pairs from a place of a payload on.
@@ -109,7 +109,7 @@ unfoldable pub tariffOf : List ℕ → Tariff
 tariffOf p =
     record {
       log = record { read = numberAt 4 p 0; edit = numberAt 4 p 4; rewrite = numberAt 4 p 8; enter = numberAt 4 p 28 };
-      disk = record { read = numberAt 4 p 12; edit = numberAt 4 p 16; rewrite = numberAt 4 p 20; enter = numberAt 4 p 24 }
+      disk = record { read = numberAt 4 p 12; edit = numberAt 4 p 16; rewrite = numberAt 4 p 20; enter = numberAt 4 p 24 };
     }
 
 -- A payload of field 14 was found; the score that it spells.
@@ -157,10 +157,10 @@ decodeContent s tag b =
     elim (eqb tag 0x12) [
       | true ↦ decodeLog s (run (entryOk s) 0x12 18 mostEntries b 7) b
       | false ↦
-        elim (eqb tag 0x11) [
-          | true ↦ decodeNode s (payloadAt b 7 0x11) b
-          | false ↦ decodeCheckpoint s (payloadAt b 7 0x13) b
-        ]
+          elim (eqb tag 0x11) [
+            | true ↦ decodeNode s (payloadAt b 7 0x11) b
+            | false ↦ decodeCheckpoint s (payloadAt b 7 0x13) b
+          ]
     ]
 
 -- The sequence number, from 1.

@@ -8,7 +8,7 @@ use Prim.Native.Nat.{ℕ, zero, suc, _+_, _-_, _*_, _^_, _≤_, _<_}
 use native.Mathlib.Nat.{not-suc-le-zero}
 use native.Mathlib.Omega.{arith}
 use lib.Dec.{eqb, leb}
-use lib.ListN.{length, getD, take, drop, replicate, length-map}
+use lib.ListN.{length, getD, take, drop, replicate, length-map, List·getD-map}
 use borrow.Author.Tests.{eqb-true, eqb-false, leb-true, leb-false}
 use Rattle.laws.specs.Tests.{and-left, and-right}
 use Rattle.laws.specs.Every.{Every}
@@ -91,9 +91,23 @@ use Rattle.page.specs.SpelledNode.{wholeBytes-of, nodeOf-fits, node-long
 use Rattle.page.specs.Seal.{allBlank-is, sealedAt-is}
 use Rattle.page.specs.ReadBack.{map-back, every-to, taken-found}
 
--- The bytes are those of a page within its limits, whatever the size.
+-- Where on a page that checks its values stand: the entries in the fields 12 behind field 10, the node in field 11, the tariff
+-- in field 13, the scores in the fields 14 behind it, the node count in field 15 behind those.
+abbrev pub ReadsContent : List ℕ → Content → Type 0
+ReadsContent b (log es) = es ≡ map entryOf (payloads 0x12 18 (length es) b 7)
+ReadsContent b (whole id n) = (id ≡ numberAt 2 (payloadAt b 7 0x11) 0) × (n ≡ nodeOf (payloadAt b 7 0x11))
+ReadsContent b (checkpoint t ss c) =
+    (t ≡ readIf tariffOf (payloadAt b 7 0x13)) ×
+    (ss ≡ map scoreOf (payloads 0x14 9 (length ss) b (7 + taken (payloadAt b 7 0x13)))) ×
+    (c ≡ readIf number (payloadAt b (7 + taken (payloadAt b 7 0x13) + 9 * length ss) 0x15))
+
+abbrev pub Reads : List ℕ → Page → Type 0
+Reads b (page s c) = (s ≡ number (payloadAt b 0 0x10)) × ReadsContent b c
+
+-- The bytes are those of a page within its limits, whatever the size, and its values stand where they are looked for.
 pub record Exact (b : List ℕ) (p : Page) : Type 0 where
   pub fits : PageFits p
+  pub reads : Reads b p
   pub is : (size : ℕ) → length b ≡ size → b ≡ sealed size (numbered (sequence p) (contentBytes (contentOf p)))
 
 found-some : (p : List ℕ) → found p ≡ true → 1 ≤ length p
@@ -132,17 +146,18 @@ module _ {A : Type 0} (b : List ℕ) (bs : Bytes b) (at tag len : ℕ) (of : Lis
           (ap length (sym e) ∙ only (length payload) (allowed-payload b at tag h))
 
 -- Behind field 10.
-module _ (s : ℕ) (b : List ℕ) (bs : Bytes b) (h : 1 ≤ s) (l : s < bound32) (ten : part b 0 7 ≡ field 0x10 (bigEndian 4 s)) where
+module _ (s : ℕ) (b : List ℕ) (bs : Bytes b) (h : 1 ≤ s) (l : s < bound32) (no : s ≡ number (payloadAt b 0 0x10)) (ten : part b 0 7 ≡ field 0x10 (bigEndian 4 s)) where
   body-is : (end n : ℕ) (content : List ℕ) → end ≡ 7 + n → part b 7 n ≡ content → take end b ≡ numbered s content
   unfolding numbered part
   body-is end n content e c = ap (λ (k : ℕ). take k b) e ∙ part-add b 0 7 n ∙ ap₂ _++_ ten c
 
   -- a page whose content is as long as the place of the sums says
-  exact-of : (c : Content) (end n : ℕ) → end ≡ 7 + n → part b 7 n ≡ contentBytes c → sealedAt b end ≡ true → Fits s c → Exact b (page s c)
-  exact-of c end n e p t f =
+  exact-of : (c : Content) (end n : ℕ) → end ≡ 7 + n → part b 7 n ≡ contentBytes c → sealedAt b end ≡ true → ReadsContent b c → Fits s c → Exact b (page s c)
+  exact-of c end n e p t r f =
       record {
         fits = f;
-        is = λ size k. sealedAt-is b end bs t size (numbered s (contentBytes c)) k (body-is end n (contentBytes c) e p)
+        reads = (no, r);
+        is = λ size k. sealedAt-is b end bs t size (numbered s (contentBytes c)) k (body-is end n (contentBytes c) e p);
       }
 
   module _ (n : ℕ) (r : Ran (entryOk s) 0x12 18 mostEntries b 7 n) (t : (leb 1 n && sealedAt b (7 + 18 * n)) ≡ true) where
@@ -153,18 +168,19 @@ module _ (s : ℕ) (b : List ℕ) (bs : Bytes b) (h : 1 ≤ s) (l : s < bound32)
     unfolding contentBytes
     exact-log =
         let forth : map entryBytes (map entryOf entries) ≡ entries =
-            map-back entryOf entryBytes (λ p f. entryBytes-of s p (f .1) (f .0)) entries (r .pass) in
+        map-back entryOf entryBytes (λ p f. entryBytes-of s p (f .1) (f .0)) entries (r .pass) in
         let k : length (map entryOf entries) ≡ n = length-map entries entryOf ∙ length-payloads 0x12 18 n b 7 in
         exact-of (log (map entryOf entries)) (7 + 18 * n) (18 * n) refl (r .are ∙ ap (fields 0x12) (sym forth)) (and-right (leb 1 n) _ t)
+        (ap (λ (i : ℕ). map entryOf (payloads 0x12 18 i b 7)) (sym k))
         (record {
           from = h;
           below = l;
           content =
-            record {
-              some = omega (arith, leb-true 1 n (and-left (leb 1 n) _ t));
-              few = omega (arith, r .few);
-              entries = every-to entryOf (λ p f. entryOf-fits s p (f .1) (f .0)) entries (r .pass)
-            }
+              record {
+                some = omega (arith, leb-true 1 n (and-left (leb 1 n) _ t));
+                few = omega (arith, r .few);
+                entries = every-to entryOf (λ p f. entryOf-fits s p (f .1) (f .0)) entries (r .pass);
+              };
         })
 
   module _ (t : (nodeOk (payloadAt b 7 0x11) && sealedAt b (7 + taken (payloadAt b 7 0x11))) ≡ true) where
@@ -188,10 +204,11 @@ module _ (s : ℕ) (b : List ℕ) (bs : Bytes b) (h : 1 ≤ s) (l : s < bound32)
         exact-of (whole (numberAt 2 node-payload 0) (nodeOf node-payload)) (7 + taken node-payload) (3 + length node-payload) w
         (part-payload b 7 0x11 st bs ∙ ap (field 0x11) (sym (wholeBytes-of node-payload y m node-ok)))
         (and-right (nodeOk node-payload) _ t)
+        (refl, refl)
         (record {
           from = h;
           below = l;
-          content = record { id = numberAt-lt 2 node-payload 0 y (omega (arith, node-long node-payload m)); node = nodeOf-fits node-payload y m }
+          content = record { id = numberAt-lt 2 node-payload 0 y (omega (arith, node-long node-payload m)); node = nodeOf-fits node-payload y m };
         })
 
   abbrev tariff : List ℕ
@@ -208,58 +225,62 @@ module _ (s : ℕ) (b : List ℕ) (bs : Bytes b) (h : 1 ≤ s) (l : s < bound32)
       (n : ℕ) (r : Ran scoreOk 0x14 9 (mostScores (found tariff)) b start n)
       (t : (leb 1 n && ((found (payloadAt b (start + 9 * n) 0x15) || eqb n (mostScores (found tariff))) && sealedAt b (start + 9 * n + taken (payloadAt b (start + 9 * n) 0x15)))) ≡ true)
     where
-    abbrev scores : List (List ℕ)
-    scores = payloads 0x14 9 n b start
+      abbrev scores : List (List ℕ)
+      scores = payloads 0x14 9 n b start
 
-    abbrev count : List ℕ
-    count = payloadAt b (start + 9 * n) 0x15
+      abbrev count : List ℕ
+      count = payloadAt b (start + 9 * n) 0x15
 
-    rest-test : ((found count || eqb n (mostScores (found tariff))) && sealedAt b (start + 9 * n + taken count)) ≡ true
-    rest-test = and-right (leb 1 n) _ t
+      rest-test : ((found count || eqb n (mostScores (found tariff))) && sealedAt b (start + 9 * n + taken count)) ≡ true
+      rest-test = and-right (leb 1 n) _ t
 
-    scores-forth : map scoreBytes (map scoreOf scores) ≡ scores
-    scores-forth = map-back scoreOf scoreBytes (λ p f. scoreBytes-of p (f .1) (eqb-true (length p) 6 (f .0))) scores (r .pass)
+      scores-forth : map scoreBytes (map scoreOf scores) ≡ scores
+      scores-forth = map-back scoreOf scoreBytes (λ p f. scoreBytes-of p (f .1) (eqb-true (length p) 6 (f .0))) scores (r .pass)
 
-    length-read : length (map scoreOf scores) ≡ n
-    length-read = length-map scores scoreOf ∙ length-payloads 0x14 9 n b start
+      length-read : length (map scoreOf scores) ≡ n
+      length-read = length-map scores scoreOf ∙ length-payloads 0x14 9 n b start
 
-    spelled : Content
-    spelled = checkpoint (readIf tariffOf tariff) (map scoreOf scores) (readIf number count)
+      spelled : Content
+      spelled = checkpoint (readIf tariffOf tariff) (map scoreOf scores) (readIf number count)
 
-    content-is : part b 7 (taken tariff + (9 * n + taken count)) ≡ contentBytes spelled
-    unfolding contentBytes spelled
-    content-is =
-        part-add b 7 (taken tariff) (9 * n + taken count) ∙
-        ap₂ _++_ (if-stands b bs 7 0x13 32 tariffOf tariffBytes only-13 tariffBytes-of)
-        (part-add b start (9 * n) (taken count) ∙
-        ap₂ _++_ (r .are ∙ ap (fields 0x14) (sym scores-forth))
-        (if-stands b bs (start + 9 * n) 0x15 2 number countBytes only-15 (λ p y k. ap (λ (w : ℕ). bigEndian w (number p)) (sym k) ∙ bigEndian-number p y)))
+      content-is : part b 7 (taken tariff + (9 * n + taken count)) ≡ contentBytes spelled
+      unfolding contentBytes spelled
+      content-is =
+          part-add b 7 (taken tariff) (9 * n + taken count) ∙
+          ap₂ _++_ (if-stands b bs 7 0x13 32 tariffOf tariffBytes only-13 tariffBytes-of)
+          (part-add b start (9 * n) (taken count) ∙
+          ap₂ _++_ (r .are ∙ ap (fields 0x14) (sym scores-forth))
+          (if-stands b bs (start + 9 * n) 0x15 2 number countBytes only-15 (λ p y k. ap (λ (w : ℕ). bigEndian w (number p)) (sym k) ∙ bigEndian-number p y)))
 
-    full : found count ≡ false → length (map scoreOf scores) ≡ mostScores (given (readIf tariffOf tariff))
-    full e =
-        let q : (found count || eqb n (mostScores (found tariff))) ≡ true = and-left (found count || eqb n (mostScores (found tariff))) _ rest-test in
-        length-read ∙ eqb-true n (mostScores (found tariff)) (rw e at q) ∙ ap mostScores (found-given tariff)
+      full : found count ≡ false → length (map scoreOf scores) ≡ mostScores (given (readIf tariffOf tariff))
+      full e =
+          let q : (found count || eqb n (mostScores (found tariff))) ≡ true = and-left (found count || eqb n (mostScores (found tariff))) _ rest-test in
+          length-read ∙ eqb-true n (mostScores (found tariff)) (rw e at q) ∙ ap mostScores (found-given tariff)
 
-    exact-checkpoint : Exact b (page s (checkpoint (readIf tariffOf tariff) (map scoreOf scores) (readIf number count)))
-    unfolding spelled
-    exact-checkpoint =
-        exact-of spelled (start + 9 * n + taken count) (taken tariff + (9 * n + taken count)) (omega arith) content-is
-        (and-right (found count || eqb n (mostScores (found tariff))) _ rest-test)
-        (record {
-          from = h;
-          below = l;
-          content =
-            record {
-              tariff = if-fits b bs 7 0x13 32 tariffOf tariffBytes TariffIfFits only-13 (λ e. tt) tariffOf-fits;
-              some = omega (arith, length-read, leb-true 1 n (and-left (leb 1 n) _ t));
-              few = rw (← (found-given tariff)) (omega (arith, length-read, r .few));
-              scores = every-to scoreOf (λ p f. scoreOf-fits p (f .1) (eqb-true (length p) 6 (f .0))) scores (r .pass);
-              filled =
-                if-fits b bs (start + 9 * n) 0x15 2 number countBytes
-                    (λ o. Filled (mostScores (given (readIf tariffOf tariff))) (length (map scoreOf scores)) o) only-15
-                    full (λ p y k. rw k at (number-lt p y))
-            }
-        })
+      exact-checkpoint : Exact b (page s (checkpoint (readIf tariffOf tariff) (map scoreOf scores) (readIf number count)))
+      unfolding spelled
+      exact-checkpoint =
+          exact-of spelled (start + 9 * n + taken count) (taken tariff + (9 * n + taken count)) (omega arith) content-is
+          (and-right (found count || eqb n (mostScores (found tariff))) _ rest-test) (
+            refl,
+            ap (λ (i : ℕ). map scoreOf (payloads 0x14 9 i b start)) (sym length-read),
+            ap (λ (i : ℕ). readIf number (payloadAt b (start + 9 * i) 0x15)) (sym length-read),
+          )
+          (record {
+            from = h;
+            below = l;
+            content =
+                record {
+                  tariff = if-fits b bs 7 0x13 32 tariffOf tariffBytes TariffIfFits only-13 (λ e. tt) tariffOf-fits;
+                  some = omega (arith, length-read, leb-true 1 n (and-left (leb 1 n) _ t));
+                  few = rw (← (found-given tariff)) (omega (arith, length-read, r .few));
+                  scores = every-to scoreOf (λ p f. scoreOf-fits p (f .1) (eqb-true (length p) 6 (f .0))) scores (r .pass);
+                  filled =
+                      if-fits b bs (start + 9 * n) 0x15 2 number countBytes
+                      (λ o. Filled (mostScores (given (readIf tariffOf tariff))) (length (map scoreOf scores)) o) only-15
+                      full (λ p y k. rw k at (number-lt p y));
+                };
+          })
 
 entry-size : (s : ℕ) (p : List ℕ) → entryOk s p ≡ true → length p ≡ 15
 unfolding entryOk
@@ -271,20 +292,20 @@ never : {A : Type 0} (x : Decoded) (p : Page) → x ≡ written p → x ≡ bad 
 never x p e f = absurd (let z : _≡_ {A = ℕ} 0 1 = cc in omega arith)
 
 module _ (b : List ℕ) (bs : Bytes b) (p : Page) where
-  module _ (s : ℕ) (h : 1 ≤ s) (l : s < bound32) (ten : part b 0 7 ≡ field 0x10 (bigEndian 4 s)) where
+  module _ (s : ℕ) (h : 1 ≤ s) (l : s < bound32) (no : s ≡ number (payloadAt b 0 0x10)) (ten : part b 0 7 ≡ field 0x10 (bigEndian 4 s)) where
     log-case : decodeLog s (run (entryOk s) 0x12 18 mostEntries b 7) b ≡ written p → Exact b p
     unfolding decodeLog
     log-case e =
         let n = run (entryOk s) 0x12 18 mostEntries b 7 in
         let q = when-passed _ _ p e in
         subst (Exact b) (q .same)
-        (exact-log s b bs h l ten n (ran (entryOk s) 0x12 15 (omega arith) (entry-size s) b bs mostEntries 7) (q .test))
+        (exact-log s b bs h l no ten n (ran (entryOk s) 0x12 15 (omega arith) (entry-size s) b bs mostEntries 7) (q .test))
 
     node-case : decodeNode s (payloadAt b 7 0x11) b ≡ written p → Exact b p
     unfolding decodeNode
     node-case e =
         let q = when-passed _ _ p e in
-        subst (Exact b) (q .same) (exact-node s b bs h l ten (q .test))
+        subst (Exact b) (q .same) (exact-node s b bs h l no ten (q .test))
 
     checkpoint-case : decodeCheckpoint s (payloadAt b 7 0x13) b ≡ written p → Exact b p
     unfolding decodeCheckpoint decodeCounted decodeScores
@@ -293,7 +314,7 @@ module _ (b : List ℕ) (bs : Bytes b) (p : Page) where
         let at = 7 + taken t in
         let q = when-passed _ _ p e in
         subst (Exact b) (q .same)
-        (exact-checkpoint s b bs h l ten (run scoreOk 0x14 9 (mostScores (found t)) b at)
+        (exact-checkpoint s b bs h l no ten (run scoreOk 0x14 9 (mostScores (found t)) b at)
         (ran scoreOk 0x14 6 (omega arith) (λ y f. eqb-true (length y) 6 f) b bs (mostScores (found t)) at) (q .test))
 
     content-case : (tag : ℕ) → decodeContent s tag b ≡ written p → Exact b p
@@ -324,8 +345,8 @@ module _ (b : List ℕ) (bs : Bytes b) (p : Page) where
           let l : number ten-payload < bound32 = rw k at (number-lt ten-payload y) in
           let four : ten-payload ≡ bigEndian 4 (number ten-payload) = sym (rw k at (bigEndian-number ten-payload y)) in
           let ten : part b 0 7 ≡ field 0x10 (bigEndian 4 (number ten-payload)) =
-              ap (λ (n : ℕ). part b 0 (3 + n)) (sym k) ∙ part-payload b 0 0x10 st bs ∙ ap (field 0x10) four in
-          content-case (number ten-payload) h l ten (getD b 7 0) (sym (written-from (number ten-payload) b h) ∙ e)
+          ap (λ (n : ℕ). part b 0 (3 + n)) (sym k) ∙ part-payload b 0 0x10 st bs ∙ ap (field 0x10) four in
+          content-case (number ten-payload) h l refl ten (getD b 7 0) (sym (written-from (number ten-payload) b h) ∙ e)
       go false f = never _ p e (written-zero (number ten-payload) b (leb-false 1 (number ten-payload) f))
 
   -- Bytes that check are those of a page within its limits.
@@ -342,3 +363,32 @@ decode-fits b bs p e = decode-exact b bs p e .fits
 pub image-decode : (b : List ℕ) → Bytes b → length b ≡ pageBytes → (p : Page) → decode b ≡ written p → b ≡ image p
 unfolding image
 image-decode b bs l (page s c) e = decode-exact b bs (page s c) e .is pageBytes l
+
+pub decode-reads : (b : List ℕ) → Bytes b → (p : Page) → decode b ≡ written p → Reads b p
+decode-reads b bs p e = decode-exact b bs p e .reads
+
+-- ---- single fields: the one at an index is the value at that index
+
+getD-payloads : (tag step n : ℕ) (b : List ℕ) (at i : ℕ) → i < n → getD (payloads tag step n b at) i [] ≡ payloadAt b (at + step * i) tag
+unfolding payloads
+getD-payloads tag step zero b at i h = absurd (not-suc-le-zero h)
+getD-payloads tag step (suc n) b at zero h = ap (λ (k : ℕ). payloadAt b k tag) (omega arith)
+getD-payloads tag step (suc n) b at (suc i) h =
+    getD-payloads tag step n b (at + step) i (omega arith) ∙ ap (λ (k : ℕ). payloadAt b k tag) (omega arith)
+
+getD-read : {A : Type 0} (of : List ℕ → A) (tag step : ℕ) (b : List ℕ) (at : ℕ) (xs : List A) → xs ≡ map of (payloads tag step (length xs) b at) →
+    (i : ℕ) → i < length xs → getD xs i (of []) ≡ of (payloadAt b (at + step * i) tag)
+getD-read of tag step b at xs e i h =
+    ap (λ l. getD l i (of [])) e ∙
+    List·getD-map of (payloads tag step (length xs) b at) i [] ∙
+    ap of (getD-payloads tag step (length xs) b at i h)
+
+module _ (b : List ℕ) (bs : Bytes b) (s : ℕ) where
+  pub entry-decode : (es : List Entry) → decode b ≡ written (page s (log es)) → (i : ℕ) → i < length es →
+      getD es i (entryOf []) ≡ entryOf (payloadAt b (7 + 18 * i) 0x12)
+  entry-decode es e i h = getD-read entryOf 0x12 18 b 7 es (decode-reads b bs (page s (log es)) e .1) i h
+
+  pub score-decode : (t : Option Tariff) (ss : List Score) (c : Option ℕ) → decode b ≡ written (page s (checkpoint t ss c)) →
+      (i : ℕ) → i < length ss → getD ss i (scoreOf []) ≡ scoreOf (payloadAt b (7 + taken (payloadAt b 7 0x13) + 9 * i) 0x14)
+  score-decode t ss c e i h =
+      getD-read scoreOf 0x14 9 b (7 + taken (payloadAt b 7 0x13)) ss (decode-reads b bs (page s (checkpoint t ss c)) e .1 .1) i h

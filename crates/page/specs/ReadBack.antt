@@ -370,8 +370,14 @@ module _ (s : ℕ) (t : Option Tariff) (x : Score) (xs : List Score) (c : Option
   seal-checkpoint : sealedAt bytes (7 + taken tariff + 9 * length scores + taken count) ≡ true
   seal-checkpoint =
       seal-found s content n (7 + taken tariff + 9 * length scores + taken count)
-      (omega (arith, length-append first (fields 0x14 scores ++ last), length-append (fields 0x14 scores) last, length-all, length-last,
-      length-if 0x13 32 tariffBytes (omega arith) allowed-13 length-tariffBytes (omega arith) t))
+      (omega (
+        arith,
+        length-append first (fields 0x14 scores ++ last),
+        length-append (fields 0x14 scores) last,
+        length-all,
+        length-last,
+        length-if 0x13 32 tariffBytes (omega arith) allowed-13 length-tariffBytes (omega arith) t,
+      ))
 
   -- what they spell
   tariff-back : readIf tariffOf tariff ≡ t

@@ -66,8 +66,8 @@ module _ (ok : List ℕ → Bool) (tag len : ℕ) (fits : len < 256 ^ 2) (may : 
         let s : List ℕ = front ++ (fields tag (p ∷ ps) ++ rest) in
         let t : ok (payloadAt s (length front) tag) ≡ true = ap ok (found-first front p ps rest (g .size)) ∙ g .passes in
         let again : run ok tag (3 + len) most s (length front + (3 + len)) ≡ length ps =
-            ap₂ (λ (l : List ℕ) (i : ℕ). run ok tag (3 + len) most l i) (next-front front p tag ps rest) (length-next front p (g .size)) ∙
-            run-fields ps gs most (le-of-suc-le-suc h) (front ++ field tag p) in
+        ap₂ (λ (l : List ℕ) (i : ℕ). run ok tag (3 + len) most l i) (next-front front p tag ps rest) (length-next front p (g .size)) ∙
+        run-fields ps gs most (le-of-suc-le-suc h) (front ++ field tag p) in
         run-goes ok tag (3 + len) most s (length front) t ∙ ap suc again
 
   -- The payloads of fields that were laid.
@@ -78,8 +78,8 @@ module _ (ok : List ℕ → Bool) (tag len : ℕ) (fits : len < 256 ^ 2) (may : 
   payloads-fields (p ∷ ps) (both g gs) front rest =
       let s : List ℕ = front ++ (fields tag (p ∷ ps) ++ rest) in
       let again : payloads tag (3 + len) (length ps) s (length front + (3 + len)) ≡ ps =
-          ap₂ (λ (l : List ℕ) (i : ℕ). payloads tag (3 + len) (length ps) l i) (next-front front p tag ps rest) (length-next front p (g .size)) ∙
-          payloads-fields ps gs (front ++ field tag p) rest in
+      ap₂ (λ (l : List ℕ) (i : ℕ). payloads tag (3 + len) (length ps) l i) (next-front front p tag ps rest) (length-next front p (g .size)) ∙
+      payloads-fields ps gs (front ++ field tag p) rest in
       ap₂ _∷_ (found-first front p ps rest (g .size)) again
 
 pub length-payloads : (tag step n : ℕ) (s : List ℕ) (at : ℕ) → length (payloads tag step n s at) ≡ n
@@ -110,9 +110,9 @@ module _ (ok : List ℕ → Bool) (tag len : ℕ) (some : 1 ≤ len) (size : (p 
         few = suc-le-suc (r .few);
         pass = both (t, bytes-payload s at tag b h) (r .pass);
         are =
-          ap (λ (k : ℕ). part s at k) m ∙
-          part-add s at (3 + len) ((3 + len) * n) ∙
-          ap₂ _++_ e (r .are)
+            ap (λ (k : ℕ). part s at k) m ∙
+            part-add s at (3 + len) ((3 + len) * n) ∙
+            ap₂ _++_ e (r .are);
       }
 
   pub ran : (most at : ℕ) → Ran ok tag (3 + len) most s at (run ok tag (3 + len) most s at)

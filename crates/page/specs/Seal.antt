@@ -100,9 +100,9 @@ module _ (s : List ℕ) (end : ℕ) (b : Bytes s) (t : sealedAt s end ≡ true) 
       let eb = eqb-true (numberAt 2 payload 0) (sumsOf (take end s) .b) (and-left (eqb (numberAt 2 payload 0) (sumsOf (take end s) .b)) _ test-b) in
       let ea = eqb-true (numberAt 2 payload 2) (sumsOf (take end s) .a) (and-left (eqb (numberAt 2 payload 2) (sumsOf (take end s) .a)) _ test-a) in
       sym (
-        ap₂ _++_ (ap (bigEndian 2) (sym eb) ∙ bigEndian-numberAt 2 payload 0 p (omega (arith, four)))
-        (ap (bigEndian 2) (sym ea) ∙ bigEndian-numberAt 2 payload 2 p (omega (arith, four))) ∙
-        parts-whole 2 (2 ∷ []) payload four
+      ap₂ _++_ (ap (bigEndian 2) (sym eb) ∙ bigEndian-numberAt 2 payload 0 p (omega (arith, four)))
+      (ap (bigEndian 2) (sym ea) ∙ bigEndian-numberAt 2 payload 2 p (omega (arith, four))) ∙
+      parts-whole 2 (2 ∷ []) payload four
       )
 
   field-is : part s end 7 ≡ sumsField (take end s)
@@ -123,8 +123,8 @@ module _ (s : List ℕ) (end : ℕ) (b : Bytes s) (t : sealedAt s end ≡ true) 
       let w = sealed-within in
       let c : length body ≡ end = ap length (sym e) ∙ length-take-le end s (omega arith) in
       let k : length s - (end + 7) ≡ size - length (body ++ sumsField body) =
-          omega (arith, length-append body (sumsField body), length-sumsField body) in
+      omega (arith, length-append body (sumsField body), length-sumsField body) in
       let tail : drop end s ≡ sumsField body ++ replicate (size - length (body ++ sumsField body)) 255 =
-          sym (take-append-drop 7 (drop end s)) ∙
-          ap₂ _++_ (field-is ∙ ap sumsField e) (drop-drop 7 end s ∙ rest-is ∙ ap (λ (n : ℕ). replicate n 255) k) in
+      sym (take-append-drop 7 (drop end s)) ∙
+      ap₂ _++_ (field-is ∙ ap sumsField e) (drop-drop 7 end s ∙ rest-is ∙ ap (λ (n : ℕ). replicate n 255) k) in
       sym (take-append-drop end s) ∙ ap₂ _++_ e tail

@@ -72,7 +72,7 @@ length-content s (log es) h =
       arith,
       length-fields 0x12 15 (map entryBytes es) (every-to entryBytes (λ e f. length-entryBytes e) es (h .entries)),
       length-map es entryBytes,
-      h .few
+      h .few,
     )
 length-content s (whole id (node kind ps l)) h =
     omega (arith, length-field 0x11 (wholeBytes id (node kind ps l)), length-wholeBytes id kind ps l, h .node .few)
@@ -85,7 +85,7 @@ length-content s (checkpoint t ss c) h =
       length-map ss scoreBytes,
       length-tariffIf t,
       length-countIf c,
-      h .few
+      h .few,
     )
 
 pub length-image : (p : Page) → PageFits p → length (image p) ≡ pageBytes

@@ -139,7 +139,7 @@ entry-read s e l h =
       version = number-bigEndian 4 (e .version) (omega (arith, h .below));
       kind = refl;
       key = number-bigEndian 4 (changeKey (e .change)) (changeKey-lt (e .change) (h .change));
-      pointer = number-bigEndian 4 (changePointer (e .change)) (changePointer-lt (e .change) (h .change))
+      pointer = number-bigEndian 4 (changePointer (e .change)) (changePointer-lt (e .change) (h .change));
     }
 
 module _ (s : ℕ) (e : Entry) (l : s < bound32) (h : EntryFits s e) where
@@ -199,7 +199,7 @@ module _ (s : ℕ) (p : List ℕ) (b : Bytes p) (t : entryOk s p ≡ true) where
         id = numberAt-lt 2 p 0 b (omega arith);
         from = leb-true 1 (numberAt 4 p 2) (and-left (leb 1 (numberAt 4 p 2)) _ versions);
         below = ltb-true (numberAt 4 p 2) s (and-left (ltb (numberAt 4 p 2) s) _ changes);
-        change = changeOf-fits (getD p 6 0) (numberAt 4 p 7) (numberAt 4 p 11) (numberAt-lt 4 p 7 b (omega arith)) (numberAt-lt 4 p 11 b (omega arith))
+        change = changeOf-fits (getD p 6 0) (numberAt 4 p 7) (numberAt 4 p 11) (numberAt-lt 4 p 7 b (omega arith)) (numberAt-lt 4 p 11 b (omega arith));
       }
 
 -- ---- scores
@@ -263,5 +263,5 @@ module _ (p : List ℕ) (b : Bytes p) (l : length p ≡ 32) where
   tariffOf-fits =
       record {
         log = record { read = small 0 (omega arith); edit = small 4 (omega arith); rewrite = small 8 (omega arith); enter = small 28 (omega arith) };
-        disk = record { read = small 12 (omega arith); edit = small 16 (omega arith); rewrite = small 20 (omega arith); enter = small 24 (omega arith) }
+        disk = record { read = small 12 (omega arith); edit = small 16 (omega arith); rewrite = small 20 (omega arith); enter = small 24 (omega arith) };
       }

@@ -58,7 +58,7 @@ pairsFrom-bytes ((k, v) ∷ ps) (both h hs) front =
     let next : List ℕ = front ++ (bigEndian 4 k ++ bigEndian 4 v) in
     let l : length front + 8 ≡ length next = sym (length-append front (bigEndian 4 k ++ bigEndian 4 v)) in
     let again : pairsFrom (length ps) (front ++ pairsBytes ((k, v) ∷ ps)) (length front + 8) ≡ ps =
-        ap₂ (λ (s : List ℕ) (i : ℕ). pairsFrom (length ps) s i) (pairs-front front k v ps) l ∙ pairsFrom-bytes ps hs next in
+    ap₂ (λ (s : List ℕ) (i : ℕ). pairsFrom (length ps) s i) (pairs-front front k v ps) l ∙ pairsFrom-bytes ps hs next in
     ap₂ _∷_ (ap₂ {C = Pair} (λ (a b : ℕ). (a, b)) (key-front front k v ps (h .0)) (pointer-front front k v ps (h .1))) again
 
 kindOfNumber-number : (kind : Kind) → kindOfNumber (kindNumber kind) ≡ kind
@@ -137,7 +137,7 @@ module _ (p : List ℕ) (b : Bytes p) (m : isNodeBytes (length p) ≡ true) wher
       record {
         few = omega (arith, length-pairsFrom (pairsIn p) p 7, pairs-size, pairs-few);
         numbers = pairsFrom-fits (pairsIn p) p 7 b (omega (arith, pairs-size));
-        link = numberAt-lt 4 p 3 b (omega (arith, pairs-size))
+        link = numberAt-lt 4 p 3 b (omega (arith, pairs-size));
       }
 
   module _ (t : nodeOk p ≡ true) where
@@ -157,7 +157,7 @@ module _ (p : List ℕ) (b : Bytes p) (m : isNodeBytes (length p) ≡ true) wher
         let l : bigEndian 4 (numberAt 4 p 3) ≡ part p 3 4 = bigEndian-numberAt 4 p 3 b (omega arith) in
         let o : part p 2 1 ≡ getD p 2 0 ∷ [] = part-one p 2 (omega arith) in
         let k : kindNumber (kindOfNumber (getD p 2 0)) ∷ [] ≡ part p 2 1 =
-            ap (λ (x : ℕ). x ∷ []) (kind-is (eqb (getD p 2 0) 3) refl) ∙ sym o in
+        ap (λ (x : ℕ). x ∷ []) (kind-is (eqb (getD p 2 0) 3) refl) ∙ sym o in
         ap₂ _++_ i (ap₂ _++_ k (ap₂ _++_ l (pairsBytes-from (pairsIn p) p 7 b (omega arith)))) ∙
         parts-whole 2 (1 ∷ 4 ∷ 8 * pairsIn p ∷ []) p (omega arith)
 

@@ -39,9 +39,17 @@ pub only-10 : (n : ℕ) → allowed (lengthOf 0x10) n ≡ true → n ≡ 4
 unfolding lengthOf find rows
 only-10 n t = eqb-true n 4 t
 
+pub only-12 : (n : ℕ) → allowed (lengthOf 0x12) n ≡ true → n ≡ 15
+unfolding lengthOf find rows
+only-12 n t = eqb-true n 15 t
+
 pub only-13 : (n : ℕ) → allowed (lengthOf 0x13) n ≡ true → n ≡ 32
 unfolding lengthOf find rows
 only-13 n t = eqb-true n 32 t
+
+pub only-14 : (n : ℕ) → allowed (lengthOf 0x14) n ≡ true → n ≡ 6
+unfolding lengthOf find rows
+only-14 n t = eqb-true n 6 t
 
 pub only-15 : (n : ℕ) → allowed (lengthOf 0x15) n ≡ true → n ≡ 2
 unfolding lengthOf find rows

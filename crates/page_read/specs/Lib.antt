@@ -1,0 +1,5 @@
+pub mod Asked
+pub mod View
+pub mod Payload
+pub mod Steps
+pub mod Value
