@@ -1,0 +1,20 @@
+//! The wall book a second time: document 01 in Rust, written for clarity, to run beside the proved one.
+//!
+//! From bytes upwards: [`wire`], [`page`], [`node`], [`tree`]; [`mount`] reads a closed pool, [`flash`]
+//! is the store while a batch runs, [`book`] has the two entry points. [`reference`] is the model that
+//! charges are compared with, [`optimum`] the cheapest schedule.
+
+pub mod account;
+pub mod book;
+pub mod command;
+pub mod flash;
+pub mod layout;
+pub mod mount;
+pub mod node;
+pub mod observe;
+pub mod optimum;
+pub mod page;
+pub mod reference;
+pub mod refusal;
+pub mod tree;
+pub mod wire;
