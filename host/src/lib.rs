@@ -7,7 +7,9 @@
 pub mod account;
 pub mod book;
 pub mod command;
+pub mod damage;
 pub mod flash;
+pub mod foreign;
 pub mod layout;
 pub mod mount;
 pub mod node;
@@ -15,6 +17,7 @@ pub mod observe;
 pub mod optimum;
 pub mod page;
 pub mod picture;
+pub mod random;
 pub mod reference;
 pub mod refusal;
 pub mod shell;

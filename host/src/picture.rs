@@ -43,7 +43,7 @@ impl Mark {
 }
 
 /// What the letters of the picture mean.
-pub const LEGEND: &str = "L log page, D disk page, C checkpoint: live; l d c: dead; . blank; ! does not check; [ ] newest";
+pub const LEGEND: &str = "L log page, D disk page, C checkpoint: live; l d c: dead; . blank; ! does not check";
 
 /// The whole pool: what it is refused with or spells, and a line for each block.
 pub fn pool(bytes: &[u8]) -> String {
@@ -82,27 +82,17 @@ fn summary(mounted: &Mounted) -> String {
     out
 }
 
-/// A block's number, its pages in rows of eight, and how many are live.
+/// A block's number, its pages in groups of eight, how many are live, and whether the newest is here.
 fn block_line(out: &mut String, block: usize, marks: &[Mark], newest: Option<usize>) {
-    let _ = write!(out, "{block:>3} ");
-    for (at, mark) in marks.iter().enumerate() {
-        let is_newest = newest == Some(block * BLOCK_PAGES + at);
-        let before_newest = newest == Some(block * BLOCK_PAGES + at + 1) && (at + 1) % 8 != 0;
-        if at % 8 == 0 {
-            out.push(if is_newest { '[' } else { ' ' });
-        }
-        out.push(mark.letter());
-        if is_newest {
-            out.push(']');
-        } else if before_newest {
-            out.push('[');
-        } else if at % 8 == 7 {
-            out.push(' ');
-        }
-    }
+    let groups = marks.chunks(8).map(|group| group.iter().map(|mark| mark.letter()).collect::<String>());
+    let _ = write!(out, "{block:>3}  {}", groups.collect::<Vec<_>>().join(" "));
     let live = marks.iter().filter(|mark| mark.is_live()).count();
     let written = marks.iter().filter(|&&mark| mark != Mark::Blank).count();
-    let _ = writeln!(out, " {live:>2} live of {written:>2}");
+    let _ = write!(out, "  {live:>2} live of {written:>2}");
+    let _ = match newest.filter(|slot| slot / BLOCK_PAGES == block) {
+        Some(slot) => writeln!(out, ", newest at {}", slot % BLOCK_PAGES),
+        None => writeln!(out),
+    };
 }
 
 /// The mark of every page; without a mounted pool nothing is known to be live.
