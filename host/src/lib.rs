@@ -5,11 +5,13 @@
 //! charges are compared with, [`optimum`] the cheapest schedule.
 
 pub mod account;
+pub mod audit;
 pub mod book;
 pub mod command;
 pub mod damage;
 pub mod flash;
 pub mod foreign;
+pub mod fuzz;
 pub mod layout;
 pub mod mount;
 pub mod node;

@@ -37,16 +37,22 @@ pub struct Row {
     pub pages: Vec<usize>,
 }
 
-/// Mounts a pool of a length that document 01 names.
+/// Mounts a pool for a batch: question 1 and questions 5 to 8.
 pub fn mount(pool: &[u8]) -> Result<Mounted, Fault> {
+    let mounted = read(pool)?;
+    if mounted.last_seq > MAX_SEQ {
+        return Err(fault(Refusal::SequenceNumbers, Place::Pool, "sequence numbers are used up"));
+    }
+    Ok(mounted)
+}
+
+/// Reads what a pool spells, also one whose sequence numbers are used up and that question 8 refuses.
+pub fn read(pool: &[u8]) -> Result<Mounted, Fault> {
     let blocks = block_count(pool.len()).ok_or(fault(Refusal::PoolLength, Place::Pool, "no length of a pool"))?;
     let survey = Survey::of(pool, blocks)?;
     let checkpoint = survey.newest_checkpoint()?;
     let (nodes, rows, tariff) = survey.sound_tree(&checkpoint)?;
     let (newest, last_seq) = survey.newest().unwrap_or_default();
-    if last_seq > MAX_SEQ {
-        return Err(fault(Refusal::SequenceNumbers, Place::Page(newest), "sequence numbers are used up"));
-    }
     Ok(Mounted {
         current: newest / BLOCK_PAGES,
         written: survey.written,

@@ -1,0 +1,283 @@
+//! Watches a call from outside: what the pages and the log buffer say after every event.
+//!
+//! The audit decodes the bytes itself and never sees the store's rows. After every page written, copied
+//! or erased and after every node request it asks that no node lies on more than three log pages and
+//! that every node has the mode of the reference model.
+
+use crate::account::Mode;
+use crate::layout::{page_range, BLOCK_PAGES, MAX_LOG_PAGES, PAGE_BYTES};
+use crate::observe::{Event, Observer, State};
+use crate::page::{decode, is_blank, Content, Entry, Page};
+use crate::reference::Line;
+
+/// What was seen how often.
+#[derive(Clone, Debug, Default, PartialEq, Eq)]
+pub struct Seen {
+    pub states: u64,
+    pub requests: u64,
+    pub pages_written: u64,
+    pub pages_copied: u64,
+    /// Blocks erased by compaction, which is once for each.
+    pub compactions: u64,
+    pub nodes_created: u64,
+    /// Rewrites that stay: one for each split of a leaf or a branch, the root's included.
+    pub splits: u64,
+    pub three_page_edits: u64,
+    pub switches_to_disk: u64,
+    pub switches_to_log: u64,
+}
+
+impl Seen {
+    pub fn add(&mut self, other: &Seen) {
+        self.states += other.states;
+        self.requests += other.requests;
+        self.pages_written += other.pages_written;
+        self.pages_copied += other.pages_copied;
+        self.compactions += other.compactions;
+        self.nodes_created += other.nodes_created;
+        self.splits += other.splits;
+        self.three_page_edits += other.three_page_edits;
+        self.switches_to_disk += other.switches_to_disk;
+        self.switches_to_log += other.switches_to_log;
+    }
+}
+
+/// Where a node's greatest version on pages lies.
+#[derive(Clone, Debug, Default, PartialEq, Eq)]
+struct Lies {
+    version: u32,
+    on_disk_page: bool,
+    /// The pages by sequence number, so that a copy is the same page.
+    seqs: Vec<u32>,
+}
+
+impl Lies {
+    fn see(&mut self, version: u32, on_disk_page: bool, seq: u32) {
+        if version > self.version {
+            *self = Lies { version, on_disk_page, seqs: vec![seq] };
+        } else if version == self.version && !self.seqs.contains(&seq) {
+            self.seqs.push(seq);
+        }
+    }
+}
+
+/// An observer that holds a call to what document 01 says of every state passed.
+pub struct Audit<'a> {
+    pool: Vec<u8>,
+    pages: Vec<Option<Page>>,
+    lies: Vec<Lies>,
+    /// The modes of the reference model by now.
+    modes: Vec<Mode>,
+    /// The lines that the reference model has for the requests still to come.
+    lines: std::slice::Iter<'a, Line>,
+    pub seen: Seen,
+    /// The first thing that was wrong.
+    pub failure: Option<String>,
+}
+
+impl<'a> Audit<'a> {
+    /// Watches a batch on a pool whose nodes have these modes, and for which the reference model has these lines.
+    pub fn new(pool: &[u8], modes: Vec<Mode>, limit: usize, lines: &'a [Line]) -> Audit<'a> {
+        let pages: Vec<Option<Page>> = pool.chunks_exact(PAGE_BYTES).map(|bytes| decode(bytes).ok().flatten()).collect();
+        let mut audit = Audit {
+            pool: pool.to_vec(),
+            pages,
+            lies: Vec::new(),
+            modes,
+            lines: lines.iter(),
+            seen: Seen::default(),
+            failure: None,
+        };
+        audit.lies = audit.lies_of_pages(limit);
+        audit
+    }
+
+    /// What is still wrong when the call has ended: a line never served, a byte never told of.
+    pub fn finish(mut self, pool: &[u8]) -> Result<Seen, String> {
+        if self.lines.next().is_some() {
+            self.fail("a node request of the reference model was not served".to_string());
+        }
+        if self.pool != pool {
+            self.fail("bytes changed that no event told of".to_string());
+        }
+        self.failure.map_or(Ok(self.seen), Err)
+    }
+
+    fn fail(&mut self, why: String) {
+        self.failure.get_or_insert(why);
+    }
+
+    fn lies_of_pages(&self, limit: usize) -> Vec<Lies> {
+        let mut lies = vec![Lies::default(); limit];
+        for page in self.pages.iter().flatten() {
+            note_page(&mut lies, page);
+        }
+        lies
+    }
+
+    /// Takes a page's bytes over from the pool; it must have been blank, and the first blank one of its block.
+    fn take_page(&mut self, slot: usize, pool: &[u8]) {
+        let range = page_range(slot);
+        if !is_blank(&self.pool[range.clone()]) {
+            self.fail(format!("page {slot} was written without being erased"));
+        }
+        if slot % BLOCK_PAGES > 0 && self.pages[slot - 1].is_none() {
+            self.fail(format!("page {slot} was written behind a blank one"));
+        }
+        self.pool[range.clone()].copy_from_slice(&pool[range.clone()]);
+        match decode(&pool[range]) {
+            Ok(Some(page)) => {
+                note_page(&mut self.lies, &page);
+                self.pages[slot] = Some(page);
+            }
+            other => self.fail(format!("page {slot} was written as {other:?}")),
+        }
+    }
+
+    fn written(&mut self, slot: usize, pool: &[u8]) {
+        let newest = self.pages.iter().flatten().map(|page| page.seq).max().unwrap_or(0);
+        self.take_page(slot, pool);
+        if self.pages[slot].as_ref().is_some_and(|page| page.seq <= newest) {
+            self.fail(format!("page {slot} has a number that is not the greatest"));
+        }
+    }
+
+    fn copied(&mut self, from: usize, to: usize, pool: &[u8]) {
+        self.take_page(to, pool);
+        if self.pool[page_range(from)] != self.pool[page_range(to)] {
+            self.fail(format!("page {from} was changed when copied to {to}"));
+        }
+    }
+
+    /// Forgets a block; no page of a greatest version may be lost with it.
+    ///
+    /// A node whose greatest version is in the log buffer alone has no live page.
+    fn erased(&mut self, block: usize, state: &State<'_>) {
+        let range = crate::layout::block_range(block);
+        self.pool[range.clone()].fill(0xFF);
+        if !is_blank(&state.pool[range]) {
+            self.fail(format!("block {block} is not blank after its erase"));
+        }
+        self.pages[block * BLOCK_PAGES..][..BLOCK_PAGES].fill(None);
+        let before = std::mem::take(&mut self.lies);
+        self.lies = self.lies_of_pages(before.len());
+        for id in 0..state.count {
+            let in_buffer = buffer_version(state.buffer, id).is_some_and(|version| version > before[id].version);
+            if !in_buffer && !same_pages(&self.lies[id], &before[id]) {
+                self.fail(format!("a live page of node {id} was erased with block {block}"));
+            }
+        }
+    }
+
+    /// Asks of every node that it has its mode and lies on three pages at most.
+    fn check_nodes(&mut self, state: &State<'_>) {
+        let mut newest_in_buffer = vec![None; state.count];
+        for entry in state.buffer {
+            match newest_in_buffer.get_mut(usize::from(entry.id)) {
+                Some(place) => *place = Some(entry.version).max(*place),
+                None => self.failure = Some(format!("the buffer has an entry of node {} which is none", entry.id)),
+            }
+        }
+        if state.count > self.modes.len() {
+            // Created and not told of yet: such nodes begin in log mode.
+            self.modes.resize(state.count, Mode::Log);
+        }
+        for (id, in_buffer) in newest_in_buffer.into_iter().enumerate() {
+            let lies = &self.lies[id];
+            let pages = match in_buffer {
+                Some(version) if version > lies.version => 0,
+                _ => lies.seqs.len(),
+            };
+            let disk = lies.on_disk_page && in_buffer.is_none_or(|version| version < lies.version);
+            let buffered = usize::from(in_buffer.is_some_and(|version| version >= lies.version));
+            if !disk && pages + buffered > MAX_LOG_PAGES {
+                self.fail(format!("node {id} lies on {pages} log pages, and {buffered} to come"));
+            }
+        }
+    }
+
+    /// The node's mode as pages and buffer have it.
+    fn mode_of(&self, id: usize, buffer: &[Entry]) -> Mode {
+        let lies = &self.lies[id];
+        let newer = buffer_version(buffer, id).is_some_and(|version| version > lies.version);
+        if lies.on_disk_page && !newer {
+            Mode::Disk
+        } else {
+            Mode::Log
+        }
+    }
+
+    fn check_modes(&mut self, state: &State<'_>) {
+        for id in 0..state.count.min(self.modes.len()) {
+            let mode = self.mode_of(id, state.buffer);
+            if mode != self.modes[id] {
+                self.fail(format!("node {id} is in {mode:?} mode, in the reference model in {:?}", self.modes[id]));
+            }
+        }
+    }
+}
+
+/// Notes where a page's nodes lie.
+fn note_page(lies: &mut [Lies], page: &Page) {
+    let on_disk_page = matches!(page.content, Content::Node { .. });
+    for (id, version) in page.versions() {
+        if let Some(lies) = lies.get_mut(usize::from(id)) {
+            lies.see(version, on_disk_page, page.seq);
+        }
+    }
+}
+
+/// The greatest version of a node's entries in the log buffer.
+fn buffer_version(buffer: &[Entry], id: usize) -> Option<u32> {
+    buffer.iter().filter(|entry| usize::from(entry.id) == id).map(|entry| entry.version).max()
+}
+
+/// Says whether two lie on the same pages, in whatever order they were met.
+fn same_pages(one: &Lies, other: &Lies) -> bool {
+    one.version == other.version
+        && one.seqs.len() == other.seqs.len()
+        && one.seqs.iter().all(|seq| other.seqs.contains(seq))
+}
+
+impl Observer for Audit<'_> {
+    fn see(&mut self, event: Event, state: State<'_>) {
+        self.seen.states += 1;
+        match event {
+            Event::PageWritten { slot } => {
+                self.seen.pages_written += 1;
+                self.written(slot, state.pool);
+            }
+            Event::PageCopied { from, to } => {
+                self.seen.pages_copied += 1;
+                self.copied(from, to, state.pool);
+            }
+            Event::BlockErased { block } => {
+                self.seen.compactions += 1;
+                self.erased(block, &state);
+            }
+            Event::Created { .. } => self.seen.nodes_created += 1,
+            Event::WroteWhole { .. } => self.seen.three_page_edits += 1,
+            Event::Served { id, request, served } => {
+                self.seen.requests += 1;
+                self.seen.splits += u64::from(request == crate::account::Request::Rewrite);
+                if served.switched {
+                    match served.account.mode {
+                        Mode::Disk => self.seen.switches_to_disk += 1,
+                        Mode::Log => self.seen.switches_to_log += 1,
+                    }
+                }
+                match self.lines.next() {
+                    Some(line) if (line.id, line.request, line.count) == (id, request, state.count) => {
+                        self.modes[id] = line.account.mode;
+                        if (line.account, line.charge) != (served.account, served.charge) {
+                            self.fail(format!("{request:?} of node {id} came to {served:?}, in the reference model to {line:?}"));
+                        }
+                    }
+                    other => self.fail(format!("{request:?} of node {id}, but the reference model has {other:?}")),
+                }
+                self.check_modes(&state);
+            }
+        }
+        self.check_nodes(&state);
+    }
+}
