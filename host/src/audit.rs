@@ -4,7 +4,7 @@
 //! or erased and after every node request it asks that no node lies on more than three log pages and
 //! that every node has the mode of the reference model.
 
-use crate::account::Mode;
+use crate::account::{Mode, Request, Served};
 use crate::layout::{page_range, BLOCK_PAGES, MAX_LOG_PAGES, PAGE_BYTES};
 use crate::observe::{Event, Observer, State};
 use crate::page::{decode, is_blank, Content, Entry, Page};
@@ -28,6 +28,17 @@ pub struct Seen {
 }
 
 impl Seen {
+    fn count(&mut self, request: Request, served: Served) {
+        self.requests += 1;
+        self.splits += u64::from(request == Request::Rewrite);
+        if served.switched {
+            match served.account.mode {
+                Mode::Disk => self.switches_to_disk += 1,
+                Mode::Log => self.switches_to_log += 1,
+            }
+        }
+    }
+
     pub fn add(&mut self, other: &Seen) {
         self.states += other.states;
         self.requests += other.requests;
@@ -59,6 +70,17 @@ impl Lies {
             self.seqs.push(seq);
         }
     }
+
+    /// The node's mode, and its log pages with the one that the buffer will become, where its greatest
+    /// version in the buffer is this one.
+    fn with_buffer(&self, in_buffer: u32) -> (Mode, usize) {
+        match in_buffer {
+            newer if newer > self.version => (Mode::Log, 1),
+            _ if self.on_disk_page => (Mode::Disk, 0),
+            same if same == self.version => (Mode::Log, self.seqs.len() + 1),
+            _ => (Mode::Log, self.seqs.len()),
+        }
+    }
 }
 
 /// An observer that holds a call to what document 01 says of every state passed.
@@ -68,6 +90,9 @@ pub struct Audit<'a> {
     lies: Vec<Lies>,
     /// The modes of the reference model by now.
     modes: Vec<Mode>,
+    newest: u32,
+    /// Kept between checks for its memory alone.
+    in_buffer: Vec<u32>,
     /// The lines that the reference model has for the requests still to come.
     lines: std::slice::Iter<'a, Line>,
     pub seen: Seen,
@@ -78,17 +103,21 @@ pub struct Audit<'a> {
 impl<'a> Audit<'a> {
     /// Watches a batch on a pool whose nodes have these modes, and for which the reference model has these lines.
     pub fn new(pool: &[u8], modes: Vec<Mode>, limit: usize, lines: &'a [Line]) -> Audit<'a> {
-        let pages: Vec<Option<Page>> = pool.chunks_exact(PAGE_BYTES).map(|bytes| decode(bytes).ok().flatten()).collect();
+        let pages: Vec<Option<Page>> =
+            pool.chunks_exact(PAGE_BYTES).map(|bytes| decode(bytes).ok().flatten()).collect();
         let mut audit = Audit {
             pool: pool.to_vec(),
             pages,
             lies: Vec::new(),
             modes,
+            newest: 0,
+            in_buffer: Vec::new(),
             lines: lines.iter(),
             seen: Seen::default(),
             failure: None,
         };
         audit.lies = audit.lies_of_pages(limit);
+        audit.newest = audit.pages.iter().flatten().map(|page| page.seq).max().unwrap_or(0);
         audit
     }
 
@@ -121,7 +150,7 @@ impl<'a> Audit<'a> {
         if !is_blank(&self.pool[range.clone()]) {
             self.fail(format!("page {slot} was written without being erased"));
         }
-        if slot % BLOCK_PAGES > 0 && self.pages[slot - 1].is_none() {
+        if !slot.is_multiple_of(BLOCK_PAGES) && self.pages[slot - 1].is_none() {
             self.fail(format!("page {slot} was written behind a blank one"));
         }
         self.pool[range.clone()].copy_from_slice(&pool[range.clone()]);
@@ -135,11 +164,12 @@ impl<'a> Audit<'a> {
     }
 
     fn written(&mut self, slot: usize, pool: &[u8]) {
-        let newest = self.pages.iter().flatten().map(|page| page.seq).max().unwrap_or(0);
         self.take_page(slot, pool);
-        if self.pages[slot].as_ref().is_some_and(|page| page.seq <= newest) {
+        let seq = self.pages[slot].as_ref().map_or(0, |page| page.seq);
+        if seq <= self.newest {
             self.fail(format!("page {slot} has a number that is not the greatest"));
         }
+        self.newest = seq;
     }
 
     fn copied(&mut self, from: usize, to: usize, pool: &[u8]) {
@@ -161,59 +191,37 @@ impl<'a> Audit<'a> {
         self.pages[block * BLOCK_PAGES..][..BLOCK_PAGES].fill(None);
         let before = std::mem::take(&mut self.lies);
         self.lies = self.lies_of_pages(before.len());
-        for id in 0..state.count {
-            let in_buffer = buffer_version(state.buffer, id).is_some_and(|version| version > before[id].version);
-            if !in_buffer && !same_pages(&self.lies[id], &before[id]) {
+        for (id, before) in before.iter().enumerate().take(state.count) {
+            let in_buffer = buffer_version(state.buffer, id).is_some_and(|version| version > before.version);
+            if !in_buffer && !same_pages(&self.lies[id], before) {
                 self.fail(format!("a live page of node {id} was erased with block {block}"));
             }
         }
     }
 
-    /// Asks of every node that it has its mode and lies on three pages at most.
-    fn check_nodes(&mut self, state: &State<'_>) {
-        let mut newest_in_buffer = vec![None; state.count];
+    /// Asks of every node that it lies on three log pages at most and, after a request, that it has the
+    /// reference model's mode.
+    fn check_nodes(&mut self, state: &State<'_>, modes_too: bool) {
+        // The greatest version of each node in the log buffer, 0 for none.
+        let mut in_buffer = std::mem::take(&mut self.in_buffer);
+        in_buffer.clear();
+        in_buffer.resize(state.count, 0);
         for entry in state.buffer {
-            match newest_in_buffer.get_mut(usize::from(entry.id)) {
-                Some(place) => *place = Some(entry.version).max(*place),
-                None => self.failure = Some(format!("the buffer has an entry of node {} which is none", entry.id)),
+            match in_buffer.get_mut(usize::from(entry.id)) {
+                Some(version) => *version = entry.version.max(*version),
+                None => self.fail(format!("the buffer has an entry of node {}, which does not exist", entry.id)),
             }
         }
-        if state.count > self.modes.len() {
-            // Created and not told of yet: such nodes begin in log mode.
-            self.modes.resize(state.count, Mode::Log);
-        }
-        for (id, in_buffer) in newest_in_buffer.into_iter().enumerate() {
-            let lies = &self.lies[id];
-            let pages = match in_buffer {
-                Some(version) if version > lies.version => 0,
-                _ => lies.seqs.len(),
-            };
-            let disk = lies.on_disk_page && in_buffer.is_none_or(|version| version < lies.version);
-            let buffered = usize::from(in_buffer.is_some_and(|version| version >= lies.version));
-            if !disk && pages + buffered > MAX_LOG_PAGES {
-                self.fail(format!("node {id} lies on {pages} log pages, and {buffered} to come"));
+        for (id, &version) in in_buffer.iter().enumerate() {
+            let (mode, pages) = self.lies[id].with_buffer(version);
+            if mode == Mode::Log && pages > MAX_LOG_PAGES {
+                self.fail(format!("node {id} lies on {pages} log pages, one to come included"));
+            }
+            if modes_too && self.modes.get(id) != Some(&mode) {
+                self.fail(format!("node {id} is in {mode:?} mode, in the reference model in {:?}", self.modes.get(id)));
             }
         }
-    }
-
-    /// The node's mode as pages and buffer have it.
-    fn mode_of(&self, id: usize, buffer: &[Entry]) -> Mode {
-        let lies = &self.lies[id];
-        let newer = buffer_version(buffer, id).is_some_and(|version| version > lies.version);
-        if lies.on_disk_page && !newer {
-            Mode::Disk
-        } else {
-            Mode::Log
-        }
-    }
-
-    fn check_modes(&mut self, state: &State<'_>) {
-        for id in 0..state.count.min(self.modes.len()) {
-            let mode = self.mode_of(id, state.buffer);
-            if mode != self.modes[id] {
-                self.fail(format!("node {id} is in {mode:?} mode, in the reference model in {:?}", self.modes[id]));
-            }
-        }
+        self.in_buffer = in_buffer;
     }
 }
 
@@ -239,6 +247,25 @@ fn same_pages(one: &Lies, other: &Lies) -> bool {
         && one.seqs.iter().all(|seq| other.seqs.contains(seq))
 }
 
+impl Audit<'_> {
+    /// Holds a node request against the reference model's next line.
+    fn served(&mut self, id: usize, request: Request, served: Served, count: usize) {
+        self.seen.count(request, served);
+        match self.lines.next() {
+            Some(line) if (line.id, line.request, line.count) == (id, request, count) => {
+                self.modes.resize(count, Mode::Log);
+                self.modes[id] = line.account.mode;
+                if (line.account, line.charge) != (served.account, served.charge) {
+                    self.fail(format!(
+                        "{request:?} of node {id} came to {served:?}, in the reference model to {line:?}"
+                    ));
+                }
+            }
+            other => self.fail(format!("{request:?} of node {id}, but the reference model has {other:?}")),
+        }
+    }
+}
+
 impl Observer for Audit<'_> {
     fn see(&mut self, event: Event, state: State<'_>) {
         self.seen.states += 1;
@@ -257,27 +284,8 @@ impl Observer for Audit<'_> {
             }
             Event::Created { .. } => self.seen.nodes_created += 1,
             Event::WroteWhole { .. } => self.seen.three_page_edits += 1,
-            Event::Served { id, request, served } => {
-                self.seen.requests += 1;
-                self.seen.splits += u64::from(request == crate::account::Request::Rewrite);
-                if served.switched {
-                    match served.account.mode {
-                        Mode::Disk => self.seen.switches_to_disk += 1,
-                        Mode::Log => self.seen.switches_to_log += 1,
-                    }
-                }
-                match self.lines.next() {
-                    Some(line) if (line.id, line.request, line.count) == (id, request, state.count) => {
-                        self.modes[id] = line.account.mode;
-                        if (line.account, line.charge) != (served.account, served.charge) {
-                            self.fail(format!("{request:?} of node {id} came to {served:?}, in the reference model to {line:?}"));
-                        }
-                    }
-                    other => self.fail(format!("{request:?} of node {id}, but the reference model has {other:?}")),
-                }
-                self.check_modes(&state);
-            }
+            Event::Served { id, request, served } => self.served(id, request, served, state.count),
         }
-        self.check_nodes(&state);
+        self.check_nodes(&state, matches!(event, Event::Served { .. }));
     }
 }

@@ -71,7 +71,13 @@ pub fn prepare(pool: &mut [u8], tariff: [u32; 8], observer: &mut dyn Observer) -
 }
 
 /// Runs a batch, telling the observer of every state passed.
-pub fn batch(pool: &mut [u8], table: &mut [u8], batch: &[u8], answers: &mut [u8], observer: &mut dyn Observer) -> Outcome {
+pub fn batch(
+    pool: &mut [u8],
+    table: &mut [u8],
+    batch: &[u8],
+    answers: &mut [u8],
+    observer: &mut dyn Observer,
+) -> Outcome {
     match run(pool, table, batch, answers, observer) {
         Ok((length, charge)) => Outcome { number: 0, length, charge },
         Err(refusal) => Outcome { number: refusal.number(), ..Outcome::default() },

@@ -110,12 +110,8 @@ impl<'a> Store<'a> {
         if !self.buffer.is_empty() {
             self.write_buffer();
         }
-        let scores: Vec<Score> = self
-            .rows
-            .iter()
-            .enumerate()
-            .map(|(id, row)| Score { id: id as u16, score: row.account.score })
-            .collect();
+        let scores: Vec<Score> =
+            self.rows.iter().enumerate().map(|(id, row)| Score { id: id as u16, score: row.account.score }).collect();
         let count = self.rows.len() as u16;
         for page in Checkpoint::pages(self.tariff.numbers(), &scores, count) {
             let slot = self.write_page(Content::Checkpoint(page));
@@ -229,7 +225,8 @@ impl<'a> Store<'a> {
     /// The next blank block upwards and round; the last blank one takes a compaction's copies.
     fn next_block(&mut self) -> usize {
         let blocks = self.written.len();
-        let mut blanks = (1..=blocks).map(|ahead| (self.current + ahead) % blocks).filter(|&block| self.written[block] == 0);
+        let mut blanks =
+            (1..=blocks).map(|ahead| (self.current + ahead) % blocks).filter(|&block| self.written[block] == 0);
         let blank = blanks.next().expect("one block is always blank");
         let last_one = blanks.next().is_none();
         if last_one {

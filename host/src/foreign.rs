@@ -36,12 +36,7 @@ pub fn make(random: &mut Random, taste: Taste) -> Foreign {
     let spelling = Spelling::random(random, taste);
     let draft = Draft::of(random, &spelling, taste);
     let tariff = Tariff::from_numbers(spelling.tariff).expect("a random tariff is in range");
-    let ledger = Ledger {
-        limit: node_limit(taste.blocks),
-        tariff,
-        nodes: spelling.nodes,
-        accounts: spelling.accounts,
-    };
+    let ledger = Ledger { limit: node_limit(taste.blocks), tariff, nodes: spelling.nodes, accounts: spelling.accounts };
     Foreign { pool: draft.bytes(), ledger }
 }
 
@@ -392,7 +387,13 @@ fn random_numbers(random: &mut Random, count: usize) -> Vec<u32> {
 }
 
 /// The greatest version of each node: a disk page's number, or a number below a log node's first page.
-fn random_versions(random: &mut Random, spelling: &Spelling, sheets: &[Sheet], numbers: &[u32], taken: &HashSet<u32>) -> Vec<u32> {
+fn random_versions(
+    random: &mut Random,
+    spelling: &Spelling,
+    sheets: &[Sheet],
+    numbers: &[u32],
+    taken: &HashSet<u32>,
+) -> Vec<u32> {
     let mut versions = vec![0; spelling.nodes.len()];
     for (sheet, &seq) in sheets.iter().zip(numbers) {
         match sheet {

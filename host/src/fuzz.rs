@@ -13,7 +13,9 @@ use crate::book::{self, Outcome};
 use crate::command::{self, encode, encode_answers, Answer, Command};
 use crate::damage;
 use crate::foreign::{self, flaw::FLAWS, random_tariff, Taste};
-use crate::layout::{node_limit, BLOCK_BYTES, MAX_BATCH_BYTES, MAX_SCAN_PAIRS, MAX_SEQ, MAX_TARIFF, TABLE_BYTES_PER_BLOCK};
+use crate::layout::{
+    node_limit, BLOCK_BYTES, MAX_BATCH_BYTES, MAX_SCAN_PAIRS, MAX_SEQ, MAX_TARIFF, TABLE_BYTES_PER_BLOCK,
+};
 use crate::mount::{mount, read};
 use crate::node::Pair;
 use crate::observe::Unobserved;
@@ -80,7 +82,9 @@ impl Tally {
         ]
         .map(|(name, count)| (name.to_string(), count))
         .to_vec();
-        lines.extend([1, 2, 3, 4, 5, 6, 7, 8, 10].map(|number| (format!("calls refused with {number}"), self.refusals[number])));
+        lines.extend(
+            [1, 2, 3, 4, 5, 6, 7, 8, 10].map(|number| (format!("calls refused with {number}"), self.refusals[number])),
+        );
         lines.extend(FLAWS.iter().map(|flaw| {
             (format!("flaw {}: {}", flaw.number, flaw.name), self.flaws.get(flaw.name).copied().unwrap_or(0))
         }));
@@ -93,9 +97,9 @@ pub fn case(seed: u64, tally: &mut Tally) -> Result<(), String> {
     let mut random = Random::new(seed);
     tally.cases += 1;
     match random.below(10) {
-        0..=4 => prepared_case(&mut random, tally),
-        5..=7 => foreign_case(&mut random, tally),
-        8 => flawed_case(&mut random, tally),
+        0..=3 => prepared_case(&mut random, tally),
+        4..=6 => foreign_case(&mut random, tally),
+        7..=8 => flawed_case(&mut random, tally),
         _ => damaged_case(&mut random, tally),
     }
 }
@@ -135,7 +139,7 @@ fn foreign_case(random: &mut Random, tally: &mut Tally) -> Result<(), String> {
 
 /// A foreign pool with one flaw.
 fn flawed_case(random: &mut Random, tally: &mut Tally) -> Result<(), String> {
-    for _ in 0..8 {
+    for _ in 0..20 {
         let taste = Taste { blocks: random_blocks(random), tight: false };
         let flaw = &FLAWS[random.below(FLAWS.len())];
         if let Some(pool) = flaw.make(random, taste) {
@@ -200,7 +204,9 @@ struct Style {
 
 #[derive(Clone, Copy)]
 enum Keys {
-    Ascending { step: u32 },
+    Ascending {
+        step: u32,
+    },
     Descending,
     Below(u32),
     /// A few clusters of near keys.
@@ -217,8 +223,15 @@ impl Style {
             4 => Keys::Clusters,
             _ => Keys::Below(u32::MAX),
         };
-        let shares =
-            random.pick(&[[1, 8, 1, 1], [1, 3, 3, 1], [8, 2, 1, 1], [0, 1, 0, 0], [2, 2, 2, 4], [1, 5, 4, 0], [9, 1, 0, 0]]);
+        let shares = random.pick(&[
+            [1, 8, 1, 1],
+            [1, 3, 3, 1],
+            [8, 2, 1, 1],
+            [0, 1, 0, 0],
+            [2, 2, 2, 4],
+            [1, 5, 4, 0],
+            [9, 1, 0, 0],
+        ]);
         Style { keys, shares, longest: random.pick(&[3, 40, 300, 300, 1200]) }
     }
 
@@ -318,10 +331,10 @@ impl Desk {
     }
 
     fn random_commands(&mut self, random: &mut Random, style: &Style) -> Vec<Command> {
-        let count = match random.below(20) {
-            0 => 0,
+        let count = match random.below(60) {
+            0..=2 => 0,
             // As long as a batch can be.
-            1 => MAX_BATCH_BYTES / 13,
+            3 => MAX_BATCH_BYTES / 13,
             _ => random.between(1, style.longest),
         };
         (0..count).map(|_| self.random_command(random, style)).collect()
@@ -470,7 +483,8 @@ impl Desk {
         let number = random.between(1, 4) as u8;
         match number {
             1 => {
-                let length = random.pick(&[0, 3 * BLOCK_BYTES, 65 * BLOCK_BYTES, self.pool.len() - 1, self.pool.len() + 512]);
+                let length =
+                    random.pick(&[0, 3 * BLOCK_BYTES, 65 * BLOCK_BYTES, self.pool.len() - 1, self.pool.len() + 512]);
                 call.pool.resize(length, 0xFF);
             }
             2 => call.table.truncate(random.below(TABLE_BYTES_PER_BLOCK * self.blocks)),

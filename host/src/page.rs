@@ -1,8 +1,6 @@
 //! A page: its bytes and what they say.
 
-use crate::layout::{
-    BLANK, FIRST_CHECKPOINT_SCORES, LOG_PAGE_ENTRIES, OTHER_CHECKPOINT_SCORES, PAGE_BYTES,
-};
+use crate::layout::{BLANK, FIRST_CHECKPOINT_SCORES, LOG_PAGE_ENTRIES, OTHER_CHECKPOINT_SCORES, PAGE_BYTES};
 use crate::node::{Change, Node, Pair, Shape};
 use crate::wire::{next_field, page_sum, put_head, Field, Numbers, NODE_HEAD, PAIR_BYTES};
 use crate::wire::{TAG_COUNT, TAG_ENTRY, TAG_NODE, TAG_SCORE, TAG_SEQ, TAG_SUM, TAG_TARIFF};

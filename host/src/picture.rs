@@ -153,7 +153,8 @@ fn describe_page(out: &mut String, page: &Page, lives: impl Fn(u16, u32) -> &'st
         Content::Log(entries) => {
             for entry in entries {
                 let state = lives(entry.id, entry.version);
-                let _ = writeln!(out, "  {state} node {} version {}: {}", entry.id, entry.version, change(entry.change));
+                let _ =
+                    writeln!(out, "  {state} node {} version {}: {}", entry.id, entry.version, change(entry.change));
             }
         }
         Content::Node { id, node } => {

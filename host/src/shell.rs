@@ -231,9 +231,25 @@ mod tests {
         shell.answer("prepare 4 3 1 2 1 4 4 3 2");
         let before = shell.hash();
         for line in [
-            "prepare", "prepare 5 1 2 3", "prepare 5 1 2 3 4 5 6 7 8 9", "prepare 5 1 2 3 4 5 6 7 -8", "prepare 99999 1 1 1 1 1 1 1 1",
-            "batch 0", "batch xx", "batch 00 00", "load", "load /nowhere/at/all", "lengths", "lengths 1", "lengths 1 x",
-            "spell 1", "dump", "dump 128", "dump 99999999999999999999", "dump 18446744073709551615", "nonsense",
+            "prepare",
+            "prepare 5 1 2 3",
+            "prepare 5 1 2 3 4 5 6 7 8 9",
+            "prepare 5 1 2 3 4 5 6 7 -8",
+            "prepare 99999 1 1 1 1 1 1 1 1",
+            "batch 0",
+            "batch xx",
+            "batch 00 00",
+            "load",
+            "load /nowhere/at/all",
+            "lengths",
+            "lengths 1",
+            "lengths 1 x",
+            "spell 1",
+            "dump",
+            "dump 128",
+            "dump 99999999999999999999",
+            "dump 18446744073709551615",
+            "nonsense",
         ] {
             let answer = shell.answer(line);
             assert!(answer.len() == 1 && answer[0].starts_with("error "), "{line}: {answer:?}");

@@ -101,7 +101,8 @@ fn number_3_the_batch_is_not_wholly_valid() {
 
 #[test]
 fn number_4_the_answer_buffer_is_too_short() {
-    let short = |commands: &[_], length| Call { batch: encode(commands), answers: vec![0x66; length], ..Call::good() }.number();
+    let short =
+        |commands: &[_], length| Call { batch: encode(commands), answers: vec![0x66; length], ..Call::good() }.number();
     assert_eq!((short(&[get(1)], 6), short(&[get(1)], 7)), (4, 0));
     assert_eq!((short(&[scan(0, 9, 3)], 26), short(&[scan(0, 9, 3)], 27)), (4, 0));
     assert_eq!(short(&[scan(9, 0, 3)], 26), 4, "low above high counts all the same");

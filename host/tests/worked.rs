@@ -72,11 +72,12 @@ fn pools_of_every_named_length() {
 
 /// Puts ascending keys, one a batch, until one is refused; gives how many were taken.
 fn fill(desk: &mut Desk) -> u32 {
-    (0..).find(|&key| {
-        assert_eq!(desk.batch(&[put(key, !key)]).number, 0);
-        desk.lines() == ["8f000109"]
-    })
-    .expect("a pool is full at last")
+    (0..)
+        .find(|&key| {
+            assert_eq!(desk.batch(&[put(key, !key)]).number, 0);
+            desk.lines() == ["8f000109"]
+        })
+        .expect("a pool is full at last")
 }
 
 #[test]

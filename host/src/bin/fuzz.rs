@@ -58,7 +58,13 @@ fn run(time: Duration, seed: u64) -> Result<(), String> {
         run_case(seeds.next_u64(), &mut tally)?;
         if told.elapsed() >= Duration::from_secs(5) {
             told = Instant::now();
-            eprintln!("{:>4} s: {} cases, {} batches, {} states", start.elapsed().as_secs(), tally.cases, tally.batches, tally.seen.states);
+            eprintln!(
+                "{:>4} s: {} cases, {} batches, {} states",
+                start.elapsed().as_secs(),
+                tally.cases,
+                tally.batches,
+                tally.seen.states
+            );
         }
     }
     for (name, count) in tally.lines() {

@@ -126,15 +126,25 @@ fn change_node(
 
 fn link_elsewhere(random: &mut Random, spelling: &mut Spelling, _: usize) -> bool {
     let count = spelling.nodes.len();
-    change_node(random, spelling, |_, node| node.is_leaf(), |random, node| {
-        let any = random.below(count) as u32;
-        let other = random.pick(&[NO_LINK, 0, any, count as u32]);
-        node.link = if other == node.link { other ^ 0x10000 } else { other };
-    })
+    change_node(
+        random,
+        spelling,
+        |_, node| node.is_leaf(),
+        |random, node| {
+            let any = random.below(count) as u32;
+            let other = random.pick(&[NO_LINK, 0, any, count as u32]);
+            node.link = if other == node.link { other ^ 0x10000 } else { other };
+        },
+    )
 }
 
 /// Two neighbouring leaves: the ids of one that has room and of the next, which has a key.
-fn neighbours(random: &mut Random, spelling: &Spelling, left: fn(&Node) -> bool, right: fn(&Node) -> bool) -> Option<(usize, usize)> {
+fn neighbours(
+    random: &mut Random,
+    spelling: &Spelling,
+    left: fn(&Node) -> bool,
+    right: fn(&Node) -> bool,
+) -> Option<(usize, usize)> {
     let nodes = &spelling.nodes;
     let fits = |_: usize, node: &Node| {
         node.is_leaf() && node.link != NO_LINK && left(node) && right(&nodes[node.link as usize])
@@ -143,7 +153,8 @@ fn neighbours(random: &mut Random, spelling: &Spelling, left: fn(&Node) -> bool,
 }
 
 fn leaf_key_above(random: &mut Random, spelling: &mut Spelling, _: usize) -> bool {
-    let Some((left, right)) = neighbours(random, spelling, |left| !left.is_full(), |right| !right.pairs.is_empty()) else {
+    let Some((left, right)) = neighbours(random, spelling, |left| !left.is_full(), |right| !right.pairs.is_empty())
+    else {
         return false;
     };
     let beyond = spelling.nodes[right].pairs[0];
@@ -153,7 +164,8 @@ fn leaf_key_above(random: &mut Random, spelling: &mut Spelling, _: usize) -> boo
 }
 
 fn leaf_key_below(random: &mut Random, spelling: &mut Spelling, _: usize) -> bool {
-    let Some((left, right)) = neighbours(random, spelling, |left| !left.pairs.is_empty(), |right| !right.is_full()) else {
+    let Some((left, right)) = neighbours(random, spelling, |left| !left.pairs.is_empty(), |right| !right.is_full())
+    else {
         return false;
     };
     let beyond = spelling.nodes[left].pairs[0];
@@ -176,12 +188,17 @@ fn branch_key_above(random: &mut Random, spelling: &mut Spelling, _: usize) -> b
 
 /// Makes one of a branch's pointers another.
 fn change_pointer(random: &mut Random, spelling: &mut Spelling, other: impl Fn(&Node, u32) -> u32) -> bool {
-    change_node(random, spelling, |_, node| !node.is_leaf(), |random, node| {
-        let place = random.below(node.pairs.len() + 1);
-        let before = node.child(place);
-        let change = node.change_child(place, other(node, before));
-        node.apply(change);
-    })
+    change_node(
+        random,
+        spelling,
+        |_, node| !node.is_leaf(),
+        |random, node| {
+            let place = random.below(node.pairs.len() + 1);
+            let before = node.child(place);
+            let change = node.change_child(place, other(node, before));
+            node.apply(change);
+        },
+    )
 }
 
 fn pointer_to_root(random: &mut Random, spelling: &mut Spelling, _: usize) -> bool {
@@ -270,26 +287,41 @@ fn change_history(
 }
 
 fn key_25(random: &mut Random, spelling: &mut Spelling, _: usize) -> bool {
-    change_history(random, spelling, |_, node| node.pairs.len() == MAX_KEYS, |node, history| {
-        let key = (0..).find(|&key| node.find(key).is_err()).expect("some key is free");
-        history.push(Change::Put(Pair { key, pointer: 0 }));
-        history.push(Change::Drop { key });
-    })
+    change_history(
+        random,
+        spelling,
+        |_, node| node.pairs.len() == MAX_KEYS,
+        |node, history| {
+            let key = (0..).find(|&key| node.find(key).is_err()).expect("some key is free");
+            history.push(Change::Put(Pair { key, pointer: 0 }));
+            history.push(Change::Drop { key });
+        },
+    )
 }
 
 fn links_mixed(random: &mut Random, spelling: &mut Spelling, _: usize) -> bool {
-    change_history(random, spelling, |_, _| true, |node, history| {
-        let other = if node.is_leaf() { Shape::Branch } else { Shape::Leaf };
-        history.insert(0, Change::Link(other, node.link));
-    })
+    change_history(
+        random,
+        spelling,
+        |_, _| true,
+        |node, history| {
+            let other = if node.is_leaf() { Shape::Branch } else { Shape::Leaf };
+            history.insert(0, Change::Link(other, node.link));
+        },
+    )
 }
 
 fn no_link(random: &mut Random, spelling: &mut Spelling, _: usize) -> bool {
-    change_history(random, spelling, |_, _| true, |_, history| {
-        history.retain(|change| !matches!(change, Change::Link(..)));
-        history.push(Change::Drop { key: 0 });
-        history.rotate_right(1);
-    })
+    change_history(
+        random,
+        spelling,
+        |_, _| true,
+        |_, history| {
+            history.retain(|change| !matches!(change, Change::Link(..)));
+            history.push(Change::Drop { key: 0 });
+            history.rotate_right(1);
+        },
+    )
 }
 
 fn score_at_limit(random: &mut Random, spelling: &mut Spelling, _: usize) -> bool {
@@ -329,7 +361,11 @@ fn pick_page(random: &mut Random, draft: &Draft, test: impl Fn(&Page) -> bool) -
 }
 
 /// Changes the entries of one of the log pages.
-fn change_entries(random: &mut Random, draft: &mut Draft, change: impl FnOnce(&mut Random, u32, &mut Vec<Entry>)) -> bool {
+fn change_entries(
+    random: &mut Random,
+    draft: &mut Draft,
+    change: impl FnOnce(&mut Random, u32, &mut Vec<Entry>),
+) -> bool {
     let Some(at) = pick_page(random, draft, |page| matches!(page.content, Content::Log(_))) else { return false };
     let Page { seq, content: Content::Log(entries) } = &mut draft.pages[at] else { return false };
     change(random, *seq, entries);
@@ -467,7 +503,9 @@ fn checkpoint_start(draft: &Draft) -> usize {
 
 fn newest_is_log(random: &mut Random, draft: &mut Draft) -> bool {
     let newest = draft.pages.len() - 1;
-    let Some(at) = pick_page(random, draft, |page| !matches!(page.content, Content::Checkpoint(_))) else { return false };
+    let Some(at) = pick_page(random, draft, |page| !matches!(page.content, Content::Checkpoint(_))) else {
+        return false;
+    };
     draft.pages[at].seq = draft.pages[newest].seq + 1;
     draft.slots.swap(at, newest);
     true
@@ -475,7 +513,9 @@ fn newest_is_log(random: &mut Random, draft: &mut Draft) -> bool {
 
 fn log_within_checkpoint(random: &mut Random, draft: &mut Draft) -> bool {
     let start = checkpoint_start(draft);
-    let Some(at) = pick_page(random, draft, |page| !matches!(page.content, Content::Checkpoint(_))) else { return false };
+    let Some(at) = pick_page(random, draft, |page| !matches!(page.content, Content::Checkpoint(_))) else {
+        return false;
+    };
     draft.pages[at].seq = draft.pages[start].seq + 1;
     start + 1 < draft.pages.len()
 }
@@ -489,7 +529,11 @@ fn change_checkpoint(draft: &mut Draft, at: usize, change: impl FnOnce(&mut Chec
 }
 
 /// Changes one of the checkpoint's pages, which one by chance.
-fn change_some_checkpoint(random: &mut Random, draft: &mut Draft, change: impl FnOnce(&mut Checkpoint) -> bool) -> bool {
+fn change_some_checkpoint(
+    random: &mut Random,
+    draft: &mut Draft,
+    change: impl FnOnce(&mut Checkpoint) -> bool,
+) -> bool {
     let at = random.between(checkpoint_start(draft), draft.pages.len() - 1);
     change_checkpoint(draft, at, change)
 }
