@@ -2,10 +2,13 @@
 //!
 //! The audit decodes the bytes itself and never sees the store's rows. After every page written, copied
 //! or erased and after every node request it asks that no node lies on more than three log pages and
-//! that every node has the mode of the reference model.
+//! that every node has the mode of the reference model. It works out for itself where each page goes,
+//! which block is compacted, which of its pages are live, and which number comes next.
+
+use std::collections::HashSet;
 
 use crate::account::{Mode, Request, Served};
-use crate::layout::{page_range, BLOCK_PAGES, MAX_LOG_PAGES, PAGE_BYTES};
+use crate::layout::{block_range, page_range, BLANK, BLOCK_PAGES, MAX_LOG_PAGES, PAGE_BYTES};
 use crate::observe::{Event, Observer, State};
 use crate::page::{decode, is_blank, Content, Entry, Page};
 use crate::reference::Line;
@@ -90,7 +93,14 @@ pub struct Audit<'a> {
     lies: Vec<Lies>,
     /// The modes of the reference model by now.
     modes: Vec<Mode>,
-    newest: u32,
+    /// The last number taken, by a page or a version.
+    last_seq: u32,
+    /// The block last written.
+    current: usize,
+    /// The copies of a compaction until its block is erased.
+    copies: Vec<(usize, usize)>,
+    /// The pages of the checkpoint being written, by sequence number.
+    checkpoint: Vec<u32>,
     /// Kept between checks for its memory alone.
     in_buffer: Vec<u32>,
     /// The lines that the reference model has for the requests still to come.
@@ -110,14 +120,19 @@ impl<'a> Audit<'a> {
             pages,
             lies: Vec::new(),
             modes,
-            newest: 0,
+            last_seq: 0,
+            current: 0,
+            copies: Vec::new(),
+            checkpoint: Vec::new(),
             in_buffer: Vec::new(),
             lines: lines.iter(),
             seen: Seen::default(),
             failure: None,
         };
         audit.lies = audit.lies_of_pages(limit);
-        audit.newest = audit.pages.iter().flatten().map(|page| page.seq).max().unwrap_or(0);
+        let numbered = audit.pages.iter().enumerate().filter_map(|(slot, page)| Some((page.as_ref()?.seq, slot)));
+        let (seq, slot) = numbered.max().unwrap_or_default();
+        (audit.last_seq, audit.current) = (seq, slot / BLOCK_PAGES);
         audit
     }
 
@@ -163,28 +178,112 @@ impl<'a> Audit<'a> {
         }
     }
 
-    fn written(&mut self, slot: usize, pool: &[u8]) {
-        self.take_page(slot, pool);
-        let seq = self.pages[slot].as_ref().map_or(0, |page| page.seq);
-        if seq <= self.newest {
-            self.fail(format!("page {slot} has a number that is not the greatest"));
+    /// A new page: it stands where document 01 says and has the next number.
+    fn written(&mut self, slot: usize, state: &State<'_>) {
+        let place = self.next_place();
+        if Some(slot) != place {
+            self.fail(format!("page {slot} was written, {place:?} comes next"));
         }
-        self.newest = seq;
+        self.take_page(slot, state.pool);
+        self.current = slot / BLOCK_PAGES;
+        let Some(page) = &self.pages[slot] else { return };
+        let versions = match &page.content {
+            Content::Log(entries) => entries.as_slice(),
+            _ => &[],
+        };
+        let greatest = versions.iter().chain(state.buffer).map(|entry| entry.version).max().unwrap_or(0);
+        let (seq, next) = (page.seq, self.last_seq.max(greatest) + 1);
+        if matches!(page.content, Content::Checkpoint(_)) {
+            self.checkpoint.push(seq);
+        }
+        if seq != next {
+            self.fail(format!("page {slot} has number {seq}, {next} comes next"));
+        }
+        self.last_seq = seq;
+    }
+
+    fn pages_in(&self, block: usize) -> &[Option<Page>] {
+        &self.pages[block * BLOCK_PAGES..][..BLOCK_PAGES]
+    }
+
+    /// Written pages of a block.
+    fn fill_of(&self, block: usize) -> usize {
+        self.pages_in(block).iter().flatten().count()
+    }
+
+    /// Blank blocks from the one behind the current block upwards and round.
+    fn blank_blocks(&self) -> Vec<usize> {
+        let blocks = self.pages.len() / BLOCK_PAGES;
+        (1..=blocks).map(|ahead| (self.current + ahead) % blocks).filter(|&block| self.fill_of(block) == 0).collect()
+    }
+
+    /// The place of the next page, if no compaction is due before it.
+    fn next_place(&self) -> Option<usize> {
+        match self.fill_of(self.current) {
+            BLOCK_PAGES => {
+                let blanks = self.blank_blocks();
+                (blanks.len() >= 2).then(|| blanks[0] * BLOCK_PAGES)
+            }
+            fill => Some(self.current * BLOCK_PAGES + fill),
+        }
     }
 
     fn copied(&mut self, from: usize, to: usize, pool: &[u8]) {
         self.take_page(to, pool);
+        self.copies.push((from, to));
         if self.pool[page_range(from)] != self.pool[page_range(to)] {
             self.fail(format!("page {from} was changed when copied to {to}"));
         }
     }
 
+    /// A block was erased: it was due, it was the right one, and its live pages were copied in order.
+    fn erased(&mut self, block: usize, state: &State<'_>) {
+        let copies = std::mem::take(&mut self.copies);
+        for &(_, to) in &copies {
+            // As it was before the copies.
+            self.pages[to] = None;
+        }
+        let blanks = self.blank_blocks();
+        if self.fill_of(self.current) != BLOCK_PAGES || blanks.len() != 1 {
+            self.fail("a compaction that was not due".to_string());
+            return;
+        }
+        let live = self.live_slots(state);
+        let live_in = |block: usize| live.iter().filter(|&&slot| slot / BLOCK_PAGES == block).count();
+        let written = (0..self.pages.len() / BLOCK_PAGES).filter(|&block| block != blanks[0]);
+        let fewest = written.min_by_key(|&block| (live_in(block), block));
+        if fewest != Some(block) {
+            self.fail(format!("block {block} was erased, {fewest:?} has fewest live pages"));
+        }
+        let moved = live.iter().filter(|&&slot| slot / BLOCK_PAGES == block).copied().zip(blanks[0] * BLOCK_PAGES..);
+        if !moved.eq(copies.iter().copied()) {
+            self.fail(format!("other pages of block {block} were copied than its live ones in order"));
+        }
+        for &(from, to) in &copies {
+            self.pages[to] = self.pages[from].clone();
+        }
+        self.forget_block(block, state);
+        self.current = blanks[0];
+    }
+
+    /// The slots of live pages, ascending: pages of greatest versions and of the checkpoint being written.
+    fn live_slots(&self, state: &State<'_>) -> Vec<usize> {
+        let mut seqs: HashSet<u32> = self.checkpoint.iter().copied().collect();
+        for (id, lies) in self.lies.iter().enumerate().take(state.count) {
+            if buffer_version(state.buffer, id).is_none_or(|version| version <= lies.version) {
+                seqs.extend(&lies.seqs);
+            }
+        }
+        let is_live = |page: &Option<Page>| page.as_ref().is_some_and(|page| seqs.contains(&page.seq));
+        (0..self.pages.len()).filter(|&slot| is_live(&self.pages[slot])).collect()
+    }
+
     /// Forgets a block; no page of a greatest version may be lost with it.
     ///
     /// A node whose greatest version is in the log buffer alone has no live page.
-    fn erased(&mut self, block: usize, state: &State<'_>) {
-        let range = crate::layout::block_range(block);
-        self.pool[range.clone()].fill(0xFF);
+    fn forget_block(&mut self, block: usize, state: &State<'_>) {
+        let range = block_range(block);
+        self.pool[range.clone()].fill(BLANK);
         if !is_blank(&state.pool[range]) {
             self.fail(format!("block {block} is not blank after its erase"));
         }
@@ -199,6 +298,15 @@ impl<'a> Audit<'a> {
         }
     }
 
+    /// An edit that wrote the whole content: its node lay on three pages.
+    fn wrote_whole(&mut self, id: usize) {
+        self.seen.three_page_edits += 1;
+        let pages = self.lies[id].seqs.len();
+        if pages != MAX_LOG_PAGES || self.lies[id].on_disk_page {
+            self.fail(format!("an edit wrote node {id} whole, which lay on {pages} pages"));
+        }
+    }
+
     /// Asks of every node that it lies on three log pages at most and, after a request, that it has the
     /// reference model's mode.
     fn check_nodes(&mut self, state: &State<'_>, modes_too: bool) {
@@ -207,6 +315,7 @@ impl<'a> Audit<'a> {
         in_buffer.clear();
         in_buffer.resize(state.count, 0);
         for entry in state.buffer {
+            self.last_seq = self.last_seq.max(entry.version);
             match in_buffer.get_mut(usize::from(entry.id)) {
                 Some(version) => *version = entry.version.max(*version),
                 None => self.fail(format!("the buffer has an entry of node {}, which does not exist", entry.id)),
@@ -272,7 +381,7 @@ impl Observer for Audit<'_> {
         match event {
             Event::PageWritten { slot } => {
                 self.seen.pages_written += 1;
-                self.written(slot, state.pool);
+                self.written(slot, &state);
             }
             Event::PageCopied { from, to } => {
                 self.seen.pages_copied += 1;
@@ -283,7 +392,7 @@ impl Observer for Audit<'_> {
                 self.erased(block, &state);
             }
             Event::Created { .. } => self.seen.nodes_created += 1,
-            Event::WroteWhole { .. } => self.seen.three_page_edits += 1,
+            Event::WroteWhole { id } => self.wrote_whole(id),
             Event::Served { id, request, served } => self.served(id, request, served, state.count),
         }
         self.check_nodes(&state, matches!(event, Event::Served { .. }));
