@@ -8,7 +8,8 @@
 use std::collections::HashSet;
 
 use crate::account::{Mode, Request, Served};
-use crate::layout::{block_range, page_range, BLANK, BLOCK_PAGES, MAX_LOG_PAGES, PAGE_BYTES};
+use crate::layout::{block_range, page_range, BLANK, BLOCK_PAGES, LOG_PAGE_ENTRIES, MAX_LOG_PAGES, PAGE_BYTES};
+use crate::node::Change;
 use crate::observe::{Event, Observer, State};
 use crate::page::{decode, is_blank, Content, Entry, Page};
 use crate::reference::Line;
@@ -101,6 +102,8 @@ pub struct Audit<'a> {
     copies: Vec<(usize, usize)>,
     /// The pages of the checkpoint being written, by sequence number.
     checkpoint: Vec<u32>,
+    /// The entries of a log page just written, until it is seen what came after it.
+    forced: Option<usize>,
     /// Kept between checks for its memory alone.
     in_buffer: Vec<u32>,
     /// The lines that the reference model has for the requests still to come.
@@ -124,6 +127,7 @@ impl<'a> Audit<'a> {
             current: 0,
             copies: Vec::new(),
             checkpoint: Vec::new(),
+            forced: None,
             in_buffer: Vec::new(),
             lines: lines.iter(),
             seen: Seen::default(),
@@ -186,12 +190,14 @@ impl<'a> Audit<'a> {
         }
         self.take_page(slot, state.pool);
         self.current = slot / BLOCK_PAGES;
-        let Some(page) = &self.pages[slot] else { return };
-        let versions = match &page.content {
+        let Some(page) = self.pages[slot].clone() else { return };
+        let entries = match &page.content {
             Content::Log(entries) => entries.as_slice(),
             _ => &[],
         };
-        let greatest = versions.iter().chain(state.buffer).map(|entry| entry.version).max().unwrap_or(0);
+        self.check_forced(entries);
+        self.forced = self.forced.or((!entries.is_empty()).then_some(entries.len()));
+        let greatest = entries.iter().chain(state.buffer).map(|entry| entry.version).max().unwrap_or(0);
         let (seq, next) = (page.seq, self.last_seq.max(greatest) + 1);
         if matches!(page.content, Content::Checkpoint(_)) {
             self.checkpoint.push(seq);
@@ -200,6 +206,21 @@ impl<'a> Audit<'a> {
             self.fail(format!("page {slot} has number {seq}, {next} comes next"));
         }
         self.last_seq = seq;
+    }
+
+    /// A log page was written because the group after it did not fit; `entries` begin with that group.
+    ///
+    /// A group ends with its link; an edit is one entry. At closing nothing comes after the page.
+    fn check_forced(&mut self, entries: &[Entry]) {
+        if entries.is_empty() {
+            return;
+        }
+        let Some(before) = self.forced.take() else { return };
+        let link = entries.iter().position(|entry| matches!(entry.change, Change::Link(..)));
+        let group = link.map_or(1, |at| at + 1);
+        if before + group <= LOG_PAGE_ENTRIES {
+            self.fail(format!("a log page of {before} entries was written, though {group} more would have fitted"));
+        }
     }
 
     fn pages_in(&self, block: usize) -> &[Option<Page>] {
@@ -395,6 +416,7 @@ impl Observer for Audit<'_> {
             Event::WroteWhole { id } => self.wrote_whole(id),
             Event::Served { id, request, served } => self.served(id, request, served, state.count),
         }
+        self.check_forced(state.buffer);
         self.check_nodes(&state, matches!(event, Event::Served { .. }));
     }
 }

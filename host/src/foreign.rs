@@ -21,8 +21,25 @@ use crate::reference::Ledger;
 #[derive(Clone, Copy, Debug)]
 pub struct Taste {
     pub blocks: usize,
+    pub build: Build,
+}
+
+#[derive(Clone, Copy, PartialEq, Eq, Debug)]
+pub enum Build {
+    Any,
     /// As many nodes as may be, each on as many pages as may be, one block blank.
-    pub tight: bool,
+    Tight,
+    /// A full root over full branches with hardly an id to spare; from [`BRINK_BLOCKS`] blocks on.
+    Brink,
+}
+
+/// Blocks of the smallest pool whose limit a full root over a full branch comes near.
+pub const BRINK_BLOCKS: usize = 12;
+
+impl Taste {
+    fn is_tight(&self) -> bool {
+        self.build == Build::Tight
+    }
 }
 
 /// A foreign pool, and what it spells.
@@ -69,7 +86,7 @@ impl Spelling {
         let accounts = nodes
             .iter()
             .map(|_| Account {
-                mode: if taste.tight || random.below(100) < in_log { Mode::Log } else { Mode::Disk },
+                mode: if taste.is_tight() || random.below(100) < in_log { Mode::Log } else { Mode::Disk },
                 score: random.below(score_end) as u32,
             })
             .collect();
@@ -87,20 +104,44 @@ impl Spelling {
 /// A random sound tree within the limit: thin or fat branches, empty leaves, ids in any order.
 fn random_tree(random: &mut Random, taste: Taste) -> Vec<Node> {
     let limit = node_limit(taste.blocks);
+    if taste.build == Build::Brink {
+        let levels = brink_levels(random, limit);
+        return tree_of_levels(random, &levels);
+    }
     let fanout = random.pick(&[2, 3, 6, MAX_KEYS + 1]);
     let most = if random.once_in(2) { limit } else { limit.min(30) };
-    let mut leaves = if taste.tight { limit } else { random.between(1, most) };
+    let mut leaves = if taste.is_tight() { limit } else { random.between(1, most) };
     let mut levels = random_levels(random, leaves, fanout);
     while node_count(&levels) > limit {
         leaves -= 1 + leaves / 20;
         levels = random_levels(random, leaves, fanout);
     }
-    let separators = random_separators(random, leaves, &levels);
-    let mut ids: Vec<usize> = (1..node_count(&levels)).collect();
+    tree_of_levels(random, &levels)
+}
+
+fn tree_of_levels(random: &mut Random, levels: &[Vec<usize>]) -> Vec<Node> {
+    let separators = random_separators(random, levels[0].len(), levels);
+    let mut ids: Vec<usize> = (1..node_count(levels)).collect();
     random.shuffle(&mut ids);
     ids.push(0);
     ids.reverse();
-    build_tree(random, &levels, &separators, &ids)
+    build_tree(random, levels, &separators, &ids)
+}
+
+/// A full root over full and thin branches: a split up to the root takes four ids, which are just there, or just not.
+fn brink_levels(random: &mut Random, limit: usize) -> Vec<Vec<usize>> {
+    let fanout = MAX_KEYS + 1;
+    let mut leaves = limit - 1 - fanout - random.pick(&[0, 1, 2, 3, 3, 4, 4, 5]);
+    let mut branches = vec![2; fanout];
+    leaves -= 2 * fanout;
+    for children in &mut branches {
+        let more = leaves.min(fanout - 2);
+        *children += more;
+        leaves -= more;
+    }
+    random.shuffle(&mut branches);
+    let leaves = branches.iter().sum();
+    vec![vec![0; leaves], branches, vec![fanout]]
 }
 
 /// The children of each branch, level by level from the one above the leaves; a leaf alone has none.
@@ -187,7 +228,7 @@ fn branch_over(children: &[(usize, usize)], separators: &[u64]) -> Node {
 
 /// 0 to 24 pairs with keys from `low`, below `end`.
 fn random_pairs(random: &mut Random, low: u64, end: u64) -> Vec<Pair> {
-    let most = random.pick(&[0, 1, MAX_KEYS / 2, MAX_KEYS - 1, MAX_KEYS]);
+    let most = random.pick(&[0, 1, MAX_KEYS / 2, MAX_KEYS - 1, MAX_KEYS, MAX_KEYS]);
     let want = most.min((end - low) as usize);
     let mut keys = BTreeSet::new();
     if end > low {
@@ -255,7 +296,7 @@ impl Draft {
         sheets.extend(disks.map(Sheet::Disk));
         let most = BLOCK_PAGES * (taste.blocks - 1) - checkpoint.len();
         let room = most.saturating_sub(sheets.len());
-        let dead = if taste.tight { room } else { random.pick(&[0, 1, room / 8, room / 2, room]).min(room) };
+        let dead = if taste.is_tight() { room } else { random.pick(&[0, 1, room / 8, room / 2, room]).min(room) };
         sheets.extend((0..dead).map(|_| random.pick(&[Sheet::DeadLog, Sheet::DeadDisk, Sheet::DeadCheckpoint])));
         let sheets = shuffle_keeping_logs(random, sheets);
         let pages = number_sheets(random, spelling, &sheets, checkpoint);
@@ -289,11 +330,11 @@ fn random_scores(random: &mut Random, spelling: &Spelling) -> Vec<Score> {
 /// Lays the histories of log nodes on log pages, each node on three at most.
 fn log_sheets(random: &mut Random, spelling: &Spelling, taste: Taste) -> Vec<Sheet> {
     let mut sheets: Vec<Vec<(usize, Change)>> = Vec::new();
-    let shared = !taste.tight && random.once_in(2);
+    let shared = !taste.is_tight() && random.once_in(2);
     for (id, account) in spelling.accounts.iter().enumerate().filter(|(_, account)| account.mode == Mode::Log) {
         debug_assert_eq!(account.mode, Mode::Log);
         let mut first_free = 0;
-        for run in random_runs(random, &spelling.histories[id], taste.tight) {
+        for run in random_runs(random, &spelling.histories[id], taste.is_tight()) {
             let fits = |sheet: &Vec<(usize, Change)>| sheet.len() + run.len() <= LOG_PAGE_ENTRIES;
             let found = (first_free..sheets.len()).filter(|_| shared).find(|&at| fits(&sheets[at]));
             let at = found.unwrap_or_else(|| {

@@ -12,7 +12,7 @@ use crate::audit::{Audit, Seen};
 use crate::book::{self, Outcome};
 use crate::command::{self, encode, encode_answers, Answer, Command};
 use crate::damage;
-use crate::foreign::{self, flaw::FLAWS, random_tariff, Taste};
+use crate::foreign::{self, flaw::FLAWS, random_tariff, Build, Taste, BRINK_BLOCKS};
 use crate::layout::{
     node_limit, BLOCK_BYTES, MAX_BATCH_BYTES, MAX_SCAN_PAIRS, MAX_SEQ, MAX_TARIFF, TABLE_BYTES_PER_BLOCK,
 };
@@ -41,6 +41,9 @@ pub struct Tally {
     pub multi_page_checkpoints: u64,
     pub foreign_pools: u64,
     pub tight_pools: u64,
+    pub brink_pools: u64,
+    /// Puts answered with 9 although some ids were unused.
+    pub too_few_ids: u64,
     /// Foreign pools made with each flaw.
     pub flaws: BTreeMap<&'static str, u64>,
     pub plain_damage: u64,
@@ -64,6 +67,7 @@ impl Tally {
             ("root splits", self.root_splits),
             ("nodes created", self.seen.nodes_created),
             ("puts refused with 9", self.ids_used_up),
+            ("of these with some ids unused", self.too_few_ids),
             ("keys deleted", self.keys_deleted),
             ("scans", self.scans),
             ("switches to disk", self.seen.switches_to_disk),
@@ -75,6 +79,7 @@ impl Tally {
             ("checkpoints of several pages", self.multi_page_checkpoints),
             ("foreign pools", self.foreign_pools),
             ("tight pools", self.tight_pools),
+            ("pools on the brink of the limit", self.brink_pools),
             ("damaged pools", self.plain_damage),
             ("damaged pools with mended sums", self.mended_damage),
             ("of these opened", self.mended_that_opened),
@@ -140,7 +145,7 @@ fn foreign_case(random: &mut Random, tally: &mut Tally) -> Result<(), String> {
 /// A foreign pool with one flaw.
 fn flawed_case(random: &mut Random, tally: &mut Tally) -> Result<(), String> {
     for _ in 0..20 {
-        let taste = Taste { blocks: random_blocks(random), tight: false };
+        let taste = Taste { blocks: random_blocks(random), build: Build::Any };
         let flaw = &FLAWS[random.below(FLAWS.len())];
         if let Some(pool) = flaw.make(random, taste) {
             *tally.flaws.entry(flaw.name).or_default() += 1;
@@ -283,9 +288,14 @@ impl Desk {
     }
 
     fn foreign(random: &mut Random, tally: &mut Tally) -> Desk {
-        let taste = Taste { blocks: random_blocks(random), tight: random.once_in(3) };
+        let taste = match random.below(6) {
+            0 | 1 => Taste { blocks: random_blocks(random), build: Build::Tight },
+            2 => Taste { blocks: random.between(BRINK_BLOCKS, 16), build: Build::Brink },
+            _ => Taste { blocks: random_blocks(random), build: Build::Any },
+        };
         tally.foreign_pools += 1;
-        tally.tight_pools += u64::from(taste.tight);
+        tally.tight_pools += u64::from(taste.build == Build::Tight);
+        tally.brink_pools += u64::from(taste.build == Build::Brink);
         let foreign = foreign::make(random, taste);
         Desk::with(foreign.pool, foreign.ledger)
     }
@@ -352,7 +362,10 @@ impl Desk {
             Some(0) => Command::Get { key: self.likely_key(random, style) },
             Some(1) => {
                 self.next += 1;
-                let key = if random.once_in(8) { self.likely_key(random, style) } else { style.key(random, self.next) };
+                // A pool that was not built by the style's keys has its own.
+                let near = if self.bills.is_some() { 8 } else { 2 };
+                let key =
+                    if random.once_in(near) { self.likely_key(random, style) } else { style.key(random, self.next) };
                 Command::Put { key, value: random.next_u32() }
             }
             Some(2) => Command::Delete { key: self.likely_key(random, style) },
@@ -363,7 +376,8 @@ impl Desk {
     fn random_scan(&mut self, random: &mut Random, style: &Style) -> Command {
         let (one, other) = (self.likely_key(random, style), self.likely_key(random, style));
         let (low, high) = if random.once_in(10) { (one, other) } else { (one.min(other), one.max(other)) };
-        let most = random.pick(&[1, 2, 12, 13, 24, 25, random.clone().between(1, MAX_SCAN_PAIRS), MAX_SCAN_PAIRS]);
+        let any = random.between(1, MAX_SCAN_PAIRS);
+        let most = random.pick(&[1, 2, 12, 13, 24, 25, any, MAX_SCAN_PAIRS]);
         match random.below(8) {
             0 => Command::Scan { low: 0, high: u32::MAX, most },
             1 => Command::Scan { low, high: low, most },
@@ -373,11 +387,16 @@ impl Desk {
 
     /// A key that is there, mostly, or one beside it.
     fn likely_key(&self, random: &mut Random, style: &Style) -> u32 {
-        let near = style.key(random, random.clone().next_u32() % (self.next + 2));
+        let at = random.next_u32() % (self.next + 2);
+        let greatest = self.map.last_key_value().map_or(0, |(key, _)| *key);
+        let near = match random.below(3) {
+            0 => (random.next_u64() % (u64::from(greatest) + 1)) as u32,
+            _ => style.key(random, at),
+        };
         let there = self.map.range(near..).next().or_else(|| self.map.iter().next()).map(|(key, _)| *key);
         match (there, random.below(8)) {
-            (Some(key), 0) => key.wrapping_add(1),
-            (Some(key), 1..=6) => key,
+            (Some(key), 0 | 1) => key.wrapping_add(1),
+            (Some(key), 2..=6) => key,
             _ => near,
         }
     }
@@ -400,6 +419,7 @@ impl Desk {
         self.check_answers(commands, &run.answers, tally)?;
         self.check_pool()?;
         self.check_bills(&run.lines, tally)?;
+        tally.too_few_ids += run.too_few_ids;
         self.count(tally, commands, &seen, before);
         Ok(())
     }

@@ -36,6 +36,8 @@ pub struct Run {
     pub answers: Vec<Answer>,
     pub charge: u64,
     pub lines: Vec<Line>,
+    /// Puts refused although some ids were unused, only too few.
+    pub too_few_ids: u64,
 }
 
 impl Ledger {
@@ -49,7 +51,9 @@ impl Ledger {
         let mut run = Run::default();
         let mut steps = Vec::new();
         for command in commands {
-            run.answers.push(tree::plan(&self.nodes, self.limit, command, &mut steps));
+            let answer = tree::plan(&self.nodes, self.limit, command, &mut steps);
+            run.too_few_ids += u64::from(matches!(answer, Answer::Refused(_)) && self.nodes.len() < self.limit);
+            run.answers.push(answer);
             for step in steps.drain(..) {
                 if let Some(line) = self.step(&step) {
                     run.charge += line.charge;

@@ -350,4 +350,82 @@ mod tests {
         assert_eq!(reads(4, 3, 32), [0; 0], "low above high reads nothing");
         assert_eq!(reads(5, 100, 32), [0, 1]);
     }
+
+    /// A tree of full leaves below branches with so many keys, level by level from the root; ids by level.
+    fn tree_of(keys_by_level: &[usize]) -> Vec<Node> {
+        let mut nodes: Vec<Node> = Vec::new();
+        // Where the keys of each node of the level begin, and how many there are.
+        let (mut lows, mut span) = (vec![0u64], 1u64 << 32);
+        for &keys in keys_by_level {
+            span /= keys as u64 + 1;
+            let first_child = nodes.len() + lows.len();
+            let mut below = Vec::new();
+            for (place, low) in lows.iter().enumerate() {
+                let child = |at: usize| (first_child + place * (keys + 1) + at) as u32;
+                let bound = |at: usize| low + at as u64 * span;
+                let pairs = (0..keys).map(|at| Pair { key: bound(at + 1) as u32, pointer: child(at) }).collect();
+                nodes.push(Node { shape: Shape::Branch, pairs, link: child(keys) });
+                below.extend((0..=keys).map(bound));
+            }
+            lows = below;
+        }
+        for (place, &low) in lows.iter().enumerate() {
+            let pairs = (0..24).map(|at| Pair { key: low as u32 + 2 * at, pointer: at }).collect();
+            let link = if place + 1 == lows.len() { NO_LINK } else { (nodes.len() + 1) as u32 };
+            nodes.push(Node { shape: Shape::Leaf, pairs, link });
+        }
+        nodes
+    }
+
+    #[test]
+    fn a_put_needs_an_id_for_each_full_node_without_a_gap() {
+        for (levels, needed) in [
+            (&[][..], 2),
+            (&[3][..], 1),
+            (&[24][..], 3),
+            (&[3, 5][..], 1),
+            (&[3, 24][..], 2),
+            (&[24, 5][..], 1),
+            (&[24, 24][..], 4),
+            (&[2, 24, 24][..], 3),
+        ] {
+            let nodes = tree_of(levels);
+            assert_eq!(check(&nodes), Ok(()), "{levels:?}");
+            for spare in 0..=needed {
+                let mut steps = Vec::new();
+                let put = Command::Put { key: 1, value: 7 };
+                let answer = plan(&nodes, nodes.len() + spare, &put, &mut steps);
+                if spare < needed {
+                    assert_eq!((answer, steps.len()), (Answer::Refused(IDS_USED_UP), 0), "{levels:?}");
+                    continue;
+                }
+                assert_eq!(answer, Answer::Nothing);
+                let mut after = nodes.clone();
+                steps.iter().for_each(|step| apply(&mut after, step));
+                assert_eq!(after.len(), nodes.len() + needed, "{levels:?}");
+                assert_eq!(check(&after), Ok(()), "{levels:?}");
+                assert_eq!(pairs(&after).len(), pairs(&nodes).len() + 1);
+            }
+        }
+    }
+
+    #[test]
+    fn steps_of_splits_come_leaf_upwards() {
+        let steps = |levels: &[usize]| {
+            let mut steps = Vec::new();
+            plan(&tree_of(levels), 10_000, &Command::Put { key: 1, value: 7 }, &mut steps);
+            let name = |work: &Work| match work {
+                Work::Read => 'r',
+                Work::Edit(_) => 'e',
+                Work::Rewrite(_) => 'w',
+                Work::Create(_) => 'c',
+            };
+            steps.iter().map(|step| format!("{}{}", name(&step.work), step.id)).collect::<Vec<_>>().join(" ")
+        };
+        assert_eq!(steps(&[]), "r0 c1 c2 w0");
+        assert_eq!(steps(&[3]), "r0 r1 w1 c5 e0 e0");
+        assert_eq!(steps(&[24]), "r0 r1 w1 c26 c27 c28 w0");
+        // The root, two branches of 25 leaves: 53 nodes, ids 0 to 52.
+        assert_eq!(steps(&[1, 24]), "r0 r1 r3 w3 c53 w1 c54 e0 e0");
+    }
 }
