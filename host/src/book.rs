@@ -1,7 +1,7 @@
 //! The second book: prepare and batch, as document 01 has them.
 
 use crate::account::Tariff;
-use crate::command;
+use crate::command::{self, Command};
 use crate::flash::Store;
 use crate::layout::{block_count, node_limit, TABLE_BYTES_PER_BLOCK};
 use crate::mount::mount;
@@ -103,15 +103,21 @@ fn run(
     let mounted = mount(pool).map_err(|fault| fault.refusal)?;
 
     let mut store = Store::open(pool, mounted, observer);
-    let limit = node_limit(blocks);
-    let (mut said, mut charge) = (Vec::new(), 0);
-    let mut steps = Vec::new();
-    for command in &commands {
-        let answer = tree::plan(store.nodes(), limit, command, &mut steps);
-        charge += steps.drain(..).map(|step| store.run(step)).sum::<u64>();
-        answer.encode(&mut said);
-    }
+    let mut said = Vec::new();
+    let charge = serve(&mut store, node_limit(blocks), &commands, &mut said);
     store.close();
     answers[..said.len()].copy_from_slice(&said);
     Ok((said.len(), charge))
+}
+
+/// Does commands on an open store, puts their answers behind `said` and gives the charge.
+pub fn serve(store: &mut Store<'_>, limit: usize, commands: &[Command], said: &mut Vec<u8>) -> u64 {
+    let mut charge = 0;
+    let mut steps = Vec::new();
+    for command in commands {
+        let answer = tree::plan(store.nodes(), limit, command, &mut steps);
+        charge += steps.drain(..).map(|step| store.run(step)).sum::<u64>();
+        answer.encode(said);
+    }
+    charge
 }

@@ -3,13 +3,18 @@
 //! Charges are compared with always-log, always-disk (one switch a node), the offline optimum and the source's
 //! own listing, all over the same node requests. Pages and erases are those of the run itself.
 
+use std::time::Instant;
+
 use crate::account::Tariff;
 use crate::book;
 use crate::command::{encode, Answer, Command};
-use crate::layout::{BLOCK_BYTES, LOG_PAGE_ENTRIES, TABLE_BYTES_PER_BLOCK};
+use crate::flash::Store;
+use crate::layout::{node_limit, BLOCK_BYTES, LOG_PAGE_ENTRIES, PAGE_BYTES, TABLE_BYTES_PER_BLOCK};
 use crate::meter::{Meter, Totals};
+use crate::mount::mount;
 use crate::observe::Unobserved;
 use crate::random::Random;
+use crate::wire::page_sum;
 use crate::workload::{build_then_reads, build_with_reads, Device, Stream, CAPSULE, DEVICES, FLASHCHIP, SLC, STREAMS};
 
 /// Items of a stream: 620 nodes hold some 6,900 ascending keys.
@@ -31,12 +36,13 @@ pub struct Section {
     table: fn() -> Result<Vec<Vec<String>>, String>,
 }
 
-/// All workloads.
+/// All workloads; the last is a measurement of time, which no two runs share, and is printed when named.
 pub const SECTIONS: &[Section] = &[
     Section {
         name: "W1",
         title: "Build of LABDATA (synthetic stand-in), 6,000 items, by device",
-        papers: "Source 000, figure 10: Log 40% cheaper than Disk on FLASHCHIP, 80% on SD; Disk 38% cheaper than Log on CAPSULE, 32% on CF; self-tuning at least as good as the better, 10% below Log on FLASHCHIP.",
+        papers: "Source 000, figure 10: Log 40% cheaper than Disk on FLASHCHIP, 80% on SD; Disk 38% cheaper than Log on \
+                 CAPSULE, 32% on CF; self-tuning at least as good as the better, 10% below Log on FLASHCHIP.",
         table: builds_by_device,
     },
     Section {
@@ -48,7 +54,8 @@ pub const SECTIONS: &[Section] = &[
     Section {
         name: "W3",
         title: "Reads per write against the cost of a write in reads, build of LABDATA (synthetic), 3,000 items",
-        papers: "Source 000, figure 15: self-tuning always best; Log = Disk near write/read 4.7 at no reads (only ratios can be reproduced).",
+        papers: "Source 000, figure 15: self-tuning always best; Log = Disk near write/read 4.7 at no reads (only ratios can \
+                 be reproduced). Each cell: what the others pay, as multiples of the book's charge.",
         table: ratio_grid,
     },
     Section {
@@ -65,7 +72,7 @@ pub const SECTIONS: &[Section] = &[
     },
     Section {
         name: "W6",
-        title: "Tree of 5,000 uniform keys, then 3,000 commands with some lookups per insert, CAPSULE: what came after the build",
+        title: "Tree of 5,000 uniform keys, then 3,000 commands with some lookups per insert, CAPSULE: after the build",
         papers: "Source 004, figures 6 and 9: a FlashDB-like scheme loses to a tuned B+ tree on this chip.",
         table: lookups_per_insert,
     },
@@ -87,7 +94,16 @@ pub const SECTIONS: &[Section] = &[
         papers: "The papers want erases even; document 01 does not promise it.",
         table: wear,
     },
+    Section {
+        name: TIMES,
+        title: "Times on this machine, a pool of 1,048,576 bytes, all blocks but one written",
+        papers: "None: a figure to compare another book with in the same run.",
+        table: times,
+    },
 ];
+
+/// The section that is printed when named alone.
+pub const TIMES: &str = "TIMES";
 
 impl Section {
     /// Runs the workload and gives it as a table in Markdown.
@@ -364,4 +380,54 @@ fn wear() -> Result<Vec<Vec<String>>, String> {
         ]);
     }
     Ok(rows)
+}
+
+/// The shortest time of one of several runs, in microseconds.
+fn shortest(mut run: impl FnMut()) -> f64 {
+    let time = |_| {
+        let start = Instant::now();
+        run();
+        start.elapsed().as_secs_f64() * 1e6
+    };
+    (0..60).map(time).fold(f64::INFINITY, f64::min)
+}
+
+/// The time of one command on a mounted pool, mount and closing left out.
+fn command_time(pool: &[u8], commands: &[Command]) -> Result<f64, String> {
+    let mut pool = pool.to_vec();
+    let mounted = mount(&pool).map_err(|fault| fault.to_string())?;
+    let mut observer = Unobserved;
+    let mut store = Store::open(&mut pool, mounted, &mut observer);
+    let mut said = Vec::new();
+    let all = shortest(|| {
+        said.clear();
+        book::serve(&mut store, node_limit(BLOCKS), commands, &mut said);
+    });
+    Ok(all / commands.len() as f64)
+}
+
+fn times() -> Result<Vec<Vec<String>>, String> {
+    let keys = Stream::SyntheticLab.keys(ITEMS);
+    let mut bench = Bench::new(BLOCKS, FLASHCHIP.tariff())?;
+    let mut random = Random::new(8);
+    bench.run(&build_with_reads(&keys, 0))?;
+    bench
+        .run(&(0..8 * BATCH as u32).map(|value| Command::Put { key: random.pick(&keys), value }).collect::<Vec<_>>())?;
+    let mount_time = shortest(|| {
+        std::hint::black_box(mount(std::hint::black_box(&bench.pool)).is_ok());
+    });
+    let sum_time = shortest(|| {
+        let pages = bench.pool.chunks_exact(PAGE_BYTES);
+        std::hint::black_box(pages.map(page_sum).fold(0, |all, sum| all ^ sum[3]));
+    });
+    let gets: Vec<Command> = (0..BATCH).map(|_| Command::Get { key: random.pick(&keys) }).collect();
+    let puts: Vec<Command> = (0..BATCH as u32).map(|value| Command::Put { key: random.pick(&keys), value }).collect();
+    let (get, put) = (command_time(&bench.pool, &gets)?, command_time(&bench.pool, &puts)?);
+    Ok(vec![
+        header(&["what", "microseconds"], &[]),
+        vec!["mount".to_string(), format!("{mount_time:.0}")],
+        vec!["one pass of the page sums, 2,048 pages".to_string(), format!("{sum_time:.0}")],
+        vec!["a get on the mounted pool".to_string(), format!("{get:.3}")],
+        vec!["a put of a key that is there, on the mounted pool".to_string(), format!("{put:.3}")],
+    ])
 }

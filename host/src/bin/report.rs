@@ -3,11 +3,11 @@
 use std::process::ExitCode;
 use std::time::Instant;
 
-use yokehour_host::report::SECTIONS;
+use yokehour_host::report::{Section, SECTIONS, TIMES};
 
 fn usage() -> String {
     let mut text =
-        "usage: report [WORKLOAD ..]\n\nPrints all workloads, or those named; progress goes to standard error.\n"
+        "usage: report [WORKLOAD ..]\n\nPrints all workloads but the last, or those named; progress goes to standard error.\n"
             .to_string();
     for section in SECTIONS {
         text.push_str(&format!("\n  {}  {}", section.name, section.title));
@@ -25,7 +25,11 @@ fn main() -> ExitCode {
         eprintln!("report: no workload {word:?}\n{}", usage());
         return ExitCode::from(2);
     }
-    for section in SECTIONS.iter().filter(|section| words.is_empty() || words.iter().any(|word| word == section.name)) {
+    let wanted = |section: &&Section| match words.is_empty() {
+        true => section.name != TIMES,
+        false => words.iter().any(|word| word == section.name),
+    };
+    for section in SECTIONS.iter().filter(wanted) {
         let start = Instant::now();
         match section.text() {
             Ok(text) => println!("{text}"),

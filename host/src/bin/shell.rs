@@ -17,7 +17,10 @@ fn main() -> ExitCode {
 }
 
 fn usage() -> String {
-    format!("usage: shell [--book NAME]\n\nReads lines from standard input and answers each. NAME is one of: {BOOK_NAMES} (second if not given).\n\n{LINES}")
+    format!(
+        "usage: shell [--book NAME]\n\nReads lines from standard input and answers each. \
+         NAME is one of: {BOOK_NAMES} (second if not given).\n\n{LINES}"
+    )
 }
 
 fn run() -> Result<(), String> {
