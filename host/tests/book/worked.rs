@@ -1,8 +1,6 @@
 //! Document 01's worked cases, and what a pool of 65,536 bytes holds.
 
-mod common;
-
-use common::{delete, get, put, scan, Desk, WORKED};
+use crate::common::{delete, get, put, scan, Desk, WORKED};
 use yokehour_host::account::Mode;
 use yokehour_host::layout::BLOCK_BYTES;
 use yokehour_host::mount::mount;

@@ -1,8 +1,6 @@
 //! Two traces, byte for byte.
 
-mod common;
-
-use common::{delete, get, plain, put, Desk, FREE, WORKED};
+use crate::common::{delete, get, plain, put, Desk, FREE, WORKED};
 use yokehour_host::page::{decode, Content};
 
 #[test]

@@ -1,5 +1,4 @@
 //! What the tests share: a pool with its buffers.
-#![allow(dead_code)]
 
 use yokehour_host::book::{Book, Outcome, SecondBook};
 use yokehour_host::command::{encode, split_answers, Command};

@@ -1,8 +1,6 @@
 //! Each refusal number, with every buffer as document 01 leaves it.
 
-mod common;
-
-use common::{get, put, scan, Desk, FREE, WORKED};
+use crate::common::{get, put, scan, Desk, FREE, WORKED};
 use yokehour_host::book::{Book, Outcome, SecondBook};
 use yokehour_host::command::encode;
 use yokehour_host::layout::BLOCK_BYTES;
