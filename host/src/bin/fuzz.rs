@@ -1,0 +1,86 @@
+//! `fuzz`: random cases for some seconds; a failure prints the seed that replays it.
+
+use std::process::ExitCode;
+use std::time::{Duration, Instant};
+
+use yokehour_host::fuzz::{case, Tally};
+use yokehour_host::random::Random;
+
+const USAGE: &str = "\
+usage: fuzz SECONDS SEED   random cases for so long, with progress; then what was exercised
+       fuzz --case SEED    the one case that a failure named
+
+Exit code 1: a case failed. Exit code 2: wrong arguments.
+Counts of zero are marked: what was never exercised is a hole.";
+
+fn main() -> ExitCode {
+    let words: Vec<String> = std::env::args().skip(1).collect();
+    let words: Vec<&str> = words.iter().map(String::as_str).collect();
+    match words[..] {
+        ["--help" | "-h"] => {
+            println!("{USAGE}");
+            ExitCode::SUCCESS
+        }
+        ["--case", seed] => match seed.parse() {
+            Ok(seed) => finish(run_case(seed, &mut Tally::default())),
+            Err(_) => wrong("a seed expected"),
+        },
+        [seconds, seed] => match (seconds.parse(), seed.parse()) {
+            (Ok(seconds), Ok(seed)) => finish(run(Duration::from_secs(seconds), seed)),
+            _ => wrong("two numbers expected"),
+        },
+        _ => wrong("two numbers expected"),
+    }
+}
+
+fn wrong(why: &str) -> ExitCode {
+    eprintln!("fuzz: {why}\n{USAGE}");
+    ExitCode::from(2)
+}
+
+fn finish(result: Result<(), String>) -> ExitCode {
+    match result {
+        Ok(()) => ExitCode::SUCCESS,
+        Err(why) => {
+            eprintln!("fuzz: {why}");
+            ExitCode::FAILURE
+        }
+    }
+}
+
+/// Runs cases until the time is over.
+fn run(time: Duration, seed: u64) -> Result<(), String> {
+    let start = Instant::now();
+    let mut told = start;
+    let mut seeds = Random::new(seed);
+    let mut tally = Tally::default();
+    while start.elapsed() < time {
+        run_case(seeds.next_u64(), &mut tally)?;
+        if told.elapsed() >= Duration::from_secs(5) {
+            told = Instant::now();
+            eprintln!(
+                "{:>4} s: {} cases, {} batches, {} states",
+                start.elapsed().as_secs(),
+                tally.cases,
+                tally.batches,
+                tally.seen.states
+            );
+        }
+    }
+    for (name, count) in tally.lines() {
+        println!("{count:>10}  {name}{}", if count == 0 { "   <- never exercised" } else { "" });
+    }
+    println!("worst charge over optimum: {}.{:03}", tally.worst_ratio / 1000, tally.worst_ratio % 1000);
+    println!("no failure in {} cases", tally.cases);
+    Ok(())
+}
+
+/// Runs one case; a panic is a failure too.
+fn run_case(seed: u64, tally: &mut Tally) -> Result<(), String> {
+    let replay = format!("replay with: fuzz --case {seed}");
+    let result = std::panic::catch_unwind(std::panic::AssertUnwindSafe(|| case(seed, tally)));
+    match result {
+        Ok(result) => result.map_err(|why| format!("{why}\n{replay}")),
+        Err(_) => Err(format!("a panic\n{replay}")),
+    }
+}

@@ -1,0 +1,123 @@
+//! The second book: prepare and batch, as document 01 has them.
+
+use crate::account::Tariff;
+use crate::command::{self, Command};
+use crate::flash::Store;
+use crate::layout::{block_count, node_limit, TABLE_BYTES_PER_BLOCK};
+use crate::mount::mount;
+use crate::node::Node;
+use crate::observe::{Observer, Unobserved};
+use crate::refusal::Refusal;
+use crate::tree;
+
+/// What batch returns.
+#[derive(Clone, Copy, PartialEq, Eq, Debug, Default)]
+pub struct Outcome {
+    /// 0, or the number of the refusal.
+    pub number: u8,
+    /// Bytes of the answers.
+    pub length: usize,
+    pub charge: u64,
+}
+
+/// A book: the two entry points over the caller's buffers.
+pub trait Book {
+    /// Makes the pool an empty book, and returns 0 or the number of the refusal.
+    fn prepare(&mut self, pool: &mut [u8], tariff: [u32; 8]) -> u8;
+
+    /// Runs a batch on the pool and answers it.
+    fn batch(&mut self, pool: &mut [u8], table: &mut [u8], batch: &[u8], answers: &mut [u8]) -> Outcome;
+}
+
+/// The book of this package.
+pub struct SecondBook;
+
+impl Book for SecondBook {
+    fn prepare(&mut self, pool: &mut [u8], tariff: [u32; 8]) -> u8 {
+        prepare(pool, tariff, &mut Unobserved)
+    }
+
+    fn batch(&mut self, pool: &mut [u8], table: &mut [u8], batch: &[u8], answers: &mut [u8]) -> Outcome {
+        self::batch(pool, table, batch, answers, &mut Unobserved)
+    }
+}
+
+/// The books that a tool can be asked for by name.
+pub const BOOK_NAMES: &str = "second, proved";
+
+/// The book of a name, or why there is none.
+///
+/// A book from elsewhere needs a type that implements [`Book`] and a line here.
+pub fn by_name(name: &str) -> Result<Box<dyn Book>, String> {
+    match name {
+        "second" => Ok(Box::new(SecondBook)),
+        "proved" => Err("this build has no proved book".to_string()),
+        _ => Err(format!("no book is called {name:?}; there are: {BOOK_NAMES}")),
+    }
+}
+
+/// Prepares a pool: node 0 as an empty leaf, and a checkpoint.
+pub fn prepare(pool: &mut [u8], tariff: [u32; 8], observer: &mut dyn Observer) -> u8 {
+    let Some(blocks) = block_count(pool.len()) else {
+        return Refusal::PoolLength.number();
+    };
+    let Some(tariff) = Tariff::from_numbers(tariff) else {
+        return Refusal::Tariff.number();
+    };
+    let mut store = Store::erased(pool, blocks, tariff, observer);
+    store.create(Node::empty_leaf());
+    store.close();
+    0
+}
+
+/// Runs a batch, telling the observer of every state passed.
+pub fn batch(
+    pool: &mut [u8],
+    table: &mut [u8],
+    batch: &[u8],
+    answers: &mut [u8],
+    observer: &mut dyn Observer,
+) -> Outcome {
+    match run(pool, table, batch, answers, observer) {
+        Ok((length, charge)) => Outcome { number: 0, length, charge },
+        Err(refusal) => Outcome { number: refusal.number(), ..Outcome::default() },
+    }
+}
+
+/// Asks questions 1 to 8, does the commands and closes.
+fn run(
+    pool: &mut [u8],
+    table: &mut [u8],
+    batch: &[u8],
+    answers: &mut [u8],
+    observer: &mut dyn Observer,
+) -> Result<(usize, u64), Refusal> {
+    let blocks = block_count(pool.len()).ok_or(Refusal::PoolLength)?;
+    let table = table.get_mut(..TABLE_BYTES_PER_BLOCK * blocks).ok_or(Refusal::TableLength)?;
+    // This book keeps its rows in memory of its own; all that is seen of the table is that it ends zero.
+    table.fill(0);
+    let commands = command::parse(batch).ok_or(Refusal::Batch)?;
+    if answers.len() < command::answer_room(&commands) {
+        return Err(Refusal::AnswerRoom);
+    }
+    let mounted = mount(pool).map_err(|fault| fault.refusal)?;
+
+    let mut store = Store::open(pool, mounted, observer);
+    let mut said = Vec::new();
+    let charge = serve(&mut store, node_limit(blocks), &commands, &mut said);
+    store.close();
+    answers[..said.len()].copy_from_slice(&said);
+    Ok((said.len(), charge))
+}
+
+/// Does commands on an open store, puts their answers behind `said` and gives the charge.
+pub fn serve(store: &mut Store<'_>, limit: usize, commands: &[Command], said: &mut Vec<u8>) -> u64 {
+    let mut charge = 0;
+    let mut steps = Vec::new();
+    for command in commands {
+        let answer = tree::plan(store.nodes(), limit, command, &mut steps);
+        charge += steps.drain(..).map(|step| store.run(step)).sum::<u64>();
+        answer.encode(said);
+    }
+    charge
+}

@@ -1,0 +1,184 @@
+//! Commands of a batch and their answers.
+
+use crate::layout::{MAX_BATCH_BYTES, MAX_SCAN_PAIRS};
+use crate::node::Pair;
+use crate::wire::{next_field, put_head, Field, Numbers, FIELD_HEAD, PAIR_BYTES};
+use crate::wire::{TAG_DELETE, TAG_GET, TAG_PUT, TAG_SCAN};
+
+const TAG_NOTHING: u8 = 0x80;
+const TAG_FOUND: u8 = 0x81;
+const TAG_REPLACED: u8 = 0x82;
+const TAG_REMOVED: u8 = 0x83;
+const TAG_PAIRS: u8 = 0x84;
+const TAG_REFUSED: u8 = 0x8F;
+
+/// A command: look up, hang, strip and sweep of document 01.
+#[derive(Clone, Copy, PartialEq, Eq, Debug)]
+pub enum Command {
+    Get { key: u32 },
+    Put { key: u32, value: u32 },
+    Delete { key: u32 },
+    Scan { low: u32, high: u32, most: usize },
+}
+
+/// Reads a batch, if it is within its length and made wholly of valid commands (question 3).
+pub fn parse(batch: &[u8]) -> Option<Vec<Command>> {
+    if batch.len() > MAX_BATCH_BYTES {
+        return None;
+    }
+    let mut commands = Vec::new();
+    let mut rest = batch;
+    while !rest.is_empty() {
+        let (field, after) = next_field(rest)?;
+        commands.push(Command::from_field(field)?);
+        rest = after;
+    }
+    Some(commands)
+}
+
+/// The answer bytes that a batch needs at most (question 4).
+pub fn answer_room(commands: &[Command]) -> usize {
+    commands.iter().map(Command::answer_room).sum()
+}
+
+/// The bytes of a batch of these commands.
+pub fn encode(commands: &[Command]) -> Vec<u8> {
+    let mut out = Vec::new();
+    for command in commands {
+        command.encode(&mut out);
+    }
+    out
+}
+
+impl Command {
+    fn from_field(field: Field<'_>) -> Option<Command> {
+        let mut numbers = Numbers(field.payload);
+        match field.tag {
+            TAG_GET => Some(Command::Get { key: numbers.u32() }),
+            TAG_PUT => Some(Command::Put { key: numbers.u32(), value: numbers.u32() }),
+            TAG_DELETE => Some(Command::Delete { key: numbers.u32() }),
+            TAG_SCAN => {
+                let (low, high, most) = (numbers.u32(), numbers.u32(), usize::from(numbers.u16()));
+                (1..=MAX_SCAN_PAIRS).contains(&most).then_some(Command::Scan { low, high, most })
+            }
+            _ => None,
+        }
+    }
+
+    fn answer_room(&self) -> usize {
+        match *self {
+            Command::Scan { most, .. } => FIELD_HEAD + PAIR_BYTES * most,
+            _ => FIELD_HEAD + 4,
+        }
+    }
+
+    fn encode(&self, out: &mut Vec<u8>) {
+        match *self {
+            Command::Get { key } => put_numbers(out, TAG_GET, &[key]),
+            Command::Put { key, value } => put_numbers(out, TAG_PUT, &[key, value]),
+            Command::Delete { key } => put_numbers(out, TAG_DELETE, &[key]),
+            Command::Scan { low, high, most } => {
+                put_head(out, TAG_SCAN, 10);
+                out.extend(low.to_be_bytes());
+                out.extend(high.to_be_bytes());
+                out.extend((most as u16).to_be_bytes());
+            }
+        }
+    }
+}
+
+/// An answer to one command.
+#[derive(Clone, PartialEq, Eq, Debug)]
+pub enum Answer {
+    /// No such key; for a put, newly put.
+    Nothing,
+    Found(u32),
+    Replaced(u32),
+    Removed(u32),
+    Pairs(Vec<Pair>),
+    Refused(u8),
+}
+
+impl Answer {
+    /// Lays the answer behind `out`.
+    pub fn encode(&self, out: &mut Vec<u8>) {
+        match self {
+            Answer::Nothing => put_numbers(out, TAG_NOTHING, &[]),
+            Answer::Found(value) => put_numbers(out, TAG_FOUND, &[*value]),
+            Answer::Replaced(value) => put_numbers(out, TAG_REPLACED, &[*value]),
+            Answer::Removed(value) => put_numbers(out, TAG_REMOVED, &[*value]),
+            Answer::Pairs(pairs) => {
+                put_head(out, TAG_PAIRS, PAIR_BYTES * pairs.len());
+                for pair in pairs {
+                    out.extend(pair.key.to_be_bytes());
+                    out.extend(pair.pointer.to_be_bytes());
+                }
+            }
+            Answer::Refused(number) => out.extend([TAG_REFUSED, 0, 1, *number]),
+        }
+    }
+}
+
+/// Lays a field whose payload is numbers of four bytes.
+fn put_numbers(out: &mut Vec<u8>, tag: u8, numbers: &[u32]) {
+    put_head(out, tag, 4 * numbers.len());
+    for number in numbers {
+        out.extend(number.to_be_bytes());
+    }
+}
+
+/// The bytes of answers one behind the other.
+pub fn encode_answers(answers: &[Answer]) -> Vec<u8> {
+    let mut out = Vec::new();
+    for answer in answers {
+        answer.encode(&mut out);
+    }
+    out
+}
+
+/// Cuts answer bytes into one piece an answer, for printing; nothing if they are not whole answers.
+pub fn split_answers(bytes: &[u8]) -> Option<Vec<&[u8]>> {
+    let mut pieces = Vec::new();
+    let mut rest = bytes;
+    while !rest.is_empty() {
+        let &[_, high, low] = rest.first_chunk::<FIELD_HEAD>()?;
+        let end = FIELD_HEAD + usize::from(u16::from_be_bytes([high, low]));
+        let (piece, after) = rest.split_at_checked(end)?;
+        pieces.push(piece);
+        rest = after;
+    }
+    Some(pieces)
+}
+
+#[cfg(test)]
+mod tests {
+    use super::*;
+
+    #[test]
+    fn commands_go_both_ways() {
+        let commands = vec![
+            Command::Get { key: 7 },
+            Command::Put { key: 1, value: 0xFFFF_FFFF },
+            Command::Delete { key: 0x0102_0304 },
+            Command::Scan { low: 9, high: 3, most: 32 },
+        ];
+        assert_eq!(parse(&encode(&commands)), Some(commands.clone()));
+        assert_eq!(answer_room(&commands), 7 + 7 + 7 + 3 + 8 * 32);
+    }
+
+    #[test]
+    fn what_is_no_batch() {
+        let scan = |most: u16| encode(&[Command::Scan { low: 0, high: 1, most: usize::from(most) }]);
+        assert!(parse(&scan(0)).is_none());
+        assert!(parse(&scan(1)).is_some());
+        assert!(parse(&scan(32)).is_some());
+        assert!(parse(&scan(33)).is_none());
+        assert!(parse(&[0x10, 0, 4, 0, 0, 0, 1]).is_none(), "a page field is no command");
+        assert!(parse(&[0x05, 0, 0]).is_none());
+        assert!(parse(&[0x01]).is_none());
+        let longest = vec![Command::Get { key: 0 }; MAX_BATCH_BYTES / 7];
+        assert!(parse(&encode(&longest)).is_some());
+        let too_long = vec![Command::Get { key: 0 }; MAX_BATCH_BYTES / 7 + 1];
+        assert!(parse(&encode(&too_long)).is_none());
+    }
+}

@@ -1,0 +1,30 @@
+//! The wall book a second time: document 01 in Rust, written for clarity, to run beside the proved one.
+//!
+//! From bytes upwards: [`wire`], [`page`], [`node`], [`tree`]; [`mount`] reads a closed pool, [`flash`]
+//! is the store while a batch runs, [`book`] has the two entry points. [`reference`] is the model that
+//! charges are compared with, [`optimum`] the cheapest schedule.
+
+pub mod account;
+pub mod audit;
+pub mod book;
+pub mod command;
+pub mod damage;
+pub mod flash;
+pub mod foreign;
+pub mod fuzz;
+pub mod layout;
+pub mod meter;
+pub mod mount;
+pub mod node;
+pub mod observe;
+pub mod optimum;
+pub mod page;
+pub mod picture;
+pub mod random;
+pub mod reference;
+pub mod refusal;
+pub mod report;
+pub mod shell;
+pub mod tree;
+pub mod wire;
+pub mod workload;

@@ -1,0 +1,421 @@
+//! A page: its bytes and what they say.
+
+use crate::layout::{BLANK, FIRST_CHECKPOINT_SCORES, LOG_PAGE_ENTRIES, OTHER_CHECKPOINT_SCORES, PAGE_BYTES};
+use crate::node::{Change, Node, Pair, Shape};
+use crate::wire::{next_field, page_sum, put_head, Field, Numbers, NODE_HEAD, PAIR_BYTES};
+use crate::wire::{TAG_COUNT, TAG_ENTRY, TAG_NODE, TAG_SCORE, TAG_SEQ, TAG_SUM, TAG_TARIFF};
+
+/// The bytes of a page.
+pub type Image = [u8; PAGE_BYTES];
+
+/// A written page.
+#[derive(Clone, PartialEq, Eq, Debug)]
+pub struct Page {
+    /// Its sequence number, document 01's stamp.
+    pub seq: u32,
+    pub content: Content,
+}
+
+#[derive(Clone, PartialEq, Eq, Debug)]
+pub enum Content {
+    /// A log page.
+    Log(Vec<Entry>),
+    /// A disk page: one whole node.
+    Node { id: u16, node: Node },
+    /// A closing page.
+    Checkpoint(Checkpoint),
+}
+
+/// A log entry: one change of a node, under the version that it belongs to.
+#[derive(Clone, Copy, PartialEq, Eq, Debug)]
+pub struct Entry {
+    pub id: u16,
+    pub version: u32,
+    pub change: Change,
+}
+
+/// What a checkpoint page holds: the tariff on the first, the node count on the last.
+#[derive(Clone, PartialEq, Eq, Debug)]
+pub struct Checkpoint {
+    pub tariff: Option<[u32; 8]>,
+    pub scores: Vec<Score>,
+    pub count: Option<u16>,
+}
+
+#[derive(Clone, Copy, PartialEq, Eq, Debug)]
+pub struct Score {
+    pub id: u16,
+    pub score: u32,
+}
+
+impl Checkpoint {
+    /// The scores that this page holds when full.
+    fn capacity(&self) -> usize {
+        checkpoint_capacity(self.tariff.is_some())
+    }
+}
+
+/// The scores on a full checkpoint page, the first of its set or another.
+pub fn checkpoint_capacity(first: bool) -> usize {
+    if first {
+        FIRST_CHECKPOINT_SCORES
+    } else {
+        OTHER_CHECKPOINT_SCORES
+    }
+}
+
+const KIND_PUT: u8 = 1;
+const KIND_DROP: u8 = 2;
+/// These two are also the types of a disk page.
+const KIND_LEAF: u8 = 3;
+const KIND_BRANCH: u8 = 4;
+
+fn shape_of(kind: u8) -> Option<Shape> {
+    match kind {
+        KIND_LEAF => Some(Shape::Leaf),
+        KIND_BRANCH => Some(Shape::Branch),
+        _ => None,
+    }
+}
+
+fn kind_of(shape: Shape) -> u8 {
+    match shape {
+        Shape::Leaf => KIND_LEAF,
+        Shape::Branch => KIND_BRANCH,
+    }
+}
+
+/// Why a page does not check.
+pub type Flaw = &'static str;
+
+/// Says whether these bytes are a blank page.
+pub fn is_blank(bytes: &[u8]) -> bool {
+    bytes.iter().all(|&byte| byte == BLANK)
+}
+
+/// Reads a page: nothing if it is blank, or else what is wrong with it.
+///
+/// Question 5 as far as the page's own bytes decide it.
+pub fn decode(bytes: &[u8]) -> Result<Option<Page>, Flaw> {
+    if bytes[0] == BLANK {
+        return if is_blank(bytes) { Ok(None) } else { Err("FF first on a page that is not blank") };
+    }
+    let (seq, rest) = decode_seq(bytes)?;
+    let (field, after) = next_field(rest).ok_or("no valid field behind the sequence number")?;
+    let (content, rest) = match field.tag {
+        TAG_ENTRY => decode_log(rest, seq)?,
+        TAG_NODE => (decode_node(field)?, after),
+        TAG_TARIFF | TAG_SCORE => decode_checkpoint(rest)?,
+        _ => return Err("no content behind the sequence number"),
+    };
+    decode_sum(bytes, rest)?;
+    Ok(Some(Page { seq, content }))
+}
+
+fn decode_seq(bytes: &[u8]) -> Result<(u32, &[u8]), Flaw> {
+    match next_field(bytes) {
+        Some((Field { tag: TAG_SEQ, payload }, rest)) => match Numbers(payload).u32() {
+            0 => Err("sequence number 0"),
+            seq => Ok((seq, rest)),
+        },
+        _ => Err("no sequence number first"),
+    }
+}
+
+/// Checks field 1F at the front of `rest`, and that FF follows it to the page's end.
+fn decode_sum(bytes: &[u8], rest: &[u8]) -> Result<(), Flaw> {
+    let Some((Field { tag: TAG_SUM, payload }, tail)) = next_field(rest) else {
+        return Err("no sum behind the content");
+    };
+    let before = &bytes[..bytes.len() - rest.len()];
+    if payload != page_sum(before) {
+        return Err("the sum differs");
+    }
+    if !is_blank(tail) {
+        return Err("a byte other than FF behind the sum");
+    }
+    Ok(())
+}
+
+/// Reads entries until another tag comes.
+fn decode_log(mut rest: &[u8], seq: u32) -> Result<(Content, &[u8]), Flaw> {
+    let mut entries = Vec::with_capacity(LOG_PAGE_ENTRIES);
+    while let Some((Field { tag: TAG_ENTRY, payload }, after)) = next_field(rest) {
+        entries.push(decode_entry(payload, seq)?);
+        rest = after;
+    }
+    Ok((Content::Log(entries), rest))
+}
+
+fn decode_entry(payload: &[u8], seq: u32) -> Result<Entry, Flaw> {
+    let mut numbers = Numbers(payload);
+    let (id, version, kind) = (numbers.u16(), numbers.u32(), numbers.u8());
+    let (key, pointer) = (numbers.u32(), numbers.u32());
+    if version == 0 || version >= seq {
+        return Err("an entry's version is 0 or not below the page's number");
+    }
+    let change = match (kind, key, pointer) {
+        (KIND_PUT, key, pointer) => Change::Put(Pair { key, pointer }),
+        (KIND_DROP, key, 0) => Change::Drop { key },
+        (KIND_LEAF, 0, link) => Change::Link(Shape::Leaf, link),
+        (KIND_BRANCH, 0, link) => Change::Link(Shape::Branch, link),
+        _ => return Err("an entry's kind is unknown or goes with other numbers"),
+    };
+    Ok(Entry { id, version, change })
+}
+
+fn decode_node(field: Field<'_>) -> Result<Content, Flaw> {
+    let mut numbers = Numbers(field.payload);
+    let (id, kind, link) = (numbers.u16(), numbers.u8(), numbers.u32());
+    let shape = shape_of(kind).ok_or("a disk page is neither leaf nor branch")?;
+    let count = (field.payload.len() - NODE_HEAD) / PAIR_BYTES;
+    let pairs = (0..count).map(|_| Pair { key: numbers.u32(), pointer: numbers.u32() }).collect();
+    Ok(Content::Node { id, node: Node { shape, pairs, link } })
+}
+
+/// Reads a checkpoint page: a tariff perhaps, scores, a count perhaps.
+fn decode_checkpoint(rest: &[u8]) -> Result<(Content, &[u8]), Flaw> {
+    let (tariff, mut rest) = match next_field(rest) {
+        Some((Field { tag: TAG_TARIFF, payload }, after)) => {
+            let mut numbers = Numbers(payload);
+            (Some(std::array::from_fn(|_| numbers.u32())), after)
+        }
+        _ => (None, rest),
+    };
+    let mut page = Checkpoint { tariff, scores: Vec::new(), count: None };
+    while let Some((Field { tag: TAG_SCORE, payload }, after)) = next_field(rest) {
+        let mut numbers = Numbers(payload);
+        page.scores.push(Score { id: numbers.u16(), score: numbers.u32() });
+        rest = after;
+    }
+    if let Some((Field { tag: TAG_COUNT, payload }, after)) = next_field(rest) {
+        page.count = Some(Numbers(payload).u16());
+        rest = after;
+    }
+    if page.scores.is_empty() || page.scores.len() > page.capacity() {
+        return Err("a checkpoint page has no score or too many");
+    }
+    if page.count.is_none() && page.scores.len() < page.capacity() {
+        return Err("a checkpoint page that is not the last is not full");
+    }
+    Ok((Content::Checkpoint(page), rest))
+}
+
+/// The used bytes of a page, up to the end of field 1F; all of them if it does not check.
+pub fn used(bytes: &[u8]) -> &[u8] {
+    let end = bytes.iter().rposition(|&byte| byte != BLANK).map_or(0, |last| last + 1);
+    match decode(bytes) {
+        // The sum itself may end in FF.
+        Ok(Some(page)) => &bytes[..page.length()],
+        _ => &bytes[..end],
+    }
+}
+
+impl Page {
+    /// The page's bytes.
+    pub fn encode(&self) -> Image {
+        let mut out = Vec::with_capacity(PAGE_BYTES);
+        self.encode_before_sum(&mut out);
+        seal(out)
+    }
+
+    fn encode_before_sum(&self, out: &mut Vec<u8>) {
+        put_head(out, TAG_SEQ, 4);
+        out.extend(self.seq.to_be_bytes());
+        match &self.content {
+            Content::Log(entries) => entries.iter().for_each(|entry| entry.encode(out)),
+            Content::Node { id, node } => encode_node(out, *id, node),
+            Content::Checkpoint(page) => page.encode(out),
+        }
+    }
+
+    fn length(&self) -> usize {
+        let mut out = Vec::with_capacity(PAGE_BYTES);
+        self.encode_before_sum(&mut out);
+        out.len() + SUM_FIELD_BYTES
+    }
+
+    /// The version that a disk page or an entry gives to a node, with that node.
+    pub fn versions(&self) -> impl Iterator<Item = (u16, u32)> + '_ {
+        let (entries, node): (&[Entry], _) = match &self.content {
+            Content::Log(entries) => (entries, None),
+            Content::Node { id, .. } => (&[], Some((*id, self.seq))),
+            Content::Checkpoint(_) => (&[], None),
+        };
+        entries.iter().map(|entry| (entry.id, entry.version)).chain(node)
+    }
+}
+
+const SUM_FIELD_BYTES: usize = 7;
+
+/// Ends a page's bytes with their sum and FF.
+pub fn seal(mut out: Vec<u8>) -> Image {
+    let sum = page_sum(&out);
+    put_head(&mut out, TAG_SUM, sum.len());
+    out.extend(sum);
+    let mut image = [BLANK; PAGE_BYTES];
+    image[..out.len()].copy_from_slice(&out);
+    image
+}
+
+impl Entry {
+    fn encode(&self, out: &mut Vec<u8>) {
+        let (kind, key, pointer) = match self.change {
+            Change::Put(Pair { key, pointer }) => (KIND_PUT, key, pointer),
+            Change::Drop { key } => (KIND_DROP, key, 0),
+            Change::Link(shape, link) => (kind_of(shape), 0, link),
+        };
+        put_head(out, TAG_ENTRY, 15);
+        out.extend(self.id.to_be_bytes());
+        out.extend(self.version.to_be_bytes());
+        out.push(kind);
+        out.extend(key.to_be_bytes());
+        out.extend(pointer.to_be_bytes());
+    }
+}
+
+fn encode_node(out: &mut Vec<u8>, id: u16, node: &Node) {
+    put_head(out, TAG_NODE, NODE_HEAD + PAIR_BYTES * node.pairs.len());
+    out.extend(id.to_be_bytes());
+    out.push(kind_of(node.shape));
+    out.extend(node.link.to_be_bytes());
+    for pair in &node.pairs {
+        out.extend(pair.key.to_be_bytes());
+        out.extend(pair.pointer.to_be_bytes());
+    }
+}
+
+impl Checkpoint {
+    fn encode(&self, out: &mut Vec<u8>) {
+        if let Some(tariff) = self.tariff {
+            put_head(out, TAG_TARIFF, 32);
+            tariff.iter().for_each(|number| out.extend(number.to_be_bytes()));
+        }
+        for score in &self.scores {
+            put_head(out, TAG_SCORE, 6);
+            out.extend(score.id.to_be_bytes());
+            out.extend(score.score.to_be_bytes());
+        }
+        if let Some(count) = self.count {
+            put_head(out, TAG_COUNT, 2);
+            out.extend(count.to_be_bytes());
+        }
+    }
+
+    /// The pages of a whole checkpoint: each is filled before the next.
+    pub fn pages(tariff: [u32; 8], mut scores: &[Score], count: u16) -> Vec<Checkpoint> {
+        let mut pages = Vec::new();
+        while pages.is_empty() || !scores.is_empty() {
+            let first = pages.is_empty();
+            let (here, rest) = scores.split_at(scores.len().min(checkpoint_capacity(first)));
+            scores = rest;
+            pages.push(Checkpoint {
+                tariff: first.then_some(tariff),
+                scores: here.to_vec(),
+                count: rest.is_empty().then_some(count),
+            });
+        }
+        pages
+    }
+}
+
+#[cfg(test)]
+mod tests {
+    use super::*;
+
+    fn log(entries: usize) -> Page {
+        let entry = |i: usize| {
+            let change = match i % 4 {
+                0 => Change::Put(Pair { key: i as u32, pointer: 0xFFFF_FFFF }),
+                1 => Change::Drop { key: 0xFFFF_FFFF },
+                2 => Change::Link(Shape::Leaf, i as u32),
+                _ => Change::Link(Shape::Branch, 0xFFFF_FFFF),
+            };
+            Entry { id: i as u16, version: 1 + i as u32, change }
+        };
+        Page { seq: 1000, content: Content::Log((0..entries).map(entry).collect()) }
+    }
+
+    fn checkpoint(tariff: bool, scores: usize, count: bool) -> Page {
+        let scores = (0..scores).map(|id| Score { id: id as u16, score: 0xFFFF_FFFF }).collect();
+        let tariff = tariff.then_some([1, 2, 3, 4, 5, 6, 7, 8]);
+        Page { seq: 9, content: Content::Checkpoint(Checkpoint { tariff, scores, count: count.then_some(3) }) }
+    }
+
+    fn checks(page: &Page) -> bool {
+        decode(&page.encode()) == Ok(Some(page.clone()))
+    }
+
+    #[test]
+    fn pages_go_both_ways() {
+        assert!((1..=27).all(|entries| checks(&log(entries))));
+        for keys in 0..=24 {
+            let pairs = (0..keys).map(|key| Pair { key, pointer: key }).collect();
+            let node = Node { shape: Shape::Branch, pairs, link: 5 };
+            assert!(checks(&Page { seq: 0xFFFF_FFFF, content: Content::Node { id: 0xFFFF, node } }));
+        }
+        assert_eq!(decode(&[0xFF; 512]), Ok(None));
+        assert!(!checks(&log(0)), "fields 10 and 1F alone");
+    }
+
+    #[test]
+    fn checkpoint_pages_are_full_or_last() {
+        for (first, full) in [(true, 50), (false, 54)] {
+            for scores in 0..=full {
+                assert_eq!(checks(&checkpoint(first, scores, true)), scores > 0);
+                assert_eq!(checks(&checkpoint(first, scores, false)), scores == full);
+            }
+            // One more would fit without a count.
+            assert!(!checks(&checkpoint(first, full + 1, false)));
+        }
+    }
+
+    #[test]
+    fn every_changed_byte_is_seen() {
+        for page in [log(3), checkpoint(true, 2, true)] {
+            let image = page.encode();
+            for at in 0..PAGE_BYTES {
+                for change in [1, 0x80, 0xFF] {
+                    let mut other = image;
+                    other[at] ^= change;
+                    assert!(decode(&other).is_err(), "byte {at}");
+                }
+            }
+        }
+    }
+
+    #[test]
+    fn entries_keep_their_rules() {
+        // A page of one entry with these numbers, its sum right.
+        let with = |seq: u32, version: u32, kind: u8, key: u32, pointer: u32| {
+            let mut out = Vec::new();
+            put_head(&mut out, TAG_SEQ, 4);
+            out.extend(seq.to_be_bytes());
+            put_head(&mut out, TAG_ENTRY, 15);
+            out.extend(7u16.to_be_bytes());
+            out.extend(version.to_be_bytes());
+            out.push(kind);
+            out.extend(key.to_be_bytes());
+            out.extend(pointer.to_be_bytes());
+            decode(&seal(out)).is_ok()
+        };
+        assert!(with(2, 1, 1, 5, 6) && with(2, 1, 2, 5, 0) && with(2, 1, 3, 0, 6) && with(2, 1, 4, 0, 6));
+        assert!(!with(2, 0, 1, 5, 6), "version 0");
+        assert!(!with(2, 2, 1, 5, 6) && !with(2, 3, 1, 5, 6), "a version not below its page's number");
+        assert!(!with(2, 1, 0, 5, 6) && !with(2, 1, 5, 5, 6), "an unknown kind");
+        assert!(!with(2, 1, 2, 5, 6), "a drop with a pointer");
+        assert!(!with(2, 1, 3, 5, 6) && !with(2, 1, 4, 5, 6), "a link with a key");
+    }
+
+    #[test]
+    fn a_checkpoint_is_filled_page_by_page() {
+        let pages = |nodes: usize| {
+            let scores: Vec<Score> = (0..nodes).map(|id| Score { id: id as u16, score: 0 }).collect();
+            Checkpoint::pages([1; 8], &scores, nodes as u16)
+        };
+        assert_eq!([1, 50, 51, 104, 105, 620].map(|nodes| pages(nodes).len()), [1, 1, 2, 2, 3, 12]);
+        let pages = pages(105);
+        assert!(pages.iter().all(|page| checks(&Page { seq: 5, content: Content::Checkpoint(page.clone()) })));
+        assert!(pages[0].tariff.is_some() && pages[2].count == Some(105) && pages[1].count.is_none());
+    }
+}

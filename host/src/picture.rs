@@ -1,0 +1,232 @@
+//! A pool as a person would want to look at it.
+
+use std::fmt::Write;
+
+use crate::account::Mode;
+use crate::layout::{block_count, page_range, BLOCK_PAGES, PAGE_BYTES};
+use crate::mount::{mount, Mounted};
+use crate::node::{Change, Node, Shape};
+use crate::page::{decode, used, Content, Page};
+use crate::tree;
+use crate::wire::to_hex;
+
+/// One character a page.
+#[derive(Clone, Copy, PartialEq, Eq, Debug)]
+enum Mark {
+    Blank,
+    Broken,
+    Log,
+    Disk,
+    Checkpoint,
+    DeadLog,
+    DeadDisk,
+    DeadCheckpoint,
+}
+
+impl Mark {
+    fn letter(self) -> char {
+        match self {
+            Mark::Blank => '.',
+            Mark::Broken => '!',
+            Mark::Log => 'L',
+            Mark::Disk => 'D',
+            Mark::Checkpoint => 'C',
+            Mark::DeadLog => 'l',
+            Mark::DeadDisk => 'd',
+            Mark::DeadCheckpoint => 'c',
+        }
+    }
+
+    fn is_live(self) -> bool {
+        matches!(self, Mark::Log | Mark::Disk | Mark::Checkpoint)
+    }
+}
+
+/// What the letters of the picture mean.
+pub const LEGEND: &str = "L log page, D disk page, C checkpoint: live; l d c: dead; . blank; ! does not check";
+
+/// The whole pool: what it is refused with or spells, and a line for each block.
+pub fn pool(bytes: &[u8]) -> String {
+    let Some(blocks) = block_count(bytes.len()) else {
+        return format!("refused 1: {} bytes are no length of a pool\n", bytes.len());
+    };
+    let mounted = mount(bytes);
+    let mut out = match &mounted {
+        Ok(mounted) => summary(mounted),
+        Err(fault) => format!("refused {fault}\n"),
+    };
+    let marks = marks(bytes, mounted.as_ref().ok());
+    let newest = newest_slot(bytes);
+    let _ = writeln!(out, "{LEGEND}");
+    for block in 0..blocks {
+        block_line(&mut out, block, &marks[block * BLOCK_PAGES..][..BLOCK_PAGES], newest);
+    }
+    out
+}
+
+fn summary(mounted: &Mounted) -> String {
+    let modes = |mode| mounted.rows.iter().filter(|row| row.account.mode == mode).count();
+    let branches = mounted.nodes.iter().filter(|node| !node.is_leaf()).count();
+    let mut out = String::new();
+    let _ = writeln!(
+        out,
+        "opens: {} pairs in {} nodes ({} branches; {} in log mode, {} in disk mode), greatest number {}",
+        tree::pairs(&mounted.nodes).len(),
+        mounted.nodes.len(),
+        branches,
+        modes(Mode::Log),
+        modes(Mode::Disk),
+        mounted.last_seq,
+    );
+    let _ = writeln!(out, "tariff {:?}, limit {}", mounted.tariff.numbers(), mounted.tariff.limit());
+    out
+}
+
+/// A block's number, its pages in groups of eight, how many are live, and whether the newest is here.
+fn block_line(out: &mut String, block: usize, marks: &[Mark], newest: Option<usize>) {
+    let groups = marks.chunks(8).map(|group| group.iter().map(|mark| mark.letter()).collect::<String>());
+    let _ = write!(out, "{block:>3}  {}", groups.collect::<Vec<_>>().join(" "));
+    let live = marks.iter().filter(|mark| mark.is_live()).count();
+    let written = marks.iter().filter(|&&mark| mark != Mark::Blank).count();
+    let _ = write!(out, "  {live:>2} live of {written:>2}");
+    let _ = match newest.filter(|slot| slot / BLOCK_PAGES == block) {
+        Some(slot) => writeln!(out, ", newest at {}", slot % BLOCK_PAGES),
+        None => writeln!(out),
+    };
+}
+
+/// The mark of every page; without a mounted pool nothing is known to be live.
+fn marks(bytes: &[u8], mounted: Option<&Mounted>) -> Vec<Mark> {
+    let mut live = vec![false; bytes.len() / PAGE_BYTES];
+    if let Some(mounted) = mounted {
+        let of_nodes = mounted.rows.iter().flat_map(|row| &row.pages);
+        of_nodes.chain(&mounted.checkpoint).for_each(|&slot| live[slot] = true);
+    }
+    bytes.chunks_exact(PAGE_BYTES).zip(live).map(|(page, live)| mark(page, live)).collect()
+}
+
+fn mark(bytes: &[u8], live: bool) -> Mark {
+    match (decode(bytes), live) {
+        (Err(_), _) => Mark::Broken,
+        (Ok(None), _) => Mark::Blank,
+        (Ok(Some(Page { content: Content::Log(_), .. })), true) => Mark::Log,
+        (Ok(Some(Page { content: Content::Log(_), .. })), false) => Mark::DeadLog,
+        (Ok(Some(Page { content: Content::Node { .. }, .. })), true) => Mark::Disk,
+        (Ok(Some(Page { content: Content::Node { .. }, .. })), false) => Mark::DeadDisk,
+        (Ok(Some(Page { content: Content::Checkpoint(_), .. })), true) => Mark::Checkpoint,
+        (Ok(Some(Page { content: Content::Checkpoint(_), .. })), false) => Mark::DeadCheckpoint,
+    }
+}
+
+/// The page of greatest number among those that check.
+fn newest_slot(bytes: &[u8]) -> Option<usize> {
+    let pages = bytes.chunks_exact(PAGE_BYTES).enumerate();
+    let numbered = pages.filter_map(|(slot, page)| Some((decode(page).ok()??.seq, slot)));
+    numbered.max().map(|(_, slot)| slot)
+}
+
+/// One page in full; nothing if there is no such slot.
+pub fn page(bytes: &[u8], slot: usize) -> Option<String> {
+    let image = bytes.get(page_range(slot))?;
+    let mut out = format!("page {slot}: block {}, place {}\n", slot / BLOCK_PAGES, slot % BLOCK_PAGES);
+    match decode(image) {
+        Ok(None) => out.push_str("blank\n"),
+        Err(why) => {
+            let _ = writeln!(out, "does not check: {why}");
+        }
+        Ok(Some(page)) => {
+            let rows = mount(bytes).map(|mounted| mounted.rows).unwrap_or_default();
+            let lives = |id: u16, version: u32| match rows.get(usize::from(id)) {
+                Some(row) if row.version == version => "live",
+                _ => "dead",
+            };
+            describe_page(&mut out, &page, lives);
+        }
+    }
+    let _ = writeln!(out, "{}", to_hex(used(image)));
+    Some(out)
+}
+
+fn describe_page(out: &mut String, page: &Page, lives: impl Fn(u16, u32) -> &'static str) {
+    let _ = writeln!(out, "number {}", page.seq);
+    match &page.content {
+        Content::Log(entries) => {
+            for entry in entries {
+                let state = lives(entry.id, entry.version);
+                let _ =
+                    writeln!(out, "  {state} node {} version {}: {}", entry.id, entry.version, change(entry.change));
+            }
+        }
+        Content::Node { id, node } => {
+            let _ = writeln!(out, "  {} node {id}", lives(*id, page.seq));
+            describe_node(out, node);
+        }
+        Content::Checkpoint(page) => {
+            if let Some(tariff) = page.tariff {
+                let _ = writeln!(out, "  tariff {tariff:?}");
+            }
+            for score in &page.scores {
+                let _ = writeln!(out, "  node {} score {}", score.id, score.score);
+            }
+            if let Some(count) = page.count {
+                let _ = writeln!(out, "  count {count}");
+            }
+        }
+    }
+}
+
+fn change(change: Change) -> String {
+    match change {
+        Change::Put(pair) => format!("put {} -> {}", pair.key, pair.pointer),
+        Change::Drop { key } => format!("drop {key}"),
+        Change::Link(Shape::Leaf, link) => format!("leaf link {link}"),
+        Change::Link(Shape::Branch, link) => format!("last pointer {link}"),
+    }
+}
+
+fn describe_node(out: &mut String, node: &Node) {
+    let (shape, link) = match node.shape {
+        Shape::Leaf => ("leaf", "next leaf"),
+        Shape::Branch => ("branch", "last pointer"),
+    };
+    let _ = writeln!(out, "  {shape} of {} keys, {link} {}", node.pairs.len(), node.link);
+    for pair in &node.pairs {
+        let _ = writeln!(out, "    {} -> {}", pair.key, pair.pointer);
+    }
+}
+
+/// One node in full; nothing if the pool does not open or has no such node.
+pub fn node(bytes: &[u8], id: usize) -> Option<String> {
+    let mounted = mount(bytes).ok()?;
+    let (node, row) = (mounted.nodes.get(id)?, mounted.rows.get(id)?);
+    let mut out = String::new();
+    let (mode, score) = (mode_name(row.account.mode), row.account.score);
+    let _ = writeln!(out, "node {id}: {mode} mode, score {score}, version {}, pages {:?}", row.version, row.pages);
+    describe_node(&mut out, node);
+    Some(out)
+}
+
+/// The nodes of a pool that opens, a line each.
+pub fn spell(mounted: &Mounted) -> Vec<String> {
+    let line = |id: usize| {
+        let (node, row) = (&mounted.nodes[id], &mounted.rows[id]);
+        let shape = if node.is_leaf() { "leaf" } else { "branch" };
+        let pairs: Vec<String> = node.pairs.iter().map(|pair| format!("{}:{}", pair.key, pair.pointer)).collect();
+        format!(
+            "node {id} {shape} {} score {} version {} link {} pairs {}",
+            mode_name(row.account.mode),
+            row.account.score,
+            row.version,
+            node.link,
+            if pairs.is_empty() { "-".to_string() } else { pairs.join(" ") },
+        )
+    };
+    (0..mounted.nodes.len()).map(line).collect()
+}
+
+fn mode_name(mode: Mode) -> &'static str {
+    match mode {
+        Mode::Log => "log",
+        Mode::Disk => "disk",
+    }
+}

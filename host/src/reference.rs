@@ -1,0 +1,77 @@
+//! The reference model of "What demand 3 compares": document 01's paper book.
+//!
+//! It never sees a page. Shared with the book are the commands, the tree over a table of nodes
+//! (`tree::plan`) and the account of a node; pages, versions, allocation and mounting are not.
+
+use crate::account::{Account, Request, Tariff};
+use crate::command::{Answer, Command};
+use crate::node::Node;
+use crate::tree::{self, Step};
+
+/// Tree, modes and scores.
+#[derive(Clone, PartialEq, Eq, Debug)]
+pub struct Ledger {
+    pub limit: usize,
+    pub tariff: Tariff,
+    /// Nodes and their accounts, by id.
+    pub nodes: Vec<Node>,
+    pub accounts: Vec<Account>,
+}
+
+/// One node request as the ledger served it.
+#[derive(Clone, Copy, PartialEq, Eq, Debug)]
+pub struct Line {
+    pub id: usize,
+    pub request: Request,
+    /// The account after it.
+    pub account: Account,
+    pub charge: u64,
+    /// Nodes that exist by then.
+    pub count: usize,
+}
+
+/// What an accepted batch comes to.
+#[derive(Clone, PartialEq, Eq, Debug, Default)]
+pub struct Run {
+    pub answers: Vec<Answer>,
+    pub charge: u64,
+    pub lines: Vec<Line>,
+    /// Puts refused although some ids were unused, only too few.
+    pub too_few_ids: u64,
+}
+
+impl Ledger {
+    /// The ledger of a fresh pool: one empty leaf.
+    pub fn prepared(limit: usize, tariff: Tariff) -> Ledger {
+        Ledger { limit, tariff, nodes: vec![Node::empty_leaf()], accounts: vec![Account::default()] }
+    }
+
+    /// Runs an accepted batch. A refused one changes nothing and is not fed.
+    pub fn batch(&mut self, commands: &[Command]) -> Run {
+        let mut run = Run::default();
+        let mut steps = Vec::new();
+        for command in commands {
+            let answer = tree::plan(&self.nodes, self.limit, command, &mut steps);
+            run.too_few_ids += u64::from(matches!(answer, Answer::Refused(_)) && self.nodes.len() < self.limit);
+            run.answers.push(answer);
+            for step in steps.drain(..) {
+                if let Some(line) = self.step(&step) {
+                    run.charge += line.charge;
+                    run.lines.push(line);
+                }
+            }
+        }
+        run
+    }
+
+    fn step(&mut self, step: &Step) -> Option<Line> {
+        tree::apply(&mut self.nodes, step);
+        let Some(request) = step.work.request() else {
+            self.accounts.push(Account::default());
+            return None;
+        };
+        let served = self.accounts[step.id].serve(&self.tariff, request);
+        self.accounts[step.id] = served.account;
+        Some(Line { id: step.id, request, account: served.account, charge: served.charge, count: self.nodes.len() })
+    }
+}

@@ -1,0 +1,434 @@
+//! The papers' workloads on the book, as tables.
+//!
+//! Charges are compared with always-log, always-disk (one switch a node), the offline optimum and the source's
+//! own listing, all over the same node requests. Pages and erases are those of the run itself.
+
+use std::time::Instant;
+
+use crate::account::Tariff;
+use crate::book;
+use crate::command::{encode, Answer, Command};
+use crate::flash::Store;
+use crate::layout::{node_limit, BLOCK_BYTES, LOG_PAGE_ENTRIES, PAGE_BYTES, TABLE_BYTES_PER_BLOCK};
+use crate::meter::{Meter, Totals};
+use crate::mount::mount;
+use crate::observe::Unobserved;
+use crate::random::Random;
+use crate::wire::page_sum;
+use crate::workload::{build_then_reads, build_with_reads, Device, Stream, CAPSULE, DEVICES, FLASHCHIP, SLC, STREAMS};
+
+/// Items of a stream: 620 nodes hold some 6,900 ascending keys.
+const ITEMS: usize = 6_000;
+/// Commands of a batch: a batch closes, and closing writes pages.
+const BATCH: usize = 2_000;
+/// Blocks of the pool that the workloads run on, unless they say otherwise.
+const BLOCKS: usize = 64;
+
+/// A tariff that stays in log mode, and one that moves every node to disk at its first request.
+const LOG_ONLY: [u32; 8] = [0, 0, 0, 0, 0, 0, 1, 1];
+const DISK_ONLY: [u32; 8] = [2, 2, 2, 0, 0, 0, 1, 1];
+
+/// A workload: its name, what the papers report, and the table that it prints.
+pub struct Section {
+    pub name: &'static str,
+    pub title: &'static str,
+    pub papers: &'static str,
+    table: fn() -> Result<Vec<Vec<String>>, String>,
+}
+
+/// All workloads; the last is a measurement of time, which no two runs share, and is printed when named.
+pub const SECTIONS: &[Section] = &[
+    Section {
+        name: "W1",
+        title: "Build of LABDATA (synthetic stand-in), 6,000 items, by device",
+        papers: "Source 000, figure 10: Log 40% cheaper than Disk on FLASHCHIP, 80% on SD; Disk 38% cheaper than Log on \
+                 CAPSULE, 32% on CF; self-tuning at least as good as the better, 10% below Log on FLASHCHIP.",
+        table: builds_by_device,
+    },
+    Section {
+        name: "W2",
+        title: "Three streams on FLASHCHIP: build alone, and each item queried 10 times afterwards",
+        papers: "Source 000, figures 11 and 12: Log wins builds, Disk wins reads, self-tuning below both.",
+        table: streams_on_flashchip,
+    },
+    Section {
+        name: "W3",
+        title: "Reads per write against the cost of a write in reads, build of LABDATA (synthetic), 3,000 items",
+        papers: "Source 000, figure 15: self-tuning always best; Log = Disk near write/read 4.7 at no reads (only ratios can \
+                 be reproduced). Each cell: what the others pay, as multiples of the book's charge.",
+        table: ratio_grid,
+    },
+    Section {
+        name: "W4",
+        title: "The book against the offline optimum, by device: build of LABDATA (synthetic) with one query an item",
+        papers: "Source 000, figure 14 and section 6.4: within 1.25 to 1.3 of the optimum on ten nodes of one build.",
+        table: against_optimum,
+    },
+    Section {
+        name: "W5",
+        title: "A plain list of log pages against the index: queries at which they cost the same",
+        papers: "Source 000, figure 9: about 300 queries, 1% of 30,000 items.",
+        table: list_against_index,
+    },
+    Section {
+        name: "W6",
+        title: "Tree of 5,000 uniform keys, then 3,000 commands with some lookups per insert, CAPSULE: after the build",
+        papers: "Source 004, figures 6 and 9: a FlashDB-like scheme loses to a tuned B+ tree on this chip.",
+        table: lookups_per_insert,
+    },
+    Section {
+        name: "W7",
+        title: "Random keys below 3N, build, then all looked up, SLC small block",
+        papers: "Source 002, figures 9 to 14: FlashDB writes 44% of a B-tree's pages and reads more.",
+        table: small_block_pages,
+    },
+    Section {
+        name: "W8",
+        title: "Phases of P edits, then P reads, on one leaf, 40 phases, SLC small block",
+        papers: "Source 002's criticism of 000: a counter without a floor gets stuck; short phases switch too often.",
+        table: phases,
+    },
+    Section {
+        name: "W9",
+        title: "Wear: 60,000 overwrites of 1,000 keys in 12 blocks, FLASHCHIP",
+        papers: "The papers want erases even; document 01 does not promise it.",
+        table: wear,
+    },
+    Section {
+        name: TIMES,
+        title: "Times on this machine, a pool of 1,048,576 bytes after 6,000 puts and 16,000 overwrites",
+        papers: "None: a figure to compare another book with in the same run.",
+        table: times,
+    },
+];
+
+/// The section that is printed when named alone.
+pub const TIMES: &str = "TIMES";
+
+impl Section {
+    /// Runs the workload and gives it as a table in Markdown.
+    pub fn text(&self) -> Result<String, String> {
+        let rows = (self.table)()?;
+        let mut out = format!("## {}. {}\n\n{}\n\n", self.name, self.title, self.papers);
+        for (at, row) in rows.iter().enumerate() {
+            out.push_str(&format!("| {} |\n", row.join(" | ")));
+            if at == 0 {
+                out.push_str(&format!("|{}\n", "---|".repeat(row.len())));
+            }
+        }
+        Ok(out)
+    }
+}
+
+/// A book on a pool of its own, metered.
+struct Bench {
+    pool: Vec<u8>,
+    meter: Meter,
+}
+
+impl Bench {
+    fn new(blocks: usize, numbers: [u32; 8]) -> Result<Bench, String> {
+        let tariff = Tariff::from_numbers(numbers).ok_or_else(|| format!("the tariff {numbers:?} is out of range"))?;
+        let mut pool = vec![0xFF; blocks * BLOCK_BYTES];
+        match book::prepare(&mut pool, numbers, &mut Unobserved) {
+            0 => Ok(Bench { pool, meter: Meter::new(tariff, blocks) }),
+            number => Err(format!("prepare was refused with {number}")),
+        }
+    }
+
+    /// Runs commands in batches; a workload must fit its pool.
+    fn run(&mut self, commands: &[Command]) -> Result<(), String> {
+        let refused = encode_refused();
+        let mut table = vec![0; self.pool.len() / BLOCK_BYTES * TABLE_BYTES_PER_BLOCK];
+        let mut answers = vec![0; 700_000];
+        for batch in commands.chunks(BATCH) {
+            let outcome = book::batch(&mut self.pool, &mut table, &encode(batch), &mut answers, &mut self.meter);
+            if outcome.number != 0 {
+                return Err(format!("a batch was refused with {}", outcome.number));
+            }
+            let said = &answers[..outcome.length];
+            let full = crate::command::split_answers(said).is_none_or(|pieces| pieces.contains(&&refused[..]));
+            if full {
+                return Err("the pool is too small for the workload".to_string());
+            }
+        }
+        Ok(())
+    }
+
+    /// The totals of commands on a fresh pool.
+    fn measured(blocks: usize, tariff: [u32; 8], commands: &[Command]) -> Result<Totals, String> {
+        let mut bench = Bench::new(blocks, tariff)?;
+        bench.run(commands)?;
+        Ok(bench.meter.totals())
+    }
+}
+
+fn encode_refused() -> Vec<u8> {
+    let mut out = Vec::new();
+    Answer::Refused(crate::tree::IDS_USED_UP).encode(&mut out);
+    out
+}
+
+fn header(first: &[&str], rest: &[&str]) -> Vec<String> {
+    first.iter().chain(rest).map(|word| word.to_string()).collect()
+}
+
+const CHARGES: [&str; 7] = [
+    "book",
+    "always log",
+    "always disk",
+    "optimum",
+    "source's listing",
+    "book / optimum",
+    "book / better of log, disk",
+];
+const PHYSICAL: [&str; 3] = ["pages written", "copied", "erases (least to most a block)"];
+
+fn ratio(one: u64, other: u64) -> String {
+    format!("{:.3}", one as f64 / other.max(1) as f64)
+}
+
+fn charges(totals: &Totals) -> Vec<String> {
+    let &Totals { charge, log, disk, optimum, listing, .. } = totals;
+    let mut cells = [charge, log, disk, optimum, listing].map(|charge| charge.to_string()).to_vec();
+    cells.extend([ratio(charge, optimum), ratio(charge, log.min(disk))]);
+    cells
+}
+
+fn physical(totals: &Totals) -> Vec<String> {
+    let (all, least, most) = totals.erase_spread();
+    vec![totals.pages_written.to_string(), totals.pages_copied.to_string(), format!("{all} ({least} to {most})")]
+}
+
+/// A row of a table: names, charges, physical counts.
+fn row(names: &[&str], totals: &Totals) -> Vec<String> {
+    let names = names.iter().map(|name| name.to_string());
+    names.chain(charges(totals)).chain(physical(totals)).collect()
+}
+
+fn builds_by_device() -> Result<Vec<Vec<String>>, String> {
+    let commands = build_with_reads(&Stream::SyntheticLab.keys(ITEMS), 0);
+    let mut rows = vec![header(&["device", "unit (of 1/27 page)"], &[CHARGES.as_slice(), &PHYSICAL].concat())];
+    for device in DEVICES {
+        rows.push(row(&[device.name, device.unit], &Bench::measured(BLOCKS, device.tariff(), &commands)?));
+    }
+    Ok(rows)
+}
+
+fn streams_on_flashchip() -> Result<Vec<Vec<String>>, String> {
+    let mut rows = vec![header(&["stream", "queries an item"], &[CHARGES.as_slice(), &PHYSICAL].concat())];
+    for stream in STREAMS {
+        for reads in [0, 10] {
+            let commands = build_then_reads(&stream.keys(ITEMS), reads);
+            let totals = Bench::measured(BLOCKS, FLASHCHIP.tariff(), &commands)?;
+            rows.push(row(&[stream.name(), &reads.to_string()], &totals));
+        }
+    }
+    Ok(rows)
+}
+
+/// Costs of a write in tenths of a read.
+const WRITE_COSTS: [u32; 7] = [10, 20, 47, 100, 200, 500, 2000];
+
+fn ratio_grid() -> Result<Vec<Vec<String>>, String> {
+    let keys = Stream::SyntheticLab.keys(ITEMS / 2);
+    let heads = WRITE_COSTS.map(|write| format!("write/read {}", f64::from(write) / 10.0));
+    let mut rows = vec![header(&["reads per write"], &heads.each_ref().map(String::as_str))];
+    for reads in [0, 1, 2, 5, 10] {
+        let commands = build_with_reads(&keys, reads);
+        let mut cells = vec![reads.to_string()];
+        for write in WRITE_COSTS {
+            let device = Device { name: "", unit: "", read: 10, write };
+            let Totals { charge, log, disk, optimum, .. } = Bench::measured(BLOCKS, device.tariff(), &commands)?;
+            let [log, disk, optimum] = [log, disk, optimum].map(|other| ratio(other, charge));
+            cells.push(format!("log {log}, disk {disk}, optimum {optimum}"));
+        }
+        rows.push(cells);
+    }
+    Ok(rows)
+}
+
+fn against_optimum() -> Result<Vec<Vec<String>>, String> {
+    let commands = build_with_reads(&Stream::SyntheticLab.keys(ITEMS), 1);
+    let mut rows =
+        vec![header(&["device", "book / optimum", "listing / optimum", "switches", "listing's switches"], &[])];
+    for device in DEVICES {
+        let totals = Bench::measured(BLOCKS, device.tariff(), &commands)?;
+        rows.push(vec![
+            device.name.to_string(),
+            ratio(totals.charge, totals.optimum),
+            ratio(totals.listing, totals.optimum),
+            totals.switches.to_string(),
+            totals.listing_switches.to_string(),
+        ]);
+    }
+    Ok(rows)
+}
+
+/// The list is log pages of 27 items, written once, and read whole for each query.
+fn list_against_index() -> Result<Vec<Vec<String>>, String> {
+    let keys = Stream::SyntheticLab.keys(ITEMS);
+    let queries = 2000;
+    let mut rows = vec![header(
+        &["device", "index: build", "index: a query", "list: build", "list: a query", "same cost at", "of the items"],
+        &[],
+    )];
+    for device in DEVICES {
+        let mut bench = Bench::new(BLOCKS, device.tariff())?;
+        bench.run(&build_with_reads(&keys, 0))?;
+        let build = bench.meter.totals().charge;
+        let mut random = Random::new(9);
+        bench.run(&(0..queries).map(|_| Command::Get { key: random.pick(&keys) }).collect::<Vec<_>>())?;
+        let query = (bench.meter.totals().charge - build) as f64 / queries as f64;
+        let list_build = ITEMS as f64 * f64::from(device.write);
+        let list_query = ITEMS.div_ceil(LOG_PAGE_ENTRIES) as f64 * 27.0 * f64::from(device.read);
+        let same = (build as f64 - list_build) / (list_query - query);
+        rows.push(vec![
+            device.name.to_string(),
+            build.to_string(),
+            format!("{query:.0}"),
+            format!("{list_build:.0}"),
+            format!("{list_query:.0}"),
+            format!("{same:.0} queries"),
+            format!("{:.1}%", 100.0 * same / ITEMS as f64),
+        ]);
+    }
+    Ok(rows)
+}
+
+fn lookups_per_insert() -> Result<Vec<Vec<String>>, String> {
+    let keys = Stream::Random.keys(5_000);
+    let mut rows = vec![header(&["lookups per insert"], &[CHARGES.as_slice(), &PHYSICAL].concat())];
+    for share in [0.01, 0.1, 0.5, 1.0, 2.0] {
+        let mut bench = Bench::new(BLOCKS, CAPSULE.tariff())?;
+        bench.run(&build_with_reads(&keys, 0))?;
+        let built = bench.meter.totals();
+        let mut random = Random::new(4);
+        let mut one = || {
+            let lookup = (random.next_u32() as f64 / 2f64.powi(32)) * (1.0 + share) < share;
+            if lookup {
+                Command::Get { key: random.pick(&keys) }
+            } else {
+                Command::Put { key: random.next_u32(), value: 1 }
+            }
+        };
+        bench.run(&(0..3_000).map(|_| one()).collect::<Vec<_>>())?;
+        rows.push(row(&[&share.to_string()], &bench.meter.totals().since(&built)));
+    }
+    Ok(rows)
+}
+
+fn small_block_pages() -> Result<Vec<Vec<String>>, String> {
+    let mut random = Random::new(3);
+    let mut keys: Vec<u32> = (0..3 * ITEMS as u32).collect();
+    random.shuffle(&mut keys);
+    keys.truncate(ITEMS);
+    let commands = build_then_reads(&keys, 1);
+    let mut rows = vec![header(&["book", "switches", "pages of the first"], &PHYSICAL)];
+    let mut disk_pages = 0;
+    for (name, tariff) in
+        [("every node on disk pages", DISK_ONLY), ("every node in the log", LOG_ONLY), ("self-tuning", SLC.tariff())]
+    {
+        let totals = Bench::measured(BLOCKS, tariff, &commands)?;
+        if tariff == DISK_ONLY {
+            disk_pages = totals.pages_written;
+        }
+        let mut cells = vec![name.to_string(), totals.switches.to_string()];
+        cells.push(format!("{}%", 100 * totals.pages_written / disk_pages.max(1)));
+        cells.extend(physical(&totals));
+        rows.push(cells);
+    }
+    Ok(rows)
+}
+
+fn phases() -> Result<Vec<Vec<String>>, String> {
+    let mut rows = vec![header(&["P", "switches", "listing's switches"], &CHARGES)];
+    for length in [10, 1000] {
+        let mut commands = Vec::new();
+        for phase in 0..40 {
+            commands.extend((0..length).map(|at| match phase % 2 {
+                // A put reads the leaf too, so an edit comes with a read.
+                0 => Command::Put { key: at % 20, value: at },
+                _ => Command::Get { key: at % 20 },
+            }));
+        }
+        let totals = Bench::measured(4, SLC.tariff(), &commands)?;
+        let mut cells = vec![length.to_string(), totals.switches.to_string(), totals.listing_switches.to_string()];
+        cells.extend(charges(&totals));
+        rows.push(cells);
+    }
+    Ok(rows)
+}
+
+fn wear() -> Result<Vec<Vec<String>>, String> {
+    let mut rows =
+        vec![header(&["keys overwritten", "pages written", "copied", "erases", "erases of each block"], &[])];
+    for (name, hot) in [("uniform", false), ("9 of 10 on 20 keys", true)] {
+        let mut random = Random::new(6);
+        let mut bench = Bench::new(12, FLASHCHIP.tariff())?;
+        bench.run(&(0..1000).map(|key| Command::Put { key: key * 7 % 1000, value: 0 }).collect::<Vec<_>>())?;
+        let mut key = || if hot && !random.once_in(10) { random.below(20) } else { random.below(1000) };
+        bench.run(&(0..60_000).map(|value| Command::Put { key: key() as u32, value }).collect::<Vec<_>>())?;
+        let totals = bench.meter.totals();
+        let each: Vec<String> = totals.erases.iter().map(u64::to_string).collect();
+        rows.push(vec![
+            name.to_string(),
+            totals.pages_written.to_string(),
+            totals.pages_copied.to_string(),
+            totals.erase_spread().0.to_string(),
+            each.join(" "),
+        ]);
+    }
+    Ok(rows)
+}
+
+/// The shortest time of one of several runs, in microseconds.
+fn shortest(mut run: impl FnMut()) -> f64 {
+    let time = |_| {
+        let start = Instant::now();
+        run();
+        start.elapsed().as_secs_f64() * 1e6
+    };
+    (0..60).map(time).fold(f64::INFINITY, f64::min)
+}
+
+/// The time of one command on a mounted pool, mount and closing left out.
+fn command_time(pool: &[u8], commands: &[Command]) -> Result<f64, String> {
+    let mut pool = pool.to_vec();
+    let mounted = mount(&pool).map_err(|fault| fault.to_string())?;
+    let mut observer = Unobserved;
+    let mut store = Store::open(&mut pool, mounted, &mut observer);
+    let mut said = Vec::new();
+    let all = shortest(|| {
+        said.clear();
+        book::serve(&mut store, node_limit(BLOCKS), commands, &mut said);
+    });
+    Ok(all / commands.len() as f64)
+}
+
+fn times() -> Result<Vec<Vec<String>>, String> {
+    let keys = Stream::SyntheticLab.keys(ITEMS);
+    let mut bench = Bench::new(BLOCKS, FLASHCHIP.tariff())?;
+    let mut random = Random::new(8);
+    bench.run(&build_with_reads(&keys, 0))?;
+    bench
+        .run(&(0..8 * BATCH as u32).map(|value| Command::Put { key: random.pick(&keys), value }).collect::<Vec<_>>())?;
+    let written: usize = mount(&bench.pool).map_err(|fault| fault.to_string())?.written.iter().sum();
+    let mount_time = shortest(|| {
+        std::hint::black_box(mount(std::hint::black_box(&bench.pool)).is_ok());
+    });
+    let sum_time = shortest(|| {
+        let pages = bench.pool.chunks_exact(PAGE_BYTES);
+        std::hint::black_box(pages.map(page_sum).fold(0, |all, sum| all ^ sum[3]));
+    });
+    let gets: Vec<Command> = (0..BATCH).map(|_| Command::Get { key: random.pick(&keys) }).collect();
+    let puts: Vec<Command> = (0..BATCH as u32).map(|value| Command::Put { key: random.pick(&keys), value }).collect();
+    let (get, put) = (command_time(&bench.pool, &gets)?, command_time(&bench.pool, &puts)?);
+    Ok(vec![
+        header(&["what", "microseconds"], &[]),
+        vec![format!("mount, {written} of 2,048 pages written"), format!("{mount_time:.0}")],
+        vec!["one pass of the page sums, 2,048 pages".to_string(), format!("{sum_time:.0}")],
+        vec!["a get on the mounted pool".to_string(), format!("{get:.3}")],
+        vec!["a put of a key that is there, on the mounted pool".to_string(), format!("{put:.3}")],
+    ])
+}

@@ -1,0 +1,274 @@
+//! The line tool: a line in, lines out.
+
+use std::fs;
+use std::str::SplitWhitespace;
+
+use crate::book::Book;
+use crate::layout::{page_range, BLOCK_BYTES, TABLE_BYTES_PER_BLOCK};
+use crate::mount::mount;
+use crate::page::used;
+use crate::picture;
+use crate::wire::{fnv1a64, from_hex, to_hex};
+
+/// The lines that the shell knows, for help and for errors.
+pub const LINES: &str = "\
+  prepare B t0 .. t7     prepares B blocks of 16,384 bytes: number N pool H
+  batch HEX              runs a batch: number N answers HEX charge C pool H
+  load FILE              sets the pool from a file: loaded LENGTH
+  save FILE              writes the pool to a file: saved LENGTH
+  lengths TABLE ANSWERS  sets the lengths of table and answer buffer for batches after it
+                         (at first, and for -: 1,024 x B and 700,000): lengths TABLE ANSWERS
+  spell                  a line for each node, or: refused N
+  dump SLOT              the used bytes of a page
+H is FNV-1a-64 of the pool in 16 hexadecimal digits; - stands for no bytes at all.
+A line that is none of these answers error .. and changes nothing; blank lines and lines from # answer nothing.
+prepare lends the pool at hand if it has B blocks already, or else a new one of FF.";
+
+const ANSWER_BYTES: usize = 700_000;
+/// Longest pool that prepare makes, so that a slip of a digit does not take the memory; far above what a book accepts.
+const MAX_PREPARED_BLOCKS: usize = 1024;
+/// Longest table and answer buffer that can be asked for.
+const MAX_BUFFER: usize = 1 << 30;
+
+/// A shell with its pool.
+pub struct Shell {
+    book: Box<dyn Book>,
+    pool: Vec<u8>,
+    table_bytes: Option<usize>,
+    answer_bytes: Option<usize>,
+}
+
+impl Shell {
+    pub fn new(book: Box<dyn Book>) -> Shell {
+        Shell { book, pool: Vec::new(), table_bytes: None, answer_bytes: None }
+    }
+
+    /// Answers one line.
+    pub fn answer(&mut self, line: &str) -> Vec<String> {
+        if line.trim().is_empty() || line.trim_start().starts_with('#') {
+            return Vec::new();
+        }
+        self.run(line).unwrap_or_else(|error| vec![format!("error {error}")])
+    }
+
+    fn run(&mut self, line: &str) -> Result<Vec<String>, String> {
+        let mut words = line.split_whitespace();
+        let verb = words.next().unwrap_or_default();
+        match verb {
+            "prepare" => self.prepare(words).map(one),
+            "batch" => self.batch(words).map(one),
+            "load" => self.load(file_name(line, verb)?).map(one),
+            "save" => self.save(file_name(line, verb)?).map(one),
+            "lengths" => self.lengths(words).map(one),
+            "spell" => ended(words).map(|()| self.spell()),
+            "dump" => self.dump(words).map(one),
+            _ => Err(format!("no line begins with {verb:?}")),
+        }
+    }
+
+    fn prepare(&mut self, mut words: SplitWhitespace<'_>) -> Result<String, String> {
+        let blocks: usize = number(&mut words, "blocks")?;
+        if blocks > MAX_PREPARED_BLOCKS {
+            return Err(format!("at most {MAX_PREPARED_BLOCKS} blocks"));
+        }
+        let mut tariff = [0; 8];
+        for place in &mut tariff {
+            *place = number(&mut words, "eight tariff numbers")?;
+        }
+        ended(words)?;
+        if self.pool.len() != blocks * BLOCK_BYTES {
+            self.pool = vec![0xFF; blocks * BLOCK_BYTES];
+        }
+        let number = self.book.prepare(&mut self.pool, tariff);
+        Ok(format!("number {number} pool {}", self.hash()))
+    }
+
+    fn batch(&mut self, mut words: SplitWhitespace<'_>) -> Result<String, String> {
+        let bytes = match words.next() {
+            None | Some("-") => Vec::new(),
+            Some(hex) => from_hex(hex).ok_or("a batch is pairs of hexadecimal digits")?,
+        };
+        ended(words)?;
+        // What the table holds at entry means nothing, so it is anything but zero.
+        let mut table = vec![0xA5; self.table_bytes()];
+        let mut answers = vec![0; self.answer_bytes()];
+        let outcome = self.book.batch(&mut self.pool, &mut table, &bytes, &mut answers);
+        let said = answers.get(..outcome.length).ok_or("the book answers more than its buffer holds")?;
+        let said = if said.is_empty() { "-".to_string() } else { to_hex(said) };
+        Ok(format!("number {} answers {said} charge {} pool {}", outcome.number, outcome.charge, self.hash()))
+    }
+
+    fn load(&mut self, name: &str) -> Result<String, String> {
+        self.pool = fs::read(name).map_err(|error| format!("{name}: {error}"))?;
+        Ok(format!("loaded {}", self.pool.len()))
+    }
+
+    fn save(&self, name: &str) -> Result<String, String> {
+        fs::write(name, &self.pool).map_err(|error| format!("{name}: {error}"))?;
+        Ok(format!("saved {}", self.pool.len()))
+    }
+
+    fn lengths(&mut self, mut words: SplitWhitespace<'_>) -> Result<String, String> {
+        let table = length(&mut words, "a table length")?;
+        let answers = length(&mut words, "an answer length")?;
+        ended(words)?;
+        (self.table_bytes, self.answer_bytes) = (table, answers);
+        Ok(format!("lengths {} {}", self.table_bytes(), self.answer_bytes()))
+    }
+
+    fn spell(&self) -> Vec<String> {
+        match mount(&self.pool) {
+            Ok(mounted) => picture::spell(&mounted),
+            Err(fault) => one(format!("refused {}", fault.refusal.number())),
+        }
+    }
+
+    fn dump(&self, mut words: SplitWhitespace<'_>) -> Result<String, String> {
+        let slot: usize = number(&mut words, "a slot")?;
+        ended(words)?;
+        let end = slot.checked_add(1).and_then(|next| next.checked_mul(512));
+        if end.is_none_or(|end| end > self.pool.len()) {
+            return Err(format!("no slot {slot}"));
+        }
+        let bytes = used(&self.pool[page_range(slot)]);
+        Ok(if bytes.is_empty() { "-".to_string() } else { to_hex(bytes) })
+    }
+
+    fn table_bytes(&self) -> usize {
+        self.table_bytes.unwrap_or(self.pool.len() / BLOCK_BYTES * TABLE_BYTES_PER_BLOCK)
+    }
+
+    fn answer_bytes(&self) -> usize {
+        self.answer_bytes.unwrap_or(ANSWER_BYTES)
+    }
+
+    fn hash(&self) -> String {
+        format!("{:016x}", fnv1a64(&self.pool))
+    }
+}
+
+fn one(line: String) -> Vec<String> {
+    vec![line]
+}
+
+fn number<N: std::str::FromStr>(words: &mut SplitWhitespace<'_>, what: &str) -> Result<N, String> {
+    let word = words.next().ok_or_else(|| format!("{what} expected"))?;
+    word.parse().map_err(|_| format!("{what} expected, not {word:?}"))
+}
+
+/// A buffer's length; `-` is the one it had at first.
+fn length(words: &mut SplitWhitespace<'_>, what: &str) -> Result<Option<usize>, String> {
+    let mut ahead = words.clone();
+    if ahead.next() == Some("-") {
+        *words = ahead;
+        return Ok(None);
+    }
+    let bytes = number(words, what)?;
+    if bytes > MAX_BUFFER {
+        return Err(format!("{what} of at most {MAX_BUFFER} expected"));
+    }
+    Ok(Some(bytes))
+}
+
+fn ended(mut words: SplitWhitespace<'_>) -> Result<(), String> {
+    match words.next() {
+        None => Ok(()),
+        Some(word) => Err(format!("{word:?} is too much")),
+    }
+}
+
+/// The rest of a line, which may have blanks inside.
+fn file_name<'a>(line: &'a str, verb: &str) -> Result<&'a str, String> {
+    let name = line.trim_start().strip_prefix(verb).unwrap_or_default().trim();
+    if name.is_empty() {
+        Err("a file name expected".to_string())
+    } else {
+        Ok(name)
+    }
+}
+
+#[cfg(test)]
+mod tests {
+    use super::*;
+    use crate::book::SecondBook;
+
+    fn shell() -> Shell {
+        Shell::new(Box::new(SecondBook))
+    }
+
+    #[test]
+    fn the_worked_batch() {
+        let mut shell = shell();
+        assert_eq!(shell.answer("prepare 4 3 1 2 1 4 4 3 2"), ["number 0 pool e5938a6f1717e51f"]);
+        let batch = "batch 0200080000000700000064010004000000070300040000000701000400000007";
+        let answers = "8000008100040000006483000400000064800000";
+        assert_eq!(shell.answer(batch), [format!("number 0 answers {answers} charge 14 pool cb649dfb17d509a7")]);
+        assert_eq!(shell.answer("spell"), ["node 0 leaf log score 3 version 1 link 4294967295 pairs -"]);
+        let log = "1000040000000412000f0000000000010100000007000000641200\
+                   0f0000000000010200000007000000001f0004135000d2";
+        assert_eq!(shell.answer("dump 2"), [log]);
+        assert_eq!(shell.answer("dump 4"), ["-"]);
+    }
+
+    #[test]
+    fn refused_calls() {
+        let mut shell = shell();
+        shell.answer("prepare 4 3 1 2 1 4 4 3 2");
+        let refused = |number: u8| format!("number {number} answers - charge 0 pool e5938a6f1717e51f");
+        assert_eq!(shell.answer("batch 05"), [refused(3)]);
+        shell.answer("lengths 4095 700000");
+        assert_eq!(shell.answer("batch -"), [refused(2)]);
+        shell.answer("lengths 4096 6");
+        assert_eq!(shell.answer("batch 01000400000000"), [refused(4)]);
+        assert_eq!(shell.answer("lengths - -"), ["lengths 4096 700000"]);
+        assert_eq!(shell.answer("prepare 4 3 1 2 1 4 4 0 2"), ["number 10 pool e5938a6f1717e51f"]);
+        assert!(shell.answer("prepare 3 3 1 2 1 4 4 3 2")[0].starts_with("number 1 pool "));
+    }
+
+    #[test]
+    fn malformed_lines_change_nothing() {
+        let mut shell = shell();
+        shell.answer("prepare 4 3 1 2 1 4 4 3 2");
+        let before = shell.hash();
+        for line in [
+            "prepare",
+            "prepare 5 1 2 3",
+            "prepare 5 1 2 3 4 5 6 7 8 9",
+            "prepare 5 1 2 3 4 5 6 7 -8",
+            "prepare 99999 1 1 1 1 1 1 1 1",
+            "batch 0",
+            "batch xx",
+            "batch 00 00",
+            "load",
+            "load /nowhere/at/all",
+            "lengths",
+            "lengths 1",
+            "lengths 1 x",
+            "spell 1",
+            "dump",
+            "dump 128",
+            "dump 99999999999999999999",
+            "dump 18446744073709551615",
+            "nonsense",
+        ] {
+            let answer = shell.answer(line);
+            assert!(answer.len() == 1 && answer[0].starts_with("error "), "{line}: {answer:?}");
+        }
+        assert_eq!(shell.hash(), before);
+        assert_eq!(shell.answer("lengths - -"), ["lengths 4096 700000"]);
+        assert!(shell.answer("  # a remark").is_empty());
+    }
+
+    #[test]
+    fn pools_go_to_files_and_back() {
+        let name = std::env::temp_dir().join(format!("yokehour-shell-{}.pool", std::process::id()));
+        let name = name.to_str().expect("a plain path");
+        let mut shell = shell();
+        shell.answer("prepare 4 3 1 2 1 4 4 3 2");
+        assert_eq!(shell.answer(&format!("save {name}")), ["saved 65536"]);
+        let mut other = Shell::new(Box::new(SecondBook));
+        assert_eq!(other.answer(&format!("load {name}")), ["loaded 65536"]);
+        assert_eq!(other.hash(), shell.hash());
+        std::fs::remove_file(name).expect("was written");
+    }
+}

@@ -1,0 +1,431 @@
+//! The tree over a table of nodes, indexed by id: what a command asks of which node, and soundness.
+//!
+//! Nothing here knows of pages, modes or charges.
+
+use crate::account::Request;
+use crate::command::{Answer, Command};
+use crate::layout::NO_LINK;
+use crate::node::{Change, Halves, Node, Pair, Shape};
+
+/// The root's id.
+pub const ROOT: usize = 0;
+
+/// The number of the one refusal inside a batch: not enough node ids for a put.
+pub const IDS_USED_UP: u8 = 9;
+
+/// One thing that a command does to one node.
+#[derive(Clone, PartialEq, Eq, Debug)]
+pub struct Step {
+    pub id: usize,
+    pub work: Work,
+}
+
+#[derive(Clone, PartialEq, Eq, Debug)]
+pub enum Work {
+    Read,
+    Edit(Change),
+    Rewrite(Node),
+    /// A new node; its id is the next one.
+    Create(Node),
+}
+
+impl Work {
+    /// The node request that is charged for, if it is one.
+    pub fn request(&self) -> Option<Request> {
+        match self {
+            Work::Read => Some(Request::Read),
+            Work::Edit(_) => Some(Request::Edit),
+            Work::Rewrite(_) => Some(Request::Rewrite),
+            Work::Create(_) => None,
+        }
+    }
+}
+
+/// Puts the steps of a command behind `steps`, in order, and gives its answer.
+pub fn plan(nodes: &[Node], limit: usize, command: &Command, steps: &mut Vec<Step>) -> Answer {
+    match *command {
+        Command::Get { key } => plan_get(nodes, key, steps),
+        Command::Put { key, value } => plan_put(nodes, limit, Pair { key, pointer: value }, steps),
+        Command::Delete { key } => plan_delete(nodes, key, steps),
+        Command::Scan { low, high, .. } if low > high => Answer::Pairs(Vec::new()),
+        Command::Scan { low, high, most } => Answer::Pairs(plan_scan(nodes, low, high, most, steps)),
+    }
+}
+
+fn plan_get(nodes: &[Node], key: u32, steps: &mut Vec<Step>) -> Answer {
+    let leaf = &nodes[read_down(nodes, key, steps)];
+    match leaf.find(key) {
+        Ok(at) => Answer::Found(leaf.pairs[at].pointer),
+        Err(_) => Answer::Nothing,
+    }
+}
+
+fn plan_delete(nodes: &[Node], key: u32, steps: &mut Vec<Step>) -> Answer {
+    let id = read_down(nodes, key, steps);
+    match nodes[id].find(key) {
+        Ok(at) => {
+            steps.push(Step { id, work: Work::Edit(Change::Drop { key }) });
+            Answer::Removed(nodes[id].pairs[at].pointer)
+        }
+        Err(_) => Answer::Nothing,
+    }
+}
+
+/// Reads leaf after leaf, and stops at the first key above `high` or at `most` pairs.
+fn plan_scan(nodes: &[Node], low: u32, high: u32, most: usize, steps: &mut Vec<Step>) -> Vec<Pair> {
+    let mut found = Vec::new();
+    let mut id = read_down(nodes, low, steps);
+    'leaves: loop {
+        for pair in nodes[id].pairs.iter().filter(|pair| pair.key >= low) {
+            if pair.key > high {
+                break 'leaves;
+            }
+            found.push(*pair);
+            if found.len() == most {
+                break 'leaves;
+            }
+        }
+        if nodes[id].link == NO_LINK {
+            break;
+        }
+        id = nodes[id].link as usize;
+        steps.push(Step { id, work: Work::Read });
+    }
+    found
+}
+
+fn plan_put(nodes: &[Node], limit: usize, pair: Pair, steps: &mut Vec<Step>) -> Answer {
+    let path = path_to(nodes, pair.key);
+    let id = leaf_of(&path);
+    let leaf = &nodes[id];
+    let found = leaf.find(pair.key);
+    let splits = found.is_err() && leaf.is_full();
+    if splits && ids_needed(nodes, &path) > limit - nodes.len() {
+        return Answer::Refused(IDS_USED_UP);
+    }
+    steps.extend(path.iter().map(|hop| Step { id: hop.id, work: Work::Read }));
+    if splits {
+        plan_split(nodes, &path, pair, steps);
+    } else {
+        steps.push(Step { id, work: Work::Edit(Change::Put(pair)) });
+    }
+    match found {
+        Ok(at) => Answer::Replaced(leaf.pairs[at].pointer),
+        Err(_) => Answer::Nothing,
+    }
+}
+
+/// The ids that a split of the path's leaf takes: one for each full node from the leaf upwards
+/// without a gap, and one more if the root is among them.
+fn ids_needed(nodes: &[Node], path: &[Hop]) -> usize {
+    let full = path.iter().rev().take_while(|hop| nodes[hop.id].is_full()).count();
+    full + usize::from(full == path.len())
+}
+
+/// Splits the full leaf that a new pair goes to, and every full node above it, leaf upwards.
+fn plan_split(nodes: &[Node], path: &[Hop], pair: Pair, steps: &mut Vec<Step>) {
+    let mut next_id = nodes.len();
+    let mut overfull = nodes[leaf_of(path)].clone();
+    overfull.apply(Change::Put(pair));
+    for level in (1..path.len()).rev() {
+        let (id, upper_id) = (path[level].id, next_id);
+        let Halves { lower, separator, upper } = overfull.into_halves(upper_id as u32);
+        steps.push(Step { id, work: Work::Rewrite(lower) });
+        steps.push(Step { id: upper_id, work: Work::Create(upper) });
+        next_id += 1;
+
+        let Hop { id: above, place } = path[level - 1];
+        let parent = &nodes[above];
+        let to_lower = Change::Put(Pair { key: separator, pointer: id as u32 });
+        // Taken before the separator goes in: the place that led to the lower half until now.
+        let to_upper = parent.change_child(place, upper_id as u32);
+        if !parent.is_full() {
+            steps.push(Step { id: above, work: Work::Edit(to_lower) });
+            steps.push(Step { id: above, work: Work::Edit(to_upper) });
+            return;
+        }
+        overfull = parent.clone();
+        overfull.apply(to_lower);
+        overfull.apply(to_upper);
+    }
+    plan_root_split(overfull, next_id, steps);
+}
+
+/// Splits the root: two new nodes, the lower id with the lower half, and the root above them.
+fn plan_root_split(overfull: Node, lower_id: usize, steps: &mut Vec<Step>) {
+    let upper_id = lower_id + 1;
+    let Halves { lower, separator, upper } = overfull.into_halves(upper_id as u32);
+    let pairs = vec![Pair { key: separator, pointer: lower_id as u32 }];
+    let root = Node { shape: Shape::Branch, pairs, link: upper_id as u32 };
+    steps.push(Step { id: lower_id, work: Work::Create(lower) });
+    steps.push(Step { id: upper_id, work: Work::Create(upper) });
+    steps.push(Step { id: ROOT, work: Work::Rewrite(root) });
+}
+
+/// A node on the way down, and the place of the child that the way goes on to.
+struct Hop {
+    id: usize,
+    place: usize,
+}
+
+/// The way from the root to the leaf of a key.
+fn path_to(nodes: &[Node], key: u32) -> Vec<Hop> {
+    let mut path = Vec::with_capacity(8);
+    let mut id = ROOT;
+    loop {
+        let node = &nodes[id];
+        let place = node.child_place(key);
+        path.push(Hop { id, place });
+        if node.is_leaf() {
+            return path;
+        }
+        id = node.child(place) as usize;
+    }
+}
+
+fn leaf_of(path: &[Hop]) -> usize {
+    path.last().expect("a path has its root at least").id
+}
+
+/// Reads the nodes from the root to the leaf of a key, and gives the leaf.
+fn read_down(nodes: &[Node], key: u32, steps: &mut Vec<Step>) -> usize {
+    let mut id = ROOT;
+    loop {
+        steps.push(Step { id, work: Work::Read });
+        let node = &nodes[id];
+        if node.is_leaf() {
+            return id;
+        }
+        id = node.child(node.child_place(key)) as usize;
+    }
+}
+
+/// Makes the change of a step in the table; reads change nothing.
+pub fn apply(nodes: &mut Vec<Node>, step: &Step) {
+    match &step.work {
+        Work::Read => {}
+        Work::Edit(change) => nodes[step.id].apply(*change),
+        Work::Rewrite(node) => nodes[step.id] = node.clone(),
+        Work::Create(node) => {
+            debug_assert_eq!(step.id, nodes.len());
+            nodes.push(node.clone());
+        }
+    }
+}
+
+/// All pairs of a sound tree, in order.
+pub fn pairs(nodes: &[Node]) -> Vec<Pair> {
+    let mut all = Vec::new();
+    let mut leaf = &nodes[leaf_of(&path_to(nodes, 0))];
+    loop {
+        all.extend(&leaf.pairs);
+        if leaf.link == NO_LINK {
+            return all;
+        }
+        leaf = &nodes[leaf.link as usize];
+    }
+}
+
+/// Says whether the tree below the root is sound, or else what is wrong with it.
+pub fn check(nodes: &[Node]) -> Result<(), &'static str> {
+    let mut walk = Walk { nodes, reached: vec![false; nodes.len()], leaf_depth: None, last_leaf: None };
+    walk.visit(ROOT as u32, Bounds { low: 0, end: 1 << 32 }, 0)?;
+    walk.finish()
+}
+
+/// The keys that a node may have: from `low`, below `end`.
+#[derive(Clone, Copy)]
+struct Bounds {
+    low: u64,
+    end: u64,
+}
+
+/// A walk over the tree from left to right, with what it has seen.
+struct Walk<'a> {
+    nodes: &'a [Node],
+    reached: Vec<bool>,
+    leaf_depth: Option<usize>,
+    last_leaf: Option<&'a Node>,
+}
+
+impl<'a> Walk<'a> {
+    fn visit(&mut self, id: u32, bounds: Bounds, depth: usize) -> Result<(), &'static str> {
+        let nodes = self.nodes;
+        let node = nodes.get(id as usize).ok_or("a pointer to no node")?;
+        if std::mem::replace(&mut self.reached[id as usize], true) {
+            return Err("a node is reached twice");
+        }
+        if !node.is_neat() {
+            return Err("keys do not ascend, or a branch has none");
+        }
+        let in_bounds = |pair: &Pair| (bounds.low..bounds.end).contains(&u64::from(pair.key));
+        if !node.pairs.iter().all(in_bounds) {
+            return Err("a key is out of its bounds");
+        }
+        match node.shape {
+            Shape::Leaf => self.visit_leaf(id, node, depth),
+            Shape::Branch => self.visit_children(node, bounds, depth),
+        }
+    }
+
+    fn visit_leaf(&mut self, id: u32, leaf: &'a Node, depth: usize) -> Result<(), &'static str> {
+        if *self.leaf_depth.get_or_insert(depth) != depth {
+            return Err("leaves at different depths");
+        }
+        if self.last_leaf.is_some_and(|before| before.link != id) {
+            return Err("a leaf's link is not the next leaf");
+        }
+        self.last_leaf = Some(leaf);
+        Ok(())
+    }
+
+    fn visit_children(&mut self, branch: &Node, bounds: Bounds, depth: usize) -> Result<(), &'static str> {
+        let mut low = bounds.low;
+        for pair in &branch.pairs {
+            let end = u64::from(pair.key);
+            self.visit(pair.pointer, Bounds { low, end }, depth + 1)?;
+            low = end;
+        }
+        self.visit(branch.link, Bounds { low, ..bounds }, depth + 1)
+    }
+
+    fn finish(&self) -> Result<(), &'static str> {
+        if !self.reached.iter().all(|&reached| reached) {
+            return Err("a node is not reached");
+        }
+        match self.last_leaf {
+            Some(leaf) if leaf.link == NO_LINK => Ok(()),
+            _ => Err("the last leaf has a link"),
+        }
+    }
+}
+
+#[cfg(test)]
+mod tests {
+    use super::*;
+
+    fn leaf(keys: std::ops::Range<u32>, link: u32) -> Node {
+        Node { shape: Shape::Leaf, pairs: keys.map(|key| Pair { key, pointer: 0 }).collect(), link }
+    }
+
+    fn branch(pairs: &[(u32, u32)], link: u32) -> Node {
+        let pairs = pairs.iter().map(|&(key, pointer)| Pair { key, pointer }).collect();
+        Node { shape: Shape::Branch, pairs, link }
+    }
+
+    #[test]
+    fn soundness() {
+        let sound = vec![branch(&[(5, 2)], 1), leaf(5..9, NO_LINK), leaf(0..5, 1)];
+        assert_eq!(check(&sound), Ok(()));
+        let with = |id: usize, node: Node| {
+            let mut nodes = sound.clone();
+            nodes[id] = node;
+            check(&nodes).is_ok()
+        };
+        assert!(with(2, leaf(5..5, 1)), "an empty leaf");
+        assert!(!with(2, leaf(0..6, 1)), "a key at the bound");
+        assert!(!with(2, leaf(0..5, 0)), "a wrong link");
+        assert!(!with(1, leaf(5..9, 2)), "the last leaf has a link");
+        assert!(!with(1, leaf(4..9, NO_LINK)), "a key below its bound");
+        assert!(!with(0, branch(&[(5, 2)], 2)), "reached twice");
+        assert!(!with(0, branch(&[(5, 2)], 65_537)), "a pointer has 32 bits");
+        assert!(!with(0, branch(&[(5, 0)], 1)), "the root counts as reached");
+        assert!(!with(0, leaf(0..0, NO_LINK)), "nodes that are not reached");
+        assert!(!with(0, branch(&[], 1)), "a branch with no key");
+        let lowest = vec![branch(&[(0, 2)], 1), leaf(0..9, NO_LINK), leaf(0..0, 1)];
+        assert_eq!(check(&lowest), Ok(()), "a branch key may equal its lower bound");
+    }
+
+    #[test]
+    fn scans_read_what_they_must() {
+        let nodes = vec![branch(&[(5, 2)], 1), leaf(5..9, NO_LINK), leaf(0..5, 1)];
+        let reads = |low, high, most| {
+            let mut steps = Vec::new();
+            plan(&nodes, 20, &Command::Scan { low, high, most }, &mut steps);
+            steps.iter().map(|step| step.id).collect::<Vec<_>>()
+        };
+        assert_eq!(reads(0, 3, 32), [0, 2], "stopped by a key above");
+        assert_eq!(reads(0, 4, 32), [0, 2, 1], "only a key above stops it");
+        assert_eq!(reads(0, 4, 5), [0, 2], "stopped by the count at a leaf's end");
+        assert_eq!(reads(4, 3, 32), [0; 0], "low above high reads nothing");
+        assert_eq!(reads(5, 100, 32), [0, 1]);
+    }
+
+    /// A tree of full leaves below branches with so many keys, level by level from the root; ids by level.
+    fn tree_of(keys_by_level: &[usize]) -> Vec<Node> {
+        let mut nodes: Vec<Node> = Vec::new();
+        // Where the keys of each node of the level begin, and how many there are.
+        let (mut lows, mut span) = (vec![0u64], 1u64 << 32);
+        for &keys in keys_by_level {
+            span /= keys as u64 + 1;
+            let first_child = nodes.len() + lows.len();
+            let mut below = Vec::new();
+            for (place, low) in lows.iter().enumerate() {
+                let child = |at: usize| (first_child + place * (keys + 1) + at) as u32;
+                let bound = |at: usize| low + at as u64 * span;
+                let pairs = (0..keys).map(|at| Pair { key: bound(at + 1) as u32, pointer: child(at) }).collect();
+                nodes.push(Node { shape: Shape::Branch, pairs, link: child(keys) });
+                below.extend((0..=keys).map(bound));
+            }
+            lows = below;
+        }
+        for (place, &low) in lows.iter().enumerate() {
+            let pairs = (0..24).map(|at| Pair { key: low as u32 + 2 * at, pointer: at }).collect();
+            let link = if place + 1 == lows.len() { NO_LINK } else { (nodes.len() + 1) as u32 };
+            nodes.push(Node { shape: Shape::Leaf, pairs, link });
+        }
+        nodes
+    }
+
+    #[test]
+    fn a_put_needs_an_id_for_each_full_node_without_a_gap() {
+        for (levels, needed) in [
+            (&[][..], 2),
+            (&[3][..], 1),
+            (&[24][..], 3),
+            (&[3, 5][..], 1),
+            (&[3, 24][..], 2),
+            (&[24, 5][..], 1),
+            (&[24, 24][..], 4),
+            (&[2, 24, 24][..], 3),
+        ] {
+            let nodes = tree_of(levels);
+            assert_eq!(check(&nodes), Ok(()), "{levels:?}");
+            for spare in 0..=needed {
+                let mut steps = Vec::new();
+                let put = Command::Put { key: 1, value: 7 };
+                let answer = plan(&nodes, nodes.len() + spare, &put, &mut steps);
+                if spare < needed {
+                    assert_eq!((answer, steps.len()), (Answer::Refused(IDS_USED_UP), 0), "{levels:?}");
+                    continue;
+                }
+                assert_eq!(answer, Answer::Nothing);
+                let mut after = nodes.clone();
+                steps.iter().for_each(|step| apply(&mut after, step));
+                assert_eq!(after.len(), nodes.len() + needed, "{levels:?}");
+                assert_eq!(check(&after), Ok(()), "{levels:?}");
+                assert_eq!(pairs(&after).len(), pairs(&nodes).len() + 1);
+            }
+        }
+    }
+
+    #[test]
+    fn steps_of_splits_come_leaf_upwards() {
+        let steps = |levels: &[usize]| {
+            let mut steps = Vec::new();
+            plan(&tree_of(levels), 10_000, &Command::Put { key: 1, value: 7 }, &mut steps);
+            let name = |work: &Work| match work {
+                Work::Read => 'r',
+                Work::Edit(_) => 'e',
+                Work::Rewrite(_) => 'w',
+                Work::Create(_) => 'c',
+            };
+            steps.iter().map(|step| format!("{}{}", name(&step.work), step.id)).collect::<Vec<_>>().join(" ")
+        };
+        assert_eq!(steps(&[]), "r0 c1 c2 w0");
+        assert_eq!(steps(&[3]), "r0 r1 w1 c5 e0 e0");
+        assert_eq!(steps(&[24]), "r0 r1 w1 c26 c27 c28 w0");
+        // The root, two branches of 25 leaves: 53 nodes, ids 0 to 52.
+        assert_eq!(steps(&[1, 24]), "r0 r1 r3 w3 c53 w1 c54 e0 e0");
+    }
+}

@@ -1,0 +1,8 @@
+//! The tests of the whole book, in one program so that it is linked once.
+
+mod common;
+mod foreign;
+mod fuzz;
+mod refusals;
+mod traces;
+mod worked;
