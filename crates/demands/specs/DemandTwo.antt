@@ -131,6 +131,7 @@ obeys-unique {pool} o p =
   where
     inside : (c d : Cells) → some c ≡ some d → c ≡ d
     inside c d e = cc
+
     same : o .blocks ≡ p .blocks
     same =
         sym (rules-blocks (o .rules)) ∙

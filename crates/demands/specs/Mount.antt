@@ -77,6 +77,7 @@ opened-mounts {blocks} {c} {t} {s} e =
   where
     st : Store
     st = reopened blocks c
+
     tree : (t′ : Tariff) → pagesPass blocks c ≡ true → complete (checkpointOf st) ≡ true → tariffIn (checkpointOf st) ≡ some t′ →
         (a : Bool) → treeSound blocks t′ st ≡ a → (b : Bool) → numbersLeft st ≡ b → Opened blocks c t s
     tree t′ p q r false a b l = refused-opened 7 t s (rw (p, q, r, a) at e)
@@ -95,6 +96,7 @@ opened-mounts {blocks} {c} {t} {s} e =
               };
           is = sym (opened-state t′ t (stateOf st) s f);
         }
+
     pages : (a : Bool) → pagesPass blocks c ≡ a → (b : Bool) → complete (checkpointOf st) ≡ b → (o : Option Tariff) →
         tariffIn (checkpointOf st) ≡ o → Opened blocks c t s
     pages false p b q o r = refused-opened 5 t s (rw p at e)
@@ -228,7 +230,7 @@ module _ {blocks : ℕ} {c : Cells} {t : Tariff} (four : fewestBlocks ≤ blocks
         ranged = ranged;
         scored =
             λ n l.
-              rw (bookOf-account s n (omega (arith, bookOf-count s)))
-              (score-below (limit t) n (scoresIn (checkpointOf st)) (limit-some ranged)
-              (and-right (inRange t) (scoresBelow (limit t) (scoresIn (checkpointOf st))) range-tests));
+            rw (bookOf-account s n (omega (arith, bookOf-count s)))
+            (score-below (limit t) n (scoresIn (checkpointOf st)) (limit-some ranged)
+            (and-right (inRange t) (scoresBelow (limit t) (scoresIn (checkpointOf st))) range-tests));
       }

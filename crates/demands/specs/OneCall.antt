@@ -249,8 +249,10 @@ module _ {t : Tariff} {pool : List ℕ} {b : Book} {ps : List Pair} (o : OpenPoo
       where
         yes : accepted (outcome pool l) ≡ true
         yes = ap (λ (x : Outcome). eqb (x .number) 0) e
+
         work : workOf pool l ≡ some (record { tariff = t; commands = cs; start = s })
         work = rw (yes, q, m, same-tariff) refl
+
         fed : commandsIn (fedOf pool l) ≡ cs
         fed = rw (yes, q) refl
 

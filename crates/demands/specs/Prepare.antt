@@ -117,8 +117,10 @@ module _ (blocks : ℕ) (t : Tariff) (four : fewestBlocks ≤ blocks) where
     where
       size : length (prepared blocks t) ≡ pagesInBlock * blocks
       size = length-cells pagesInBlock bs ∙ omega (arith, length-blocks)
+
       filled : allFilled pagesInBlock blocks (prepared blocks t) ≡ true
       filled = subst (λ (n : ℕ). allFilled pagesInBlock n (cells pagesInBlock bs) ≡ true) length-blocks (allFilled-cells pagesInBlock bs)
+
       apart : differ bs ≡ true
       apart = rw (blank-tally k (numbered 2), blank-tally k (numbered 3)) (blank-differ k)
 
@@ -166,6 +168,7 @@ module _ (blocks : ℕ) (t : Tariff) (four : fewestBlocks ≤ blocks) where
       table : (i : ℕ) → choose (ltb i (Checkpoint.countIn (checkpointOf st))) (nodeOf st i) noNode ≡ rootAlone i
       table zero = rw set-is root-is
       table (suc i) = rw (set-is, le-ltb (suc i) 1 (omega arith)) refl
+
       account : (i : ℕ) →
           choose (ltb i (Checkpoint.countIn (checkpointOf st)))
           (record { mode = modeOf st i; score = scoreIn (Checkpoint.scoresIn (checkpointOf st)) i }) fresh ≡ fresh

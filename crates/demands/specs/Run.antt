@@ -48,8 +48,8 @@ serveAll-served blocks t [] s final v f = record { says = record { sound = v; is
 serveAll-served blocks t (r ∷ rs) s final v f =
     let one = serve-says t s v r (f .0) in
     let rest =
-          serveAll-served blocks t rs (serve t r s) final (one .sound)
-          (subst (λ (z : Book). Fits (nodeLimit blocks) rs (z .table) (z .count) final) (sym (one .is)) (f .1)) in
+    serveAll-served blocks t rs (serve t r s) final (one .sound)
+    (subst (λ (z : Book). Fits (nodeLimit blocks) rs (z .table) (z .count) final) (sym (one .is)) (f .1)) in
     record {
       says = record { sound = rest .says .sound; is = rest .says .is ∙ ap (Book.serveAll t rs) (one .is) };
       charge = ap (λ (n : ℕ). Book.charge t r (bookOf s) + n) (rest .charge ∙ ap (Book.charges t rs) (one .is));
@@ -133,8 +133,8 @@ module _ (blocks : ℕ) (t : Tariff) (small : nodeLimit blocks < noLeaf) where
       let e : bookOf (done limit t c s) ≡ doneBook limit t c b = one .says .is in
       let ps′ = mapAfter (refuses limit c b) c ps in
       let rest =
-            batch-batched cs (done limit t c s) ps′ (valid .1) (one .says .sound)
-            (subst (λ (z : Book). Holds limit z ps′) (sym e) (command-holds limit t small c b ps (valid .0) h)) in
+      batch-batched cs (done limit t c s) ps′ (valid .1) (one .says .sound)
+      (subst (λ (z : Book). Holds limit z ps′) (sym e) (command-holds limit t small c b ps (valid .0) h)) in
       record {
         says = record { sound = rest .says .sound; is = rest .says .is ∙ ap (runBook limit t cs) e };
         charge = ap₂ _+_ (one .charge) (rest .charge ∙ ap (chargeBook limit t cs) e);
@@ -148,12 +148,12 @@ module _ (blocks : ℕ) (t : Tariff) (small : nodeLimit blocks < noLeaf) where
             (runBook limit t cs (doneBook limit t c b) .count) (d .served .fits)
             (subst
             (λ (z : Table).
-              Fits limit (requestsBook limit t cs (doneBook limit t c b)) z final (runBook limit t cs (doneBook limit t c b) .count))
+            Fits limit (requestsBook limit t cs (doneBook limit t c b)) z final (runBook limit t cs (doneBook limit t c b) .count))
             (serveAll-table t rs b)
             (subst
             (λ (k : ℕ).
-              Fits limit (requestsBook limit t cs (doneBook limit t c b)) (doneBook limit t c b .table) k
-              (runBook limit t cs (doneBook limit t c b) .count))
+            Fits limit (requestsBook limit t cs (doneBook limit t c b)) (doneBook limit t c b .table) k
+            (runBook limit t cs (doneBook limit t c b) .count))
             (serveAll-count t rs b)
             (subst (λ (z : Book). Fits limit (requestsBook limit t cs z) (z .table) (z .count) (runBook limit t cs z .count)) e (rest .fits))));
       }

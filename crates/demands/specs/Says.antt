@@ -62,6 +62,7 @@ says {blocks} b s v c q = record { sound = subst (λ (z : Book). Keeps blocks (z
     content : (n : ℕ) (t : Bool) → ltb n (s .run .nodes) ≡ t → choose t (nodeOf (s .run .now) n) noNode ≡ b .table n
     content n true h = holds-node (v .holds n (omega (arith, v .nodes, ltb-true n (s .run .nodes) h)))
     content n false h = sym (c .table n (omega (arith, v .nodes, ltb-false n (s .run .nodes) h)))
+
     account : (n : ℕ) (t : Bool) → ltb n (s .run .nodes) ≡ t →
         choose t (record { mode = modeOf (s .run .now) n; score = s .score n }) fresh ≡ b .account n
     account n true h =
@@ -70,6 +71,7 @@ says {blocks} b s v c q = record { sound = subst (λ (z : Book). Keeps blocks (z
         let r : s .score n ≡ b .account n .score = q n l in
         λ i. record { mode = m i; score = r i }
     account n false h = sym (c .account n (omega (arith, v .nodes, ltb-false n (s .run .nodes) h)))
+
     e : bookOf s ≡ b
     e =
         let x = v .nodes in

@@ -103,15 +103,19 @@ module _ {blocks : ℕ} (t : Tariff) (s : State) (v : Sound blocks s) (r : NodeR
     where
       id : ℕ
       id = idOf r
+
       below : id < countAfter r (b .count)
       below = in-count r (nodeLimit blocks) (b .table) (b .count) f
+
       clear-table : (n : ℕ) → countAfter r (b .count) ≤ n → apply r (b .table) n ≡ noNode
       clear-table n l =
           apply-off r (b .table) n (λ e. omega (arith, below)) ∙ bookOf-trimmed s .table n (omega (arith, grows r (b .count)))
+
       clear-account : (n : ℕ) → countAfter r (b .count) ≤ n → update (b .account) id served n ≡ fresh
       clear-account n l =
           update-other (b .account) id served n (λ e. omega (arith, below)) ∙
           bookOf-trimmed s .account n (omega (arith, grows r (b .count)))
+
       scores : (n : ℕ) → n < countAfter r (b .count) → (n ≡ id) ⊎ (n ≡ id → ⊥) →
           update (s .score) id (served .score) n ≡ update (b .account) id served n .score
       scores n l (inl q) =
