@@ -1,7 +1,7 @@
 -- Answers (document 01, "Commands and answers"): the number and the values of each case. Assumes nothing.
 use mathlib.Core.List.{List, [], _∷_, _++_}
 use mathlib.Core.Option.{Option, none, some}
-use Prim.Native.Nat.{ℕ, _+_, _*_}
+use Prim.Native.Nat.{ℕ, _+_}
 use Rattle.laws.specs.BigEndian.{bigEndian}
 use Rattle.pairs.specs.Pairs.{Pair}
 use Rattle.wire.specs.Field.{field}

@@ -1,7 +1,7 @@
 -- Answers laid: their lengths, and that a scan's pairs laid one by one with the head laid last are its answer. Assumes nothing.
 use mathlib.Core.Path.{_≡_, refl, sym, ap, ap₂, _∙_}
 use mathlib.Core.List.{List, [], _∷_, _++_, append-nil, append-assoc}
-use Prim.Native.Nat.{ℕ, zero, suc, _+_, _*_, _≤_, _<_}
+use Prim.Native.Nat.{ℕ, _+_, _*_, _≤_}
 use native.Mathlib.Omega.{arith}
 use lib.ListN.{length, take, drop, length-append}
 use lib.Seq.{length-take-le, take-append-le, take-take, drop-at}
@@ -12,7 +12,7 @@ use Rattle.wire.specs.Field.{field, head}
 use Rattle.wire.specs.FieldLaws.{length-field}
 use Rattle.command.specs.declared.Answer.{Answer}
 use Rattle.command.specs.declared.Answer.the-variants.{Absent, Got, Replaced, Removed, Refused}
-use Rattle.command.specs.Answer.{answerTag, answerValues, answerBytes, pairBytes, pairsBytes, scanTag, scanBytes}
+use Rattle.command.specs.Answer.{answerBytes, pairBytes, pairsBytes, scanTag, scanBytes}
 
 pub length-pairBytes : (p : Pair) → length (pairBytes p) ≡ 8
 length-pairBytes p =

@@ -1,9 +1,9 @@
 -- The commands of a batch one after the other: what is left from each place, and the room that all ask for. Assumes nothing.
 use mathlib.Core.Path.{_≡_, refl, sym, ap, _∙_}
 use mathlib.Core.Bool.{Bool, true, false}
-use mathlib.Core.List.{List, [], _∷_}
+use mathlib.Core.List.{List, []}
 use mathlib.Core.Option.{Option, none, some}
-use Prim.Native.Nat.{ℕ, zero, suc, _+_, _-_, _*_, _≤_, _<_}
+use Prim.Native.Nat.{ℕ, zero, suc, _+_, _-_, _≤_, _<_}
 use native.Mathlib.Nat.{zero-add, add-zero, add-assoc}
 use native.Mathlib.Omega.{arith}
 use borrow.Author.Tests.{le-leb, lt-leb, leb-true, leb-false}
@@ -16,7 +16,7 @@ use Rattle.command.specs.declared.Step.{Step}
 use Rattle.command.specs.declared.Step.the-variants.{Next, Invalid}
 use Rattle.command.specs.declared.Asked.{Asked}
 use Rattle.command.specs.declared.Asked.the-variants as asked
-use Rattle.command.specs.Command.{mostPairs, commandAt, Small, Onward}
+use Rattle.command.specs.Command.{commandAt, Small, Onward}
 use Rattle.command.specs.CommandLaws.{commandAt-onward}
 use Rattle.command.specs.Batch.{before, run, commandsFrom, commandsOf, roomFor, roomForAll, askedAs, askedOf}
 

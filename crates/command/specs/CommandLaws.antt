@@ -1,29 +1,26 @@
 -- The cases of the command at a place, by its tag, and that each goes on within the bytes. Assumes nothing.
-use mathlib.Core.Path.{_≡_, refl, sym, ap, ap₂, _∙_}
+use mathlib.Core.Path.{_≡_, refl, sym, ap, _∙_}
 use mathlib.Core.Bool.{Bool, true, false, _&&_}
-use mathlib.Core.List.{List, [], _∷_}
-use mathlib.Core.Logic.{_⊎_, inl, inr}
-use mathlib.Core.Option.{Option, none, some}
+use mathlib.Core.List.{List}
+use mathlib.Core.Option.{none, some}
 use Prim.Native.Nat.{ℕ, _+_, _-_, _≤_, _<_}
 use native.Mathlib.Omega.{arith}
 use borrow.Author.Tests.{eq-eqb, ne-eqb, eqb-true, le-leb, lt-leb, leb-true}
 use lib.Dec.{eqb, leb}
 use lib.ListN.{length, getD}
-use Rattle.laws.specs.Tests.{choose, and-left, and-right, test-clash}
+use Rattle.laws.specs.Tests.{choose, and-right, test-clash}
 use Rattle.laws.specs.Lay.{part, length-part}
 use Rattle.laws.specs.BigEndian.{numberAt}
 use Rattle.wire.specs.Tag.{lengthOf, allowed, find, rows}
-use Rattle.wire.specs.Field.{fieldAt, lengthAt, isPayload, standsAt, Inside}
+use Rattle.wire.specs.Field.{fieldAt, lengthAt, isPayload, standsAt}
 use Rattle.wire.specs.FieldLaws.{Stands, stands-is}
 use Rattle.wire.specs.declared.tag.Length.{Length}
-use Rattle.wire.specs.declared.tag.Length.the-variants.{Exact, Node, Unknown}
+use Rattle.wire.specs.declared.tag.Length.the-variants.{Exact}
 use Rattle.wire.specs.declared.field.Field.{Field}
 use Rattle.wire.specs.declared.field.Field.the-variants.{Payload, Missing, Foreign, Overlong}
-use Rattle.command.specs.declared.Command.{Command}
 use Rattle.command.specs.declared.Command.the-variants.{Get, Put, Delete, Scan}
-use Rattle.command.specs.declared.Step.{Step}
 use Rattle.command.specs.declared.Step.the-variants.{Next, Invalid}
-use Rattle.command.specs.Command.{mostPairs, inRange, commandOf, stepAs, fieldStep, commandAt, Small, Onward}
+use Rattle.command.specs.Command.{mostPairs, inRange, commandOf, stepAs, fieldStep, commandAt, Onward}
 
 -- The payload lengths of the four tags, as the table has them.
 payload-exact : (tag k n : ℕ) → lengthOf tag ≡ Exact k → allowed (lengthOf tag) n ≡ true → n ≡ k

@@ -1,25 +1,24 @@
 -- A batch that spells valid commands one behind the other is read as these commands. Assumes nothing.
 use mathlib.Core.Path.{_≡_, refl, sym, ap, ap₂, _∙_}
-use mathlib.Core.Bool.{Bool, true, false, true≢false}
+use mathlib.Core.Bool.{true, false, true≢false}
 use mathlib.Core.List.{List, [], _∷_, _++_, append-assoc, append-nil}
-use mathlib.Core.Option.{Option, none, some}
-use Prim.Native.Nat.{ℕ, zero, suc, _+_, _-_, _^_, _≤_, _<_}
+use mathlib.Core.Option.{some}
+use Prim.Native.Nat.{ℕ, _+_, _-_, _^_, _≤_, _<_}
 use native.Mathlib.Nat.{add-zero}
 use native.Mathlib.Omega.{arith}
-use lib.ListN.{length, getD, length-append}
+use lib.ListN.{length, length-append}
 use Rattle.laws.specs.Every.{Every, none as every-none, both}
 use Rattle.laws.specs.Lay.{part, length-part, part-append, part-front, part-whole}
 use Rattle.laws.specs.BigEndian.{bigEndian, number, numberAt, number-bigEndian, length-bigEndian}
 use Rattle.layout.specs.Layout.{mostBatchBytes, bound32}
 use Rattle.wire.specs.Tag.{lengthOf, allowed, find, rows}
-use Rattle.wire.specs.Field.{field, fieldAt, lengthAt, payloadOf, payloadAt, isPayload, standsAt}
-use Rattle.wire.specs.FieldLaws.{Stands, stands-is, standsAt-field, payloadAt-field, length-field}
+use Rattle.wire.specs.Field.{field, fieldAt, payloadOf, payloadAt, isPayload, standsAt}
+use Rattle.wire.specs.FieldLaws.{stands-is, standsAt-field, payloadAt-field, length-field}
 use Rattle.wire.specs.declared.field.Field.{Field}
 use Rattle.wire.specs.declared.field.Field.the-variants.{Payload, Missing, Foreign, Overlong}
 use Rattle.command.specs.declared.Command.{Command}
 use Rattle.command.specs.declared.Command.the-variants.{Get, Put, Delete, Scan}
-use Rattle.command.specs.declared.Step.{Step}
-use Rattle.command.specs.declared.Step.the-variants.{Next, Invalid}
+use Rattle.command.specs.declared.Step.the-variants.{Next}
 use Rattle.command.specs.Command.{mostPairs, commandBytes, commandOf, stepAs, fieldStep, commandAt}
 use Rattle.command.specs.CommandLaws.{field-bounds, commandOf-get, commandOf-put, commandOf-delete, commandOf-scan}
 use Rattle.command.specs.Batch.{before, commandsFrom, commandsOf}

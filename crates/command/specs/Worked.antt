@@ -1,17 +1,14 @@
 -- Worked batches and answers of document 01, computed. Assumes nothing.
 use mathlib.Core.Path.{_≡_, refl}
 use mathlib.Core.List.{List, [], _∷_, map}
-use mathlib.Core.Option.{Option, none, some}
+use mathlib.Core.Option.{some}
 use Prim.Native.Nat.{ℕ}
 use Rattle.laws.specs.Lay.{part}
 use Rattle.laws.specs.BigEndian.{numberAt}
 use Rattle.wire.specs.Tag.{lengthOf, find, rows, isNodeBytes}
 use Rattle.wire.specs.Field.{field, fieldAt}
-use Rattle.command.specs.declared.Command.{Command}
-use Rattle.command.specs.declared.Command.the-variants.{Get, Put, Delete, Scan}
-use Rattle.command.specs.declared.Answer.{Answer}
+use Rattle.command.specs.declared.Command.the-variants.{Get, Put, Delete}
 use Rattle.command.specs.declared.Answer.the-variants.{Absent, Got, Replaced, Removed, Refused}
-use Rattle.command.specs.declared.Asked.{Asked}
 use Rattle.command.specs.declared.Asked.the-variants.{Bytes, Invalid}
 use Rattle.command.specs.Command.{inRange, commandOf, commandAt}
 use Rattle.command.specs.Batch.{run, commandsFrom, commandsOf, askedOf}

@@ -1,6 +1,6 @@
 // The answers of a batch, laid into the answer buffer one behind the other.
 ghost use mathlib.Core.Path.{_≡_};
-ghost use Prim.Native.Nat.{_+_, _*_, _≤_, _<_};
+ghost use Prim.Native.Nat.{_+_, _*_, _≤_};
 ghost use lib.ListN.{length};
 ghost use Rattle.laws.specs.Lay.{lay};
 ghost use Rattle.wire.specs.Field.{field, head};

@@ -1,14 +1,11 @@
 -- What a draft and a change by value stand for, and what the replay of each change makes of a draft. Assumes nothing.
 use mathlib.Core.Path.{_≡_, refl, sym, ap, _∙_}
-use mathlib.Core.Bool.{Bool, true, false}
-use mathlib.Core.List.{List, [], _∷_}
-use Prim.Native.Nat.{ℕ, suc, _≤_, _<_}
-use native.Mathlib.Omega.{arith}
+use mathlib.Core.Bool.{true, false}
+use Prim.Native.Nat.{ℕ, _≤_, _<_}
 use lib.ListN.{length}
-use Rattle.layout.specs.Layout.{mostKeys, bound32}
-use Rattle.pairs.specs.Pairs.{Pair, insert, delete, Within}
+use Rattle.layout.specs.Layout.{mostKeys}
+use Rattle.pairs.specs.Pairs.{insert}
 use Rattle.node.specs.declared.Kind.{Kind}
-use Rattle.node.specs.declared.Kind.the-variants.{Leaf, Branch}
 use Rattle.node.specs.declared.NodeValue.{NodeValue}
 use Rattle.node.specs.declared.DraftState.{DraftState}
 use Rattle.node.specs.declared.DraftState.the-variants.{Unlinked, Made, Broken}
@@ -17,7 +14,7 @@ use Rattle.node.specs.declared.ChangeValue.{ChangeValue}
 use Rattle.node.specs.declared.ChangeValue.the-variants.{Put, Remove, Link}
 use Rattle.node.specs.Node.{Node, node, pairsOf}
 use Rattle.node.specs.Change.{Change, put, remove, link, change}
-use Rattle.node.specs.Replay.{Draft, unlinked, made, broken, ifFits, sameKind, redo}
+use Rattle.node.specs.Replay.{Draft, unlinked, made, broken, sameKind, redo}
 use Rattle.node.specs.ReplayLaws.{ifFits-room, ifFits-full}
 use Rattle.node.specs.Value.{pairsIn, nodeOf, Held, Becomes}
 

@@ -1,12 +1,12 @@
 -- What the edited arrays of a node stand for, and that an edit keeps the keys ascending. Assumes nothing.
 use mathlib.Core.Path.{_≡_, refl, sym, ap, ap₂, _∙_}
-use mathlib.Core.List.{List, [], _∷_}
-use Prim.Native.Nat.{ℕ, zero, suc, _+_, _-_, _≤_, _<_}
+use mathlib.Core.List.{List}
+use Prim.Native.Nat.{ℕ, suc, _+_, _-_, _≤_, _<_}
 use native.Mathlib.Omega.{arith}
 use lib.ListN.{length, getD, take, set, length-set}
 use lib.Seq.{set-getD}
 use Rattle.layout.specs.Layout.{mostKeys, bound32}
-use Rattle.pairs.specs.Pairs.{Pair, insert, delete, Within}
+use Rattle.pairs.specs.Pairs.{Pair, insert, Within}
 use Rattle.pairs.specs.Bounds.{within-insert, within-delete}
 use Rattle.node.specs.declared.Kind.{Kind}
 use Rattle.node.specs.declared.NodeValue.{NodeValue}
@@ -15,17 +15,7 @@ use Rattle.node.specs.Change.{Change, put, remove, link, change}
 use Rattle.node.specs.Splice.{zip, insertAt, removeAt, length-insertAt}
 use Rattle.node.specs.declared.Found.the-variants.{At, Above}
 use Rattle.node.specs.Found.{found, at-present, at-place, above-absent, above-place}
-use Rattle.node.specs.Search.{
-  place,
-  place-le-length,
-  keyAt,
-  Present,
-  Absent,
-  insert-present,
-  insert-absent,
-  delete-present,
-  delete-absent,
-}
+use Rattle.node.specs.Search.{place, place-le-length, keyAt, insert-present, insert-absent, delete-present, delete-absent}
 use Rattle.node.specs.Value.{pairsIn, nodeOf, Sized, Held, Stands, Becomes, length-pairsIn, keyAt-pairsIn, pairs-insertAt, pairs-removeAt, pairs-set}
 
 -- A change whose key is a 32-bit number, and which leaves room, keeps a node neat: both kinds of node at once.

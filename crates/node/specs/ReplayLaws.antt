@@ -1,36 +1,21 @@
 -- What the replay gives: a neat node from its own changes, and the changed node from one change more where it fits. One law for
 -- both kinds of node. Assumes nothing.
 use mathlib.Core.Path.{_≡_, refl, sym, ap, _∙_}
-use mathlib.Core.Bool.{Bool, true, false}
+use mathlib.Core.Bool.{true}
 use mathlib.Core.List.{List, [], _∷_, _++_, map, append-nil, append-assoc}
-use Prim.Native.Nat.{ℕ, zero, suc, _+_, _≤_, _<_}
+use Prim.Native.Nat.{ℕ, suc, _+_, _≤_, _<_}
 use native.Mathlib.Omega.{arith}
 use borrow.Author.Tests.{le-leb, lt-leb}
-use lib.Dec.{leb}
 use lib.ListN.{length, length-append}
 use Rattle.layout.specs.Layout.{mostKeys, bound32}
-use Rattle.pairs.specs.Pairs.{Pair, insert, delete, Within}
+use Rattle.pairs.specs.Pairs.{Pair, insert, Within}
 use Rattle.pairs.specs.Bounds.{within-append}
 use Rattle.pairs.specs.LocalEdit.{insert-append-right}
 use Rattle.node.specs.declared.Kind.{Kind}
 use Rattle.node.specs.declared.Kind.the-variants.{Leaf, Branch}
 use Rattle.node.specs.Node.{Node, node, kindOf, pairsOf, Neat}
 use Rattle.node.specs.Change.{Change, put, remove, link, change, puts, changesOf}
-use Rattle.node.specs.Replay.{
-  Piece,
-  step,
-  whole,
-  Draft,
-  unlinked,
-  made,
-  broken,
-  ifFits,
-  sameKind,
-  redo,
-  redoPiece,
-  replayFrom,
-  replay,
-}
+use Rattle.node.specs.Replay.{step, whole, Draft, unlinked, made, broken, ifFits, sameKind, redo, redoPiece, replayFrom, replay}
 
 pub ifFits-room : (ps : List Pair) (d : Draft) → length ps ≤ mostKeys → ifFits ps d ≡ d
 ifFits-room ps d h = rw (le-leb (length ps) mostKeys h, ifFits)

@@ -1,7 +1,7 @@
 -- The change that makes the pointer at a place name another node: at a key, kind 1 with that key; behind all keys, the link
 -- (document 01: "the old pointer to the left names the right"). Assumes nothing.
-use mathlib.Core.Path.{_≡_, refl, sym, ap, _∙_}
-use mathlib.Core.Bool.{Bool, true, false}
+use mathlib.Core.Path.{_≡_, sym, ap, _∙_}
+use mathlib.Core.Bool.{true, false}
 use mathlib.Core.List.{List, [], _∷_}
 use Prim.Native.Nat.{ℕ, zero, suc, _≤_, _<_}
 use native.Mathlib.Omega.{arith}
@@ -14,7 +14,7 @@ use Rattle.pairs.specs.Bounds.{within-insert}
 use Rattle.node.specs.declared.NodeValue.{NodeValue}
 use Rattle.node.specs.Node.{Node, node}
 use Rattle.node.specs.Change.{Change, put, link, change}
-use Rattle.node.specs.Search.{place, keyAt, Present, place-first, place-below, within-keyAt, insert-present}
+use Rattle.node.specs.Search.{place, keyAt, place-first, place-below, within-keyAt, insert-present}
 use Rattle.node.specs.Value.{pairsIn, nodeOf, Held, Stands, Becomes, length-pairsIn}
 use Rattle.node.specs.Edits.{becomes}
 

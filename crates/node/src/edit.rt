@@ -1,5 +1,4 @@
 // The edits of a node: a pair added, its pointer replaced, a pair taken out, the link set.
-ghost use mathlib.Core.Path.{_≡_};
 ghost use Prim.Native.Nat.{_≤_, _<_};
 ghost use lib.ListN.{length, set};
 ghost use Rattle.layout.specs.Layout.{mostKeys};

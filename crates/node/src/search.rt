@@ -8,7 +8,7 @@ ghost use Rattle.node.specs.Value.{pairsIn, Sized, Held};
 use crate::Found;
 use crate::NodeValue;
 
-// A key as a number one above every key can be told from.
+// A key widened, so that one more than the greatest key is a number too.
 fn wide(x: u32) -> u64
     ensures { λ r. ⌜ r ≡ x ⌝ }
 {

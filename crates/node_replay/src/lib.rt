@@ -4,7 +4,7 @@ ghost use mathlib.Core.List.{[]};
 ghost use Rattle.node.specs.Node.{node};
 ghost use Rattle.node.specs.Change.{put, remove, link};
 ghost use Rattle.node.specs.Replay.{unlinked, redo, sameKind};
-ghost use Rattle.node.specs.Value.{nodeOf, Held, Becomes};
+ghost use Rattle.node.specs.Value.{Held, Becomes};
 ghost use Rattle.node.specs.Drafts.{draftOf, changeOf, brokenAt, Redone};
 use node::ChangeValue;
 use node::DraftState;

@@ -1,32 +1,21 @@
 -- The halves of a full node with a pair more, made from its arrays without the 25 pairs ever standing in one. Assumes nothing.
-use mathlib.Core.Path.{_≡_, refl, sym, ap, ap₂, _∙_}
+use mathlib.Core.Path.{_≡_, sym, ap, ap₂, _∙_}
 use mathlib.Core.List.{List, [], _∷_, _++_}
-use Prim.Native.Nat.{ℕ, zero, suc, _+_, _-_, _≤_, _<_}
+use Prim.Native.Nat.{ℕ, suc, _+_, _-_, _≤_, _<_}
 use native.Mathlib.Omega.{arith}
 use native.Mathlib.Numerals.{add-one}
-use lib.ListN.{length, getD, take, drop, set, length-drop, length-take}
+use lib.ListN.{length, getD, take, drop, set, length-drop}
 use lib.Seq.{take-all, take-suc, take-suc-set, getD-drop}
 use Rattle.layout.specs.Layout.{mostKeys, keptKeys, bound32}
 use Rattle.pairs.specs.Pairs.{Pair, insert, Within}
 use Rattle.pairs.specs.Bounds.{within-insert}
-use Rattle.node.specs.declared.Kind.{Kind}
-use Rattle.node.specs.declared.Kind.the-variants.{Leaf, Branch}
 use Rattle.node.specs.declared.NodeValue.{NodeValue}
-use Rattle.node.specs.Node.{Node, node, pairsOf}
+use Rattle.node.specs.Node.{node}
 use Rattle.node.specs.Change.{change, put}
-use Rattle.node.specs.Splice.{
-  zip,
-  insertAt,
-  length-insertAt,
-  take-zip,
-  drop-zip,
-  zip-insertAt,
-  length-zip,
-  getD-zip,
-}
+use Rattle.node.specs.Splice.{zip, insertAt, length-insertAt, take-zip, drop-zip, zip-insertAt, length-zip, getD-zip}
 use Rattle.node.specs.Search.{place, keyAt, pointerAt, keyAt-getD, pointerAt-getD, Absent, insert-absent, place-le-length}
-use Rattle.node.specs.Value.{pairsIn, nodeOf, Sized, Held, Becomes, length-pairsIn}
-use Rattle.node.specs.Halves.{lowerHalf, upperHalf, middleKey, lowerLink, upperFrom, within-take, within-drop}
+use Rattle.node.specs.Value.{pairsIn, nodeOf, Held, Becomes, length-pairsIn}
+use Rattle.node.specs.Halves.{lowerHalf, upperHalf, lowerLink, upperFrom, within-take, within-drop}
 
 -- What a split is asked with: a full node, and a key that it does not hold, with its place.
 pub record Splits (v : NodeValue) (at key : ℕ) : Type 0 where

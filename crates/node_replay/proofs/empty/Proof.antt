@@ -1,9 +1,8 @@
 -- `node_replay::empty` meets its contract: no pair of a count of 0. Assumes nothing.
-use mathlib.Core.Path.{_≡_, refl, sym, ap, _∙_}
-use Prim.Native.Nat.{ℕ, _≤_, _<_}
+use mathlib.Core.Path.{refl}
+use Prim.Native.Nat.{ℕ}
 use native.Mathlib.Omega.{arith}
-use borrow.Author.Needs.{needs}
-use lib.ListN.{length, length-replicate}
+use lib.ListN.{length-replicate}
 use Rattle.pairs.specs.Pairs.{Within}
 use Rattle.node.specs.Value.{pairsIn}
 use Rattle.node_replay.proofs.empty.Statement.{statement}

@@ -1,7 +1,5 @@
 -- `node_replay::nothing` meets its contract: an empty node whose link does not count. Assumes nothing.
-use mathlib.Core.Path.{_≡_, refl, sym, ap, _∙_}
-use Prim.Native.Nat.{ℕ, _≤_, _<_}
-use native.Mathlib.Omega.{arith}
+use mathlib.Core.Path.{ap}
 use borrow.Author.Needs.{needs}
 use Rattle.node.specs.Node.{Node, pairsOf}
 use Rattle.node.specs.Replay.{unlinked}

@@ -1,11 +1,6 @@
 -- `node_replay::redo` meets its contract: each kind of change has its own function. Assumes nothing.
-use mathlib.Core.Path.{_≡_, refl, sym, ap, _∙_}
-use Prim.Native.Nat.{ℕ, _≤_, _<_}
-use native.Mathlib.Omega.{arith}
 use borrow.Author.Needs.{needs}
-use Rattle.node.specs.declared.ChangeValue.{ChangeValue}
 use Rattle.node.specs.Replay.{redo}
-use Rattle.node.specs.Drafts.{draftOf, changeOf, Redone}
 use Rattle.node_replay.proofs.redo.Statement.{statement}
 use Rattle.node_replay.proofs.redo.Tie as tie
 

@@ -1,13 +1,9 @@
 -- `node_replay::redo_link` meets its contract: one case for each state of the draft. Assumes nothing.
-use mathlib.Core.Path.{_≡_, refl, sym, ap, _∙_}
-use Prim.Native.Nat.{ℕ, _≤_, _<_}
-use native.Mathlib.Omega.{arith}
+use mathlib.Core.Path.{_≡_, refl, sym, _∙_}
 use borrow.Author.Needs.{needs}
-use Rattle.node.specs.declared.DraftState.{DraftState}
 use Rattle.node.specs.declared.DraftState.the-variants.{Unlinked, Made, Broken}
-use Rattle.node.specs.Change.{link}
 use Rattle.node.specs.Replay.{redo}
-use Rattle.node.specs.Drafts.{Redone, draftAs, redone-first, redone-again, redone-other}
+use Rattle.node.specs.Drafts.{redone-first, redone-again, redone-other}
 use Rattle.node_replay.proofs.redo_link.Statement.{statement}
 use Rattle.node_replay.proofs.redo_link.Tie as tie
 

@@ -1,11 +1,9 @@
 -- `node_replay::redo_put` meets its contract: the search says whether the key is there; a 25th key breaks the draft. Assumes nothing.
-use mathlib.Core.Path.{_≡_, refl, sym, ap, _∙_}
-use Prim.Native.Nat.{ℕ, _≤_, _<_}
+use mathlib.Core.Path.{sym, _∙_}
 use native.Mathlib.Omega.{arith}
 use borrow.Author.Needs.{needs}
-use Rattle.node.specs.Value.{Becomes}
 use Rattle.node.specs.Edits.{at-inside, above-inside, length-put-at, length-put-above, becomes-added, becomes-replaced}
-use Rattle.node.specs.Drafts.{Redone, redone-put, redone-full}
+use Rattle.node.specs.Drafts.{redone-put, redone-full}
 use Rattle.node_replay.proofs.redo_put.Statement.{statement}
 use Rattle.node_replay.proofs.redo_put.Tie as tie
 

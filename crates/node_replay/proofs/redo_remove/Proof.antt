@@ -1,7 +1,4 @@
 -- `node_replay::redo_remove` meets its contract: the key is taken out, in whatever state the draft is. Assumes nothing.
-use mathlib.Core.Path.{_≡_, refl, sym, ap, _∙_}
-use Prim.Native.Nat.{ℕ, _≤_, _<_}
-use native.Mathlib.Omega.{arith}
 use borrow.Author.Needs.{needs}
 use Rattle.node.specs.Drafts.{redone-remove}
 use Rattle.node_replay.proofs.redo_remove.Statement.{statement}

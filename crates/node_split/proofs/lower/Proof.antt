@@ -1,5 +1,5 @@
 -- `node_split::lower` meets its contract: its arrays are the first 12 of those with the new pair. Assumes nothing.
-use mathlib.Core.Path.{_≡_, ap, _∙_}
+use mathlib.Core.Path.{ap, _∙_}
 use Prim.Native.Nat.{ℕ}
 use native.Mathlib.Omega.{arith}
 use borrow.Author.Needs.{needs}

@@ -1,7 +1,6 @@
 -- `node_split::middle` meets its contract: the 13th of the keys with the new one is the 13th pair's. Assumes nothing.
-use mathlib.Core.Path.{_≡_, _∙_}
+use mathlib.Core.Path.{_∙_}
 use native.Mathlib.Omega.{arith}
-use borrow.Author.Needs.{needs}
 use Rattle.node.specs.Halves.{middleKey}
 use Rattle.node_split.specs.Split.{splits-at, getD-keys25}
 use Rattle.node_split.proofs.middle.Statement.{statement}

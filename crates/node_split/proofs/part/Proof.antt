@@ -1,8 +1,8 @@
 -- `node_split::part` meets its contract. The invariant: the first `i` values are those of the part. Assumes nothing.
-use mathlib.Core.Path.{_≡_, refl, sym, ap, _∙_}
-use Prim.Native.Nat.{ℕ, suc, _+_, _-_, _≤_, _<_}
+use mathlib.Core.Path.{_≡_, refl}
+use Prim.Native.Nat.{ℕ, _-_, _≤_}
 use native.Mathlib.Omega.{arith}
-use lib.ListN.{length, getD, take, drop, set, length-set, length-replicate}
+use lib.ListN.{length, take, drop, length-set, length-replicate}
 use borrow.Author.Needs.{needs}
 use Rattle.node.specs.Splice.{insertAt, length-insertAt}
 use Rattle.node_split.specs.Split.{part-turn}

@@ -1,6 +1,4 @@
 -- `node_split::upper` meets its contract: its arrays are the last 13 or 12 of those with the new pair. Assumes nothing.
-use mathlib.Core.Path.{_≡_, ap, _∙_}
-use Prim.Native.Nat.{ℕ}
 use native.Mathlib.Omega.{arith}
 use borrow.Author.Needs.{needs}
 use Rattle.node_split.specs.Split.{splits-at, becomes-upper}

@@ -1,10 +1,6 @@
 -- `command::answers::lay_absent` meets its contract: a head alone is the field of no payload. Assumes nothing.
-use mathlib.Core.Path.{_≡_, refl, sym, ap, ap₂, _∙_}
-use mathlib.Core.List.{List}
-use Prim.Native.Nat.{ℕ, _+_, _≤_, _<_}
-use native.Mathlib.Omega.{arith}
+use mathlib.Core.Path.{refl}
 use borrow.Author.Needs.{needs}
-use Rattle.laws.specs.Lay.{lay}
 use Rattle.wire.specs.Field.{field}
 use Rattle.command.specs.Answer.{answerBytes}
 use Rattle.command.proofs.answers.lay_absent.Statement.{statement}

@@ -1,11 +1,7 @@
 -- `command::answers::lay_answer` meets its contract: one case for each answer, its number and its values. Assumes nothing.
-use mathlib.Core.Path.{_≡_, refl, sym, ap, ap₂, _∙_}
-use mathlib.Core.List.{List}
-use Prim.Native.Nat.{ℕ, _+_, _≤_, _<_}
-use native.Mathlib.Omega.{arith}
+use mathlib.Core.Path.{ap}
 use borrow.Author.Needs.{needs}
-use Rattle.command.specs.declared.Answer.{Answer}
-use Rattle.command.specs.declared.Answer.the-variants.{Absent, Got, Replaced, Removed, Refused}
+use Rattle.command.specs.declared.Answer.the-variants.{Absent}
 use Rattle.command.specs.Answer.{answerBytes}
 use Rattle.command.specs.AnswerLaws.{laid-answer, length-value, length-absent, length-refused}
 use Rattle.command.proofs.answers.lay_answer.Statement.{statement}

@@ -1,10 +1,9 @@
 -- `command::answers::lay_value` meets its contract: a head, then a number behind it, are the field. Assumes nothing.
-use mathlib.Core.Path.{_≡_, refl, sym, ap, ap₂, _∙_}
+use mathlib.Core.Path.{refl, ap, _∙_}
 use mathlib.Core.List.{List}
-use Prim.Native.Nat.{ℕ, _+_, _≤_, _<_}
+use Prim.Native.Nat.{ℕ, _+_}
 use native.Mathlib.Omega.{arith}
 use borrow.Author.Needs.{needs}
-use lib.ListN.{length}
 use Rattle.laws.specs.Lay.{lay}
 use Rattle.laws.specs.BigEndian.{bigEndian, length-bigEndian}
 use Rattle.wire.specs.FieldLaws.{lay-field}

@@ -1,16 +1,14 @@
 -- `command::batch::asked` meets its contract: the invariant says that what is left, with the bytes so far, asks for what the whole
 -- batch asks for. Assumes nothing.
-use mathlib.Core.Path.{_≡_, refl, sym, ap, ap₂, _∙_}
-use Prim.Native.Nat.{ℕ, _+_, _-_, _*_, _≤_, _<_}
+use mathlib.Core.Path.{_≡_, sym, ap, _∙_}
+use Prim.Native.Nat.{ℕ, _+_, _-_, _*_, _≤_}
 use native.Mathlib.Omega.{arith}
 use borrow.Author.Needs.{needs}
 use lib.ListN.{length}
-use Rattle.command.specs.declared.Command.{Command}
-use Rattle.command.specs.declared.Step.{Step}
-use Rattle.command.specs.declared.Step.the-variants.{Next, Invalid}
-use Rattle.command.specs.Command.{commandAt, Onward, Small}
+use Rattle.command.specs.declared.Step.the-variants.{Next}
+use Rattle.command.specs.Command.{commandAt, Onward}
 use Rattle.command.specs.CommandLaws.{commandAt-onward}
-use Rattle.command.specs.Batch.{commandsFrom, roomFor, askedOf}
+use Rattle.command.specs.Batch.{commandsFrom, askedOf}
 use Rattle.command.specs.BatchLaws.{askedWith, asked-long, asked-start, asked-turn, asked-invalid, asked-end, roomFor-le}
 use Rattle.command.proofs.batch.asked.Statement.{statement}
 use Rattle.command.proofs.batch.asked.Tie as tie

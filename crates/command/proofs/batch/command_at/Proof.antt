@@ -1,15 +1,13 @@
 -- `command::batch::command_at` meets its contract: the tag there picks the field, and its payload the command. Assumes nothing.
-use mathlib.Core.Path.{_≡_, refl, sym, ap, ap₂, _∙_}
-use Prim.Native.Nat.{ℕ, _+_, _-_, _*_, _≤_, _<_}
+use mathlib.Core.Path.{_≡_, sym, _∙_}
+use Prim.Native.Nat.{ℕ, _-_}
 use native.Mathlib.Omega.{arith}
 use borrow.Author.Needs.{needs}
 use mathlib.Core.List.{List}
-use lib.ListN.{length, getD}
+use lib.ListN.{getD}
 use Rattle.laws.specs.Lay.{part}
 use Rattle.wire.specs.Field.{fieldAt}
-use Rattle.wire.specs.declared.field.Field.{Field}
 use Rattle.wire.specs.declared.field.Field.the-variants.{Payload, Missing, Foreign, Overlong}
-use Rattle.command.specs.Command.{commandAt}
 use Rattle.command.specs.CommandLaws.{Bounds, field-bounds, payload-may, commandAt-past, commandAt-is}
 use Rattle.command.proofs.batch.command_at.Statement.{statement}
 use Rattle.command.proofs.batch.command_at.Tie as tie

@@ -1,22 +1,11 @@
 -- `command::batch::command_of` meets its contract: each tag has the payload length of the table, and its numbers stand in it. Assumes nothing.
-use mathlib.Core.Path.{_≡_, refl, sym, ap, ap₂, _∙_}
-use Prim.Native.Nat.{ℕ, _+_, _-_, _*_, _≤_, _<_}
+use mathlib.Core.Path.{sym, ap, ap₂, _∙_}
+use Prim.Native.Nat.{ℕ, _-_}
 use native.Mathlib.Omega.{arith}
-use borrow.Author.Needs.{needs}
-use Rattle.command.specs.declared.Command.the-variants.{Get, Put, Delete, Scan}
-use Rattle.command.specs.declared.Step.{Step}
-use Rattle.command.specs.declared.Step.the-variants.{Next, Invalid}
+use Rattle.command.specs.declared.Command.the-variants.{Get, Put, Delete}
+use Rattle.command.specs.declared.Step.the-variants.{Next}
 use Rattle.command.specs.Command.{commandOf, stepAs}
-use Rattle.command.specs.CommandLaws.{
-  payload-get,
-  payload-put,
-  payload-delete,
-  payload-scan,
-  commandOf-get,
-  commandOf-put,
-  commandOf-delete,
-  commandOf-other,
-}
+use Rattle.command.specs.CommandLaws.{payload-get, payload-put, payload-delete, payload-scan, commandOf-get, commandOf-put, commandOf-delete, commandOf-other}
 use Rattle.command.proofs.batch.command_of.Statement.{statement}
 use Rattle.command.proofs.batch.command_of.Tie as tie
 

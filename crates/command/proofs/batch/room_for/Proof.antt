@@ -1,9 +1,7 @@
 -- `command::batch::room_for` meets its contract: one case for each command. Assumes nothing.
-use mathlib.Core.Path.{_≡_, refl, sym, ap, ap₂, _∙_}
-use Prim.Native.Nat.{ℕ, _+_, _-_, _*_, _≤_, _<_}
-use native.Mathlib.Omega.{arith}
+use mathlib.Core.Path.{sym, ap}
+use Prim.Native.Nat.{_-_}
 use borrow.Author.Needs.{needs}
-use Rattle.command.specs.declared.Command.{Command}
 use Rattle.command.specs.Batch.{roomFor}
 use Rattle.command.proofs.batch.room_for.Statement.{statement}
 use Rattle.command.proofs.batch.room_for.Tie as tie

@@ -1,11 +1,8 @@
 -- `command::batch::scan_of` meets its contract: its numbers stand at 0, 4 and 8, and its most is tested at both ends. Assumes nothing.
-use mathlib.Core.Path.{_≡_, refl, sym, ap, ap₂, _∙_}
-use Prim.Native.Nat.{ℕ, _+_, _-_, _*_, _≤_, _<_}
+use mathlib.Core.Path.{sym, ap}
+use Prim.Native.Nat.{_-_}
 use native.Mathlib.Omega.{arith}
 use borrow.Author.Needs.{needs}
-use Rattle.command.specs.declared.Command.the-variants.{Scan}
-use Rattle.command.specs.declared.Step.{Step}
-use Rattle.command.specs.declared.Step.the-variants.{Next, Invalid}
 use Rattle.command.specs.Command.{stepAs}
 use Rattle.command.specs.CommandLaws.{commandOf-none, commandOf-many, scan-step}
 use Rattle.command.proofs.batch.scan_of.Statement.{statement}

@@ -1,7 +1,5 @@
 -- `node::edit::delete` meets its contract: the search says whether the key is there, and the pair at its place goes. Assumes nothing.
-use mathlib.Core.Path.{_≡_, refl, sym, ap, _∙_}
-use Prim.Native.Nat.{ℕ, _≤_, _<_}
-use native.Mathlib.Omega.{arith}
+use mathlib.Core.Path.{sym, _∙_}
 use borrow.Author.Needs.{needs}
 use Rattle.node.specs.Edits.{at-inside, becomes-removed, becomes-same}
 use Rattle.node.proofs.edit.delete.Statement.{statement}

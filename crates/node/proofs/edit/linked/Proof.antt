@@ -1,8 +1,4 @@
 -- `node::edit::linked` meets its contract: the arrays and the count are the same, so the pairs are. Assumes nothing.
-use mathlib.Core.Path.{_≡_, refl, sym, ap, _∙_}
-use Prim.Native.Nat.{ℕ, _≤_, _<_}
-use native.Mathlib.Omega.{arith}
-use borrow.Author.Needs.{needs}
 use Rattle.node.specs.Edits.{becomes-linked}
 use Rattle.node.proofs.edit.linked.Statement.{statement}
 use Rattle.node.proofs.edit.linked.Tie as tie

@@ -1,7 +1,5 @@
 -- `node::edit::pointed` meets its contract: at a key its pointer is replaced, behind all keys the link. Assumes nothing.
-use mathlib.Core.Path.{_≡_, refl, sym, ap, _∙_}
-use Prim.Native.Nat.{ℕ, suc, _+_, _-_, _≤_, _<_}
-use native.Mathlib.Omega.{arith}
+use Prim.Native.Nat.{_-_}
 use borrow.Author.Needs.{needs}
 use Rattle.node.specs.Repoint.{becomes-repointed, becomes-last}
 use Rattle.node.proofs.edit.pointed.Statement.{statement}

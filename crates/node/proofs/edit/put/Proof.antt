@@ -1,7 +1,6 @@
 -- `node::edit::put` meets its contract: the search says whether the key is there, and at its place the pointer is replaced or the pair
 -- added. Assumes nothing.
-use mathlib.Core.Path.{_≡_, refl, sym, ap, _∙_}
-use Prim.Native.Nat.{ℕ, _≤_, _<_}
+use mathlib.Core.Path.{sym, _∙_}
 use native.Mathlib.Omega.{arith}
 use borrow.Author.Needs.{needs}
 use Rattle.node.specs.Edits.{at-inside, above-inside, length-put-above, becomes-added, becomes-replaced}

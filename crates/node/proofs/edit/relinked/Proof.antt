@@ -1,5 +1,4 @@
 -- `node::edit::relinked` meets its contract: the arrays and the count are the same, so the pairs are. Assumes nothing.
-use borrow.Author.Needs.{needs}
 use Rattle.node.specs.Edits.{becomes-linked}
 use Rattle.node.proofs.edit.relinked.Statement.{statement}
 use Rattle.node.proofs.edit.relinked.Tie as tie

@@ -1,11 +1,11 @@
 -- `node::search::ascends` meets its contract: the invariant says that what is left, tested from the least key that may come, gives
 -- the whole test. Assumes nothing.
 use mathlib.Core.Path.{_≡_, refl, sym, ap, _∙_}
-use Prim.Native.Nat.{ℕ, suc, _+_, _-_, _≤_, _<_}
+use Prim.Native.Nat.{ℕ, suc, _+_, _-_, _≤_}
 use native.Mathlib.Omega.{arith}
 use borrow.Author.Needs.{needs}
 use native.Mathlib.Numerals.{add-one}
-use lib.ListN.{getD, drop}
+use lib.ListN.{drop}
 use Rattle.node.specs.Ascends.{ascends, ascends-low, ascends-high, ascends-next, ascends-end}
 use Rattle.node.specs.Search.{keyAt}
 use Rattle.node.specs.Value.{pairsIn, keyAt-pairsIn, length-pairsIn}

@@ -1,7 +1,6 @@
 -- `node::search::child` meets its contract: the pointer at the place of the child. Assumes nothing.
-use mathlib.Core.Path.{_≡_, refl, sym, ap, _∙_}
-use Prim.Native.Nat.{ℕ, suc, _+_, _-_, _≤_, _<_}
-use native.Mathlib.Omega.{arith}
+use mathlib.Core.Path.{ap, _∙_}
+use Prim.Native.Nat.{ℕ, _-_}
 use borrow.Author.Needs.{needs}
 use Rattle.node.specs.Search.{pointerAt}
 use Rattle.node.specs.Value.{pairsIn}

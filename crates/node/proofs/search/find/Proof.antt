@@ -1,5 +1,5 @@
 -- `node::search::find` meets its contract: the key at its place is compared with the key. Assumes nothing.
-use mathlib.Core.Path.{_≡_, sym, ap, _∙_}
+use mathlib.Core.Path.{_≡_, ap, _∙_}
 use Prim.Native.Nat.{ℕ}
 use borrow.Author.Needs.{needs}
 use Rattle.node.specs.Search.{place}

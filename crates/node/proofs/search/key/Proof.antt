@@ -1,7 +1,6 @@
 -- `node::search::key` meets its contract: the key of a pair is the array's. Assumes nothing.
-use mathlib.Core.Path.{_≡_, refl, sym, ap, _∙_}
-use Prim.Native.Nat.{ℕ, suc, _+_, _-_, _≤_, _<_}
-use native.Mathlib.Omega.{arith}
+use mathlib.Core.Path.{sym}
+use Prim.Native.Nat.{_-_}
 use borrow.Author.Needs.{needs}
 use Rattle.node.specs.Value.{keyAt-pairsIn}
 use Rattle.node.proofs.search.key.Statement.{statement}

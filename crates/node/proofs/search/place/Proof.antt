@@ -2,7 +2,6 @@
 -- walk stops below it at a smaller key or at the start, and in an ascending list only the place itself has such neighbours.
 -- Assumes nothing.
 use Prim.Native.Nat.{_-_, _≤_, _<_}
-use mathlib.Core.Path.{_≡_, refl, sym, ap, _∙_}
 use native.Mathlib.Omega.{arith}
 use lib.ListN.{getD}
 use borrow.Author.Needs.{needs}

@@ -1,12 +1,12 @@
 -- `node::splice::remove` meets its contract. The invariant: the values behind the place up to `i` have moved down by one, those
 -- from `i` on still stand. Assumes nothing.
-use mathlib.Core.Path.{_≡_, refl, sym, ap, _∙_}
+use mathlib.Core.Path.{_≡_, refl, ap, _∙_}
 use mathlib.Core.List.{List}
-use Prim.Native.Nat.{ℕ, suc, _+_, _-_, _≤_, _<_}
+use Prim.Native.Nat.{ℕ, _-_, _≤_, _<_}
 use native.Mathlib.Omega.{arith}
-use lib.ListN.{length, take, set, length-set}
+use lib.ListN.{length, take, length-set}
 use borrow.Author.Needs.{needs}
-use Rattle.node.specs.Splice.{removeAt, closed, closed-start, closed-turn, closed-done}
+use Rattle.node.specs.Splice.{closed, closed-start, closed-turn, closed-done}
 use Rattle.node.proofs.splice.remove.Statement.{statement}
 use Rattle.node.proofs.splice.remove.Tie as tie
 
