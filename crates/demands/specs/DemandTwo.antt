@@ -14,11 +14,13 @@ use Rattle.laws.specs.Tests.{and-left, and-right, and-both}
 use Rattle.laws.specs.Every.{Every, both}
 use Rattle.laws.specs.Every as Every
 use Rattle.laws.specs.BigEndian.{Bytes}
-use Rattle.layout.specs.Layout.{pagesInBlock, pageBytes, blockBytes, nodeLimit, mostLogPages, lastSequence}
+use Rattle.layout.specs.Layout.{pagesInBlock, pageBytes, blockBytes, tableBytes, nodeLimit, mostLogPages, lastSequence}
 use Rattle.account.specs.declared.Tariff.{Tariff}
 use Rattle.account.specs.Tariff.{limit}
 use Rattle.account.specs.Range.{inRange, Ranged, inRange-ranged, ranged-inRange}
 use Rattle.pairs.specs.Pairs.{Pair}
+use Rattle.command.specs.declared.Command.{Command}
+use Rattle.command.specs.Batch.{commandsOf, roomForAll}
 use Rattle.page.specs.Page.{Score}
 use Rattle.tree.specs.Spells.{Spells, mapOf}
 use Rattle.tree.specs.Sound.{sound}
@@ -37,7 +39,7 @@ use Rattle.storelaws.specs.Opening.{own-passes}
 use Rattle.model.specs.State.{State, bookOf}
 use Rattle.model.specs.Mount.{Mounted, refused, opened, stateOf, threePages, scoresBelow, treeSound, numbersLeft, mountCells}
 use Rattle.model.specs.Bytes.{bytesOf, cellsOf}
-use Rattle.model.specs.Call.{blocksOf, poolLength, mountBy, mountOf}
+use Rattle.model.specs.Call.{blocksOf, poolLength, mountBy, mountOf, accept, batchOf}
 use Rattle.demands.specs.Mount.{Mounts, mounts-opened, Opened, opened-mounts, three-each, some-page, ranged, rest-tests, range-tests, kept}
 use Rattle.demands.specs.Mount as Mount
 use Rattle.demands.specs.Close.{three-below}
@@ -211,3 +213,11 @@ module _ (pool : List ℕ) (bytes : Bytes pool) (t : Tariff) (s : State) (size :
   opens-obeys e = by-cells (cellsOf pool) refl e
 
 -- A pool opens, or is refused with a number from 5 to 8: there is no third way (`mount-judged`).
+
+-- THE QUESTIONS ARE EXACT: where all of them pass, the batch is accepted.
+pub batch-accepted : (pool table batch buffer : List ℕ) (cs : List Command) (t : Tariff) (s : State) → poolLength pool ≡ true →
+    tableBytes (blocksOf pool) ≤ length table → commandsOf batch ≡ some cs → roomForAll cs ≤ length buffer → mountOf pool ≡ opened t s →
+    batchOf pool table batch buffer ≡ accept (blocksOf pool) t cs s table buffer
+unfolding batchOf
+batch-accepted pool table batch buffer cs t s p l q r m =
+    rw (p, le-leb (tableBytes (blocksOf pool)) (length table) l, q, le-leb (roomForAll cs) (length buffer) r, m) refl
