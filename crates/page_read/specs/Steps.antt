@@ -166,23 +166,24 @@ module _ (s : ℕ) (p b : List ℕ) where
   node-none f = view-bad _ _ (rw f)
 
   module _ (f : found p ≡ true) where
-    pub node-other : (getD p 2 0 ≡ 3 → ⊥) → (getD p 2 0 ≡ 4 → ⊥) → Bad ≡ view (decodeNode s p b)
+    pub node-other : (eqb (getD p 2 0) 3 || eqb (getD p 2 0) 4) ≡ false → Bad ≡ view (decodeNode s p b)
     unfolding decodeNode nodeOk
-    node-other h k = view-bad _ _ (rw (f, ne-eqb _ _ h, ne-eqb _ _ k))
+    node-other k = view-bad _ _ (rw (f, k))
 
-    module _ (x : ℕ) (k : getD p 2 0 ≡ x) (o : (eqb x 3 || eqb x 4) ≡ true) where
+    module _ (k : (eqb (getD p 2 0) 3 || eqb (getD p 2 0) 4) ≡ true) where
       node-passes : nodeOk p ≡ true
       unfolding nodeOk
-      node-passes = rw (f, k) o
+      node-passes = rw (f, k)
 
       pub node-unsealed : sealedAt b (7 + taken p) ≡ false → Bad ≡ view (decodeNode s p b)
       unfolding decodeNode
       node-unsealed t = view-bad _ _ (rw (node-passes, t))
 
-      pub node-sealed : sealedAt b (7 + taken p) ≡ true → Whole s (numberAt 2 p 0) (kindOfNumber x) (pairsIn p) ≡ view (decodeNode s p b)
+      pub node-sealed : sealedAt b (7 + taken p) ≡ true →
+          Whole s (numberAt 2 p 0) (kindOfNumber (getD p 2 0)) (pairsIn p) ≡ view (decodeNode s p b)
       unfolding decodeNode nodeOf
       node-sealed t =
-          ap₂ (λ y z. Whole s (numberAt 2 p 0) (kindOfNumber y) z) (sym k) (sym (length-pairsFrom (pairsIn p) p 7)) ∙
+          ap (Whole s (numberAt 2 p 0) (kindOfNumber (getD p 2 0))) (sym (length-pairsFrom (pairsIn p) p 7)) ∙
           view-page _ (page s (whole (numberAt 2 p 0) (nodeOf p))) (rw (node-passes, t))
 
 module _ (s : ℕ) (t : List ℕ) (at n : ℕ) (c b : List ℕ) where

@@ -1,10 +1,12 @@
 // What a page is, decided in one pass.
 ghost use mathlib.Core.Path.{_≡_};
+ghost use mathlib.Core.Bool.{_||_};
 ghost use Prim.Native.Nat.{_+_, _*_, _≤_, _<_};
+ghost use lib.Dec.{eqb};
 ghost use lib.ListN.{length};
 ghost use Rattle.layout.specs.Layout.{pageBytes, mostEntries};
 ghost use Rattle.wire.specs.Field.{payloadAt};
-ghost use Rattle.page.specs.Decode.{entryOk, run, found, taken, mostScores, decodeLog, decodeNode, decodeCounted, decodeCheckpoint};
+ghost use Rattle.page.specs.Decode.{entryOk, run, found, taken, mostScores, decodeLog, decodeNode, decodeCounted, decodeCheckpoint, kindOfNumber};
 ghost use Rattle.page_read.specs.View.{view, viewOf};
 ghost use Rattle.page_read.specs.Asked.{Asked};
 use super::field::count_entries;
@@ -67,6 +69,26 @@ fn view_log(page: &[u8], sequence: u32) -> PageView
     }
 }
 
+// Whether a number says leaf or branch.
+fn is_kind(number: u8) -> bool
+    ensures { λ r. ⌜ r ≡ (eqb number 3 || eqb number 4) ⌝ }
+{
+    if number == 3 {
+        return true;
+    }
+    number == 4
+}
+
+// The kind that a number says.
+fn kind_of(number: u8) -> Kind
+    ensures { λ r. ⌜ r ≡ kindOfNumber number ⌝ }
+{
+    if number == 3 {
+        return Kind::Leaf;
+    }
+    Kind::Branch
+}
+
 // A node page.
 fn view_node(page: &[u8], sequence: u32) -> PageView
     requires { ⌜ length (now page) ≡ pageBytes ⌝ }
@@ -77,29 +99,17 @@ fn view_node(page: &[u8], sequence: u32) -> PageView
     if bytes < 7 {
         return PageView::Bad;
     }
-    let id = read16(p, 0);
     let number = p[2];
-    if number == 3 {
-        if is_sealed(page, 10 + bytes) {
-            return PageView::Whole {
-                sequence,
-                id,
-                kind: Kind::Leaf,
-                keys: (bytes - 7) / 8,
-            };
-        }
+    if is_kind(number) {} else {
         return PageView::Bad;
     }
-    if number == 4 {
-        if is_sealed(page, 10 + bytes) {
-            return PageView::Whole {
-                sequence,
-                id,
-                kind: Kind::Branch,
-                keys: (bytes - 7) / 8,
-            };
-        }
-        return PageView::Bad;
+    if is_sealed(page, 10 + bytes) {
+        return PageView::Whole {
+            sequence,
+            id: read16(p, 0),
+            kind: kind_of(number),
+            keys: (bytes - 7) / 8,
+        };
     }
     PageView::Bad
 }

@@ -52,14 +52,20 @@ returns-3 c = let a = c .before .before .before .before .before .before .before 
     (ap (λ (l : List ℕ). numberAt 2 l 0) (sym q) ∙ sym b ∙ c .before .before .before .if2 .left ∙ ap (λ (x : Sums). x .b) s)
     (λ z. c .if3 .taken (d ∙ ap (λ (l : List ℕ). numberAt 2 l 2) q ∙ z ∙ sym (ap (λ (x : Sums). x .a) s)))
 
+-- The sums were found, so they lie within the page.
+within : (c : tie.Else3) → c .before .before .before .before .before .before .before .before .before .before .before .args .end + 7 ≤ length (c .before .before .before .before .before .before .before .before .before .before .before .args .page .now)
+within c =
+    sums-within (c .before .before .before .before .before .before .before .before .before .before .before .args .page .now) (c .before .before .before .before .before .before .before .before .before .before .before .args .end)
+    (ap length (sym (c .before .before .before .before .before .before .before .before .before .payload .ensures)) ∙ c .before .before .before .before .before .before .before .before .if1 .left)
+
 add-all-blank : tie.Need-add-all-blank
-add-all-blank c = omega (arith, sums-within (c .before .before .before .before .before .before .before .before .before .before .before .args .page .now) (c .before .before .before .before .before .before .before .before .before .before .before .args .end) (ap length (sym (c .before .before .before .before .before .before .before .before .before .payload .ensures)) ∙ c .before .before .before .before .before .before .before .before .if1 .left))
+add-all-blank c = omega (arith, within c)
 
 sub-all-blank : tie.Need-sub-all-blank
-sub-all-blank c = omega (arith, sums-within (c .before .before .before .before .before .before .before .before .before .before .before .args .page .now) (c .before .before .before .before .before .before .before .before .before .before .before .args .end) (ap length (sym (c .before .before .before .before .before .before .before .before .before .payload .ensures)) ∙ c .before .before .before .before .before .before .before .before .if1 .left))
+sub-all-blank c = omega (arith, within c)
 
 part-all-blank-start : tie.Need-part-all-blank-start
-part-all-blank-start c = omega (arith, sums-within (c .before .before .before .before .before .before .before .before .before .before .before .args .page .now) (c .before .before .before .before .before .before .before .before .before .before .before .args .end) (ap length (sym (c .before .before .before .before .before .before .before .before .before .payload .ensures)) ∙ c .before .before .before .before .before .before .before .before .if1 .left))
+part-all-blank-start c = omega (arith, within c)
 
 part-all-blank-end : tie.Need-part-all-blank-end
 part-all-blank-end c = search needs

@@ -1,20 +1,25 @@
 -- `page_read::view::view_node` meets its contract. Each return is the view of the case that the tests before it pick; a payload
 -- that is too short for a node is none. Assumes nothing.
-use mathlib.Core.Path.{_≡_, refl, sym, ap, ap₂, _∙_}
+use mathlib.Core.Path.{_≡_, sym, ap, ap₂, _∙_}
+use mathlib.Core.Bool.{Bool, _||_}
 use mathlib.Core.List.{List}
 use Prim.Native.Nat.{ℕ, _+_, _-_, _/_, _≤_, _<_}
 use native.Mathlib.Omega.{arith}
+use lib.Dec.{eqb}
 use lib.ListN.{length, getD}
 use borrow.Author.Needs.{needs}
 use Rattle.laws.specs.BigEndian.{numberAt}
-use Rattle.node.specs.declared.Kind.the-variants.{Leaf, Branch}
 use Rattle.wire.specs.Field.{payloadAt}
-use Rattle.page.specs.Decode.{sealedAt, taken}
+use Rattle.page.specs.Decode.{sealedAt, taken, kindOfNumber, pairsIn}
+use Rattle.page_read.specs.declared.view.PageView.{PageView}
 use Rattle.page_read.specs.declared.view.PageView.the-variants.{Whole}
 use Rattle.page_read.specs.Payload.{found-true, found-false, taken-some, node-short}
 use Rattle.page_read.specs.Steps.{node-none, node-other, node-unsealed, node-sealed}
 use Rattle.page_read.proofs.view.view_node.Statement.{statement}
 use Rattle.page_read.proofs.view.view_node.Tie as tie
+
+abbrev is-a-kind : List ℕ → Bool
+is-a-kind x = eqb (getD x 2 0) 3 || eqb (getD x 2 0) 4
 
 payload-requires : tie.Need-payload-requires
 payload-requires c κs = search needs
@@ -24,11 +29,18 @@ returns c = let b = c .before .before .before .args .page .now in
     node-none (c .before .before .before .args .sequence) (payloadAt b 7 0x11) b
     (found-false (payloadAt b 7 0x11) (node-short b 7 (omega (arith, ap length (c .before .payload .ensures)))))
 
-read16-requires : tie.Need-read16-requires
-read16-requires c κs = search needs
-
 shared-slice-read-number : tie.Need-shared-slice-read-number
 shared-slice-read-number c = search needs
+
+is-kind-requires : tie.Need-is-kind-requires
+is-kind-requires c κs = search needs
+
+returns-2 : tie.Need-returns-2
+returns-2 c = let b = c .before .before .before .before .before .before .args .page .now in
+    let q = c .before .before .before .before .payload .ensures in
+    let l : 1 ≤ length (payloadAt b 7 0x11) = omega (arith, ap length q) in
+    node-other (c .before .before .before .before .before .before .args .sequence) (payloadAt b 7 0x11) b (found-true (payloadAt b 7 0x11) l)
+    (ap is-a-kind (sym q) ∙ sym (c .before .is-kind .ensures) ∙ c .if2 .left)
 
 add-is-sealed : tie.Need-add-is-sealed
 add-is-sealed c = search needs
@@ -36,56 +48,45 @@ add-is-sealed c = search needs
 is-sealed-requires : tie.Need-is-sealed-requires
 is-sealed-requires c κs = search needs
 
-returns-2 : tie.Need-returns-2
-returns-2 c = let b = c .before .before .before .before .before .before .before .before .args .page .now in
-    let s = c .before .before .before .before .before .before .before .before .args .sequence in
-    let q = c .before .before .before .before .before .before .payload .ensures in
-    let l : 1 ≤ length (payloadAt b 7 0x11) = omega (arith, ap length q) in
-    let e : 10 + length (c .before .before .before .before .before .before .payload .result .now) ≡ 7 + taken (payloadAt b 7 0x11) = omega (arith, taken-some (payloadAt b 7 0x11) l, ap length q) in
-    ap₂ (λ (i k : ℕ). Whole s i Leaf k) (c .before .before .before .before .read16 .ensures .is ∙ ap (λ (x : List ℕ). numberAt 2 x 0) q) (ap (λ (x : List ℕ). (length x - 7) / 8) q) ∙
-    node-sealed s (payloadAt b 7 0x11) b (found-true (payloadAt b 7 0x11) l) 3 (ap (λ (x : List ℕ). getD x 2 0) (sym q) ∙ c .before .before .if2 .taken) refl
-    (ap (sealedAt b) (sym e) ∙ sym (c .before .is-sealed .ensures) ∙ c .if3 .taken)
+read16-requires : tie.Need-read16-requires
+read16-requires c κs = search needs
+
+kind-of-requires : tie.Need-kind-of-requires
+kind-of-requires c κs = search needs
 
 returns-3 : tie.Need-returns-3
-returns-3 c = let b = c .before .before .before .before .before .before .before .before .args .page .now in
-    let s = c .before .before .before .before .before .before .before .before .args .sequence in
-    let q = c .before .before .before .before .before .before .payload .ensures in
-    let l : 1 ≤ length (payloadAt b 7 0x11) = omega (arith, ap length q) in
-    let e : 10 + length (c .before .before .before .before .before .before .payload .result .now) ≡ 7 + taken (payloadAt b 7 0x11) = omega (arith, taken-some (payloadAt b 7 0x11) l, ap length q) in
-    node-unsealed s (payloadAt b 7 0x11) b (found-true (payloadAt b 7 0x11) l) 3 (ap (λ (x : List ℕ). getD x 2 0) (sym q) ∙ c .before .before .if2 .taken) refl
-    (ap (sealedAt b) (sym e) ∙ sym (c .before .is-sealed .ensures) ∙ c .if3 .left)
-
-add-is-sealed-2 : tie.Need-add-is-sealed-2
-add-is-sealed-2 c = search needs
-
-is-sealed-requires-2 : tie.Need-is-sealed-requires-2
-is-sealed-requires-2 c κs = search needs
+returns-3 c = let b = c .before .before .before .before .before .before .before .before .before .before .args .page .now in
+    let s = c .before .before .before .before .before .before .before .before .before .before .args .sequence in
+    let q = c .before .before .before .before .before .before .before .before .payload .ensures in
+    let p = payloadAt b 7 0x11 in
+    let l : 1 ≤ length p = omega (arith, ap length q) in
+    let e : 7 + taken p ≡ 10 + length (c .before .before .before .before .before .before .before .before .payload .result .now) = omega (arith, taken-some p l, ap length q) in
+    rw (c .before .read16 .ensures .is, c .kind-of .ensures)
+    (ap (λ (x : List ℕ). Whole s (numberAt 2 x 0) (kindOfNumber (getD x 2 0)) (pairsIn x)) q ∙
+    node-sealed s p b (found-true p l) (ap is-a-kind (sym q) ∙ sym (c .before .before .before .before .before .is-kind .ensures) ∙ c .before .before .before .before .if2 .taken)
+    (ap (sealedAt b) e ∙ sym (c .before .before .before .is-sealed .ensures) ∙ c .before .before .if3 .taken))
 
 returns-4 : tie.Need-returns-4
-returns-4 c = let b = c .before .before .before .before .before .before .before .before .before .args .page .now in
-    let s = c .before .before .before .before .before .before .before .before .before .args .sequence in
-    let q = c .before .before .before .before .before .before .before .payload .ensures in
-    let l : 1 ≤ length (payloadAt b 7 0x11) = omega (arith, ap length q) in
-    let e : 10 + length (c .before .before .before .before .before .before .before .payload .result .now) ≡ 7 + taken (payloadAt b 7 0x11) = omega (arith, taken-some (payloadAt b 7 0x11) l, ap length q) in
-    ap₂ (λ (i k : ℕ). Whole s i Branch k) (c .before .before .before .before .before .read16 .ensures .is ∙ ap (λ (x : List ℕ). numberAt 2 x 0) q) (ap (λ (x : List ℕ). (length x - 7) / 8) q) ∙
-    node-sealed s (payloadAt b 7 0x11) b (found-true (payloadAt b 7 0x11) l) 4 (ap (λ (x : List ℕ). getD x 2 0) (sym q) ∙ c .before .before .if4 .taken) refl
-    (ap (sealedAt b) (sym e) ∙ sym (c .before .is-sealed2 .ensures) ∙ c .if5 .taken)
-
-returns-5 : tie.Need-returns-5
-returns-5 c = let b = c .before .before .before .before .before .before .before .before .before .args .page .now in
-    let s = c .before .before .before .before .before .before .before .before .before .args .sequence in
-    let q = c .before .before .before .before .before .before .before .payload .ensures in
-    let l : 1 ≤ length (payloadAt b 7 0x11) = omega (arith, ap length q) in
-    let e : 10 + length (c .before .before .before .before .before .before .before .payload .result .now) ≡ 7 + taken (payloadAt b 7 0x11) = omega (arith, taken-some (payloadAt b 7 0x11) l, ap length q) in
-    node-unsealed s (payloadAt b 7 0x11) b (found-true (payloadAt b 7 0x11) l) 4 (ap (λ (x : List ℕ). getD x 2 0) (sym q) ∙ c .before .before .if4 .taken) refl
-    (ap (sealedAt b) (sym e) ∙ sym (c .before .is-sealed2 .ensures) ∙ c .if5 .left)
-
-returns-6 : tie.Need-returns-6
-returns-6 c = let b = c .before .before .before .before .before .before .before .args .page .now in
-    let q = c .before .before .before .before .before .payload .ensures in
-    let l : 1 ≤ length (payloadAt b 7 0x11) = omega (arith, ap length q) in
-    node-other (c .before .before .before .before .before .before .before .args .sequence) (payloadAt b 7 0x11) b (found-true (payloadAt b 7 0x11) l)
-    (λ z. c .before .if2 .left (ap (λ (x : List ℕ). getD x 2 0) q ∙ z)) (λ z. c .if4 .left (ap (λ (x : List ℕ). getD x 2 0) q ∙ z))
+returns-4 c = let b = c .before .before .before .before .before .before .before .before .args .page .now in
+    let q = c .before .before .before .before .before .before .payload .ensures in
+    let p = payloadAt b 7 0x11 in
+    let l : 1 ≤ length p = omega (arith, ap length q) in
+    let e : 7 + taken p ≡ 10 + length (c .before .before .before .before .before .before .payload .result .now) = omega (arith, taken-some p l, ap length q) in
+    node-unsealed (c .before .before .before .before .before .before .before .before .args .sequence) p b (found-true p l) (ap is-a-kind (sym q) ∙ sym (c .before .before .before .is-kind .ensures) ∙ c .before .before .if2 .taken)
+    (ap (sealedAt b) e ∙ sym (c .before .is-sealed .ensures) ∙ c .if3 .left)
 
 pub view-node-spec : {M : Type 1} → statement M
-view-node-spec = tie.close (tie.spec payload-requires returns read16-requires shared-slice-read-number add-is-sealed is-sealed-requires returns-2 returns-3 add-is-sealed-2 is-sealed-requires-2 returns-4 returns-5 returns-6)
+view-node-spec =
+    tie.close
+    (tie.spec
+    payload-requires
+    returns
+    shared-slice-read-number
+    is-kind-requires
+    returns-2
+    add-is-sealed
+    is-sealed-requires
+    read16-requires
+    kind-of-requires
+    returns-3
+    returns-4)
