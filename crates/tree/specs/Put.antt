@@ -11,24 +11,11 @@ use Rattle.pairs.specs.Pairs.{Pair}
 use Rattle.node.specs.declared.Kind.the-variants.{Leaf, Branch}
 use Rattle.node.specs.Node.{Node, node, pairsOf}
 use Rattle.node.specs.Change.{Change, put, link}
-use Rattle.tree.specs.Table.{Table, slot, pointerAt, keyAt, path}
+use Rattle.node.specs.Halves.{lowerHalf, middleKey, upperHalf}
+use Rattle.node.specs.Search.{keyAt, pointerAt}
+use Rattle.tree.specs.Table.{Table, slot, path}
 use Rattle.tree.specs.NodeRequest.{NodeRequest, edit, rewrite, create, changeAll}
 use Rattle.tree.specs.Get.{readsTo, getAnswer}
-
--- The lower half of a node of 25 keys: of a leaf the first 12 pairs stay, with a link to the upper half; of a branch 12 keys
--- stay, and the pointer of the 13th becomes the last.
-unfoldable pub lowerHalf : Node → ℕ → Node
-lowerHalf (node Leaf ps next) upper = node Leaf (take keptKeys ps) upper
-lowerHalf (node Branch ks last) upper = node Branch (take keptKeys ks) (pointerAt ks last keptKeys)
-
--- The upper half: of a leaf the other 13 pairs, with the old link; of a branch the 12 keys behind the one that rises.
-unfoldable pub upperHalf : Node → Node
-upperHalf (node Leaf ps next) = node Leaf (drop keptKeys ps) next
-upperHalf (node Branch ks last) = node Branch (drop (suc keptKeys) ks) last
-
--- The key between the halves: the upper leaf's first, or the one that rises.
-unfoldable pub middleKey : Node → ℕ
-middleKey n = keyAt (pairsOf n) keptKeys
 
 -- The old pointer to the left names the right: the slot that led to the left, by its key or as the last pointer.
 unfoldable pub renamed : ℕ → List Pair → ℕ → Change

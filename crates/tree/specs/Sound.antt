@@ -9,12 +9,9 @@ use Rattle.layout.specs.Layout.{mostKeys, noLeaf, bound32}
 use Rattle.pairs.specs.Pairs.{Pair}
 use Rattle.node.specs.declared.Kind.the-variants.{Leaf, Branch}
 use Rattle.node.specs.Node.{Node, node}
-use Rattle.tree.specs.Table.{Table, pointerAt}
-
--- Keys ascending and in bounds: from low up to below high.
-unfoldable pub ascends : ℕ → ℕ → List Pair → Bool
-ascends low high [] = true
-ascends low high (p ∷ ps) = leb low (p .0) && (ltb (p .0) high && ascends (suc (p .0)) high ps)
+use Rattle.node.specs.Ascends.{ascends}
+use Rattle.node.specs.Search.{pointerAt}
+use Rattle.tree.specs.Table.{Table}
 
 -- What a walk carries: the leaf that must come next, and a mark for each id, 1 once it was reached.
 pub record Walk : Type 0 where

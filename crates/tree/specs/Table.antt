@@ -7,6 +7,7 @@ use lib.Dec.{ltb}
 use Rattle.pairs.specs.Pairs.{Pair}
 use Rattle.node.specs.declared.Kind.the-variants.{Leaf, Branch}
 use Rattle.node.specs.Node.{Node, node}
+use Rattle.node.specs.Search.{pointerAt}
 
 -- Ids run from 0 without gaps: of a table with a count, the entries below the count are the nodes, and node 0 is the root.
 abbrev pub Table : Type 0
@@ -17,18 +18,6 @@ Table = ℕ → Node
 unfoldable pub slot : ℕ → List Pair → ℕ
 slot k [] = 0
 slot k (p ∷ ps) = elim (ltb k (p .0)) [ true ↦ 0 | false ↦ suc (slot k ps) ]
-
--- The pointer at a place: behind all keys it is the last pointer, which leads to the rest.
-abbrev pub pointerAt : List Pair → ℕ → ℕ → ℕ
-pointerAt [] last j = last
-pointerAt (p ∷ ps) last zero = p .1
-pointerAt (p ∷ ps) last (suc j) = pointerAt ps last j
-
--- The key at a place.
-abbrev pub keyAt : List Pair → ℕ → ℕ
-keyAt [] j = 0
-keyAt (p ∷ ps) zero = p .0
-keyAt (p ∷ ps) (suc j) = keyAt ps j
 
 -- The child of a node that a key leads to; a leaf has none.
 abbrev pub childFor : ℕ → Node → Option ℕ

@@ -11,38 +11,16 @@ use Rattle.pairs.specs.Pairs.{Pair, lookup, insert, range, hasAbove}
 use Rattle.node.specs.declared.Kind.the-variants.{Leaf, Branch}
 use Rattle.node.specs.Node.{node, pairsOf}
 use Rattle.node.specs.Change.{put, remove, link}
+use Rattle.node.specs.Ascends.{ascends}
+use Rattle.node.specs.Halves.{lowerHalf, middleKey, upperHalf}
 use Rattle.tree.specs.Table.{Table, slot, path, leafFor}
 use Rattle.tree.specs.NodeRequest.{NodeRequest, read, edit, rewrite, create, applyAll, countAfterAll}
 use Rattle.tree.specs.Get.{getAnswer}
-use Rattle.tree.specs.Put.{
-  lowerHalf,
-  upperHalf,
-  middleKey,
-  renamed,
-  settle,
-  work,
-  finish,
-  fullRun,
-  idsNeeded,
-  putRefused,
-  putRequests,
-}
+use Rattle.tree.specs.Put.{renamed, settle, work, finish, fullRun, idsNeeded, putRefused, putRequests}
 use Rattle.tree.specs.Delete.{deleteRequests}
 use Rattle.tree.specs.Scan.{stopsIn, pairsFrom, leavesAfter, scanRequests, scanAnswer}
 use Rattle.tree.specs.Spells.{joinPointers, pairsOfNode, pairsBelow, mapOf}
-use Rattle.tree.specs.Sound.{
-  ascends,
-  inOrder,
-  visitLeaf,
-  visitChildren,
-  visitBranch,
-  visit,
-  leftmost,
-  allMarked,
-  complete,
-  walkFrom,
-  sound,
-}
+use Rattle.tree.specs.Sound.{inOrder, visitLeaf, visitChildren, visitBranch, visit, leftmost, allMarked, complete, walkFrom, sound}
 
 -- A table with its count; as prepare leaves it, one empty leaf.
 record Book : Type 0 where

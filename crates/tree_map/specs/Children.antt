@@ -10,7 +10,8 @@ use Rattle.laws.specs.Order.{Tri, less, same, more, tri}
 use Rattle.pairs.specs.Pairs.{Pair, insert, Within}
 use Rattle.pairs.specs.Clauses.{insert-before, insert-same, insert-behind}
 use Rattle.pairs.specs.Bounds.{within-tail, within-append}
-use Rattle.tree.specs.Table.{slot, pointerAt, keyAt}
+use Rattle.node.specs.Search.{keyAt, pointerAt}
+use Rattle.tree.specs.Table.{slot}
 use Rattle.tree.specs.Tree.{keysOf, firstOf, joinOf, sumOf, EachChild}
 
 pub slot-before : (k : ℕ) (p : Pair) (ps : List Pair) → k < p .0 → slot k (p ∷ ps) ≡ 0

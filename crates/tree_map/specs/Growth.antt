@@ -16,9 +16,10 @@ use Rattle.pairs.specs.LocalEdit.{LocalEdit}
 use Rattle.node.specs.declared.Kind.the-variants.{Branch}
 use Rattle.node.specs.Node.{Node, node, pairsOf}
 use Rattle.node.specs.Change.{link, change}
+use Rattle.node.specs.Halves.{lowerHalf, middleKey, upperHalf}
 use Rattle.tree.specs.Table.{Table, slot}
 use Rattle.tree.specs.NodeRequest.{changeAll}
-use Rattle.tree.specs.Put.{lowerHalf, upperHalf, middleKey, renamed, parentEdits}
+use Rattle.tree.specs.Put.{renamed, parentEdits}
 use Rattle.tree.specs.Tree.{keysOf, Tree, rootOf, firstLeaf, pairsIn, reached, Holds, Stands}
 use Rattle.tree_map.specs.Children.{lowAt, highAt, nextAt, before, behind, others, length-keysOf, each-childAt, joinOf-childAt, sumOf-childAt, Leads, slot-leads, before-within, behind-within, swapChild, swapLast, keysOf-swap, idOf-swap, length-swap, joinOf-swap, sumOf-swap, firstOf-swap, splitChild, length-split, joinOf-split, sumOf-split, firstOf-split, within-split, insert-split, insert-split-last, swapLast-inside, swapLast-behind, each-swap, each-split}
 use Rattle.tree_map.specs.Ids.{id-same, id-self, used-le, used-below, used-suc}

@@ -11,8 +11,9 @@ use Rattle.layout.specs.Layout.{mostKeys, keptKeys}
 use Rattle.pairs.specs.Pairs.{Pair, Within}
 use Rattle.pairs.specs.Bounds.{within-weaken}
 use Rattle.node.specs.Node.{Node, pairsOf}
-use Rattle.tree.specs.Table.{Table, keyAt}
-use Rattle.tree.specs.Put.{lowerHalf, upperHalf, middleKey}
+use Rattle.node.specs.Halves.{lowerHalf, middleKey, upperHalf}
+use Rattle.node.specs.Search.{keyAt}
+use Rattle.tree.specs.Table.{Table}
 use Rattle.tree.specs.Tree.{keysOf, Tree, rootOf, firstLeaf, pairsIn, reached, Holds, Stands}
 use Rattle.tree_map.specs.Children.{childAt, length-keysOf, pointerAt-keysOf, keysOf-take, keysOf-drop, firstOf-cut, each-cut, joinOf-cut, sumOf-cut}
 

@@ -18,10 +18,12 @@ use Rattle.pairs.specs.Members.{every-insert, every-delete}
 use Rattle.node.specs.declared.Kind.the-variants.{Leaf, Branch}
 use Rattle.node.specs.Node.{Node, node, pairsOf}
 use Rattle.node.specs.Change.{Change, put, remove, link, change}
-use Rattle.tree.specs.Table.{Table, slot, pointerAt, keyAt, path, leafFor}
+use Rattle.node.specs.Halves.{lowerHalf, middleKey, upperHalf}
+use Rattle.node.specs.Search.{keyAt, pointerAt}
+use Rattle.tree.specs.Table.{Table, slot, path, leafFor}
 use Rattle.tree.specs.NodeRequest.{NodeRequest, read, edit, rewrite, create, apply, applyAll, countAfter, changeAll}
 use Rattle.tree.specs.Get.{getAnswer}
-use Rattle.tree.specs.Put.{lowerHalf, upperHalf, middleKey, renamed, fitsNode, Work, finished, pending, settle, work, finish, putRefused, putRequests}
+use Rattle.tree.specs.Put.{renamed, fitsNode, Work, finished, pending, settle, work, finish, putRefused, putRequests}
 use Rattle.tree.specs.Delete.{removalFor, deleteRequests}
 use Rattle.tree.specs.Fit.{Fit, Fits}
 use Rattle.tree.specs.Spells.{Spells}

@@ -12,7 +12,8 @@ use Rattle.layout.specs.Layout.{noLeaf, bound32}
 use Rattle.pairs.specs.Pairs.{Pair}
 use Rattle.node.specs.declared.Kind.the-variants.{Leaf, Branch}
 use Rattle.node.specs.Node.{Node, node}
-use Rattle.tree.specs.Table.{Table, pointerAt}
+use Rattle.node.specs.Search.{pointerAt}
+use Rattle.tree.specs.Table.{Table}
 use Rattle.tree.specs.Tree.{keysOf, firstOf, sumOf, EachChild, Tree, rootOf, firstLeaf, reached, Holds, Stands}
 use Rattle.tree.specs.Spells.{Spells}
 use Rattle.tree_map.specs.Children.{childAt, pointerAt-keysOf, sumOf-childAt}

@@ -17,10 +17,11 @@ use Rattle.pairs.specs.LocalEdit.{LocalEdit}
 use Rattle.node.specs.declared.Kind.the-variants.{Leaf, Branch}
 use Rattle.node.specs.Node.{Node, node, kindOf, pairsOf, Neat}
 use Rattle.node.specs.Change.{Change, put, remove, Suits, change}
+use Rattle.node.specs.Halves.{lowerHalf, middleKey, upperHalf}
 use Rattle.tree.specs.Table.{Table, slot, path}
 use Rattle.tree.specs.NodeRequest.{NodeRequest, edit, rewrite, create, applyAll, changeAll}
 use Rattle.tree.specs.Fit.{Fits}
-use Rattle.tree.specs.Put.{lowerHalf, upperHalf, middleKey, renamed, parentEdits, fitsNode, Work, finished, pending, settle, work}
+use Rattle.tree.specs.Put.{renamed, parentEdits, fitsNode, Work, finished, pending, settle, work}
 use Rattle.tree.specs.Tree.{keysOf, Tree, rootOf, firstLeaf, pairsIn, reached, Holds, Stands}
 use Rattle.tree_map.specs.Children.{lowAt, highAt, nextAt, splitChild, length-keysOf, length-split, lowAt-le}
 use Rattle.tree_map.specs.Standing.{Once, root-used, once-child, holds-keys, holds-most, neat-within}

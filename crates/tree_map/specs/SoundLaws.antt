@@ -19,25 +19,12 @@ use Rattle.layout.specs.Layout.{mostKeys, noLeaf, bound32}
 use Rattle.pairs.specs.Pairs.{Pair, Within}
 use Rattle.node.specs.declared.Kind.the-variants.{Leaf, Branch}
 use Rattle.node.specs.Node.{Node, node}
-use Rattle.tree.specs.Table.{Table, pointerAt}
+use Rattle.node.specs.Ascends.{ascends}
+use Rattle.node.specs.Search.{pointerAt}
+use Rattle.tree.specs.Table.{Table}
 use Rattle.tree.specs.Tree.{keysOf, firstOf, joinOf, sumOf, EachChild, Tree, rootOf, firstLeaf, pairsIn, reached, Holds, Stands}
 use Rattle.tree.specs.Spells.{Spells, joinPointers, pairsOfNode, pairsBelow, mapOf}
-use Rattle.tree.specs.Sound.{
-  ascends,
-  Walk,
-  inOrder,
-  visitLeaf,
-  visitChildren,
-  visitBranch,
-  visit,
-  Leftmost,
-  leftmost,
-  allMarked,
-  noMarks,
-  complete,
-  walkFrom,
-  sound,
-}
+use Rattle.tree.specs.Sound.{Walk, inOrder, visitLeaf, visitChildren, visitBranch, visit, Leftmost, leftmost, allMarked, noMarks, complete, walkFrom, sound}
 use Rattle.tree_map.specs.Children.{childAt, length-keysOf, pointerAt-keysOf, each-childAt}
 use Rattle.tree_map.specs.Ids.{id-self, id-other, used-in, used-out, used-le, used-below}
 use Rattle.tree_map.specs.Size.{depth-count}

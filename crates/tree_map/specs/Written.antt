@@ -17,11 +17,12 @@ use Rattle.pairs.specs.LocalEdit.{LocalEdit}
 use Rattle.node.specs.declared.Kind.the-variants.{Branch}
 use Rattle.node.specs.Node.{Node, node, pairsOf, Neat}
 use Rattle.node.specs.Change.{Change}
+use Rattle.node.specs.Halves.{lowerHalf, middleKey, upperHalf}
 use Rattle.tree.specs.Table.{Table, path}
 use Rattle.tree.specs.NodeRequest.{NodeRequest, read, rewrite, create, applyAll, countAfterAll, changeAll}
 use Rattle.tree.specs.Fit.{Fits}
 use Rattle.tree.specs.Get.{readsTo}
-use Rattle.tree.specs.Put.{lowerHalf, upperHalf, middleKey, fitsNode, Work, finished, pending, work, finish, writeRequests}
+use Rattle.tree.specs.Put.{fitsNode, Work, finished, pending, work, finish, writeRequests}
 use Rattle.tree.specs.Tree.{Tree, rootOf, pairsIn, reached, Holds}
 use Rattle.tree.specs.Spells.{Spells}
 use Rattle.tree_map.specs.Ids.{used-suc}
