@@ -5,14 +5,14 @@ use mathlib.Core.List.{List, [], _∷_, _++_, map}
 use mathlib.Core.Option.{Option, none, some}
 use Prim.Native.Nat.{ℕ, suc, _+_}
 use lib.Dec.{eqb, ltb, leb}
-use lib.ListN.{length, take, drop}
-use Rattle.layout.specs.Layout.{mostKeys, keptKeys}
+use lib.ListN.{length}
+use Rattle.layout.specs.Layout.{mostKeys}
 use Rattle.pairs.specs.Pairs.{Pair}
-use Rattle.node.specs.declared.Kind.the-variants.{Leaf, Branch}
+use Rattle.node.specs.declared.Kind.the-variants.{Branch}
 use Rattle.node.specs.Node.{Node, node, pairsOf}
 use Rattle.node.specs.Change.{Change, put, link}
 use Rattle.node.specs.Halves.{lowerHalf, middleKey, upperHalf}
-use Rattle.node.specs.Search.{keyAt, pointerAt}
+use Rattle.node.specs.Search.{keyAt}
 use Rattle.tree.specs.Table.{Table, slot, path}
 use Rattle.tree.specs.NodeRequest.{NodeRequest, edit, rewrite, create, changeAll}
 use Rattle.tree.specs.Get.{readsTo, getAnswer}
