@@ -22,6 +22,7 @@ use Rattle.pairs.specs.Pairs.{Pair}
 use Rattle.pairs.specs.Pairs as Pairs
 use Rattle.node.specs.declared.Kind.the-variants.{Leaf}
 use Rattle.node.specs.Node.{Node, node}
+use Rattle.node.specs.Ascends.{ascends}
 use Rattle.node.specs.Replay as Replay
 use Rattle.page.specs.Page.{Page, page, log, checkpoint}
 use Rattle.tree.specs.Sound as Sound
@@ -181,7 +182,7 @@ module _ (blocks : ℕ) (t : Tariff) (four : fewestBlocks ≤ blocks) where
 
   module _ (r : Ranged t) where
     tree : treeSound blocks t st ≡ true
-    unfolding treeSound stateOf threePages scoresBelow Sound.sound Sound.complete Sound.walkFrom Sound.visit Sound.visitLeaf Sound.leftmost Sound.inOrder Sound.ascends Sound.allMarked
+    unfolding treeSound stateOf threePages scoresBelow Sound.sound Sound.complete Sound.walkFrom Sound.visit Sound.visitLeaf Sound.leftmost Sound.inOrder ascends Sound.allMarked
     tree =
         rw (book-is, set-is, le-leb 1 (nodeLimit blocks) (omega arith), one-page, ranged-inRange t r, lt-ltb 0 (limit t) (limit-some r)) refl
 
