@@ -1,5 +1,5 @@
 -- Fields laid and read: a field is found where it was laid, and what is found as a field is one. Assumes nothing.
-use mathlib.Core.Path.{_≡_, refl, sym, ap, ap₂, _∙_}
+use mathlib.Core.Path.{_≡_, refl, sym, ap, ap₂, subst, _∙_}
 use mathlib.Core.Bool.{Bool, true, false, _&&_, true≢false}
 use mathlib.Core.List.{List, [], _∷_, _++_, append-assoc}
 use Prim.Native.Nat.{ℕ, zero, suc, _+_, _-_, _^_, _≤_, _<_}
@@ -20,6 +20,7 @@ use Rattle.laws.specs.BigEndian.{
   Bytes,
   bigEndian-numberAt,
   numberAt-lt,
+  bytes-part,
 }
 use Rattle.wire.specs.Tag.{lengthOf, allowed}
 use Rattle.wire.specs.Field.{head, field, lengthAt, fieldAt, payloadOf, payloadAt, isPayload, standsAt}
@@ -121,3 +122,43 @@ part-field s at tag b h =
     let two : part s (at + 1) 2 ≡ bigEndian 2 (lengthAt s at) = sym (bigEndian-numberAt 2 s (at + 1) b (omega (arith, h .within))) in
     part-add s at 3 (lengthAt s at) ∙
     ap₂ _++_ (one ∙ ap (λ (x : List ℕ). tag ∷ x) (two ∙ ap (bigEndian 2) (sym l))) (sym (h .payload-is))
+
+-- The payload is empty where no field stands, so a payload that is not shows a field.
+payloadAt-none : (s : List ℕ) (at tag : ℕ) → standsAt s at tag ≡ false → payloadAt s at tag ≡ []
+unfolding standsAt payloadAt
+payloadAt-none s at tag t = go (fieldAt s at tag) t
+  where
+    go : (f : Field) → isPayload f ≡ false → payloadOf s f ≡ []
+    go (Payload start end) e = absurd (true≢false e)
+    go Missing e = refl
+    go Foreign e = refl
+    go Overlong e = refl
+
+pub payloadAt-other : (front : List ℕ) (other : ℕ) (p rest : List ℕ) (tag : ℕ) → (other ≡ tag → ⊥) →
+    payloadAt (front ++ (field other p ++ rest)) (length front) tag ≡ []
+payloadAt-other front other p rest tag h =
+    payloadAt-none (front ++ (field other p ++ rest)) (length front) tag (standsAt-other front other p rest tag h)
+
+pub stands-payload : (s : List ℕ) (at tag : ℕ) → 1 ≤ length (payloadAt s at tag) → Stands s at tag
+stands-payload s at tag h = go (standsAt s at tag) refl
+  where
+    go : (b : Bool) → standsAt s at tag ≡ b → Stands s at tag
+    go true t = stands-is s at tag t
+    go false t = absurd (omega (arith, ap length (payloadAt-none s at tag t)))
+
+-- The length that stands there is the payload's.
+module _ (s : List ℕ) (at tag : ℕ) (h : Stands s at tag) where
+  pub lengthAt-payload : lengthAt s at ≡ length (payloadAt s at tag)
+  lengthAt-payload = sym (ap length (h .payload-is) ∙ length-part s (at + 3) (lengthAt s at) (h .within))
+
+  pub stands-within : at + (3 + length (payloadAt s at tag)) ≤ length s
+  stands-within = omega (arith, lengthAt-payload, h .within)
+
+  pub part-payload : Bytes s → part s at (3 + length (payloadAt s at tag)) ≡ field tag (payloadAt s at tag)
+  part-payload b = ap (λ (n : ℕ). part s at (3 + n)) (sym lengthAt-payload) ∙ part-field s at tag b h
+
+  pub allowed-payload : allowed (lengthOf tag) (length (payloadAt s at tag)) ≡ true
+  allowed-payload = ap (allowed (lengthOf tag)) (sym lengthAt-payload) ∙ h .may
+
+pub bytes-payload : (s : List ℕ) (at tag : ℕ) → Bytes s → Stands s at tag → Bytes (payloadAt s at tag)
+bytes-payload s at tag b h = subst Bytes (sym (h .payload-is)) (bytes-part (at + 3) (lengthAt s at) b)

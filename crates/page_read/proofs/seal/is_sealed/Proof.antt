@@ -1,0 +1,82 @@
+use mathlib.Core.Path.{_≡_, sym, ap, _∙_}
+use mathlib.Core.List.{List}
+use Prim.Native.Nat.{ℕ, _+_, _-_, _≤_}
+use native.Mathlib.Omega.{arith}
+use lib.ListN.{length, take, drop, length-drop}
+use lib.Seq.{length-take-le, take-all}
+use Rattle.laws.specs.BigEndian.{numberAt}
+use Rattle.wire.specs.declared.sum.Sums.{Sums}
+use Rattle.page.specs.Decode.{allBlank}
+use Rattle.page_read.specs.Payload.{sums-within}
+use Rattle.page_read.specs.Steps.{no-sums, other-b, other-a, both-sums}
+use borrow.Author.Needs.{needs}
+use Rattle.page_read.proofs.seal.is_sealed.Statement.{statement}
+use Rattle.page_read.proofs.seal.is_sealed.Tie as tie
+
+payload-requires : tie.Need-payload-requires
+payload-requires c κs = search needs
+
+returns : tie.Need-returns
+returns c = no-sums (c .before .before .before .args .page .now) (c .before .before .before .args .end) (λ z. c .if1 .taken (ap length (c .before .payload .ensures) ∙ z))
+
+slice-aggregate-sum-bytes : tie.Need-slice-aggregate-sum-bytes
+slice-aggregate-sum-bytes c = sym (length-take-le (c .before .before .before .before .args .end) (c .before .before .before .before .args .page .now) (omega (arith, sums-within (c .before .before .before .before .args .page .now) (c .before .before .before .before .args .end) (ap length (sym (c .before .before .payload .ensures)) ∙ c .before .if1 .left))))
+
+sum-bytes-requires : tie.Need-sum-bytes-requires
+sum-bytes-requires c κs =
+    let w = sums-within (c .before .before .before .before .args .page .now) (c .before .before .before .before .args .end) (ap length (sym (c .before .before .payload .ensures)) ∙ c .before .if1 .left) in
+    omega (arith, length-take-le (c .before .before .before .before .args .end) (c .before .before .before .before .args .page .now) (omega arith), c .before .before .before .before .pre)
+
+read16-requires : tie.Need-read16-requires
+read16-requires c κs = search needs
+
+returns-2 : tie.Need-returns-2
+returns-2 c = let a = c .before .before .before .before .before .before .before .before .args in
+    let q = c .before .before .before .before .before .before .payload .ensures in
+    let r : numberAt 2 (c .before .before .before .before .before .before .payload .result .now) 0 ≡ c .before .before .read16 .result = sym (c .before .before .read16 .ensures .is) in
+    other-b (a .page .now) (a .end) (ap length (sym q) ∙ c .before .before .before .before .before .if1 .left)
+    (λ z. c .if2 .taken (sym r ∙ ap (λ (l : List ℕ). numberAt 2 l 0) q ∙ z ∙ sym (ap (λ (s : Sums). s .b) (c .before .before .before .sum-bytes .ensures))))
+
+read16-requires-2 : tie.Need-read16-requires-2
+read16-requires-2 c κs = search needs
+
+returns-3 : tie.Need-returns-3
+returns-3 c = let a = c .before .before .before .before .before .before .before .before .before .before .before .args in
+    let q = c .before .before .before .before .before .before .before .before .before .payload .ensures in
+    let b = c .before .before .before .before .before .read16 .ensures .is in
+    let d = c .before .before .read162 .ensures .is in
+    let s = c .before .before .before .before .before .before .sum-bytes .ensures in
+    other-a (a .page .now) (a .end) (ap length (sym q) ∙ c .before .before .before .before .before .before .before .before .if1 .left)
+    (ap (λ (l : List ℕ). numberAt 2 l 0) (sym q) ∙ sym b ∙ c .before .before .before .if2 .left ∙ ap (λ (x : Sums). x .b) s)
+    (λ z. c .if3 .taken (d ∙ ap (λ (l : List ℕ). numberAt 2 l 2) q ∙ z ∙ sym (ap (λ (x : Sums). x .a) s)))
+
+add-all-blank : tie.Need-add-all-blank
+add-all-blank c = omega (arith, sums-within (c .before .before .before .before .before .before .before .before .before .before .before .args .page .now) (c .before .before .before .before .before .before .before .before .before .before .before .args .end) (ap length (sym (c .before .before .before .before .before .before .before .before .before .payload .ensures)) ∙ c .before .before .before .before .before .before .before .before .if1 .left))
+
+sub-all-blank : tie.Need-sub-all-blank
+sub-all-blank c = omega (arith, sums-within (c .before .before .before .before .before .before .before .before .before .before .before .args .page .now) (c .before .before .before .before .before .before .before .before .before .before .before .args .end) (ap length (sym (c .before .before .before .before .before .before .before .before .before .payload .ensures)) ∙ c .before .before .before .before .before .before .before .before .if1 .left))
+
+part-all-blank-start : tie.Need-part-all-blank-start
+part-all-blank-start c = omega (arith, sums-within (c .before .before .before .before .before .before .before .before .before .before .before .args .page .now) (c .before .before .before .before .before .before .before .before .before .before .before .args .end) (ap length (sym (c .before .before .before .before .before .before .before .before .before .payload .ensures)) ∙ c .before .before .before .before .before .before .before .before .if1 .left))
+
+part-all-blank-end : tie.Need-part-all-blank-end
+part-all-blank-end c = search needs
+
+all-blank-requires : tie.Need-all-blank-requires
+all-blank-requires c κs = search needs
+
+returns-4 : tie.Need-returns-4
+returns-4 c = let a = c .before .before .before .before .before .before .before .before .before .before .before .before .before .args in
+    let q = c .before .before .before .before .before .before .before .before .before .before .before .payload .ensures in
+    let b = c .before .before .before .before .before .before .before .read16 .ensures .is in
+    let d = c .before .before .before .before .read162 .ensures .is in
+    let s = c .before .before .before .before .before .before .before .before .sum-bytes .ensures in
+    let w : length (drop (a .end + 7) (a .page .now)) ≤ length (a .page .now) - (a .end + 7) = simp length-drop (omega arith) in
+    c .all-blank .ensures ∙
+    ap allBlank (take-all (length (a .page .now) - (a .end + 7)) (drop (a .end + 7) (a .page .now)) w) ∙
+    both-sums (a .page .now) (a .end) (ap length (sym q) ∙ c .before .before .before .before .before .before .before .before .before .before .if1 .left)
+    (ap (λ (l : List ℕ). numberAt 2 l 0) (sym q) ∙ sym b ∙ c .before .before .before .before .before .if2 .left ∙ ap (λ (x : Sums). x .b) s)
+    (ap (λ (l : List ℕ). numberAt 2 l 2) (sym q) ∙ sym d ∙ c .before .before .if3 .left ∙ ap (λ (x : Sums). x .a) s)
+
+pub is-sealed-spec : {M : Type 1} → statement M
+is-sealed-spec = tie.close (tie.spec payload-requires returns slice-aggregate-sum-bytes sum-bytes-requires read16-requires returns-2 read16-requires-2 returns-3 add-all-blank sub-all-blank part-all-blank-start part-all-blank-end all-blank-requires returns-4)

@@ -1,0 +1,31 @@
+use mathlib.Core.Path.{sym, ap, _∙_}
+use lib.ListN.{length}
+use Rattle.laws.specs.BigEndian.{number}
+use Rattle.page.specs.Tags.{only-10}
+use Rattle.page_read.specs.Payload.{payload-empty, number-whole}
+use borrow.Author.Needs.{needs}
+use Rattle.page_read.proofs.seal.sequence.Statement.{statement}
+use Rattle.page_read.proofs.seal.sequence.Tie as tie
+use Rattle.page_read.proofs.seal.sequence.Reads as reads
+use Rattle.page_read.proofs.seal.sequence.Lts as lts
+use Rattle.wire.proofs.field.payload.Reads as payload-reads
+use Rattle.wire.proofs.number.read32.Reads as read32-reads
+
+-- src/seal.rt:32:9
+payload-requires : tie.Need-payload-requires
+payload-requires c κs = search needs
+
+-- src/seal.rt:34:9
+returns : tie.Need-returns
+returns c = sym (ap number (payload-empty (c .before .before .before .args .page .now) 0 0x10 4 only-10 (λ z. c .if1 .taken (ap length (c .before .payload .ensures) ∙ z))))
+
+-- src/seal.rt:36:5
+read32-requires : tie.Need-read32-requires
+read32-requires c κs = search needs
+
+-- src/seal.rt:29:1
+returns-2 : tie.Need-returns-2
+returns-2 c = c .read32 .ensures .is ∙ number-whole (c .before .before .payload .result .now) 4 (c .before .if1 .left) ∙ ap number (c .before .before .payload .ensures)
+
+pub sequence-spec : {M : Type 1} → statement M
+sequence-spec = tie.close (tie.spec payload-requires returns read32-requires returns-2)

@@ -1,0 +1,4 @@
+pub mod Asked
+pub mod View
+pub mod Payload
+pub mod Steps

@@ -1,0 +1,74 @@
+use mathlib.Core.Path.{_≡_, sym, ap, _∙_}
+use native.Mathlib.Omega.{arith}
+use lib.ListN.{take}
+use lib.Seq.{length-take-le}
+use Rattle.wire.specs.declared.sum.Sums.{Sums}
+use Rattle.wire.specs.Sum.{sumsOf-small}
+use Rattle.page_write.specs.Laid.{sums-laid}
+use borrow.Author.Needs.{needs}
+use Rattle.page_write.proofs.frame.lay_sums.Statement.{statement}
+use Rattle.page_write.proofs.frame.lay_sums.Tie as tie
+use Rattle.page_write.proofs.frame.lay_sums.Reads as reads
+use Rattle.page_write.proofs.frame.lay_sums.Lts as lts
+use Rattle.wire.proofs.field.lay_head.Reads as lay-head-reads
+use Rattle.wire.proofs.number.write16.Reads as write16-reads
+use Rattle.wire.proofs.sum.sum_bytes.Reads as sum-bytes-reads
+
+-- src/frame.rt:31:23
+slice-reshare-prefix-sum-bytes : tie.Need-slice-reshare-prefix-sum-bytes
+slice-reshare-prefix-sum-bytes c = search needs
+
+-- src/frame.rt:31:23
+slice-aggregate-sum-bytes : tie.Need-slice-aggregate-sum-bytes
+slice-aggregate-sum-bytes c = sym (length-take-le (c .before .before .args .end) (c .before .before .args .p .now) (omega arith))
+
+-- src/frame.rt:31:9
+sum-bytes-requires : tie.Need-sum-bytes-requires
+sum-bytes-requires c κs = omega (arith, length-take-le (c .before .before .args .end) (c .before .before .args .p .now) (omega arith))
+
+-- src/frame.rt:34:5
+lay-head-requires : tie.Need-lay-head-requires
+lay-head-requires c κs = search needs
+
+-- src/frame.rt:35:16
+add-write16 : tie.Need-add-write16
+add-write16 c = search needs
+
+-- src/frame.rt:35:5
+write16-requires : tie.Need-write16-requires
+write16-requires c κs = rw (c .before .before .before .before .before .sum-bytes .ensures) (omega (arith, c .before .before .before .lay-head .kept .0, sumsOf-small (take (c .before .before .before .before .before .before .before .before .args .end) (c .before .before .before .before .before .before .before .before .args .p .now)) .b))
+
+-- src/frame.rt:36:16
+add-write16-2 : tie.Need-add-write16-2
+add-write16-2 c = search needs
+
+-- src/frame.rt:36:5
+write16-requires-2 : tie.Need-write16-requires-2
+write16-requires-2 c κs = rw (c .before .before .before .before .before .before .before .before .before .sum-bytes .ensures) (omega (arith, c .before .before .before .write16 .kept .0, c .before .before .before .before .before .before .before .lay-head .kept .0, sumsOf-small (take (c .before .before .before .before .before .before .before .before .before .before .before .before .args .end) (c .before .before .before .before .before .before .before .before .before .before .before .before .args .p .now)) .a))
+
+-- src/frame.rt:27:1
+same-length : tie.Need-same-length
+same-length c = search needs
+
+-- src/frame.rt:27:1
+returns : tie.Need-returns
+returns c = let a = c .before .before .before .before .before .before .before .before .before .before .before .before .before .before .before .args in
+    c .before .before .write162 .ensures ∙
+    rw (c .before .before .before .before .before .before .write16 .ensures, c .before .before .before .before .before .before .before .before .before .before .lay-head .ensures)
+    (sums-laid (a .p .now) (a .end) (take (a .end) (a .p .now)) _ _ (omega arith)
+    (ap (λ (s : Sums). s .a) (c .before .before .before .before .before .before .before .before .before .before .before .before .sum-bytes .ensures)) (ap (λ (s : Sums). s .b) (c .before .before .before .before .before .before .before .before .before .before .before .before .sum-bytes .ensures)))
+
+pub lay-sums-spec : {M : Type 1} → statement M
+lay-sums-spec =
+    tie.close
+    (tie.spec
+    slice-reshare-prefix-sum-bytes
+    slice-aggregate-sum-bytes
+    sum-bytes-requires
+    lay-head-requires
+    add-write16
+    write16-requires
+    add-write16-2
+    write16-requires-2
+    same-length
+    returns)

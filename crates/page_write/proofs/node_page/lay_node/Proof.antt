@@ -1,0 +1,68 @@
+use mathlib.Core.Path.{_≡_, _∙_}
+use Prim.Native.Nat.{_+_, _*_}
+use native.Mathlib.Omega.{arith}
+use Rattle.laws.specs.Lay.{lay}
+use Rattle.page_write.specs.Laid.{summed-laid}
+use Rattle.page_write.specs.Pages.{nodePage, bodyOf}
+use Rattle.page_write.specs.Parts.{node-laid, length-nodeBody}
+use borrow.Author.Needs.{needs}
+use Rattle.page_write.proofs.node_page.lay_node.Statement.{statement}
+use Rattle.page_write.proofs.node_page.lay_node.Tie as tie
+use Rattle.page_write.proofs.node_page.lay_node.Reads as reads
+use Rattle.page_write.proofs.node_page.lay_node.Lts as lts
+use Rattle.page_write.proofs.frame.lay_sequence.Reads as lay-sequence-reads
+use Rattle.page_write.proofs.frame.lay_sums.Reads as lay-sums-reads
+use Rattle.page_write.proofs.node_page.lay_node_head.Reads as lay-node-head-reads
+use Rattle.page_write.proofs.node_page.lay_pairs.Reads as lay-pairs-reads
+
+-- src/node_page.rt:70:5
+lay-sequence-requires : tie.Need-lay-sequence-requires
+lay-sequence-requires c κs = search needs
+
+-- src/node_page.rt:71:5
+lay-node-head-requires : tie.Need-lay-node-head-requires
+lay-node-head-requires c κs = search needs
+
+-- src/node_page.rt:72:5
+lay-pairs-requires : tie.Need-lay-pairs-requires
+lay-pairs-requires c κs = search needs
+
+-- src/node_page.rt:73:22
+mul-lay-sums : tie.Need-mul-lay-sums
+mul-lay-sums c = search needs
+
+-- src/node_page.rt:73:17
+add-lay-sums : tie.Need-add-lay-sums
+add-lay-sums c = search needs
+
+-- src/node_page.rt:73:5
+lay-sums-requires : tie.Need-lay-sums-requires
+lay-sums-requires c κs = search needs
+
+-- src/node_page.rt:65:1
+same-length : tie.Need-same-length
+same-length c = search needs
+
+-- src/node_page.rt:65:1
+returns : tie.Need-returns
+returns c = let a = c .before .before .before .before .before .before .before .before .before .before .before .before .before .before .before .before .before .before .before .args in
+    let body = bodyOf (nodePage (a .sequence) (a .id) (a .kind) (a .n) (a .keys .now) (a .pointers .now) (a .link)) in
+    let e : c .before .before .before .before .before .before .lay-pairs .last .0 ≡ lay (a .p .now) 0 body =
+        c .before .before .before .before .before .before .lay-pairs .ensures ∙
+        rw (c .before .before .before .before .before .before .before .before .before .before .lay-node-head .ensures, c .before .before .before .before .before .before .before .before .before .before .before .before .before .before .lay-sequence .ensures)
+        (node-laid (a .p .now) (a .sequence) (a .id) (a .kind) (a .n) (a .keys .now) (a .pointers .now) (a .link) (omega (arith, c .before .before .before .before .before .before .before .before .before .before .before .before .before .before .before .before .before .before .before .pre))) in
+    c .before .before .lay-sums .ensures ∙
+    rw e (summed-laid (a .p .now) body (17 + 8 * a .n) (length-nodeBody (a .sequence) (a .id) (a .kind) (a .n) (a .keys .now) (a .pointers .now) (a .link)))
+
+pub lay-node-spec : {M : Type 1} → statement M
+lay-node-spec =
+    tie.close
+    (tie.spec
+    lay-sequence-requires
+    lay-node-head-requires
+    lay-pairs-requires
+    mul-lay-sums
+    add-lay-sums
+    lay-sums-requires
+    same-length
+    returns)

@@ -1,0 +1,4 @@
+pub mod Chunks
+pub mod Laid
+pub mod Pages
+pub mod Parts
