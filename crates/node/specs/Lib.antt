@@ -1,3 +1,13 @@
 pub mod Node
 pub mod Change
 pub mod Replay
+pub mod Splice
+pub mod Search
+pub mod Found
+pub mod Ascends
+pub mod Value
+pub mod Edits
+pub mod Halves
+pub mod ReplayLaws
+pub mod Drafts
+pub mod Repoint

@@ -1,8 +1,47 @@
-// A tree node by value.
+// A tree node by value: the search in it, its edits, and its replay from log entries.
+pub mod edit;
+pub mod replay;
+pub mod search;
+pub mod splice;
 
 // Document 01's types 3 and 4: a leaf holds the map's pairs and a link to the next leaf, a branch holds keys with child
 // pointers and a last pointer.
 pub enum Kind {
     Leaf,
     Branch,
+}
+
+// A node: the first `count` keys, ascending, with the pointers beside them, and the link.
+pub struct NodeValue {
+    pub kind: Kind,
+    pub count: usize,
+    pub keys: [u32; 24],
+    pub pointers: [u32; 24],
+    pub link: u32,
+}
+
+// What a search for a key finds: its place, or the place of the first key above it.
+pub enum Found {
+    At(usize),
+    Above(usize),
+}
+
+// How far the replay of a node has come: no link yet; a node; or no node, since its entries break a rule.
+pub enum DraftState {
+    Unlinked,
+    Made,
+    Broken,
+}
+
+// A node being replayed.
+pub struct DraftValue {
+    pub state: DraftState,
+    pub node: NodeValue,
+}
+
+// One change of a node: what one log entry says.
+pub enum ChangeValue {
+    Put { key: u32, pointer: u32 },
+    Remove { key: u32 },
+    Link { kind: Kind, link: u32 },
 }

@@ -1,6 +1,6 @@
 -- The plain ordered map: pairs of a key and a value, by ascending key. It is what demand 2 compares the book with, and what a
 -- tree node holds (document 01: "route, word"; in a branch the value is a pointer). Assumes nothing.
-use mathlib.Core.Bool.{Bool, true, false}
+use mathlib.Core.Bool.{Bool, true, false, _||_}
 use mathlib.Core.List.{List, [], _∷_}
 use mathlib.Core.Option.{Option, none, some}
 use Prim.Native.Nat.{ℕ, zero, suc, _+_, _≤_, _<_}
@@ -37,6 +37,11 @@ range low high (suc most) (p ∷ ps) =
       | true ↦ range low high (suc most) ps
       | false ↦ elim (ltb high (p .0)) [ true ↦ [] | false ↦ p ∷ range low high most ps ]
     ]
+
+-- whether a key is above the high one
+unfoldable pub hasAbove : ℕ → List Pair → Bool
+hasAbove high [] = false
+hasAbove high (p ∷ ps) = ltb high (p .0) || hasAbove high ps
 
 -- keys ascending, from low up to below high
 unfoldable pub Within : ℕ → ℕ → List Pair → Type 0

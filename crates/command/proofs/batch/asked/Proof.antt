@@ -1,0 +1,103 @@
+-- `command::batch::asked` meets its contract: the invariant says that what is left, with the bytes so far, asks for what the whole
+-- batch asks for. Assumes nothing.
+use mathlib.Core.Path.{_≡_, refl, sym, ap, ap₂, _∙_}
+use Prim.Native.Nat.{ℕ, _+_, _-_, _*_, _≤_, _<_}
+use native.Mathlib.Omega.{arith}
+use borrow.Author.Needs.{needs}
+use lib.ListN.{length}
+use Rattle.command.specs.declared.Command.{Command}
+use Rattle.command.specs.declared.Step.{Step}
+use Rattle.command.specs.declared.Step.the-variants.{Next, Invalid}
+use Rattle.command.specs.Command.{commandAt, Onward, Small}
+use Rattle.command.specs.CommandLaws.{commandAt-onward}
+use Rattle.command.specs.Batch.{commandsFrom, roomFor, askedOf}
+use Rattle.command.specs.BatchLaws.{askedWith, asked-long, asked-start, asked-turn, asked-invalid, asked-end, roomFor-le}
+use Rattle.command.proofs.batch.asked.Statement.{statement}
+use Rattle.command.proofs.batch.asked.Tie as tie
+
+abbrev Inv-loop : tie.InvT-loop
+Inv-loop s at₀ bytes₀ at bytes =
+    (at ≤ length s) × (bytes ≤ 259 * at) × (askedWith bytes (commandsFrom s at) ≡ askedOf s)
+
+abbrev μ-loop : tie.MeasureT-loop
+μ-loop s at₀ bytes₀ at bytes = length s - at
+
+-- the command found, and that it goes on
+step-is : (c : tie.After-known-told Inv-loop μ-loop) →
+    commandAt (c .before .before .before .before .before .before .before .before .args .s .now) (c .before .before .before .before .before .loop .at) ≡
+    Next (c .before .step .given .0 .0) (c .before .step .given .0 .1 .0)
+step-is c = sym (c .before .before .before .command-at .ensures) ∙ c .before .step .given .1
+
+onward : (c : tie.After-known-told Inv-loop μ-loop) →
+    Onward (c .before .before .before .before .before .before .before .before .args .s .now) (c .before .before .before .before .before .loop .at) (Next (c .before .step .given .0 .0) (c .before .step .given .0 .1 .0))
+onward c = rw (step-is c) at (commandAt-onward (c .before .before .before .before .before .before .before .before .args .s .now) (c .before .before .before .before .before .loop .at))
+
+returns : tie.Need-returns Inv-loop μ-loop
+returns c = asked-long _ (c .if1 .taken)
+
+loop-holds : tie.Need-loop-holds Inv-loop μ-loop
+loop-holds c = (omega arith, omega arith, asked-start _ (c .if1 .left))
+
+command-at-requires : tie.Need-command-at-requires Inv-loop μ-loop
+command-at-requires c κs = search needs
+
+enum-known-step : tie.Need-enum-known-step Inv-loop μ-loop
+enum-known-step c = search needs
+
+room-for-requires : tie.Need-room-for-requires Inv-loop μ-loop
+room-for-requires c κs = search needs
+
+add-bytes : tie.Need-add-bytes Inv-loop μ-loop
+add-bytes c =
+    let w = onward (c .before) in
+    let turn = c .before .before .before .before .before .before .loop in
+    omega (arith, c .room-for .ensures, roomFor-le (c .before .before .step .given .0 .0) (w .2), turn .inv .0, turn .inv .1, c .before .before .before .before .before .before .before .if1 .left)
+
+loop-less : tie.Need-loop-less Inv-loop μ-loop
+loop-less c =
+    let w = onward (c .before) in
+    omega (arith, w .0, w .1, c .before .before .before .before .before .loop-test .taken)
+
+loop-again : tie.Need-loop-again Inv-loop μ-loop
+loop-again c =
+    let w = onward (c .before) in
+    let turn = c .before .before .before .before .before .before .loop in
+    let s = c .before .before .before .before .before .before .before .before .before .args .s .now in
+    let next = c .before .before .step .given .0 .1 .0 in
+    (w .1,
+    omega (arith, w .0, c .room-for .ensures, roomFor-le (c .before .before .step .given .0 .0) (w .2), turn .inv .1),
+    ap (λ (n : ℕ). askedWith (turn .bytes + n) (commandsFrom s next)) (c .room-for .ensures) ∙
+    asked-turn s (turn .at) (turn .bytes) (c .before .before .before .before .before .loop-test .taken) _ next (step-is (c .before)) (turn .inv .2))
+
+enum-told : tie.Need-enum-told Inv-loop μ-loop
+enum-told c = search needs
+
+returns-2 : tie.Need-returns-2 Inv-loop μ-loop
+returns-2 c =
+    let turn = c .before .before .before .before .loop in
+    asked-invalid _ (turn .at) (turn .bytes) (c .before .before .before .loop-test .taken)
+    (sym (c .before .before .command-at .ensures) ∙ c .enum-told .given .1)
+    (turn .inv .2)
+
+returns-3 : tie.Need-returns-3 Inv-loop μ-loop
+returns-3 c =
+    let turn = c .before .loop in
+    asked-end _ (turn .at) (turn .bytes) (c .loop-test .left) (turn .inv .2)
+
+pub asked-spec : {M : Type 1} → statement M
+asked-spec =
+    tie.close
+    (tie.spec
+    Inv-loop
+    μ-loop
+    returns
+    loop-holds
+    command-at-requires
+    enum-known-step
+    room-for-requires
+    add-bytes
+    loop-less
+    loop-again
+    enum-told
+    returns-2
+    returns-3)

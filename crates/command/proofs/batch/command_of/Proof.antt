@@ -1,0 +1,81 @@
+-- `command::batch::command_of` meets its contract: each tag has the payload length of the table, and its numbers stand in it. Assumes nothing.
+use mathlib.Core.Path.{_≡_, refl, sym, ap, ap₂, _∙_}
+use Prim.Native.Nat.{ℕ, _+_, _-_, _*_, _≤_, _<_}
+use native.Mathlib.Omega.{arith}
+use borrow.Author.Needs.{needs}
+use Rattle.command.specs.declared.Command.the-variants.{Get, Put, Delete, Scan}
+use Rattle.command.specs.declared.Step.{Step}
+use Rattle.command.specs.declared.Step.the-variants.{Next, Invalid}
+use Rattle.command.specs.Command.{commandOf, stepAs}
+use Rattle.command.specs.CommandLaws.{
+  payload-get,
+  payload-put,
+  payload-delete,
+  payload-scan,
+  commandOf-get,
+  commandOf-put,
+  commandOf-delete,
+  commandOf-other,
+}
+use Rattle.command.proofs.batch.command_of.Statement.{statement}
+use Rattle.command.proofs.batch.command_of.Tie as tie
+
+read32-requires : tie.Need-read32-requires
+read32-requires c κs = omega (arith, payload-get _ _ (c .before .before .pre) (c .if1 .taken))
+
+returns : tie.Need-returns
+returns c =
+    let a = c .before .before .before .args in
+    ap (λ (k : ℕ). Next (Get k) (a .next)) (c .read32 .ensures .is) ∙
+    sym (ap (stepAs (a .next)) (commandOf-get (a .tag) (a .p .now) (c .before .if1 .taken)))
+
+read32-requires-2 : tie.Need-read32-requires-2
+read32-requires-2 c κs = omega (arith, payload-put _ _ (c .before .before .before .pre) (c .if2 .taken))
+
+read32-requires-3 : tie.Need-read32-requires-3
+read32-requires-3 c κs = omega (arith, payload-put _ _ (c .before .before .before .before .pre) (c .before .if2 .taken))
+
+returns-2 : tie.Need-returns-2
+returns-2 c =
+    let a = c .before .before .before .before .before .args in
+    ap₂ (λ (k v : ℕ). Next (Put k v) (a .next)) (c .before .read322 .ensures .is) (c .read323 .ensures .is) ∙
+    sym (ap (stepAs (a .next)) (commandOf-put (a .tag) (a .p .now) (c .before .before .if2 .taken)))
+
+read32-requires-4 : tie.Need-read32-requires-4
+read32-requires-4 c κs = omega (arith, payload-delete _ _ (c .before .before .before .before .pre) (c .if3 .taken))
+
+returns-3 : tie.Need-returns-3
+returns-3 c =
+    let a = c .before .before .before .before .before .args in
+    ap (λ (k : ℕ). Next (Delete k) (a .next)) (c .read324 .ensures .is) ∙
+    sym (ap (stepAs (a .next)) (commandOf-delete (a .tag) (a .p .now) (c .before .if3 .taken)))
+
+scan-of-requires : tie.Need-scan-of-requires
+scan-of-requires c κs = payload-scan _ _ (c .before .before .before .before .before .pre) (c .if4 .taken)
+
+returns-4 : tie.Need-returns-4
+returns-4 c =
+    let a = c .before .before .before .before .before .before .args in
+    c .scan-of .ensures ∙ ap (λ (t : ℕ). stepAs (a .next) (commandOf t (a .p .now))) (sym (c .before .if4 .taken))
+
+returns-5 : tie.Need-returns-5
+returns-5 c =
+    let a = c .before .before .before .before .before .args in
+    sym
+    (ap (stepAs (a .next))
+    (commandOf-other (a .tag) (a .p .now) (c .before .before .before .if1 .left) (c .before .before .if2 .left) (c .before .if3 .left) (c .if4 .left)))
+
+pub command-of-spec : {M : Type 1} → statement M
+command-of-spec =
+    tie.close
+    (tie.spec
+    read32-requires
+    returns
+    read32-requires-2
+    read32-requires-3
+    returns-2
+    read32-requires-4
+    returns-3
+    scan-of-requires
+    returns-4
+    returns-5)

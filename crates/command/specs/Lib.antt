@@ -1,0 +1,6 @@
+pub mod Command
+pub mod CommandLaws
+pub mod Batch
+pub mod BatchLaws
+pub mod Answer
+pub mod AnswerLaws

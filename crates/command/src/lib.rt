@@ -1,0 +1,32 @@
+// The commands of a batch and their answers, as bytes.
+pub mod answers;
+pub mod batch;
+
+// What a caller may ask: document 01's look up, hang, strip and sweep.
+pub enum Command {
+    Get { key: u32 },
+    Put { key: u32, value: u32 },
+    Delete { key: u32 },
+    Scan { low: u32, high: u32, most: u32 },
+}
+
+// What stands at a place of a batch: a command, with the place behind it, or no valid command.
+pub enum Step {
+    Next { command: Command, next: usize },
+    Invalid,
+}
+
+// What a whole batch asks for: room for its answers, or it is not valid.
+pub enum Asked {
+    Bytes(usize),
+    Invalid,
+}
+
+// An answer of fixed length: no such key; the value read; the value replaced; the value removed; refused, with the number.
+pub enum Answer {
+    Absent,
+    Got(u32),
+    Replaced(u32),
+    Removed(u32),
+    Refused(u8),
+}

@@ -1,0 +1,51 @@
+-- `node::replay::redo` meets its contract: each kind of change has its own function. Assumes nothing.
+use mathlib.Core.Path.{_≡_, refl, sym, ap, _∙_}
+use Prim.Native.Nat.{ℕ, _≤_, _<_}
+use native.Mathlib.Omega.{arith}
+use borrow.Author.Needs.{needs}
+use Rattle.node.specs.declared.ChangeValue.{ChangeValue}
+use Rattle.node.specs.Replay.{redo}
+use Rattle.node.specs.Drafts.{draftOf, changeOf, Redone}
+use Rattle.node.proofs.replay.redo.Statement.{statement}
+use Rattle.node.proofs.replay.redo.Tie as tie
+
+enum-known-change : tie.Need-enum-known-change
+enum-known-change c = search needs
+
+redo-put-requires : tie.Need-redo-put-requires
+redo-put-requires c κs = search needs
+
+enum-known-change-2 : tie.Need-enum-known-change-2
+enum-known-change-2 c = search needs
+
+redo-remove-requires : tie.Need-redo-remove-requires
+redo-remove-requires c κs = search needs
+
+enum-known-change-3 : tie.Need-enum-known-change-3
+enum-known-change-3 c = search needs
+
+redo-link-requires : tie.Need-redo-link-requires
+redo-link-requires c κs = search needs
+
+returns : tie.Need-returns
+returns c = rw (c .before .before .change .given .1) (c .redo-put .ensures)
+
+returns-2 : tie.Need-returns-2
+returns-2 c = rw (c .before .before .change2 .given .1) (c .redo-remove .ensures)
+
+returns-3 : tie.Need-returns-3
+returns-3 c = rw (c .before .before .change3 .given .1) (c .redo-link .ensures)
+
+pub redo-spec : {M : Type 1} → statement M
+redo-spec =
+    tie.close
+    (tie.spec
+    enum-known-change
+    redo-put-requires
+    enum-known-change-2
+    redo-remove-requires
+    enum-known-change-3
+    redo-link-requires
+    returns
+    returns-2
+    returns-3)

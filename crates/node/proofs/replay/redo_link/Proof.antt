@@ -1,0 +1,79 @@
+-- `node::replay::redo_link` meets its contract: one case for each state of the draft. Assumes nothing.
+use mathlib.Core.Path.{_≡_, refl, sym, ap, _∙_}
+use Prim.Native.Nat.{ℕ, _≤_, _<_}
+use native.Mathlib.Omega.{arith}
+use borrow.Author.Needs.{needs}
+use Rattle.node.specs.declared.DraftState.{DraftState}
+use Rattle.node.specs.declared.DraftState.the-variants.{Unlinked, Made, Broken}
+use Rattle.node.specs.Change.{link}
+use Rattle.node.specs.Replay.{redo}
+use Rattle.node.specs.Drafts.{Redone, draftAs, redone-first, redone-again, redone-other}
+use Rattle.node.proofs.replay.redo_link.Statement.{statement}
+use Rattle.node.proofs.replay.redo_link.Tie as tie
+
+enum-told : tie.Need-enum-told
+enum-told c = search needs
+
+linked-requires : tie.Need-linked-requires
+linked-requires c κs = search needs
+
+returns : tie.Need-returns
+returns c =
+    let a = c .before .before .before .before .args in
+    let state : a .d .state ≡ Unlinked = c .before .enum-told .given .1 in
+    rw state (redone-first (a .d .node) (c .linked .result) (a .kind) (a .to) (c .linked .ensures))
+
+enum-told-2 : tie.Need-enum-told-2
+enum-told-2 c = search needs
+
+same-kind-requires : tie.Need-same-kind-requires
+same-kind-requires c κs = search needs
+
+relinked-requires : tie.Need-relinked-requires
+relinked-requires c κs = search needs
+
+returns-2 : tie.Need-returns-2
+returns-2 c =
+    let a = c .before .before .before .before .before .before .args in
+    let state : a .d .state ≡ Made = c .before .before .before .enum-told2 .given .1 in
+    rw state
+    (redone-again (a .d .node) (c .relinked .result) (a .kind) (a .to) (c .relinked .ensures)
+    (sym (c .before .before .same-kind .ensures) ∙ c .before .if1 .taken))
+
+broken-requires : tie.Need-broken-requires
+broken-requires c κs = search needs
+
+returns-3 : tie.Need-returns-3
+returns-3 c =
+    let entry = c .before .before .before .before .before .before in
+    let a = entry .args in
+    let state : a .d .state ≡ Made = c .before .before .before .enum-told2 .given .1 in
+    rw (c .broken .ensures, state)
+    (redone-other (a .d .node) (a .d .node) (a .kind) (a .to) (entry .pre) (sym (c .before .before .same-kind .ensures) ∙ c .before .if1 .left))
+
+enum-told-3 : tie.Need-enum-told-3
+enum-told-3 c = search needs
+
+returns-4 : tie.Need-returns-4
+unfolding redo
+returns-4 c =
+    let entry = c .before .before .before in
+    let a = entry .args in
+    let state : a .d .state ≡ Broken = c .enum-told3 .given .1 in
+    record { is = rw state refl; held = entry .pre }
+
+pub redo-link-spec : {M : Type 1} → statement M
+redo-link-spec =
+    tie.close
+    (tie.spec
+    enum-told
+    linked-requires
+    returns
+    enum-told-2
+    same-kind-requires
+    relinked-requires
+    returns-2
+    broken-requires
+    returns-3
+    enum-told-3
+    returns-4)

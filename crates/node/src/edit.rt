@@ -1,0 +1,130 @@
+// The edits of a node: a pair added, its pointer replaced, a pair taken out, the link set.
+ghost use mathlib.Core.Path.{_≡_};
+ghost use Prim.Native.Nat.{_≤_, _<_};
+ghost use lib.ListN.{length, set};
+ghost use Rattle.layout.specs.Layout.{mostKeys};
+ghost use Rattle.pairs.specs.Pairs.{insert};
+ghost use Rattle.node.specs.Node.{node};
+ghost use Rattle.node.specs.Change.{change, put, remove, link};
+ghost use Rattle.node.specs.Repoint.{repoint};
+ghost use Rattle.node.specs.Splice.{insertAt, removeAt};
+ghost use Rattle.node.specs.Search.{keyAt};
+ghost use Rattle.node.specs.Value.{pairsIn, nodeOf, Sized, Held, Stands, Becomes};
+use crate::Found;
+use crate::Kind;
+use crate::NodeValue;
+use crate::search;
+use crate::splice;
+
+// The node with a pair more, at a place.
+pub fn added(v: NodeValue, at: usize, key: u32, pointer: u32) -> NodeValue
+    requires { ⌜ (Sized v) × (at ≤ v .count) × (v .count < mostKeys) ⌝ }
+    ensures { λ r. ⌜ Stands r (node (v .kind) (insertAt at (key, pointer) (pairsIn v)) (v .link)) ⌝ }
+{
+    let kind = v.kind;
+    let count = v.count;
+    let old_keys = v.keys;
+    let old_pointers = v.pointers;
+    let keys = splice::insert(old_keys, count, at, key);
+    let pointers = splice::insert(old_pointers, count, at, pointer);
+    NodeValue {
+        kind,
+        count: count + 1,
+        keys,
+        pointers,
+        link: v.link,
+    }
+}
+
+// The node with another pointer at a place.
+pub fn repointed(v: NodeValue, at: usize, pointer: u32) -> NodeValue
+    requires { ⌜ (Sized v) × (at < v .count) ⌝ }
+    ensures { λ r. ⌜ Stands r (node (v .kind) (set (pairsIn v) at (keyAt (pairsIn v) at, pointer)) (v .link)) ⌝ }
+{
+    let mut w = v;
+    let mut pointers = v.pointers;
+    pointers[at] = pointer;
+    w.pointers = pointers;
+    w
+}
+
+// The node without the pair at a place.
+pub fn removed(v: NodeValue, at: usize) -> NodeValue
+    requires { ⌜ (Sized v) × (at < v .count) ⌝ }
+    ensures { λ r. ⌜ Stands r (node (v .kind) (removeAt at (pairsIn v)) (v .link)) ⌝ }
+{
+    let kind = v.kind;
+    let count = v.count;
+    let old_keys = v.keys;
+    let old_pointers = v.pointers;
+    let keys = splice::remove(old_keys, count, at);
+    let pointers = splice::remove(old_pointers, count, at);
+    NodeValue {
+        kind,
+        count: count - 1,
+        keys,
+        pointers,
+        link: v.link,
+    }
+}
+
+// The node with another link.
+pub fn relinked(v: NodeValue, to: u32) -> NodeValue
+    requires { ⌜ Held v ⌝ }
+    ensures { λ r. ⌜ Becomes r (change (link (v .kind) to) (nodeOf v)) ⌝ }
+{
+    let mut w = v;
+    w.link = to;
+    w
+}
+
+// The node with a key's pointer added or replaced, where it has room.
+pub fn put(v: NodeValue, key: u32, pointer: u32) -> NodeValue
+    requires { ⌜ (Held v) × (length (insert key pointer (pairsIn v)) ≤ mostKeys) ⌝ }
+    ensures { λ r. ⌜ Becomes r (change (put key pointer) (nodeOf v)) ⌝ }
+{
+    let found = search::find(v, key);
+    match found {
+        Found::At(i) => repointed(v, i, pointer),
+        Found::Above(i) => added(v, i, key, pointer),
+    }
+}
+
+// The node without a key, the same where the key is absent.
+pub fn delete(v: NodeValue, key: u32) -> NodeValue
+    requires { ⌜ Held v ⌝ }
+    ensures { λ r. ⌜ Becomes r (change (remove key) (nodeOf v)) ⌝ }
+{
+    let found = search::find(v, key);
+    match found {
+        Found::At(i) => removed(v, i),
+        Found::Above(_) => v,
+    }
+}
+
+// The node with its pairs, as another kind and with another link.
+pub fn linked(v: NodeValue, kind: Kind, to: u32) -> NodeValue
+    requires { ⌜ Held v ⌝ }
+    ensures { λ r. ⌜ Becomes r (node kind (pairsIn v) to) ⌝ }
+{
+    let keys = v.keys;
+    let pointers = v.pointers;
+    NodeValue {
+        kind,
+        count: v.count,
+        keys,
+        pointers,
+        link: to,
+    }
+}
+
+// The node with another pointer at a place, behind all keys the link.
+pub fn pointed(v: NodeValue, at: usize, pointer: u32) -> NodeValue
+    requires { ⌜ Held v ⌝ }
+    ensures { λ r. ⌜ Becomes r (change (repoint at pointer (nodeOf v)) (nodeOf v)) ⌝ }
+{
+    if at < v.count {
+        return repointed(v, at, pointer);
+    }
+    relinked(v, pointer)
+}

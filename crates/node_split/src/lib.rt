@@ -1,0 +1,112 @@
+// The halves of a full node with a pair more, made from its 24 pairs and the new one: 25 pairs stand nowhere.
+ghost use mathlib.Core.Path.{_≡_};
+ghost use Prim.Native.Nat.{_+_, _≤_, _<_};
+ghost use lib.ListN.{length, getD, take, drop};
+ghost use Rattle.layout.specs.Layout.{mostKeys};
+ghost use Rattle.node.specs.Change.{change, put};
+ghost use Rattle.node.specs.Splice.{insertAt};
+ghost use Rattle.node.specs.Value.{nodeOf, Becomes};
+ghost use Rattle.node.specs.Halves.{lowerHalf, upperHalf, middleKey, lowerLink, upperFrom};
+ghost use Rattle.node_split.specs.Split.{Splits};
+use node::Kind;
+use node::NodeValue;
+
+// The value at an index of the array with one more at a place.
+fn value_at(a: [u32; 24], at: usize, x: u32, i: usize) -> u32
+    requires { ⌜ (at ≤ mostKeys) × (i ≤ mostKeys) ⌝ }
+    ensures { λ r. ⌜ r ≡ getD (insertAt at x a) i 0 ⌝ }
+{
+    if i < at {
+        return a[i];
+    }
+    if i == at {
+        return x;
+    }
+    a[i - 1]
+}
+
+// The n values from an index on of the array with one more at a place.
+fn part(a: [u32; 24], at: usize, x: u32, from: usize, n: usize) -> [u32; 24]
+    requires { ⌜ (at ≤ mostKeys) × (n ≤ mostKeys) × (from + n ≤ mostKeys + 1) ⌝ }
+    ensures { λ r. ⌜ (take n r ≡ take n (drop from (insertAt at x a))) × (length r ≡ mostKeys) ⌝ }
+{
+    let mut b = [0u32; 24];
+    let mut i: usize = 0;
+    while i < n {
+        let y = value_at(a, at, x, from + i);
+        b[i] = y;
+        i += 1;
+    }
+    b
+}
+
+// The lower half's link: a leaf's names the upper half, a branch's is the pointer of the key that rises.
+fn lower_link(kind: Kind, upper: u32, rising: u32) -> u32
+    ensures { λ r. ⌜ r ≡ lowerLink kind upper rising ⌝ }
+{
+    match kind {
+        Kind::Leaf => upper,
+        Kind::Branch => rising,
+    }
+}
+
+// How many pairs stand before the upper half.
+fn upper_from(kind: Kind) -> usize
+    ensures { λ r. ⌜ (r ≡ upperFrom kind) × (12 ≤ r) × (r ≤ 13) ⌝ }
+{
+    match kind {
+        Kind::Leaf => 12,
+        Kind::Branch => 13,
+    }
+}
+
+// The lower half of the node with a pair more, which keeps the first 12 pairs; `upper` is the id of the upper one.
+pub fn lower(v: NodeValue, at: usize, key: u32, pointer: u32, upper: u32) -> NodeValue
+    requires { ⌜ Splits v at key ⌝ }
+    ensures { λ r. ⌜ Becomes r (lowerHalf (change (put key pointer) (nodeOf v)) upper) ⌝ }
+{
+    let kind = v.kind;
+    let old_keys = v.keys;
+    let old_pointers = v.pointers;
+    let keys = part(old_keys, at, key, 0, 12);
+    let pointers = part(old_pointers, at, pointer, 0, 12);
+    let rising = value_at(old_pointers, at, pointer, 12);
+    let link = lower_link(kind, upper, rising);
+    NodeValue {
+        kind,
+        count: 12,
+        keys,
+        pointers,
+        link,
+    }
+}
+
+// The upper half of the node with a pair more: the last 13 pairs of a leaf, the last 12 of a branch.
+pub fn upper(v: NodeValue, at: usize, key: u32, pointer: u32) -> NodeValue
+    requires { ⌜ Splits v at key ⌝ }
+    ensures { λ r. ⌜ Becomes r (upperHalf (change (put key pointer) (nodeOf v))) ⌝ }
+{
+    let kind = v.kind;
+    let old_keys = v.keys;
+    let old_pointers = v.pointers;
+    let from = upper_from(kind);
+    let count = 25 - from;
+    let keys = part(old_keys, at, key, from, count);
+    let pointers = part(old_pointers, at, pointer, from, count);
+    NodeValue {
+        kind,
+        count,
+        keys,
+        pointers,
+        link: v.link,
+    }
+}
+
+// The key between the halves.
+pub fn middle(v: NodeValue, at: usize, key: u32, pointer: u32) -> u32
+    requires { ⌜ Splits v at key ⌝ }
+    ensures { λ r. ⌜ r ≡ middleKey (change (put key pointer) (nodeOf v)) ⌝ }
+{
+    let old_keys = v.keys;
+    value_at(old_keys, at, key, 12)
+}

@@ -1,0 +1,16 @@
+pub mod Table
+pub mod NodeRequest
+pub mod Get
+pub mod Put
+pub mod Delete
+pub mod Scan
+pub mod Fit
+pub mod Tree
+pub mod Spells
+pub mod Sound
+pub mod Children
+pub mod Ids
+pub mod Standing
+pub mod Size
+pub mod LeafOfKey
+pub mod Worked
