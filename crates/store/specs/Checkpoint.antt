@@ -1,7 +1,7 @@
 -- The checkpoint (document 01: closing set): its pages from tariff and scores, how it is written, and how it is read back from the
 -- pages of greatest sequence numbers. Assumes nothing.
 use mathlib.Core.Bool.{Bool, true, false, _&&_}
-use mathlib.Core.List.{List, [], _∷_, _++_, map}
+use mathlib.Core.List.{List, [], _∷_, _++_}
 use mathlib.Core.Option.{Option, none, some}
 use Prim.Native.Nat.{ℕ, zero, suc, _+_}
 use lib.Dec.{eqb}

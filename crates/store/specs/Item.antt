@@ -5,7 +5,6 @@ use Prim.Native.Nat.{ℕ, max}
 use lib.Dec.{eqb}
 use Rattle.laws.specs.Tests.{choose}
 use Rattle.laws.specs.Counts.{consIf}
-use Rattle.node.specs.Node.{Node}
 use Rattle.node.specs.Change.{Change}
 use Rattle.node.specs.Replay.{Piece, step}
 use Rattle.node.specs.Replay as Replay

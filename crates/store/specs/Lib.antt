@@ -9,4 +9,5 @@ pub mod Run
 pub mod Serve
 pub mod Checkpoint
 pub mod Reopen
+pub mod Prepare
 pub mod Worked

@@ -1,6 +1,6 @@
 -- The pool as blocks of written pages, and a page found by its sequence number. A block is the list of its written pages, in
 -- order: that "in a block blank pages follow written ones" is then no rule, but the type. Assumes nothing.
-use mathlib.Core.Bool.{Bool, true, false}
+use mathlib.Core.Bool.{Bool}
 use mathlib.Core.List.{List, [], _∷_, _++_}
 use mathlib.Core.Option.{Option, none, some}
 use Prim.Native.Nat.{ℕ}

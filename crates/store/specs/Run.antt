@@ -8,14 +8,14 @@ use lib.ListN.{length, set, take}
 use Rattle.laws.specs.Counts.{count, filter}
 use Rattle.layout.specs.Layout.{pagesInBlock, mostEntries, mostLogPages}
 use Rattle.node.specs.Node.{Node}
-use Rattle.node.specs.Change.{Change, change, changesOf}
+use Rattle.node.specs.Change.{Change, changesOf}
 use Rattle.page.specs.Page.{Entry, Content, Page, log, whole}
 use Rattle.store.specs.View.{pages}
 use Rattle.store.specs.Pool.{block}
 use Rattle.store.specs.Live.{live, noClosing}
 use Rattle.store.specs.Allocate.{blanks, nextBlank, victim}
 use Rattle.store.specs.Store.{Store, view}
-use Rattle.store.specs.Write.{place, flush, enter, start, nodePage}
+use Rattle.store.specs.Write.{place, enter, start}
 
 -- A state with the node count of its moment.
 pub record Moment : Type 0 where

@@ -1,6 +1,6 @@
 -- What a node request writes, by the mode that the node has and the mode that serves it (document 01, "Nodes and tree", its last
 -- paragraph). Assumes nothing.
-use mathlib.Core.List.{List, [], _∷_, _++_}
+use mathlib.Core.List.{[], _∷_, _++_}
 use Prim.Native.Nat.{ℕ}
 use Rattle.account.specs.declared.Mode.{Mode}
 use Rattle.account.specs.declared.Mode.the-variants.{Log, Disk}

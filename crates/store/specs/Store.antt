@@ -1,5 +1,5 @@
 -- The store: blocks, current block, log buffer, last sequence number; and what it says of each node. Assumes nothing.
-use mathlib.Core.List.{List, [], _∷_, map}
+use mathlib.Core.List.{List, [], map}
 use mathlib.Core.Option.{Option, none, some}
 use Prim.Native.Nat.{ℕ}
 use Rattle.account.specs.declared.Mode.{Mode}
@@ -8,7 +8,7 @@ use Rattle.node.specs.declared.Kind.the-variants.{Branch}
 use Rattle.node.specs.Node.{Node, node}
 use Rattle.node.specs.Replay.{Draft, unlinked, made, broken, replay}
 use Rattle.page.specs.Page.{Entry, Page, page, log, whole, checkpoint}
-use Rattle.store.specs.Item.{Item, entryItem}
+use Rattle.store.specs.Item.{entryItem}
 use Rattle.store.specs.View.{View, greatest, pieces}
 use Rattle.store.specs.Pool.{Blocks, find, itemsAt}
 

@@ -1,7 +1,7 @@
 -- A store seen without its places: the items at each sequence number, those in the buffer, and the last number taken. What
 -- document 01 says of a node's content is said of this alone, so nothing can depend on where a page lies. Assumes nothing.
-use mathlib.Core.Bool.{Bool, true, false, not}
-use mathlib.Core.List.{List, [], _∷_, _++_}
+use mathlib.Core.Bool.{not}
+use mathlib.Core.List.{List, [], _++_}
 use Prim.Native.Nat.{ℕ, zero, suc, _+_, max}
 use Rattle.laws.specs.Counts.{bit, empty}
 use Rattle.node.specs.Replay.{Piece}

@@ -1,21 +1,19 @@
 -- The definitions run: a hundred and more edits of one node with the pages that they force out and a rewrite at three pages, a
 -- checkpoint and its reading back, each computed. Assumes nothing.
 use mathlib.Core.Path.{_≡_, refl}
-use mathlib.Core.Bool.{Bool, true, false}
-use mathlib.Core.List.{List, [], _∷_, _++_}
-use mathlib.Core.Option.{Option, none, some}
+use mathlib.Core.Bool.{true}
+use mathlib.Core.List.{List, [], _∷_}
 use Prim.Native.Nat.{ℕ, zero, suc, _+_}
 use lib.ListN.{length}
-use Rattle.account.specs.declared.Mode.{Mode}
 use Rattle.account.specs.declared.Mode.the-variants.{Log, Disk}
 use Rattle.account.specs.declared.Tariff.{Tariff}
 use Rattle.layout.specs.Layout.{noLeaf}
 use Rattle.pairs.specs.Pairs as Pairs
 use Rattle.node.specs.declared.Kind.the-variants.{Leaf, Branch}
-use Rattle.node.specs.Node.{Node, node}
-use Rattle.node.specs.Change.{Change, put, remove, link}
-use Rattle.node.specs.Replay.{Draft, made, redo, redoPiece, replayFrom, replay}
-use Rattle.page.specs.Page.{Entry, Page, page, log, whole, checkpoint}
+use Rattle.node.specs.Node.{node}
+use Rattle.node.specs.Change.{put, link}
+use Rattle.node.specs.Replay.{redo, redoPiece, replayFrom, replay}
+use Rattle.page.specs.Page.{Page, page, log, whole, checkpoint}
 use Rattle.store.specs.View.{greatest, pieces, pages}
 use Rattle.store.specs.Pool.{block, above}
 use Rattle.store.specs.Store.{Store, view, draftOf, nodeOf, modeOf}
@@ -23,9 +21,10 @@ use Rattle.store.specs.Live.{carries, closingSince}
 use Rattle.store.specs.Allocate.{spot}
 use Rattle.store.specs.Write.{found, place, enter, start}
 use Rattle.store.specs.Run.{Run, written, write, flushRun, makeRoom, writeGroup, writeEdit}
-use Rattle.store.specs.Serve.{Work, read, edit, rewrite, serve, create}
+use Rattle.store.specs.Serve.{read, edit, rewrite, serve, create}
 use Rattle.store.specs.Checkpoint.{scoresFrom, sheets, close, collect, checkpointOf, scoresIn}
 use Rattle.store.specs.Reopen.{cellsIn, poolOf, pagesPass, blocksPass}
+use Rattle.store.specs.Prepare.{prepared, preparedRun}
 
 abbrev tariff : Tariff
 tariff =
@@ -36,25 +35,7 @@ tariff =
 
 -- The pool of a prepare, four blocks.
 abbrev fresh : Run
-fresh =
-    record {
-      nodes = 1;
-      now =
-          record {
-            blocks =
-                (page 2 (log (record { id = 0; version = 1; change = link Leaf noLeaf } ∷ [])) ∷
-                page 3 (checkpoint (some tariff) (record { id = 0; score = 0 } ∷ []) (some 1)) ∷
-                []) ∷
-                [] ∷
-                [] ∷
-                [] ∷
-                [];
-            current = 0;
-            buffer = [];
-            last = 3;
-          };
-      passed = [];
-    }
+fresh = preparedRun 4 tariff
 
 abbrev edits : ℕ → Run
 edits zero = fresh
@@ -138,7 +119,8 @@ pub record Ran : Type 0 where
   -- the pool passes the tests, and gives the scores back
   pub passes : pagesPass 4 (poolOf (closed .now)) ≡ true
   pub scores : scoresIn (checkpointOf (closed .now)) ≡ scoresFrom 0 3 (λ n. n)
-  -- three of four blocks full, one live page in each of blocks 0 and 1, two in block 2: block 0 is compacted, its page copied, and the new page goes behind it
+  -- three of four blocks full, one live page in each of blocks 0 and 1, two in block 2: block 0 is compacted, its page copied, and
+  -- the new page goes behind it
   pub copied : lengths (rewrites 1 spread .now .blocks) ≡ 0 ∷ 32 ∷ 32 ∷ 2 ∷ []
   pub moved : nodeOf (rewrites 1 spread .now) 1 ≡ node Leaf ((1, 1) ∷ []) noLeaf
   -- the old checkpoint's page in block 0 is dead while the new one is written: block 0 has the fewest live pages
@@ -147,7 +129,7 @@ pub record Ran : Type 0 where
   pub order : nodeOf foreign 0 ≡ node Leaf ((7, 2) ∷ []) noLeaf
 
 pub ran : Ran
-unfolding above greatest pages pieces draftOf nodeOf modeOf carries closingSince spot found place enter start written write makeRoom writeGroup writeEdit serve create sheets close collect checkpointOf cellsIn blocksPass pagesPass Pairs.insert redo redoPiece replayFrom replay
+unfolding prepared preparedRun above greatest pages pieces draftOf nodeOf modeOf carries closingSince spot found place enter start written write makeRoom writeGroup writeEdit serve create sheets close collect checkpointOf cellsIn blocksPass pagesPass Pairs.insert redo redoPiece replayFrom replay
 ran =
     record {
       three = refl;

@@ -2,17 +2,16 @@
 -- a new version, a node page. A checkpoint page is placed as it is. Assumes nothing.
 use mathlib.Core.Bool.{Bool}
 use mathlib.Core.List.{List, [], _∷_, _++_}
-use mathlib.Core.Option.{Option}
 use Prim.Native.Nat.{ℕ, suc}
 use Rattle.layout.specs.Layout.{pagesInBlock}
 use Rattle.node.specs.Node.{Node}
-use Rattle.node.specs.Change.{Change, changesOf}
+use Rattle.node.specs.Change.{Change}
 use Rattle.page.specs.Page.{Entry, Content, Page, page, log, whole}
 use Rattle.store.specs.Item.{entries}
 use Rattle.store.specs.View.{greatest}
 use Rattle.store.specs.Pool.{addTo}
 use Rattle.store.specs.Live.{live}
-use Rattle.store.specs.Allocate.{Spot, spot}
+use Rattle.store.specs.Allocate.{spot}
 use Rattle.store.specs.Store.{Store, view}
 
 -- The store with a place found for the next page, `nodes` being the node count of the moment and `closing` the test for the

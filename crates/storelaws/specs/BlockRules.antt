@@ -9,24 +9,16 @@ use native.Mathlib.Nat.{le-trans}
 use native.Mathlib.Omega.{arith}
 use borrow.Author.Tests.{eqb-true, eq-eqb, ne-eqb, leb-true, leb-false, lt-ltb, le-ltb, ltb-true, ltb-false}
 use lib.Dec.{leb, ltb}
-use lib.ListN.{length, set, length-set, length-append}
+use lib.ListN.{length, length-set, length-append}
 use lib.Seq.{getD-set-same, getD-set-other}
 use Rattle.laws.specs.Tests.{test-clash}
 use Rattle.laws.specs.Order.{eq-or}
 use Rattle.laws.specs.Counts.{bit, count, count-append, length-filter, filter, tally, tally-mono, tally-set, empty, occupied}
 use Rattle.page.specs.Page.{Page, sequence}
 use Rattle.store.specs.Pool.{Blocks, block, numbered, above, addTo}
-use Rattle.store.specs.Allocate.{blanks, nextBlank, victim, copied, compact, Spot, spotBy, spot}
+use Rattle.store.specs.Allocate.{blanks, nextBlank, victim, copied, compact, spotBy, spot}
 use Rattle.storelaws.specs.PoolLaws.{Moves, compact-to, compact-from, compact-other, compact-tally-le}
-use Rattle.storelaws.specs.AllocateLaws.{
-  HasRoom,
-  victim-room,
-  blanks-occupied,
-  blanks-positive,
-  BlankAt,
-  another-blank,
-  nextBlank-blank,
-}
+use Rattle.storelaws.specs.AllocateLaws.{victim-room, blanks-occupied, blanks-positive, BlankAt, another-blank, nextBlank-blank}
 
 -- A block is blank or full.
 abbrev pub Whole : ℕ → List Page → Type 0

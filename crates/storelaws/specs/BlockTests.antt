@@ -1,41 +1,24 @@
 -- The tests of the blocks hold exactly where the block rules do: a pool that passes them gives the rules, with the block of the newest
 -- page as the current one; and a pool that keeps the rules passes. Assumes nothing.
-use mathlib.Core.Path.{_≡_, refl, sym, ap, subst, _∙_}
+use mathlib.Core.Path.{_≡_, refl, ap, subst, _∙_}
 use mathlib.Core.Bool.{Bool, true, false, _&&_, _||_, or-true}
 use mathlib.Core.Logic.{_⊎_, inl, inr}
-use mathlib.Core.Option.{Option, none, some}
-use mathlib.Core.List.{List, [], _∷_, _++_}
+use mathlib.Core.List.{List, [], _∷_}
 use Prim.Native.Nat.{ℕ, zero, suc, _+_, _*_, _≤_, _<_, max, suc-le-suc}
 use native.Mathlib.Nat.{le-trans}
 use native.Mathlib.Omega.{arith}
 use borrow.Author.Tests.{eqb-true, eq-eqb, ne-eqb, leb-true, le-leb, ltb-true, ltb-false, lt-ltb, le-ltb}
 use lib.Dec.{eqb, leb, ltb}
 use lib.ListN.{length}
-use Rattle.laws.specs.Tests.{and-left, and-right, and-both}
+use Rattle.laws.specs.Tests.{and-left, and-right}
 use Rattle.laws.specs.Order.{eq-or, le-or}
 use Rattle.laws.specs.Counts.{bit, bit-le-one, count, tally, tally-at, empty}
 use Rattle.page.specs.Page.{Page, sequence}
 use Rattle.store.specs.Pool.{Blocks, block, numbered, above}
 use Rattle.store.specs.Allocate.{blanks}
-use Rattle.store.specs.Store.{Store}
-use Rattle.store.specs.Reopen.{
-  Cells,
-  cells,
-  blocksIn,
-  greatestOf,
-  newest,
-  hereOrNext,
-  blockOf,
-  storeOf,
-  allFilled,
-  differIn,
-  differ,
-  fullOr,
-  fullOrAll,
-  blocksPass,
-}
+use Rattle.store.specs.Reopen.{Cells, cells, blocksIn, greatestOf, newest, hereOrNext, blockOf, allFilled, differIn, differ, fullOr, fullOrAll, blocksPass}
 use Rattle.storelaws.specs.ItemLaws.{empty-nil}
-use Rattle.storelaws.specs.AllocateLaws.{BlankAt, a-blank, blanks-positive}
+use Rattle.storelaws.specs.AllocateLaws.{a-blank, blanks-positive}
 use Rattle.storelaws.specs.BlockRules.{Whole, BlockRules}
 use Rattle.storelaws.specs.CellLaws.{length-cells, blocksIn-cells, allFilled-cells, length-blocksIn, block-blocksIn}
 

@@ -1,13 +1,13 @@
 -- Cells and blocks are two ways to write one pool: each is read back from the other. And what one page written, or one block erased or
 -- filled, is in the cells. Assumes nothing.
 use mathlib.Core.Path.{_≡_, refl, sym, ap, ap₂, subst, _∙_}
-use mathlib.Core.Bool.{Bool, true, false, _&&_}
-use mathlib.Core.Option.{Option, none, some}
+use mathlib.Core.Bool.{true}
+use mathlib.Core.Option.{none, some}
 use mathlib.Core.List.{List, [], _∷_, _++_, append-assoc}
 use Prim.Native.Nat.{ℕ, zero, suc, _+_, _*_, _≤_, _<_}
 use native.Mathlib.Nat.{not-suc-le-zero, le-of-suc-le-suc}
 use native.Mathlib.Omega.{arith}
-use lib.ListN.{length, getD, set, take, drop, length-take, length-drop, length-append, take-append-drop}
+use lib.ListN.{length, set, take, drop, length-take, length-drop, length-append, take-append-drop}
 use lib.Seq.{take-at, drop-at, set-append-left, take-append-add, drop-append-add}
 use Rattle.laws.specs.Tests.{and-left, and-right}
 use Rattle.page.specs.Page.{Page}

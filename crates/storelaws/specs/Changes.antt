@@ -1,11 +1,11 @@
 -- What flush, edit, fresh start, node page and checkpoint page do to a view: the node written has exactly what was written, every
 -- other node is as it was, and the three-page rule is kept. Each is one of the steps, seen from its node and from another.
 -- Assumes nothing.
-use mathlib.Core.Path.{_≡_, refl, sym, ap, ap₂, _∙_}
-use mathlib.Core.Bool.{Bool, true, false, not}
+use mathlib.Core.Path.{_≡_, refl, ap₂, _∙_}
+use mathlib.Core.Bool.{not}
 use mathlib.Core.Logic.{_⊎_, inl, inr}
-use mathlib.Core.List.{List, [], _∷_, _++_, append-nil, append-assoc}
-use Prim.Native.Nat.{ℕ, zero, suc, _+_, _≤_, _<_, max}
+use mathlib.Core.List.{List, [], _∷_, _++_, append-nil}
+use Prim.Native.Nat.{ℕ, suc, _+_, _≤_, _<_}
 use native.Mathlib.Omega.{arith}
 use Rattle.laws.specs.Order.{eq-or}
 use Rattle.laws.specs.Counts.{bit-le-one, empty}
@@ -22,18 +22,7 @@ use Rattle.storelaws.specs.ItemLaws.{
   greatestIn-group-any,
   greatestIn-group-other,
 }
-use Rattle.storelaws.specs.Steps.{
-  Fit,
-  fit-buffer,
-  buffer-above,
-  Wrote,
-  wrote-greatest,
-  wrote-same,
-  wrote-fresh,
-  Added,
-  added-greatest,
-  added-same,
-}
+use Rattle.storelaws.specs.Steps.{Fit, buffer-above, Wrote, wrote-greatest, wrote-same, wrote-fresh, Added, added-greatest, added-same}
 
 -- A node is as it was: version, content, number of pages, what the buffer has of it.
 pub record Same (w w′ : View) (m : ℕ) : Type 0 where

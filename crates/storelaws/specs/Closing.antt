@@ -1,28 +1,28 @@
 -- The end of a batch: the buffer's page, then the checkpoint. No node notices; the checkpoint's pages are live while it is written, so all
 -- of them stand at its end, under the greatest numbers, and are read back; and the cells are this very store again. Assumes nothing.
 use mathlib.Core.Path.{_≡_, refl, sym, ap, _∙_, subst}
-use mathlib.Core.Bool.{Bool, true, false, _&&_}
-use mathlib.Core.Option.{Option, none, some}
-use mathlib.Core.List.{List, [], _∷_, _++_, map, append-nil}
-use Prim.Native.Nat.{ℕ, zero, suc, _+_, _≤_, _<_}
+use mathlib.Core.Bool.{Bool, true}
+use mathlib.Core.Option.{none, some}
+use mathlib.Core.List.{List, [], _∷_, _++_, append-nil}
+use Prim.Native.Nat.{ℕ, suc, _+_, _≤_, _<_}
 use native.Mathlib.Nat.{le-trans}
 use native.Mathlib.Omega.{arith}
 use borrow.Author.Tests.{eq-eqb, lt-ltb}
-use lib.Dec.{eqb}
 use lib.ListN.{length, take}
 use Rattle.laws.specs.Tests.{and-right}
 use Rattle.laws.specs.Counts.{bit, bit-le-one, tally, tally-mono}
 use Rattle.laws.specs.Every.{Every, every-append, every-map}
-use Rattle.layout.specs.Layout.{firstScores, mostBlocks, nodeLimit}
+use Rattle.laws.specs.Every as Every
+use Rattle.layout.specs.Layout.{firstScores, mostBlocks}
 use Rattle.account.specs.declared.Mode.{Mode}
 use Rattle.account.specs.declared.Tariff.{Tariff}
 use Rattle.node.specs.Node.{Node}
-use Rattle.page.specs.Page.{Entry, Score, Content, Page, page}
+use Rattle.page.specs.Page.{Entry, Score, Page, page}
 use Rattle.store.specs.Pool.{Blocks, numbered, above, find}
 use Rattle.store.specs.Store.{Store, view}
-use Rattle.store.specs.Live.{live, noClosing, isCheckpoint, closingSince}
+use Rattle.store.specs.Live.{noClosing, isCheckpoint, closingSince}
 use Rattle.store.specs.Write.{next, place}
-use Rattle.store.specs.Run.{Moment, Run, moment, written, write, flushRun}
+use Rattle.store.specs.Run.{Run, moment, write}
 use Rattle.store.specs.Checkpoint.{
   Sheet,
   sheet,
@@ -56,22 +56,13 @@ use Rattle.storelaws.specs.Placing.{
   silent-same,
   silent-invariant,
 }
-use Rattle.storelaws.specs.Versions.{says, late, VersionRules, silent-versions, place-mode}
+use Rattle.storelaws.specs.Versions.{says, late, VersionRules, silent-versions}
 use Rattle.storelaws.specs.Passed.{written-lean}
-use Rattle.storelaws.specs.Good.{LeanAt, Good, Keep, keep-refl, keep-trans, flushRun-good, flushRun-keep}
+use Rattle.storelaws.specs.Good.{LeanAt, Good, Keep, keep-refl, keep-trans, place-keep, flushRun-good, flushRun-keep}
 use Rattle.storelaws.specs.Keeps.{Keeps, keep-holds}
 use Rattle.storelaws.specs.Numbers.{last, write-last}
-use Rattle.storelaws.specs.Opening.{none-closing, own-passes, reopen}
-use Rattle.storelaws.specs.SheetLaws.{
-  length-laterSheets,
-  sheets-few,
-  scoresIn-sheets,
-  countIn-sheets,
-  tariffIn-sheets,
-  length-scoresFrom,
-  scoreIn-scoresFrom,
-  sheets-complete,
-}
+use Rattle.storelaws.specs.Opening.{none-closing, opened, own-passes, reopen}
+use Rattle.storelaws.specs.SheetLaws.{sheets-few, scoresIn-sheets, countIn-sheets, tariffIn-sheets, length-scoresFrom, scoreIn-scoresFrom, sheets-complete}
 
 -- What a checkpoint page, or several, leave of a run.
 pub record Left (B : ℕ) (closing : Page → Bool) (run run′ : Run) : Type 0 where
@@ -114,11 +105,7 @@ module _ {B : ℕ} {closing : Page → Bool} (run : Run) (v : Invariant B (run .
         keep =
             λ m k.
             let o = silent-same v c refl m k in
-            record {
-              greatest = o .greatest;
-              pieces = o .pieces;
-              mode = λ y h. place-mode v m y c (st .buffer) k (o .greatest) h;
-            };
+            place-keep v c (st .buffer) m k (o .greatest) (o .pieces);
       }
 
   -- it stands under the next number, and every page of the checkpoint stays
@@ -368,8 +355,8 @@ module _ {B N : ℕ} {table : ℕ → Node} {modes : ℕ → Mode} {run : Run} (
       let set : checkpointOf (close t score run .now) ≡ sheets t (scoresFrom 0 N score) = close-checkpoint ∙ ap (sheets t) scores-are in
       record {
         keeps = close-keeps;
-        passes = own-passes (left .invariant) (left .versions);
-        again = reopen (left .invariant) close-has close-empty;
+        passes = own-passes (close t score run .now) (left .invariant .rules) (left .versions);
+        again = reopen (close t score run .now) (left .invariant .rules) close-has close-empty;
         checkpoint = set;
         complete = ap complete set ∙ sheets-complete t N score;
         tariff = ap tariffIn set ∙ tariffIn-sheets t (scoresFrom 0 N score);
@@ -381,3 +368,21 @@ module _ {B N : ℕ} {table : ℕ → Node} {modes : ℕ → Mode} {run : Run} (
             scoreIn-scoresFrom 0 N score n (omega arith) (omega arith);
         number = omega (arith, close-last, few, d .number);
       }
+
+-- THE NEXT CALL finds what the last one kept
+pub closed-opens : {B N : ℕ} {table : ℕ → Node} {modes : ℕ → Mode} {t : Tariff} {score : ℕ → ℕ} {run run′ : Run} →
+    Closed B N table modes t score run run′ → Keeps B N table modes (opened B N (poolOf (run′ .now)))
+closed-opens {B} {N} {table} {modes} {run′ = run′} c =
+    subst (λ st. Keeps B N table modes (record { nodes = N; now = st; passed = [] })) (sym (c .again))
+    (record {
+      good =
+          record {
+            invariant = subst (λ n. Invariant B n noClosing (run′ .now)) (c .keeps .nodes) (c .keeps .good .invariant);
+            versions = c .keeps .good .versions;
+            small = c .keeps .good .small;
+            passed = Every.none;
+          };
+      nodes = refl;
+      holds = c .keeps .holds;
+      neat = c .keeps .neat;
+    })

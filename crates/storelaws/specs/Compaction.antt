@@ -1,14 +1,12 @@
 -- Finding a place, with or without a compaction, as its users see it: every node keeps version, content, mode and the very pages that it
 -- lies on, told apart by number; the place has room and another block is blank. Assumes nothing.
-use mathlib.Core.Path.{_≡_, refl, sym, ap, _∙_, subst}
-use mathlib.Core.Bool.{Bool, true, false}
-use mathlib.Core.Option.{Option, some}
-use mathlib.Core.List.{List, []}
-use Prim.Native.Nat.{ℕ, _+_, _≤_, _<_}
+use mathlib.Core.Path.{_≡_, refl, sym, subst}
+use mathlib.Core.Bool.{Bool, true}
+use mathlib.Core.Option.{some}
+use Prim.Native.Nat.{ℕ, _≤_, _<_}
 use native.Mathlib.Omega.{arith}
 use borrow.Author.Tests.{eq-eqb}
 use lib.ListN.{length}
-use Rattle.laws.specs.Counts.{tally}
 use Rattle.laws.specs.Every.{Every, every-weaken}
 use Rattle.layout.specs.Layout.{pagesInBlock, mostLogPages}
 use Rattle.account.specs.declared.Mode.{Mode}
@@ -18,16 +16,16 @@ use Rattle.store.specs.Item.{piecesIn}
 use Rattle.store.specs.View.{greatest, pieces, pages}
 use Rattle.store.specs.Pool.{block, numbered, find}
 use Rattle.store.specs.Store.{Store, view}
-use Rattle.store.specs.Live.{carries, live}
+use Rattle.store.specs.Live.{carries}
 use Rattle.store.specs.Write.{found}
-use Rattle.store.specs.Run.{Moment, Run}
+use Rattle.store.specs.Run.{Run}
 use Rattle.storelaws.specs.Steps.{pruned-at}
 use Rattle.storelaws.specs.LiveLaws.{live-carries}
 use Rattle.storelaws.specs.AllocateLaws.{BlankAt}
 use Rattle.storelaws.specs.BlockRules.{how-tally}
 use Rattle.storelaws.specs.Placing.{Invariant, found-ready, found-how, found-pruned, found-live, found-same}
 use Rattle.storelaws.specs.Versions.{InMode}
-use Rattle.storelaws.specs.Good.{LeanAt, Good}
+use Rattle.storelaws.specs.Good.{Good}
 
 -- A node has on every page what it had, its version and content, and its mode.
 pub record Unmoved (a b : Store) (n : ℕ) : Type 0 where

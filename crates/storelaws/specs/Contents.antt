@@ -3,19 +3,18 @@
 use mathlib.Core.Path.{_≡_, refl, sym, ap, _∙_}
 use mathlib.Core.Bool.{Bool, true, false}
 use mathlib.Core.List.{List, [], _∷_, _++_, map, append-nil, append-assoc}
-use Prim.Native.Nat.{ℕ, zero, suc, _+_, _≤_, _<_}
+use Prim.Native.Nat.{ℕ, suc, _+_, _≤_}
 use native.Mathlib.Omega.{arith}
 use borrow.Author.Tests.{le-ltb, ne-eqb, le-leb}
-use lib.Dec.{eqb, ltb, leb}
-use lib.ListN.{length, length-append, length-map}
+use lib.Dec.{leb}
+use lib.ListN.{length, length-append}
 use Rattle.layout.specs.Layout.{mostKeys, mostEntries}
-use Rattle.pairs.specs.Pairs.{Pair, insert, delete, Within}
+use Rattle.pairs.specs.Pairs.{Pair, insert, Within}
 use Rattle.node.specs.declared.Kind.{Kind}
 use Rattle.node.specs.declared.Kind.the-variants.{Leaf, Branch}
 use Rattle.node.specs.Node.{Node, node, kindOf, pairsOf, Neat}
 use Rattle.node.specs.Change.{Change, put, remove, link, change, puts, changesOf}
 use Rattle.node.specs.Replay.{Piece, step, whole, Draft, unlinked, made, broken, ifFits, sameKind, redo, redoPiece, replayFrom, replay}
-use Rattle.storelaws.specs.ItemLaws.{map-append}
 
 -- A change that sets a link does so with the kind of its node.
 abbrev pub Suits : Change → Node → Type 0

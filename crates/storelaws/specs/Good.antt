@@ -4,14 +4,13 @@ use mathlib.Core.Path.{_≡_, refl, sym, ap, _∙_, subst}
 use mathlib.Core.Bool.{Bool, true, false, not}
 use mathlib.Core.Logic.{_⊎_, inl, inr}
 use mathlib.Core.List.{List, [], _∷_, _++_, map}
-use Prim.Native.Nat.{ℕ, zero, suc, _+_, _≤_, _<_, max}
-use native.Mathlib.Nat.{le-trans}
+use Prim.Native.Nat.{ℕ, suc, _+_, _≤_, _<_, max}
 use native.Mathlib.Omega.{arith}
 use borrow.Author.Tests.{leb-true, leb-false}
 use lib.Dec.{leb}
 use lib.ListN.{length, length-append}
 use Rattle.laws.specs.Counts.{bit-le-one, empty, tally}
-use Rattle.laws.specs.Every.{Every, none, both, every-append, every-map, every-weaken}
+use Rattle.laws.specs.Every.{Every, none, every-append, every-map}
 use Rattle.layout.specs.Layout.{mostEntries, mostLogPages, nodeLimit}
 use Rattle.account.specs.declared.Mode.{Mode}
 use Rattle.account.specs.declared.Mode.the-variants.{Log, Disk}
@@ -21,11 +20,11 @@ use Rattle.node.specs.Replay.{Piece, step}
 use Rattle.node.specs.Replay as Replay
 use Rattle.page.specs.Page.{Entry, Content, Page, page, log, whole}
 use Rattle.store.specs.Item.{entries}
-use Rattle.store.specs.View.{View, some?, greatest, pieces, buffered, pages}
+use Rattle.store.specs.View.{greatest, pieces, buffered, pages}
 use Rattle.store.specs.Pool.{numbered}
 use Rattle.store.specs.Store.{Store, view}
 use Rattle.store.specs.Live.{noClosing}
-use Rattle.store.specs.Write.{next, place, flush, enter, start, nodePage}
+use Rattle.store.specs.Write.{place, flush, enter, start, nodePage}
 use Rattle.store.specs.Run.{Moment, Run, moment, write, flushRun, roomBy, makeRoom, begin, writeGroup, editBy, writeEdit, writeNode}
 use Rattle.storelaws.specs.ItemLaws.{length-entries}
 use Rattle.storelaws.specs.Changes.{Same, Now, Lean}
@@ -45,18 +44,7 @@ use Rattle.storelaws.specs.Placing.{
   start-other,
   start-invariant,
 }
-use Rattle.storelaws.specs.Versions.{
-  VersionRules,
-  flush-versions,
-  page-versions,
-  enter-versions,
-  start-versions,
-  InLog,
-  OnPage,
-  InMode,
-  place-mode,
-  same-mode,
-}
+use Rattle.storelaws.specs.Versions.{VersionRules, flush-versions, page-versions, enter-versions, start-versions, InLog, InMode, place-mode, same-mode}
 use Rattle.storelaws.specs.Passed.{written-lean}
 use Rattle.storelaws.specs.Contents.{Spelled, spelled}
 
@@ -82,6 +70,16 @@ keep-refl a m = record { greatest = refl; pieces = refl; mode = λ x h. h }
 pub keep-trans : {a b c : Store} {m : ℕ} → Keep a b m → Keep b c m → Keep a c m
 keep-trans p q =
     record { greatest = q .greatest ∙ p .greatest; pieces = q .pieces ∙ p .pieces; mode = λ x h. q .mode x (p .mode x h) }
+
+-- A node seen as before keeps its mode too, where the blocks stay and where a page is placed.
+same-keep : (a b : Store) (m : ℕ) → Same (view a) (view b) m → b .blocks ≡ a .blocks → Keep a b m
+same-keep a b m o e =
+    record { greatest = o .greatest; pieces = o .pieces; mode = λ x h. same-mode x a b m (o .greatest) e h }
+
+pub place-keep : {B N : ℕ} {closing : Page → Bool} {st : Store} (v : Invariant B N closing st) (c : Content) (rest : List Entry) (m : ℕ) → m < N →
+    greatest (view (place closing N c rest st)) m ≡ greatest (view st) m → pieces (view (place closing N c rest st)) m ≡ pieces (view st) m →
+    Keep st (place closing N c rest st) m
+place-keep v c rest m l g x = record { greatest = g; pieces = x; mode = λ y h. place-mode v m y c rest l g h }
 
 -- What a write of node n does: it has these pieces and this mode; every other node is kept.
 pub record Done (B n : ℕ) (run run′ : Run) (xs : List Piece) (m₀ : Mode) : Type 0 where
@@ -114,11 +112,7 @@ module _ {B : ℕ} {run : Run} (v : Good B run) where
   unfolding write flush
   flushRun-keep m l =
       let a = flush-now (v .invariant) m l in
-      record {
-        greatest = a .greatest;
-        pieces = a .pieces;
-        mode = λ x h. place-mode (v .invariant) m x (log (run .now .buffer)) [] l (a .greatest) h;
-      }
+      place-keep (v .invariant) (log (run .now .buffer)) [] m l (a .greatest) (a .pieces)
 
   flushRun-pages : (m : ℕ) → m < run .nodes → pages (view (flushRun run .now)) m ≤ suc (pages (view (run .now)) m)
   unfolding write flush
@@ -190,14 +184,7 @@ module _ {B : ℕ} {run : Run} (v : Good B run) (n : ℕ) (c : Change) (cs : Lis
         own = start-now (v .invariant) n c cs .pieces;
         mode = begin-mode;
         others = λ m k h. omega arith;
-        keep =
-            λ m k h.
-            let o = start-other (v .invariant) n c cs m h in
-            record {
-              greatest = o .greatest;
-              pieces = o .pieces;
-              mode = λ x q. same-mode x (run .now) (start n (c ∷ cs) (run .now)) m (o .greatest) refl q;
-            };
+        keep = λ m k h. same-keep (run .now) (start n (c ∷ cs) (run .now)) m (start-other (v .invariant) n c cs m h) refl;
       }
 
 -- a write after room was made
@@ -258,14 +245,7 @@ enter-done {B} {run} v n c x f l lg p =
       own = now .pieces;
       mode = same-mode Log (run .now) (enter n c (run .now)) n (now .greatest) refl lg;
       others = λ m k h. k;
-      keep =
-          λ m k h.
-          let o = enter-other (v .invariant) n c m h in
-          record {
-            greatest = o .greatest;
-            pieces = o .pieces;
-            mode = λ y q. same-mode y (run .now) (enter n c (run .now)) m (o .greatest) refl q;
-          };
+      keep = λ m k h. same-keep (run .now) (enter n c (run .now)) m (enter-other (v .invariant) n c m h) refl;
     }
   where
     now : Now (view (enter n c (run .now))) n (greatest (view (run .now)) n) (pieces (view (run .now)) n ++ (step c ∷ []))
@@ -314,11 +294,7 @@ writeNode-done {B} {run} v n x l =
       keep =
           λ m k h.
           let o = page-other (v .invariant) n x m k h in
-          record {
-            greatest = o .greatest;
-            pieces = o .pieces;
-            mode = λ y q. place-mode (v .invariant) m y (whole n x) (run .now .buffer) k (o .greatest) q;
-          };
+          place-keep (v .invariant) (whole n x) (run .now .buffer) m k (o .greatest) (o .pieces);
     }
   where
     now : Now (view (place noClosing (run .nodes) (whole n x) (run .now .buffer) (run .now))) n (suc (run .now .last)) (Replay.whole x ∷ []) 1 []

@@ -4,12 +4,12 @@ use mathlib.Core.Path.{_≡_, refl, sym, ap, _∙_, subst, fun-ext}
 use mathlib.Core.Bool.{Bool, true, false}
 use mathlib.Core.Logic.{_⊎_, inl, inr}
 use mathlib.Core.List.{List, [], _∷_, _++_, map}
-use Prim.Native.Nat.{ℕ, zero, suc, _+_, _≤_, _<_, max}
+use Prim.Native.Nat.{ℕ, suc, _+_, _≤_, _<_, max}
 use native.Mathlib.Omega.{arith}
 use lib.Dec.{leb}
 use lib.ListN.{length}
 use Rattle.laws.specs.Order.{eq-or}
-use Rattle.laws.specs.Every.{Every, none, both, every-append}
+use Rattle.laws.specs.Every.{none, both, every-append}
 use Rattle.laws.specs.Update.{update, update-same, update-other}
 use Rattle.layout.specs.Layout.{mostEntries, mostLogPages, nodeLimit}
 use Rattle.account.specs.declared.Mode.{Mode}
@@ -18,14 +18,13 @@ use Rattle.node.specs.Node.{Node, Neat}
 use Rattle.node.specs.Change.{Change, change, changesOf}
 use Rattle.node.specs.Replay.{Piece, step, made, redo, replay}
 use Rattle.node.specs.Replay as Replay
-use Rattle.page.specs.Page.{Page}
 use Rattle.store.specs.View.{pieces, pages}
 use Rattle.store.specs.Store.{Store, view, draftOf, nodeIn, nodeOf, modeOf}
-use Rattle.store.specs.Run.{Moment, Run, write, roomBy, makeRoom, begin, writeGroup, editBy, writeEdit, writeNode}
+use Rattle.store.specs.Run.{Run, write, roomBy, makeRoom, writeGroup, editBy, writeEdit, writeNode}
 use Rattle.store.specs.Serve.{Work, read, edit, rewrite, workOn, switch, work, note, serve, create}
-use Rattle.storelaws.specs.Versions.{InMode, InLog, mode-is}
+use Rattle.storelaws.specs.Versions.{InMode, mode-is}
 use Rattle.storelaws.specs.Contents.{Suits, replay-snoc, replay-whole, redo-made, replay-changesOf, neat-fits}
-use Rattle.storelaws.specs.Good.{Good, Keep, Done, makeRoom-roomy, writeGroup-done, writeEdit-done, writeNode-done}
+use Rattle.storelaws.specs.Good.{Good, Keep, Done, writeGroup-done, writeEdit-done, writeNode-done}
 
 -- A node's content is x, unbroken, and it is in this mode.
 pub record Holds (st : Store) (n : ℕ) (x : Node) (m : Mode) : Type 0 where

@@ -19,4 +19,5 @@ pub mod PageTests
 pub mod Opening
 pub mod SheetLaws
 pub mod Closing
+pub mod Prepared
 pub mod Compaction

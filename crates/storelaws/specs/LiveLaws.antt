@@ -4,16 +4,16 @@ use mathlib.Core.Path.{_≡_, refl, sym, ap, _∙_}
 use mathlib.Core.Bool.{Bool, true, false, not, _&&_, _||_, or-true}
 use mathlib.Core.Logic.{_⊎_, inl, inr}
 use mathlib.Core.Option.{Option, none, some}
-use mathlib.Core.List.{List, [], _∷_, _++_}
+use mathlib.Core.List.{List, [], _∷_}
 use Prim.Native.Nat.{ℕ, zero, suc, _+_, _*_, _≤_, _<_}
 use native.Mathlib.Omega.{arith}
 use borrow.Author.Tests.{eq-eqb, leb-true, le-leb, lt-ltb}
-use lib.Dec.{eqb, leb, ltb}
-use Rattle.laws.specs.Tests.{choose, and-left, and-right, or-left, or-right}
+use lib.Dec.{leb}
+use Rattle.laws.specs.Tests.{choose, and-right, or-left, or-right}
 use Rattle.laws.specs.Order.{eq-or, le-or, le-suc-or}
 use Rattle.laws.specs.Counts.{bit, count, count-mono, tally, tally-mono, tally-or, empty}
 use Rattle.page.specs.Page.{Entry, Page, sequence}
-use Rattle.store.specs.Item.{Item, itemsOf, piecesIn}
+use Rattle.store.specs.Item.{itemsOf, piecesIn}
 use Rattle.store.specs.View.{View, sumTo, some?, greatest, pages}
 use Rattle.store.specs.Pool.{Blocks, numbered, above, pageIn, orElse, find, itemsAt}
 use Rattle.store.specs.Store.{seen}

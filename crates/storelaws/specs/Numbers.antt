@@ -1,10 +1,9 @@
 -- How many sequence numbers are taken: a page takes one, a fresh start one. A node just written as a group lies on no page, so the edit
 -- behind a switch to log writes no second group. Assumes nothing.
-use mathlib.Core.Path.{_≡_, refl, sym, ap, _∙_}
+use mathlib.Core.Path.{_≡_, refl}
 use mathlib.Core.Bool.{Bool, true, false}
-use mathlib.Core.List.{List, [], _∷_}
-use Prim.Native.Nat.{ℕ, zero, suc, _+_, _≤_, _<_, max}
-use native.Mathlib.Nat.{le-trans}
+use mathlib.Core.List.{List}
+use Prim.Native.Nat.{ℕ, suc, _+_, _≤_, _<_}
 use native.Mathlib.Omega.{arith}
 use borrow.Author.Tests.{leb-true}
 use lib.Dec.{leb}
@@ -16,12 +15,12 @@ use Rattle.node.specs.Node.{Node}
 use Rattle.node.specs.Change.{Change, change, changesOf}
 use Rattle.page.specs.Page.{Entry, Content, Page}
 use Rattle.store.specs.View.{pages}
-use Rattle.store.specs.Store.{Store, view, nodeOf, modeOf}
+use Rattle.store.specs.Store.{view}
 use Rattle.store.specs.Write.{place, enter, start}
 use Rattle.store.specs.Run.{Run, write, roomBy, makeRoom, writeGroup, editBy, writeEdit, writeNode}
-use Rattle.store.specs.Serve.{Work, read, edit, rewrite, switch, work, note, serve, create}
+use Rattle.store.specs.Serve.{Work, read, edit, rewrite, switch, work, serve, create}
 use Rattle.storelaws.specs.Contents.{neat-fits}
-use Rattle.storelaws.specs.Good.{Good, Done, Roomy, makeRoom-roomy, writeGroup-done, writeGroup-pages}
+use Rattle.storelaws.specs.Good.{Good, makeRoom-roomy, writeGroup-done, writeGroup-pages}
 use Rattle.storelaws.specs.Keeps.{Keeps, holds-node, holds-mode, writeGroup-nodes}
 
 abbrev pub last : Run → ℕ
@@ -66,8 +65,8 @@ writeEdit-entry n c x run l = go (leb mostLogPages (pages (view (makeRoom 1 run 
     go false e = omega (arith, makeRoom-last 1 run)
 
 -- an edit behind a switch to log
-switch-edit-last : {B N : ℕ} {table : ℕ → Node} {modes : ℕ → Mode} {run : Run} → Keeps B N table modes run → (n : ℕ) → n < N → (c : Change) (x : Node) →
-    last (writeEdit n c x (writeGroup n (table n) run)) ≤ 3 + last run
+switch-edit-last : {B N : ℕ} {table : ℕ → Node} {modes : ℕ → Mode} {run : Run} → Keeps B N table modes run → (n : ℕ) → n < N →
+    (c : Change) (x : Node) → last (writeEdit n c x (writeGroup n (table n) run)) ≤ 3 + last run
 switch-edit-last {B} {N} {table} {modes} {run} v n l c x =
     let h = v .neat n l in
     let d : Good B (writeGroup n (table n) run) =
@@ -83,24 +82,26 @@ switch-edit-last {B} {N} {table} {modes} {run} v n l c x =
     more : (n : ℕ) (x : Node) (run : Run) → n < writeGroup n x run .nodes
     more n x run = omega (arith, writeGroup-nodes n x run)
 
-work-last : (m : Mode) (n : ℕ) (w : Work) (x : Node) (run : Run) → last (work m n w x run) ≤ 3 + last run
-work-last Log n read x run = omega arith
-work-last Disk n read x run = omega arith
-work-last Log n (edit c) x run = writeEdit-last n c (change c x) run
-work-last Disk n (edit c) x run = omega (arith, writeNode-last n (change c x) run)
-work-last Log n (rewrite y) x run = omega (arith, writeGroup-last n y run)
-work-last Disk n (rewrite y) x run = omega (arith, writeNode-last n y run)
+disk-last : (n : ℕ) (w : Work) (x : Node) (run : Run) → last (work Disk n w x run) ≤ 1 + last run
+disk-last n read x run = omega arith
+disk-last n (edit c) x run = omega (arith, writeNode-last n (change c x) run)
+disk-last n (rewrite y) x run = omega (arith, writeNode-last n y run)
+
+log-last : (n : ℕ) (w : Work) (x : Node) (run : Run) → last (work Log n w x run) ≤ 3 + last run
+log-last n read x run = omega arith
+log-last n (edit c) x run = writeEdit-last n c (change c x) run
+log-last n (rewrite y) x run = omega (arith, writeGroup-last n y run)
 
 module _ {B N : ℕ} {table : ℕ → Node} {modes : ℕ → Mode} {run : Run} (v : Keeps B N table modes run) (n : ℕ) (l : n < N) where
+  -- two groups, each with a page that it forces out, are the most
   switched-last : (m m′ : Mode) (w : Work) → last (work m′ n w (table n) (switch m m′ n (table n) run)) ≤ 4 + last run
-  switched-last Log Log w = omega (arith, work-last Log n w (table n) run)
-  switched-last Log Disk w =
-      omega (arith, work-last Disk n w (table n) (writeNode n (table n) run), writeNode-last n (table n) run)
+  switched-last Log Log w = omega (arith, log-last n w (table n) run)
+  switched-last Log Disk w = omega (arith, disk-last n w (table n) (writeNode n (table n) run), writeNode-last n (table n) run)
   switched-last Disk Log read = omega (arith, writeGroup-last n (table n) run)
   switched-last Disk Log (edit c) = omega (arith, switch-edit-last v n l c (change c (table n)))
   switched-last Disk Log (rewrite y) =
       omega (arith, writeGroup-last n y (writeGroup n (table n) run), writeGroup-last n (table n) run)
-  switched-last Disk Disk w = omega (arith, work-last Disk n w (table n) run)
+  switched-last Disk Disk w = omega (arith, disk-last n w (table n) run)
 
   -- A REQUEST takes at most four numbers
   pub serve-last : (m : Mode) (w : Work) → last (serve m n w run) ≤ 4 + last run

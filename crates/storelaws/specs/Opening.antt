@@ -5,45 +5,29 @@ use mathlib.Core.Bool.{Bool, true, false, _&&_}
 use mathlib.Core.Logic.{_⊎_, inl, inr}
 use mathlib.Core.Option.{Option, none, some}
 use mathlib.Core.List.{List, [], _∷_, _++_, map}
-use Prim.Native.Nat.{ℕ, zero, suc, _+_, _*_, _≤_, _<_, max}
+use Prim.Native.Nat.{ℕ, zero, suc, _+_, _≤_, _<_}
 use native.Mathlib.Omega.{arith}
-use borrow.Author.Tests.{eqb-true, eqb-false, eq-eqb, ne-eqb}
+use borrow.Author.Tests.{eq-eqb, ne-eqb}
 use lib.Dec.{eqb}
-use Rattle.laws.specs.Tests.{choose, and-left, and-right, and-both}
+use Rattle.laws.specs.Tests.{choose, test-clash, and-left, and-right, and-both}
 use Rattle.laws.specs.Order.{eq-or, le-or}
 use Rattle.laws.specs.Counts.{bit, consIf, count, tally}
 use Rattle.laws.specs.Every as Every
 use Rattle.layout.specs.Layout.{pagesInBlock, fewestBlocks, nodeLimit, mostLogPages}
-use Rattle.account.specs.declared.Mode.{Mode}
 use Rattle.account.specs.declared.Mode.the-variants.{Log, Disk}
 use Rattle.node.specs.Node.{Node, Neat}
-use Rattle.node.specs.Replay.{Piece, Draft, unlinked, made, replayFrom, replay}
-use Rattle.page.specs.Page.{Entry, Page, page, log, whole, checkpoint, sequence}
-use Rattle.store.specs.Item.{Item, entryItem, itemsOf, piecesIn, greatestIn}
-use Rattle.store.specs.View.{View, gather, greatestTo, greatest, pieces, buffered, pages}
+use Rattle.node.specs.Replay.{Piece, unlinked, made, replayFrom, replay}
+use Rattle.page.specs.Page.{Entry, Page, page, log, whole, checkpoint}
+use Rattle.store.specs.Item.{entryItem, itemsOf, piecesIn, greatestIn}
+use Rattle.store.specs.View.{gather, greatestTo, greatest, pieces, buffered, pages}
 use Rattle.store.specs.Pool.{Blocks, numbered, find, itemsAt}
-use Rattle.store.specs.Store.{Store, view, draftOf, nodeIn, nodeOf, modeAt, modeOf}
+use Rattle.store.specs.Store.{Store, view, draftOf, nodeOf, modeOf}
 use Rattle.store.specs.Live.{noClosing}
 use Rattle.store.specs.Run.{Run}
-use Rattle.store.specs.Reopen.{
-  Cells,
-  cells,
-  blocksIn,
-  newest,
-  blockOf,
-  storeOf,
-  reopened,
-  poolOf,
-  blocksPass,
-  versionPasses,
-  versionsPass,
-  pagePasses,
-  everyPage,
-  pagesPass,
-}
+use Rattle.store.specs.Checkpoint.{collect, checkpointOf, complete}
+use Rattle.store.specs.Reopen.{Cells, blocksIn, newest, blockOf, storeOf, reopened, poolOf, blocksPass, versionPasses, versionsPass, pagePasses, everyPage, pagesPass}
 use Rattle.storelaws.specs.ViewLaws.{gather-nil, Reached, greatestTo-reached}
 use Rattle.storelaws.specs.BlockRules.{BlockRules}
-use Rattle.storelaws.specs.Placing.{Invariant}
 use Rattle.storelaws.specs.Versions.{versionIs, VersionRules, InLog, OnPage, InMode, mode-is}
 use Rattle.storelaws.specs.BlockTests.{
   passing,
@@ -70,7 +54,7 @@ use Rattle.storelaws.specs.PageTests.{
 }
 use Rattle.storelaws.specs.Changes.{Lean}
 use Rattle.storelaws.specs.Good.{Good}
-use Rattle.storelaws.specs.Keeps.{Holds, Keeps}
+use Rattle.storelaws.specs.Keeps.{Keeps}
 
 none-closing-in : (b : List Page) → count noClosing b ≡ 0
 none-closing-in [] = refl
@@ -131,7 +115,8 @@ module _ {B N : ℕ} {c : Cells} (o : Opens B N c) where
 piecesIn-zero : (n s : ℕ) (bs : Blocks) (es : List Entry) → versionsPass s bs es ≡ true → piecesIn n 0 (map entryItem es) ≡ []
 piecesIn-zero n s bs [] h = refl
 piecesIn-zero n s bs (e ∷ es) h =
-    rw (ne-eqb (e .version) 0 (λ z. omega (arith, fits .fromOne))) (go (eqb (e .id) n) (piecesIn-zero n s bs es (and-right (versionPasses s bs e) (versionsPass s bs es) h)))
+    rw (ne-eqb (e .version) 0 (λ z. omega (arith, fits .fromOne)))
+    (go (eqb (e .id) n) (piecesIn-zero n s bs es (and-right (versionPasses s bs e) (versionsPass s bs es) h)))
   where
     fits : VersionFits s bs (e .version)
     fits = version-fits s bs e (and-left (versionPasses s bs e) (versionsPass s bs es) h)
@@ -242,19 +227,32 @@ opened-keeps {B} {N} {c} o d t =
     }
 
 -- OUR OWN POOL PASSES the tests, in every good state
-pub own-passes : {B N : ℕ} {closing : Page → Bool} {st : Store} → Invariant B N closing st → VersionRules st → pagesPass B (poolOf st) ≡ true
+pub own-passes : {B : ℕ} (st : Store) → BlockRules pagesInBlock B (st .blocks) (st .current) (st .last) → VersionRules st →
+    pagesPass B (poolOf st) ≡ true
 unfolding pagesPass
-own-passes {B} {st = st} v r =
+own-passes {B} st r a =
     and-both (blocksPass pagesInBlock B (poolOf st)) _
-    (passing-true pagesInBlock B (poolOf st) (rules-passing (v .rules)))
-    (rw (rules-blocks (v .rules)) (rules-pages st (v .rules .fromOne) r))
+    (passing-true pagesInBlock B (poolOf st) (rules-passing r))
+    (rw (rules-blocks r) (rules-pages st (r .fromOne) a))
 
 -- AFTER A PAGE OF THE LAST NUMBER, and with the buffer empty, the next call finds this very store
-pub reopen : {B N : ℕ} {closing : Page → Bool} {st : Store} (v : Invariant B N closing st) → 0 < tally (numbered (st .last)) (st .blocks) →
-    st .buffer ≡ [] → reopened B (poolOf st) ≡ st
+pub reopen : {B : ℕ} (st : Store) → BlockRules pagesInBlock B (st .blocks) (st .current) (st .last) →
+    0 < tally (numbered (st .last)) (st .blocks) → st .buffer ≡ [] → reopened B (poolOf st) ≡ st
 unfolding reopened
-reopen {B} {st = st} v h e =
+reopen {B} st r h e =
     let top : newest (st .blocks) ≡ st .last =
-    omega (arith, newest-le (st .last) (st .blocks) (v .rules .within), le-newest (st .last) (st .blocks) h) in
-    let at : blockOf (st .last) (st .blocks) ≡ st .current = ap (λ z. blockOf z (st .blocks)) (sym top) ∙ rules-current (v .rules) in
-    rw (rules-blocks (v .rules), top, at) (λ i. record { blocks = st .blocks; current = st .current; buffer = sym e i; last = st .last })
+    omega (arith, newest-le (st .last) (st .blocks) (r .within), le-newest (st .last) (st .blocks) h) in
+    let at : blockOf (st .last) (st .blocks) ≡ st .current = ap (λ z. blockOf z (st .blocks)) (sym top) ∙ rules-current r in
+    rw (rules-blocks r, top, at) (λ i. record { blocks = st .blocks; current = st .current; buffer = sym e i; last = st .last })
+
+-- A pool with a complete checkpoint has a page.
+pub complete-newest : (B : ℕ) (c : Cells) → complete (checkpointOf (reopened B c)) ≡ true → 0 < newest (blocksIn pagesInBlock B c)
+unfolding reopened checkpointOf collect complete
+complete-newest B c e = go (newest bs) refl
+  where
+    bs : Blocks
+    bs = blocksIn pagesInBlock B c
+
+    go : (k : ℕ) → newest bs ≡ k → 0 < k
+    go zero q = absurd (test-clash (complete (collect (λ s. find s bs) (newest bs) [])) e (ap (λ k. complete (collect (λ s. find s bs) k [])) q))
+    go (suc k) q = omega arith

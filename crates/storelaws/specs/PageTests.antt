@@ -1,9 +1,9 @@
 -- The tests of sequence numbers and versions hold exactly where their rules do, page by page and entry by entry. Assumes nothing.
-use mathlib.Core.Path.{_≡_, refl, sym, ap, subst, _∙_}
+use mathlib.Core.Path.{_≡_, refl, ap, subst}
 use mathlib.Core.Bool.{Bool, true, false, _&&_}
 use mathlib.Core.Logic.{_⊎_, inl, inr}
 use mathlib.Core.Option.{Option, none, some}
-use mathlib.Core.List.{List, [], _∷_, _++_, map}
+use mathlib.Core.List.{List, [], _∷_, map}
 use Prim.Native.Nat.{ℕ, zero, suc, _+_, _≤_, _<_, max}
 use native.Mathlib.Nat.{le-trans}
 use native.Mathlib.Omega.{arith}
@@ -12,10 +12,9 @@ use lib.Dec.{eqb, leb, ltb}
 use Rattle.laws.specs.Tests.{choose, and-left, and-right, and-both}
 use Rattle.laws.specs.Order.{eq-or, le-or}
 use Rattle.laws.specs.Counts.{bit, count, tally}
-use Rattle.node.specs.Node.{Node}
 use Rattle.page.specs.Page.{Entry, Content, Page, page, log, whole, checkpoint, sequence}
-use Rattle.store.specs.Item.{Item, entryItem, itemsOf, greatestIn}
-use Rattle.store.specs.View.{View, greatest}
+use Rattle.store.specs.Item.{entryItem, itemsOf, greatestIn}
+use Rattle.store.specs.View.{greatest}
 use Rattle.store.specs.Pool.{Blocks, numbered, pageIn, orElse, find, itemsAt}
 use Rattle.store.specs.Store.{Store, seen}
 use Rattle.store.specs.Reopen.{greatestOf, newest, storeOf, versionPasses, versionsPass, pagePasses, every, everyPage}
@@ -195,31 +194,28 @@ passing-fit bs e =
     go n s none h = omega arith
     go n s (some p) h = omega (arith, page-greatest n bs p (h .0))
 
+fits-raise : {s s′ v : ℕ} {bs : Blocks} → VersionFits s bs v → s ≤ s′ → VersionFits s′ bs v
+fits-raise f l = record { fromOne = f .fromOne; below = omega (arith, f .below); apart = f .apart }
+
 says-in : (v : ℕ) (bs : Blocks) (b : List Page) → every (pagePasses bs) b ≡ true → 0 < count (says v) b → VersionFits (greatestOf b) bs v
 says-in v bs [] e h = absurd (omega arith)
 says-in v bs (p ∷ b) e h =
     go (le-or 1 (bit (says v p))) (λ q. says-in v bs b (and-right (pagePasses bs p) (every (pagePasses bs) b) e) q)
   where
-    wider : (s : ℕ) → VersionFits s bs v → s ≤ max (sequence p) (greatestOf b) → VersionFits (max (sequence p) (greatestOf b)) bs v
-    wider s f l = record { fromOne = f .fromOne; below = omega (arith, f .below); apart = f .apart }
-
     go : (1 ≤ bit (says v p)) ⊎ (bit (says v p) < 1) → (0 < count (says v) b → VersionFits (greatestOf b) bs v) →
         VersionFits (max (sequence p) (greatestOf b)) bs v
-    go (inl q) r = wider (sequence p) (page-says v bs p (and-left (pagePasses bs p) (every (pagePasses bs) b) e) q) (omega arith)
-    go (inr q) r = wider (greatestOf b) (r (omega arith)) (omega arith)
+    go (inl q) r = fits-raise (page-says v bs p (and-left (pagePasses bs p) (every (pagePasses bs) b) e) q) (omega arith)
+    go (inr q) r = fits-raise (r (omega arith)) (omega arith)
 
 says-all : (v : ℕ) (bs cs : Blocks) → everyPage (pagePasses bs) cs ≡ true → 0 < tally (says v) cs → VersionFits (newest cs) bs v
 says-all v bs [] e h = absurd (omega arith)
 says-all v bs (c ∷ cs) e h =
     go (le-or 1 (count (says v) c)) (λ q. says-all v bs cs (and-right (every (pagePasses bs) c) (everyPage (pagePasses bs) cs) e) q)
   where
-    wider : (s : ℕ) → VersionFits s bs v → s ≤ max (greatestOf c) (newest cs) → VersionFits (max (greatestOf c) (newest cs)) bs v
-    wider s f l = record { fromOne = f .fromOne; below = omega (arith, f .below); apart = f .apart }
-
     go : (1 ≤ count (says v) c) ⊎ (count (says v) c < 1) → (0 < tally (says v) cs → VersionFits (newest cs) bs v) →
         VersionFits (max (greatestOf c) (newest cs)) bs v
-    go (inl q) r = wider (greatestOf c) (says-in v bs c (and-left (every (pagePasses bs) c) (everyPage (pagePasses bs) cs) e) q) (omega arith)
-    go (inr q) r = wider (newest cs) (r (omega arith)) (omega arith)
+    go (inl q) r = fits-raise (says-in v bs c (and-left (every (pagePasses bs) c) (everyPage (pagePasses bs) cs) e) q) (omega arith)
+    go (inr q) r = fits-raise (r (omega arith)) (omega arith)
 
 pub passing-versions : (bs : Blocks) → everyPage (pagePasses bs) bs ≡ true → VersionRules (storeOf bs)
 unfolding said

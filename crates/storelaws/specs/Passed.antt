@@ -1,8 +1,8 @@
 -- The states passed while a page is written: each copy of a compaction shows the nodes as they were. Assumes nothing.
-use mathlib.Core.Path.{_≡_, refl, sym, ap, _∙_}
+use mathlib.Core.Path.{_≡_, refl, ap}
 use mathlib.Core.Bool.{Bool, true, false}
-use mathlib.Core.List.{List, [], _∷_, _++_}
-use Prim.Native.Nat.{ℕ, zero, suc, _+_, _≤_, _<_}
+use mathlib.Core.List.{List}
+use Prim.Native.Nat.{ℕ, zero, suc, _≤_}
 use native.Mathlib.Omega.{arith}
 use lib.Dec.{leb, ltb}
 use lib.ListN.{length}
@@ -15,7 +15,7 @@ use Rattle.store.specs.Store.{Store, view}
 use Rattle.store.specs.Live.{live}
 use Rattle.store.specs.Allocate.{blanks, nextBlank, victim}
 use Rattle.store.specs.Write.{place}
-use Rattle.store.specs.Run.{copying, oneTo, copiesBy, copies, written}
+use Rattle.store.specs.Run.{copying, oneTo, copiesBy, written}
 use Rattle.storelaws.specs.Steps.{Pruned, stays, pruned-greatest, pruned-pieces, pruned-pages, pruned-buffered}
 use Rattle.storelaws.specs.Changes.{Same, Lean, same-lean}
 use Rattle.storelaws.specs.PoolLaws.{Moves, find-copying}

@@ -2,10 +2,9 @@
 -- number and every other page where it was. Then each operation of the store, as one of the changes of a view. Assumes nothing.
 use mathlib.Core.Path.{_≡_, refl, sym, ap, _∙_}
 use mathlib.Core.Bool.{Bool, true, false}
-use mathlib.Core.Logic.{_⊎_, inl, inr}
-use mathlib.Core.Option.{Option, none, some}
+use mathlib.Core.Option.{Option, some}
 use mathlib.Core.List.{List, [], _∷_, _++_, map}
-use Prim.Native.Nat.{ℕ, zero, suc, _+_, _*_, _-_, _≤_, _<_}
+use Prim.Native.Nat.{ℕ, suc, _+_, _*_, _-_, _≤_, _<_}
 use native.Mathlib.Nat.{le-trans}
 use native.Mathlib.Omega.{arith}
 use borrow.Author.Tests.{eq-eqb, ne-eqb}
@@ -17,13 +16,12 @@ use Rattle.node.specs.Node.{Node}
 use Rattle.node.specs.Change.{Change}
 use Rattle.node.specs.Replay.{Piece, step}
 use Rattle.node.specs.Replay as Replay
-use Rattle.page.specs.Page.{Entry, Content, Page, page, log, whole, checkpoint, sequence}
-use Rattle.store.specs.Item.{Item, entryItem, itemsOf, piecesIn, greatestIn, group}
-use Rattle.store.specs.View.{View, some?, greatest, pieces, buffered, pages}
+use Rattle.page.specs.Page.{Entry, Content, Page, page, log, whole, sequence}
+use Rattle.store.specs.Item.{entryItem, itemsOf, greatestIn, group}
+use Rattle.store.specs.View.{some?, greatest, pieces, buffered, pages}
 use Rattle.store.specs.Pool.{Blocks, block, numbered, pageIn, find, itemsAt, addTo}
 use Rattle.store.specs.Store.{Store, seen, view}
 use Rattle.store.specs.Live.{live}
-use Rattle.store.specs.Allocate.{compact, Spot, spot}
 use Rattle.store.specs.Write.{found, next, place, flush, enter, start, nodePage}
 use Rattle.storelaws.specs.ItemLaws.{greatestIn-append, greatestIn-group-any, items-append}
 use Rattle.storelaws.specs.Steps.{
@@ -60,7 +58,7 @@ use Rattle.storelaws.specs.Changes.{
   started-lean,
   paged-lean,
 }
-use Rattle.storelaws.specs.PoolLaws.{find-block, find-set, pageIn-snoc, pageIn-snoc-other, Moves, Found, find-compact}
+use Rattle.storelaws.specs.PoolLaws.{find-block, find-set, pageIn-snoc, pageIn-snoc-other, Found, find-compact}
 use Rattle.storelaws.specs.PoolLaws as PoolLaws
 use Rattle.storelaws.specs.LiveLaws.{compact-pruned, live-bound}
 use Rattle.storelaws.specs.BlockRules.{

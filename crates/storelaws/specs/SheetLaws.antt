@@ -1,7 +1,7 @@
 -- The sheets of a checkpoint: at most twelve, and tariff, scores and count are read back from them. Parts of a list in a row are the
 -- list. Assumes nothing.
 use mathlib.Core.Path.{_≡_, refl, sym, ap, _∙_}
-use mathlib.Core.Bool.{Bool, true, false, _&&_}
+use mathlib.Core.Bool.{true, _&&_}
 use mathlib.Core.Logic.{_⊎_, inl, inr}
 use mathlib.Core.Option.{Option, none, some}
 use mathlib.Core.List.{List, [], _∷_, _++_}
@@ -16,25 +16,7 @@ use Rattle.laws.specs.Counts.{bit, count}
 use Rattle.layout.specs.Layout.{firstScores, otherScores, mostBlocks, nodeLimit}
 use Rattle.account.specs.declared.Tariff.{Tariff}
 use Rattle.page.specs.Page.{Score}
-use Rattle.store.specs.Checkpoint.{
-  Sheet,
-  sheet,
-  scoresFrom,
-  parts,
-  countIfLast,
-  laterSheets,
-  laterParts,
-  sheets,
-  tariffIn,
-  scoresIn,
-  countOr,
-  countIn,
-  scoreIn,
-  countLast,
-  scoreOf,
-  onceBelow,
-  complete,
-}
+use Rattle.store.specs.Checkpoint.{sheet, scoresFrom, parts, countIfLast, laterSheets, laterParts, sheets, tariffIn, scoresIn, countIn, scoreIn, countLast, scoreOf, onceBelow, complete}
 use Rattle.storelaws.specs.Placing.{mostSheets}
 
 pub length-laterSheets : (n : ℕ) (xs : List (List Score)) → length (laterSheets n xs) ≡ length xs

@@ -4,7 +4,7 @@
 use mathlib.Core.Path.{_≡_, refl, sym, ap, _∙_, subst}
 use mathlib.Core.Bool.{Bool, true, false}
 use mathlib.Core.Logic.{_⊎_, inl, inr}
-use mathlib.Core.Option.{Option, none, some}
+use mathlib.Core.Option.{none, some}
 use mathlib.Core.List.{List, [], _∷_, _++_}
 use Prim.Native.Nat.{ℕ, zero, suc, _+_, _≤_, _<_}
 use native.Mathlib.Omega.{arith}
@@ -16,17 +16,17 @@ use Rattle.account.specs.declared.Mode.{Mode}
 use Rattle.account.specs.declared.Mode.the-variants.{Log, Disk}
 use Rattle.node.specs.Node.{Node}
 use Rattle.node.specs.Change.{Change}
-use Rattle.page.specs.Page.{Entry, Content, Page, page, log, whole, checkpoint, sequence}
+use Rattle.page.specs.Page.{Entry, Content, Page, page, log, whole, checkpoint}
 use Rattle.store.specs.Item.{entries}
-use Rattle.store.specs.View.{View, greatest}
+use Rattle.store.specs.View.{greatest}
 use Rattle.store.specs.Pool.{numbered, find}
 use Rattle.store.specs.Store.{Store, view, modeAt, modeOf}
-use Rattle.store.specs.Live.{carries, live}
-use Rattle.store.specs.Write.{found, next, place, flush, enter, start, nodePage}
+use Rattle.store.specs.Live.{carries}
+use Rattle.store.specs.Write.{next, place, flush, enter, start, nodePage}
 use Rattle.storelaws.specs.PoolLaws.{find-none}
 use Rattle.storelaws.specs.LiveLaws.{live-carries}
 use Rattle.storelaws.specs.BlockRules.{numbered-none}
-use Rattle.storelaws.specs.Placing.{Invariant, place-tally, place-find, place-find-live}
+use Rattle.storelaws.specs.Placing.{Invariant, place-tally, place-find-live}
 
 abbrev pub versionIs : ℕ → Entry → Bool
 versionIs v e = eqb (e .version) v
@@ -140,64 +140,43 @@ unfolding modeOf
 mode-is Log st n h = ap modeAt (find-none (greatest (view st) n) (st .blocks) (h .none))
 mode-is Disk st n h = ap modeAt (h .page)
 
+-- Entries join the buffer under a version from 1 that no page has for a number.
+module _ (st : Store) (n own last′ : ℕ) (cs : List Change) (later : st .last ≤ last′) (known : own ≤ last′) (some : 0 < own)
+    (unused : tally (numbered own) (st .blocks) ≡ 0) where
+  abbrev joined : Store
+  joined = record { blocks = st .blocks; current = st .current; buffer = st .buffer ++ entries n own cs; last = last′ }
+
+  -- another version is said as often as before
+  joined-other : (u : ℕ) → (own ≡ u → ⊥) → said u joined ≡ said u st
+  unfolding said
+  joined-other u q = omega (arith, count-append (versionIs u) (st .buffer) (entries n own cs), entries-other u n own cs q)
+
+  joined-versions : VersionRules st → VersionRules joined
+  joined-versions a =
+      record {
+        early = a .early;
+        fromOne = joined-other 0 (λ q. omega arith) ∙ a .fromOne;
+        apart = λ u h. go u h (eq-or own u);
+        within = λ u h. joined-other u (λ q. omega arith) ∙ a .within u (omega arith);
+      }
+    where
+      go : (u : ℕ) → 0 < said u joined → (own ≡ u) ⊎ (own ≡ u → ⊥) → tally (numbered u) (st .blocks) ≡ 0
+      go u h (inl q) = rw (← q) unused
+      go u h (inr q) = a .apart u (omega (arith, joined-other u q))
+
 module _ {B N : ℕ} {closing : Page → Bool} {st : Store} (v : Invariant B N closing st) (n : ℕ) where
   -- an entry under a log node's version
   pub enter-versions : (c : Change) → InLog st n → VersionRules st → VersionRules (enter n c st)
-  unfolding said enter
+  unfolding enter
   enter-versions c l a =
-      record {
-        early = a .early;
-        fromOne = omega (arith, count-append (versionIs 0) (st .buffer) new, a .fromOne, entries-other 0 n own (c ∷ []) (λ q. omega (arith, l .some)));
-        apart = λ u h. go u h (eq-or own u);
-        within =
-            λ u h.
-            omega (
-              arith,
-              count-append (versionIs u) (st .buffer) new,
-              a .within u h,
-              entries-other u n own (c ∷ []) (λ q. omega (arith, v .fit .versions n)),
-            );
-      }
-    where
-      own : ℕ
-      own = greatest (view st) n
-
-      new : List Entry
-      new = entries n own (c ∷ [])
-
-      go : (u : ℕ) → 0 < tally (says u) (st .blocks) + count (versionIs u) (st .buffer ++ new) → (own ≡ u) ⊎ (own ≡ u → ⊥) →
-          tally (numbered u) (st .blocks) ≡ 0
-      go u h (inl q) = rw (← q) (l .none)
-      go u h (inr q) = a .apart u (omega (arith, count-append (versionIs u) (st .buffer) new, entries-other u n own (c ∷ []) q))
+      joined-versions st n (greatest (view st) n) (st .last) (c ∷ []) (omega arith) (v .fit .versions n) (l .some) (l .none) a
 
   -- a whole content under the next number
   pub start-versions : (cs : List Change) → VersionRules st → VersionRules (start n cs st)
-  unfolding said start
+  unfolding start
   start-versions cs a =
-      record {
-        early = a .early;
-        fromOne = omega (arith, count-append (versionIs 0) (st .buffer) new, a .fromOne, entries-other 0 n own cs (λ q. omega arith));
-        apart = λ u h. go u h (eq-or own u);
-        within =
-            λ u h.
-            omega (
-              arith,
-              count-append (versionIs u) (st .buffer) new,
-              a .within u (omega arith),
-              entries-other u n own cs (λ q. omega arith),
-            );
-      }
-    where
-      own : ℕ
-      own = suc (st .last)
-
-      new : List Entry
-      new = entries n own cs
-
-      go : (u : ℕ) → 0 < tally (says u) (st .blocks) + count (versionIs u) (st .buffer ++ new) → (own ≡ u) ⊎ (own ≡ u → ⊥) →
-          tally (numbered u) (st .blocks) ≡ 0
-      go u h (inl q) = numbered-none (st .last) (st .blocks) (v .rules .within) u (omega arith)
-      go u h (inr q) = a .apart u (omega (arith, count-append (versionIs u) (st .buffer) new, entries-other u n own cs q))
+      joined-versions st n (suc (st .last)) (suc (st .last)) cs (omega arith) (omega arith) (omega arith)
+      (numbered-none (st .last) (st .blocks) (v .rules .within) (suc (st .last)) (omega arith)) a
 
   -- a page is placed, and the node's version stays: so does its mode
   place-inLog : (c : Content) (rest : List Entry) → greatest (view (place closing N c rest st)) n ≡ greatest (view st) n → InLog st n →

@@ -1,7 +1,7 @@
 -- Lists in a row, sums and greatest values over the sequence numbers 1 to k. Assumes nothing.
-use mathlib.Core.Path.{_≡_, refl, ap, ap₂, _∙_}
+use mathlib.Core.Path.{_≡_, refl, ap₂}
 use mathlib.Core.Logic.{_⊎_, inl, inr}
-use mathlib.Core.List.{List, [], _∷_, _++_}
+use mathlib.Core.List.{List, [], _++_}
 use Prim.Native.Nat.{ℕ, zero, suc, _+_, _≤_, _<_, max}
 use native.Mathlib.Omega.{arith}
 use Rattle.laws.specs.Order.{le-or, le-suc-or}
@@ -24,6 +24,10 @@ sumTo-ext f g (suc k) e = ap₂ _+_ (sumTo-ext f g k (λ s l. e s (omega arith))
 pub sumTo-zero : (f : ℕ → ℕ) (k : ℕ) → ((s : ℕ) → 0 < s → s ≤ k → f s ≡ 0) → sumTo f k ≡ 0
 sumTo-zero f zero e = refl
 sumTo-zero f (suc k) e = omega (arith, sumTo-zero f k (λ s p l. e s p (omega arith)), e (suc k) (omega arith) (omega arith))
+
+pub sumTo-le : (f : ℕ → ℕ) (k : ℕ) → ((s : ℕ) → f s ≤ 1) → sumTo f k ≤ k
+sumTo-le f zero h = omega arith
+sumTo-le f (suc k) h = omega (arith, sumTo-le f k h, h (suc k))
 
 pub greatestTo-ext : (f g : ℕ → ℕ) (k : ℕ) → ((s : ℕ) → s ≤ k → f s ≡ g s) → greatestTo f k ≡ greatestTo g k
 greatestTo-ext f g zero e = refl
