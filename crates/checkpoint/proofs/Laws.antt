@@ -30,7 +30,7 @@ use Rattle.place.specs.declared.state.State.{State}
 use Rattle.log.specs.Flush.{nextNumber, ifRoom, flush, Kept}
 use Rattle.log.proofs.Laws.{Beside, room-yes, room-no, allocated}
 use Rattle.checkpoint.specs.Scores.{scoreOf, scoresOf, scoresBytes}
-use Rattle.checkpoint.specs.Sheets.{sheetStart, sheetSize, SheetSize, sheetCount, sheetImage, sheetRow, closedBy, writeSheet, sheet, sheets, drain, checkpoint, Closing, Sheeted}
+use Rattle.checkpoint.specs.Sheets.{sheetStart, sheetSize, SheetSize, sheetCount, sheetImage, sheetRow, closedBy, writeSheet, sheet, sheets, drain, checkpoint, Closing, Sheeted, Ended}
 
 -- ---- scores
 
@@ -83,10 +83,10 @@ chunks-scores [] front rest = refl
 chunks-scores (s ∷ ss) front rest =
     let whole : List ℕ = front ++ ((scoreBytes s ++ scoresBytes ss) ++ rest) in
     let one : part whole (length front) 6 ≡ scoreBytes s =
-        ap (λ (i : ℕ). part whole i 6) (sym (add-zero (length front))) ∙
-        part-append front ((scoreBytes s ++ scoresBytes ss) ++ rest) 0 6 ∙
-        ap (λ (l : List ℕ). part l 0 6) (append-assoc (scoreBytes s) (scoresBytes ss) rest) ∙
-        part-front (scoreBytes s) (scoresBytes ss ++ rest) 6 (length-scoreBytes s) in
+    ap (λ (i : ℕ). part whole i 6) (sym (add-zero (length front))) ∙
+    part-append front ((scoreBytes s ++ scoresBytes ss) ++ rest) 0 6 ∙
+    ap (λ (l : List ℕ). part l 0 6) (append-assoc (scoreBytes s) (scoresBytes ss) rest) ∙
+    part-front (scoreBytes s) (scoresBytes ss ++ rest) 6 (length-scoreBytes s) in
     let same : whole ≡ (front ++ scoreBytes s) ++ (scoresBytes ss ++ rest) = simp append-assoc in
     let at : length front + 6 ≡ length (front ++ scoreBytes s) = sym (length-append front (scoreBytes s) ∙ ap (λ (k : ℕ). length front + k) (length-scoreBytes s)) in
     ap₂ _∷_ one
@@ -256,6 +256,12 @@ between-more s₀ s k count made right b h p t x =
     }
 
 -- The buffer drained, then the sheets.
-pub checkpoint-made : {P T P′ T′ : ℕ} (t : Tariff) (w w₁ w₂ : World) → Kept P T (w .state) w₁ (drain w) → Made P′ T′ w₂ (sheets t w₁) → Made P′ T′ w₂ (checkpoint t w)
+pub checkpoint-made : {P T P′ T′ : ℕ} (t : Tariff) (w w₁ w₂ : World) → Kept P T (w .state) w₁ (drain w) → Ended P′ T′ (w₁ .state) w₂ (sheets t w₁) → Ended P′ T′ (w .state) w₂ (checkpoint t w)
 unfolding checkpoint
-checkpoint-made t w w₁ w₂ d m = record { is = m .is ∙ ap (sheets t) (d .is); good = m .good }
+checkpoint-made t w w₁ w₂ d m =
+    record {
+      is = m .is ∙ ap (sheets t) (d .is);
+      good = m .good;
+      blocks = m .blocks ∙ d .blocks;
+      nodes = m .nodes ∙ d .nodes;
+    }

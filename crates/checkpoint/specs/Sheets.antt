@@ -99,6 +99,13 @@ pub record Closing (k : ℕ) (s : State) : Type 0 where
   pub needed : k < sheetCount (s .nodes)
   pub before : s .checkpoint ≤ k
 
+-- A checkpoint's result: the world asked for, still good, with the same blocks and nodes.
+pub record Ended (poolLength tableLength : ℕ) (before : State) (made right : World) : Type 0 where
+  pub is : made ≡ right
+  pub good : Good poolLength tableLength (made .state)
+  pub blocks : made .state .blocks ≡ before .blocks
+  pub nodes : made .state .nodes ≡ before .nodes
+
 -- A sheet's result: the world asked for, still good, with one checkpoint page more at most.
 pub record Sheeted (poolLength tableLength : ℕ) (before : State) (made right : World) : Type 0 where
   pub is : made ≡ right

@@ -7,11 +7,11 @@ ghost use Rattle.layout.specs.Layout.{nodeLimit};
 ghost use Rattle.rows.specs.Row.{rowsOf};
 ghost use Rattle.blocks.specs.Pages.{pagesOf};
 ghost use Rattle.page.specs.Image.{scoreBytes};
-ghost use Rattle.place.specs.World.{Good, Made, world};
+ghost use Rattle.place.specs.World.{Good, world};
 ghost use Rattle.log.specs.Flush.{Kept};
 ghost use Rattle.checkpoint.specs.Scores.{scoreOf, scoresOf, scoresBytes};
 ghost use Rattle.checkpoint.specs.Sheets as def;
-ghost use Rattle.checkpoint.specs.Sheets.{sheetStart, SheetSize, sheetCount, sheetImage, sheetRow, closedBy, writeSheet, Sheeted, Closing};
+ghost use Rattle.checkpoint.specs.Sheets.{sheetStart, SheetSize, sheetCount, sheetImage, sheetRow, closedBy, writeSheet, Sheeted, Closing, Ended};
 use account::Mode;
 use account::Tariff;
 use log::claim::no_row;
@@ -21,7 +21,8 @@ use log::flush::put_image;
 use page_write::checkpoint_page::checkpoint_image;
 use place::allocate::allocate;
 use place::state::State;
-use wire::number::{write16, write32};
+use wire::number::write16;
+use wire::number::write32;
 
 // The node whose score is the first of sheet k: 50 scores stand on the first, 54 on each other.
 fn sheet_start(k: usize) -> usize
@@ -80,7 +81,15 @@ fn score_records(table: &[u8], from: usize, n: usize) -> [u8; 324]
 }
 
 // Sheet k written as a page of the pool.
-fn put_sheet(pool: &mut [u8], table: &[u8], at: usize, number: u32, tariff: Tariff, k: usize, nodes: usize)
+fn put_sheet(
+    pool: &mut [u8],
+    table: &[u8],
+    at: usize,
+    number: u32,
+    tariff: Tariff,
+    k: usize,
+    nodes: usize,
+)
     requires { ⌜ (512 * at + 512 ≤ length (now pool)) × (16 * nodes ≤ length (now table)) × (nodes ≤ 4096) × (k < sheetCount nodes) ⌝ }
     ensures { λ _. ⌜ pagesOf (now (pool .exit)) ≡ set (pagesOf (now (pool .entry))) at (sheetImage number tariff k nodes (rowsOf (now (table .entry)))) ⌝ }
 {
@@ -151,7 +160,7 @@ fn drain(pool: &mut [u8], table: &mut [u8], state: State) -> State
 // All sheets, one after another.
 fn sheets(pool: &mut [u8], table: &mut [u8], state: State, tariff: Tariff) -> State
     requires { ⌜ (Good (length (now pool)) (length (now table)) state) × (state .nodes ≤ nodeLimit (state .blocks)) × (state .checkpoint ≡ 0) ⌝ }
-    ensures { λ r. ⌜ Made (length (now (pool .exit))) (length (now (table .exit))) (world (pagesOf (now (pool .exit))) (rowsOf (now (table .exit))) r) (def.sheets tariff (world (pagesOf (now (pool .entry))) (rowsOf (now (table .entry))) state)) ⌝ }
+    ensures { λ r. ⌜ Ended (length (now (pool .exit))) (length (now (table .exit))) state (world (pagesOf (now (pool .exit))) (rowsOf (now (table .exit))) r) (def.sheets tariff (world (pagesOf (now (pool .entry))) (rowsOf (now (table .entry))) state)) ⌝ }
 {
     let count = sheet_count(state.nodes);
     let mut s = state;
@@ -166,7 +175,7 @@ fn sheets(pool: &mut [u8], table: &mut [u8], state: State, tariff: Tariff) -> St
 // The end of a batch.
 pub fn checkpoint(pool: &mut [u8], table: &mut [u8], state: State, tariff: Tariff) -> State
     requires { ⌜ (Good (length (now pool)) (length (now table)) state) × (state .nodes ≤ nodeLimit (state .blocks)) × (state .checkpoint ≡ 0) ⌝ }
-    ensures { λ r. ⌜ Made (length (now (pool .exit))) (length (now (table .exit))) (world (pagesOf (now (pool .exit))) (rowsOf (now (table .exit))) r) (def.checkpoint tariff (world (pagesOf (now (pool .entry))) (rowsOf (now (table .entry))) state)) ⌝ }
+    ensures { λ r. ⌜ Ended (length (now (pool .exit))) (length (now (table .exit))) state (world (pagesOf (now (pool .exit))) (rowsOf (now (table .exit))) r) (def.checkpoint tariff (world (pagesOf (now (pool .entry))) (rowsOf (now (table .entry))) state)) ⌝ }
 {
     let s = drain(pool, table, state);
     sheets(pool, table, s, tariff)

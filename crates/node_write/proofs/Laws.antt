@@ -20,12 +20,12 @@ use Rattle.node.specs.Value.{pairsIn, Sized}
 use Rattle.page.specs.Page.{page, whole}
 use Rattle.page.specs.Image.{image}
 use Rattle.page_write.specs.Pages.{firstPairs}
-use Rattle.place.specs.World.{World, world, spot, Good, Made}
+use Rattle.place.specs.World.{World, world, spot, Good}
 use Rattle.place.specs.declared.state.State.{State}
 use Rattle.log.specs.Entry.{append, appendAll}
 use Rattle.log.specs.Flush.{nextNumber, advanced, room, Kept}
 use Rattle.log.proofs.Laws.{Beside, beside-append, good-append, good-advanced}
-use Rattle.node_write.specs.Group.{numbered, withNodes, startRow, startState, start, Started, roomFor, restart, group, startNext, create}
+use Rattle.node_write.specs.Group.{numbered, withNodes, startRow, startState, start, Started, roomFor, restart, group, startNext, create, Grown}
 use Rattle.node_write.specs.NodePage.{diskRow, writeNode}
 use Rattle.node_write.specs.Edit.{editBy, editIn, edit}
 
@@ -139,7 +139,7 @@ module _ {P T T′ : ℕ} (x : Node) (w w₁ : World) (k : ℕ) (e : k ≡ lengt
 
   pub create-made : (row : Row) (rows₂ : List Row) (s₂ s₃ : State) → row ≡ noRow → Started (w₁ .rows) (w₁ .state) (w₁ .state .nodes) row version x rows₂ s₂ →
       s₃ ≡ withNodes (w₁ .state .nodes + 1) s₂ → w .state .nodes + w .state .checkpoint < 64 * w .state .blocks →
-      Made P T′ (world (w₁ .pages) rows₂ s₃) (create x w)
+      Grown P T′ (w .state) (world (w₁ .pages) rows₂ s₃) (create x w)
   unfolding create withNodes
   create-made row rows₂ s₂ s₃ r st f h =
       let b = beside-start (w₁ .state .nodes) version x (w₁ .state) in
@@ -164,6 +164,9 @@ module _ {P T T′ : ℕ} (x : Node) (w w₁ : World) (k : ℕ) (e : k ≡ lengt
               used = omega (arith, nodes, blocks, checkpoint, m .blocks, m .nodes, m .checkpoint);
               entries = g .entries;
             });
+        blocks = ap (λ (s : State). s .blocks) f ∙ blocks ∙ m .blocks;
+        nodes = ap (λ (s : State). s .nodes) f ∙ ap (λ (k : ℕ). k + 1) (m .nodes);
+        checkpoint = ap (λ (s : State). s .checkpoint) f ∙ checkpoint ∙ m .checkpoint;
       }
 
 -- The page, the row and the state of a node page put together.

@@ -10,7 +10,7 @@ use Rattle.rows.specs.Step.{fresh}
 use Rattle.rows.specs.declared.Row.{Row}
 use Rattle.node.specs.Node.{Node, pairsOf}
 use Rattle.node.specs.Change.{changesOf}
-use Rattle.place.specs.World.{World, world}
+use Rattle.place.specs.World.{World, world, Good}
 use Rattle.place.specs.declared.state.State.{State}
 use Rattle.log.specs.Entry.{appendAll}
 use Rattle.log.specs.Flush.{nextNumber, room}
@@ -81,3 +81,11 @@ startNext x w =
 -- A create: the node exists once the page that it forces out is written.
 unfoldable pub create : Node → World → World
 create x w = startNext x (roomFor x w)
+
+-- A create's result: the world asked for, still good, with one node more.
+pub record Grown (poolLength tableLength : ℕ) (before : State) (made right : World) : Type 0 where
+  pub is : made ≡ right
+  pub good : Good poolLength tableLength (made .state)
+  pub blocks : made .state .blocks ≡ before .blocks
+  pub nodes : made .state .nodes ≡ before .nodes + 1
+  pub checkpoint : made .state .checkpoint ≡ before .checkpoint

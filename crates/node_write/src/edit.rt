@@ -17,7 +17,14 @@ use node::NodeValue;
 use place::state::State;
 
 // One entry under the node's version; of a node that lies on three pages by then, the whole edited content.
-pub fn edit(pool: &mut [u8], table: &mut [u8], state: State, n: usize, change: ChangeValue, edited: NodeValue) -> State
+pub fn edit(
+    pool: &mut [u8],
+    table: &mut [u8],
+    state: State,
+    n: usize,
+    change: ChangeValue,
+    edited: NodeValue,
+) -> State
     requires { ⌜ (Good (length (now pool)) (length (now table)) state) × (n < state .nodes) × (Sized edited) ⌝ }
     ensures { λ r. ⌜ Kept (length (now (pool .exit))) (length (now (table .exit))) state (world (pagesOf (now (pool .exit))) (rowsOf (now (table .exit))) r) (def.edit n (changeOf change) (nodeOf edited) (world (pagesOf (now (pool .entry))) (rowsOf (now (table .entry))) state)) ⌝ }
 {

@@ -6,11 +6,11 @@ ghost use Rattle.rows.specs.Row.{rowsOf};
 ghost use Rattle.blocks.specs.Pages.{pagesOf};
 ghost use Rattle.node.specs.Change.{puts, changesOf};
 ghost use Rattle.node.specs.Value.{pairsIn, nodeOf, Sized};
-ghost use Rattle.place.specs.World.{Good, Made, world};
+ghost use Rattle.place.specs.World.{Good, world};
 ghost use Rattle.log.specs.Entry.{appendAll};
 ghost use Rattle.log.specs.Flush.{Kept};
 ghost use Rattle.node_write.specs.Group as def;
-ghost use Rattle.node_write.specs.Group.{numbered, withNodes, Started};
+ghost use Rattle.node_write.specs.Group.{numbered, withNodes, Started, Grown};
 use account::Mode;
 use log::claim::no_row;
 use log::entry::append;
@@ -93,7 +93,7 @@ pub fn group(pool: &mut [u8], table: &mut [u8], state: State, n: usize, v: NodeV
 // A new node, the next one, in log mode with score 0.
 pub fn create(pool: &mut [u8], table: &mut [u8], state: State, v: NodeValue) -> State
     requires { ⌜ (Good (length (now pool)) (length (now table)) state) × (state .nodes + state .checkpoint < 64 * state .blocks) × (Sized v) ⌝ }
-    ensures { λ r. ⌜ Made (length (now (pool .exit))) (length (now (table .exit))) (world (pagesOf (now (pool .exit))) (rowsOf (now (table .exit))) r) (def.create (nodeOf v) (world (pagesOf (now (pool .entry))) (rowsOf (now (table .entry))) state)) ⌝ }
+    ensures { λ r. ⌜ Grown (length (now (pool .exit))) (length (now (table .exit))) state (world (pagesOf (now (pool .exit))) (rowsOf (now (table .exit))) r) (def.create (nodeOf v) (world (pagesOf (now (pool .entry))) (rowsOf (now (table .entry))) state)) ⌝ }
 {
     let s = room(pool, table, state, v.count + 1);
     let version = next_number(s.last);

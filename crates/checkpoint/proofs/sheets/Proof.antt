@@ -64,6 +64,8 @@ returns c = let a = c .before .before .before .before .before .args in
           l .inv .1 ∙
           ap (λ (m : ℕ). steps (sheet (a .tariff)) m 0 (world (pagesOf (a .pool .now)) (rowsOf (a .table .now)) (a .state))) (n .ensures);
       good = l .inv .0 .good;
+      blocks = l .inv .0 .blocks;
+      nodes = l .inv .0 .nodes;
     }
 
 pub sheets-spec : {M : Type 1} → statement M
