@@ -23,7 +23,7 @@ use Rattle.page.specs.Decode as decode
 use Rattle.page.specs.Spelled.{scoreBytes-of}
 use Rattle.page.specs.ReadBack.{map-back}
 use Rattle.page_write.specs.Chunks.{chunks}
-use Rattle.page_write.specs.Pages.{onlyIf, scoresIn, checkpointPage}
+use Rattle.checkpoint_write.specs.Checkpoint.{onlyIf, scoresIn, checkpointPage}
 use Rattle.place.specs.World.{World, world, spot, used, Good, Made}
 use Rattle.place.specs.Allocate.{allocate}
 use Rattle.place.specs.declared.state.State.{State}

@@ -17,7 +17,7 @@ use Rattle.page.specs.Page.{page}
 use Rattle.page.specs.Page as p
 use Rattle.page.specs.Image.{image}
 use Rattle.page.specs.Decode.{mostScores}
-use Rattle.page_write.specs.Pages.{onlyIf}
+use Rattle.checkpoint_write.specs.Checkpoint.{onlyIf}
 use Rattle.place.specs.World.{World, world, spot, used, Good}
 use Rattle.place.specs.Allocate.{allocate}
 use Rattle.place.specs.declared.state.State.{State}

@@ -18,7 +18,7 @@ use log::claim::no_row;
 use log::flush::flush;
 use log::flush::next_number;
 use log::flush::put_image;
-use page_write::checkpoint_page::checkpoint_image;
+use checkpoint_write::checkpoint_image;
 use place::allocate::allocate;
 use place::state::State;
 use wire::number::write16;
