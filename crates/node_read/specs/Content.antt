@@ -3,12 +3,16 @@
 use mathlib.Core.List.{List, []}
 use Prim.Native.Nat.{ℕ}
 use lib.Dec.{eqb}
+use lib.ListN.{getD}
 use Rattle.laws.specs.Tests.{choose}
 use Rattle.node.specs.Replay.{Draft, unlinked}
+use Rattle.rows.specs.Row.{noRow}
+use Rattle.rows.specs.Step.{byMode}
 use Rattle.rows.specs.declared.Row.{Row}
 use Rattle.place.specs.declared.state.State.{State}
 use Rattle.node_read.specs.Replay.{redoBuffer}
 use Rattle.node_read.specs.Slots.{slotAt, redoAt, redoTwo, redoThree}
+use Rattle.node_read.specs.Whole.{wholeAt}
 
 -- The entries of node n on the pages that its row names: none, one, two or three.
 unfoldable pub redoPages : List (List ℕ) → Row → ℕ → Draft → Draft
@@ -23,3 +27,11 @@ redoPages pages row n d =
 -- Node n replayed from nothing: the pages, then the buffer.
 unfoldable pub logContent : List (List ℕ) → State → Row → ℕ → Draft
 logContent pages s row n = redoBuffer n (row .version) (s .buffer) (s .entries) (redoPages pages row n (unlinked []))
+
+-- Node n by its row: replayed in log mode, whole from its one page in disk mode.
+unfoldable pub contentBy : List (List ℕ) → State → Row → ℕ → Draft
+contentBy pages s row n = byMode (row .mode) (logContent pages s row n) (wholeAt pages (row .first))
+
+-- The content of node n.
+unfoldable pub content : List (List ℕ) → List Row → State → ℕ → Draft
+content pages rows s n = contentBy pages s (getD rows n noRow) n

@@ -1,12 +1,17 @@
-// The content of a node in log mode.
+// The content of a node.
 ghost use mathlib.Core.Path.{_≡_};
-ghost use Prim.Native.Nat.{_≤_};
+ghost use Prim.Native.Nat.{_+_, _*_, _≤_};
+ghost use lib.ListN.{length};
+ghost use Rattle.rows.specs.Row.{rowsOf};
 ghost use Rattle.blocks.specs.Pages.{pagesOf};
 ghost use Rattle.node.specs.Value.{Held};
 ghost use Rattle.node.specs.Drafts.{draftOf, Redone};
-ghost use Rattle.node_read.specs.Content.{redoPages, logContent};
+ghost use Rattle.node_read.specs.Content as def;
+ghost use Rattle.node_read.specs.Content.{redoPages, logContent, contentBy};
 use super::replay::redo_buffer;
+use super::whole::whole_at;
 use super::slot::{redo_one, redo_three, redo_two, slot_at};
+use account::Mode;
 use node::DraftValue;
 use node::replay::nothing;
 use place::state::State;
@@ -40,4 +45,25 @@ pub fn log_content(pool: &[u8], state: State, row: Row, n: usize) -> DraftValue
     let d = redo_pages(pool, row, n, nothing());
     let buffer = state.buffer;
     redo_buffer(&buffer, state.entries, n, row.version, d)
+}
+
+// The content of node n, whose row this is.
+fn content_by(pool: &[u8], state: State, row: Row, n: usize) -> DraftValue
+    requires { ⌜ state .entries ≤ 27 ⌝ }
+    ensures { λ r. ⌜ Redone r (contentBy (pagesOf (now (pool .entry))) state row n) ⌝ }
+{
+    let mode = row.mode;
+    match mode {
+        Mode::Log => log_content(pool, state, row, n),
+        Mode::Disk => whole_at(pool, row.first),
+    }
+}
+
+// The content of node n.
+pub fn content<'a>(pool: &'a [u8], table: &'a [u8], state: State, n: usize) -> DraftValue
+    requires { ⌜ (state .entries ≤ 27) × (16 * n + 16 ≤ length (now table)) ⌝ }
+    ensures { λ r. ⌜ Redone r (def.content (pagesOf (now (pool .entry))) (rowsOf (now (table .entry))) state n) ⌝ }
+{
+    let row = rows::load(table, n);
+    content_by(pool, state, row, n)
 }

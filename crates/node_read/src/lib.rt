@@ -2,3 +2,4 @@
 pub mod content;
 pub mod replay;
 pub mod slot;
+pub mod whole;
