@@ -1,0 +1,4 @@
+pub mod Replay
+pub mod Slots
+pub mod Whole
+pub mod Content
