@@ -13,7 +13,7 @@ use super::whole::whole_at;
 use super::slot::{redo_one, redo_three, redo_two, slot_at};
 use account::Mode;
 use node::DraftValue;
-use node::replay::nothing;
+use node_replay::nothing;
 use place::state::State;
 use rows::Row;
 

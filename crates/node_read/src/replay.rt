@@ -10,7 +10,7 @@ ghost use Rattle.node_read.specs.Replay.{redoEntry, redoRun, redoBuffer}
 use node::ChangeValue;
 use node::DraftValue;
 use node::Kind;
-use node::replay::redo;
+use node_replay::redo;
 use wire::field::payload;
 use wire::number::read16;
 use wire::number::read32;

@@ -14,7 +14,7 @@ use node::DraftState;
 use node::DraftValue;
 use node::Kind;
 use node::NodeValue;
-use node::replay::empty;
+use node_replay::empty;
 use node::search::ascends;
 use wire::field::payload;
 use wire::number::read32;
