@@ -93,7 +93,13 @@ fn redo_entries(buffer: &[u8], n: usize, id: usize, version: u32, d: DraftValue)
 }
 
 // The first n entries of the buffer, in order.
-pub fn redo_buffer(buffer: &[u8; 405], n: usize, id: usize, version: u32, d: DraftValue) -> DraftValue
+pub fn redo_buffer(
+    buffer: &[u8; 405],
+    n: usize,
+    id: usize,
+    version: u32,
+    d: DraftValue,
+) -> DraftValue
     requires { ⌜ (n ≤ 27) × (Held (d .node)) ⌝ }
     ensures { λ r. ⌜ Redone r (redoBuffer id version (now (buffer .entry)) n (draftOf d)) ⌝ }
 {

@@ -52,12 +52,16 @@ loop-less c = search needs
 loop-again : tie.Need-loop-again Inv-loop μ-loop
 loop-again c = let a = c .before .before .before .before .before .args in
     let l = c .before .before .before .loop in
-    let x = c .redo-entry .ensures in
-    (omega arith, (x .held,
-      ap (steps (redoNth (a .id) (a .version) (a .buffer .now)) (a .n - (l .k + 1)) (l .k + 1))
-      (x .is ∙ nth-part (a .id) (a .version) (a .buffer .now) (l .k) (15 * l .k + 15 - 15 * l .k) (draftOf (l .r)) (omega arith)) ∙
-      steps-more (redoNth (a .id) (a .version) (a .buffer .now)) (a .n) (l .k) (draftOf (l .r)) (c .before .before .loop-test .taken) ∙
-      l .inv .1 .1))
+    let x = c .redo-entry .ensures in (
+      omega arith,
+      (
+        x .held,
+        ap (steps (redoNth (a .id) (a .version) (a .buffer .now)) (a .n - (l .k + 1)) (l .k + 1))
+            (x .is ∙ nth-part (a .id) (a .version) (a .buffer .now) (l .k) (15 * l .k + 15 - 15 * l .k) (draftOf (l .r)) (omega arith)) ∙
+            steps-more (redoNth (a .id) (a .version) (a .buffer .now)) (a .n) (l .k) (draftOf (l .r)) (c .before .before .loop-test .taken) ∙
+            l .inv .1 .1,
+      ),
+    )
 
 returns : tie.Need-returns Inv-loop μ-loop
 unfolding redoBuffer

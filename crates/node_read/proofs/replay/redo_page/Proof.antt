@@ -53,12 +53,16 @@ loop-again : tie.Need-loop-again Inv-loop μ-loop
 loop-again c = let a = c .before .before .before .before .before .before .args in
     let l = c .before .before .before .before .loop in
     let p = c .before .before .payload in
-    let x = c .redo-entry .ensures in
-    (omega arith, (x .held,
-      ap (redoRun (a .id) (a .version) (l .left - 1) (a .page .now) (l .at + 18))
-      (x .is ∙ ap (λ (b : List ℕ). redoEntry (a .id) (a .version) (decode.entryOf b) (draftOf (l .r))) (p .ensures)) ∙
-      run-more (a .id) (a .version) (a .page .now) (l .left) (l .at) (draftOf (l .r)) (c .before .before .before .loop-test .taken) (sym (ap length (p .ensures)) ∙ c .before .if1 .left) ∙
-      l .inv .1 .1))
+    let x = c .redo-entry .ensures in (
+      omega arith,
+      (
+        x .held,
+        ap (redoRun (a .id) (a .version) (l .left - 1) (a .page .now) (l .at + 18))
+            (x .is ∙ ap (λ (b : List ℕ). redoEntry (a .id) (a .version) (decode.entryOf b) (draftOf (l .r))) (p .ensures)) ∙
+            run-more (a .id) (a .version) (a .page .now) (l .left) (l .at) (draftOf (l .r)) (c .before .before .before .loop-test .taken) (sym (ap length (p .ensures)) ∙ c .before .if1 .left) ∙
+            l .inv .1 .1,
+      ),
+    )
 
 returns-2 : tie.Need-returns-2 Inv-loop μ-loop
 returns-2 c = let a = c .before .before .before .args in

@@ -62,9 +62,16 @@ loop-less c = omega arith
 
 loop-again : tie.Need-loop-again Inv-loop μ-loop
 loop-again c = let a = c .before .before .before .before .before .args in
-    let l = c .before .before .before .loop in
-    (omega arith, (length-set (l .keys) (l .i) (c .before .read32 .result) ∙ l .inv .1 .0, (length-set (l .pointers) (l .i) (c .read322 .result) ∙ l .inv .1 .1 .0,
-      pairs-more (a .p .now) (a .n) (l .keys) (l .pointers) (l .i) (c .before .before .loop-test .taken) (omega arith) (l .inv .1 .0) (l .inv .1 .1 .0) (c .before .read32 .result) (c .read322 .result) (c .before .read32 .ensures .is) (c .read322 .ensures .is) ∙ l .inv .1 .1 .1)))
+    let l = c .before .before .before .loop in (
+      omega arith,
+      (
+        length-set (l .keys) (l .i) (c .before .read32 .result) ∙ l .inv .1 .0,
+        (
+          length-set (l .pointers) (l .i) (c .read322 .result) ∙ l .inv .1 .1 .0,
+          pairs-more (a .p .now) (a .n) (l .keys) (l .pointers) (l .i) (c .before .before .loop-test .taken) (omega arith) (l .inv .1 .0) (l .inv .1 .1 .0) (c .before .read32 .result) (c .read322 .result) (c .before .read32 .ensures .is) (c .read322 .ensures .is) ∙ l .inv .1 .1 .1,
+        ),
+      ),
+    )
 
 returns : tie.Need-returns Inv-loop μ-loop
 unfolding pairsIn
