@@ -14,8 +14,8 @@ use node::DraftState;
 use node::DraftValue;
 use node::Kind;
 use node::NodeValue;
-use node_replay::empty;
 use node::search::ascends;
+use node_replay::empty;
 use wire::field::payload;
 use wire::number::read32;
 
