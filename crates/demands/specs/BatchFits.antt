@@ -12,9 +12,9 @@ use Rattle.pairs.specs.Pairs.{Pair}
 use Rattle.command.specs.declared.Command.{Command}
 use Rattle.tree.specs.NodeRequest.{countAfterAll}
 use Rattle.tree_map.specs.Size.{depth-count}
-use Rattle.tree.specs.Narrow.{Narrow}
-use Rattle.storelaws.specs.Numbers.{last}
-use Rattle.storelaws.specs.Closing.{close-closed}
+use Rattle.node.specs.Narrow.{Narrow}
+use Rattle.store_laws.specs.Numbers.{last}
+use Rattle.store_laws.specs.Closing.{close-closed}
 use Rattle.book.specs.Book.{Book}
 use Rattle.book.specs.Command.{requests}
 use Rattle.book.specs.Batch.{runBook, requestsBook}
@@ -26,9 +26,9 @@ use Rattle.demands.specs.Says.{Sound, bookOf-count, score-is}
 use Rattle.demands.specs.Commands.{Valid, ValidAll, does}
 use Rattle.demands.specs.Run.{Holds, runBook-requests, Batched, batch-batched}
 use Rattle.demands.specs.Mount.{Ready}
-use Rattle.demands.specs.StoreFits.{RunFits}
+use Rattle.store_laws.specs.StoreFits.{RunFits}
 use Rattle.demands.specs.NodesNarrow.{book-narrow}
-use Rattle.demands.specs.CloseFits.{close-fits}
+use Rattle.store_laws.specs.CloseFits.{close-fits}
 use Rattle.demands.specs.CommandFits.{ValueFits, ValuesFit, command-narrow}
 use Rattle.demands.specs.RequestCount.{command-length}
 use Rattle.demands.specs.RequestFits.{Took, took-more, took-then, serveAll-took}

@@ -21,12 +21,12 @@ use Rattle.tree_map.specs.SoundLaws.{spells-sound}
 use Rattle.store.specs.View.{pages}
 use Rattle.store.specs.Store.{Store, view}
 use Rattle.store.specs.Run.{Run}
-use Rattle.storelaws.specs.Changes.{Lean}
-use Rattle.storelaws.specs.Keeps.{Keeps}
+use Rattle.store_laws.specs.Changes.{Lean}
+use Rattle.store_laws.specs.Keeps.{Keeps}
 use Rattle.store.specs.Checkpoint.{scoresFrom, sheets, close, checkpointOf, tariffIn, scoresIn, countIn, scoreIn, complete}
-use Rattle.storelaws.specs.SheetLaws.{scoresIn-sheets}
+use Rattle.store_laws.specs.SheetLaws.{scoresIn-sheets}
 use Rattle.store.specs.Reopen.{Cells, poolOf, reopened, pagesPass}
-use Rattle.storelaws.specs.Closing.{Closed, close-closed}
+use Rattle.store_laws.specs.Closing.{Closed, close-closed}
 use Rattle.book.specs.Book.{Book}
 use Rattle.book.specs.Bound.{Scored}
 use Rattle.model.specs.State.{State, bookOf}

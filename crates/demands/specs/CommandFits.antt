@@ -13,7 +13,8 @@ use Rattle.tree.specs.Table.{path, leafFor}
 use Rattle.tree.specs.NodeRequest.{read}
 use Rattle.tree.specs.Scan.{leavesAfter, scanRequests}
 use Rattle.tree.specs.Spells.{Spells}
-use Rattle.tree.specs.Narrow.{Narrow, NarrowRequest}
+use Rattle.node.specs.Narrow.{Narrow}
+use Rattle.tree.specs.Narrow.{NarrowRequest}
 use Rattle.tree_map.specs.NarrowLaws.{put-narrow, delete-narrow}
 use Rattle.book.specs.Book.{Book}
 use Rattle.book.specs.Command.{requests}

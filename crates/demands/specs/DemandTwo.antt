@@ -30,12 +30,12 @@ use Rattle.store.specs.Pool.{Blocks}
 use Rattle.store.specs.Store.{Store, view}
 use Rattle.store.specs.Checkpoint.{checkpointOf, tariffIn, scoresIn, countIn, complete}
 use Rattle.store.specs.Reopen.{Cells, cells, blocksIn, newest, blockOf, storeOf, reopened, blocksPass, pagePasses, everyPage, pagesPass}
-use Rattle.storelaws.specs.BlockRules.{BlockRules}
-use Rattle.storelaws.specs.BlockTests.{Passing, passing, passing-rules, rules-blocks, rules-current}
-use Rattle.storelaws.specs.CellLaws.{cells-blocksIn}
-use Rattle.storelaws.specs.PageTests.{passing-numbers, passing-versions}
-use Rattle.storelaws.specs.Versions.{VersionRules}
-use Rattle.storelaws.specs.Opening.{own-passes}
+use Rattle.store_laws.specs.BlockRules.{BlockRules}
+use Rattle.store_laws.specs.BlockTests.{Passing, passing, passing-rules, rules-blocks, rules-current}
+use Rattle.store_laws.specs.CellLaws.{cells-blocksIn}
+use Rattle.store_laws.specs.PageTests.{passing-numbers, passing-versions}
+use Rattle.store_laws.specs.Versions.{VersionRules}
+use Rattle.store_laws.specs.Opening.{own-passes}
 use Rattle.model.specs.State.{State, bookOf}
 use Rattle.model.specs.Mount.{Mounted, refused, opened, stateOf, threePages, scoresBelow, treeSound, numbersLeft, mountCells}
 use Rattle.model.specs.Bytes.{bytesOf, cellsOf}

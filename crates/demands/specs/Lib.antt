@@ -5,13 +5,9 @@ pub mod Run
 pub mod Mount
 pub mod Close
 pub mod Prepare
-pub mod EveryLaws
-pub mod StoreFits
 pub mod ReplayNarrow
 pub mod NodesNarrow
-pub mod WriteFits
 pub mod ServeFits
-pub mod CloseFits
 pub mod CommandFits
 pub mod RequestCount
 pub mod RequestFits

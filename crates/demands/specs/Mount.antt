@@ -32,11 +32,11 @@ use Rattle.store.specs.View.{pages}
 use Rattle.store.specs.Pool.{find}
 use Rattle.store.specs.Store.{Store, view, draftOf, nodeIn, nodeOf, modeOf, noNode}
 use Rattle.store.specs.Run.{Run}
-use Rattle.storelaws.specs.Keeps.{Keeps, Holds}
+use Rattle.store_laws.specs.Keeps.{Keeps, Holds}
 use Rattle.store.specs.Checkpoint.{Sheet, checkpointOf, collect, tariffIn, scoresIn, countIn, scoreIn, complete}
 use Rattle.store.specs.Reopen.{Cells, blocksIn, newest, reopened, pagesPass}
-use Rattle.storelaws.specs.Opening.{Opens, opened-keeps}
-use Rattle.storelaws.specs.Opening as Opening
+use Rattle.store_laws.specs.Opening.{Opens, opened-keeps}
+use Rattle.store_laws.specs.Opening as Opening
 use Rattle.book.specs.Book.{Book}
 use Rattle.book.specs.Bound.{Scored}
 use Rattle.model.specs.State.{State, bookOf}

@@ -7,23 +7,22 @@ use Prim.Native.Nat.{ℕ, zero, suc, _*_, _≤_, _<_}
 use native.Mathlib.Omega.{arith}
 use borrow.Author.Tests.{leb-true}
 use lib.ListN.{length, take, drop}
-use Rattle.laws.specs.Every.{Every, none, both, every-append}
+use Rattle.laws.specs.Every.{Every, none, both, every-append, every-take, every-drop}
 use Rattle.laws.specs.BigEndian.{Bytes}
 use Rattle.layout.specs.Layout.{blockBytes, pagesInBlock, bound32, lastSequence}
 use Rattle.account.specs.declared.Tariff.{Tariff}
 use Rattle.page.specs.Page.{Page, page}
 use Rattle.page.specs.Limits.{PageFits}
-use Rattle.tree.specs.Narrow.{Narrow}
+use Rattle.node.specs.Narrow.{Narrow}
 use Rattle.store.specs.Pool.{Blocks}
 use Rattle.store.specs.Store.{Store}
-use Rattle.storelaws.specs.Numbers.{last}
+use Rattle.store_laws.specs.Numbers.{last}
 use Rattle.store.specs.Reopen.{Cells, cellsIn, cells, blockIn, blocksIn, greatestOf, newest, storeOf, reopened, poolOf}
 use Rattle.model.specs.State.{State, bookOf}
 use Rattle.model.specs.Mount.{opened, stateOf, mountCells}
 use Rattle.model.specs.Bytes.{bytesOf, cellsOf}
 use Rattle.demands.specs.Mount.{Mounts, opened-mounts}
-use Rattle.demands.specs.EveryLaws.{every-take, every-drop}
-use Rattle.demands.specs.StoreFits.{BlocksFit, StoreFits, RunFits}
+use Rattle.store_laws.specs.StoreFits.{BlocksFit, StoreFits, RunFits}
 use Rattle.demands.specs.NodesNarrow.{book-narrow}
 use Rattle.demands.specs.PoolBytes.{CellFits, cellsOf-bytesOf, cellsOf-is}
 

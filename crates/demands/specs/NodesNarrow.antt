@@ -6,7 +6,7 @@ use mathlib.Core.Option.{Option, none, some}
 use Prim.Native.Nat.{ℕ, zero, suc}
 use native.Mathlib.Omega.{arith}
 use lib.Dec.{eqb, ltb}
-use Rattle.laws.specs.Every.{Every, none, both, every-append, every-map, every-weaken}
+use Rattle.laws.specs.Every.{Every, none, both, every-append, every-map, every-weaken, every-consIf}
 use Rattle.laws.specs.Tests.{choose}
 use Rattle.pairs.specs.Pairs.{Pair}
 use Rattle.node.specs.declared.Kind.{Kind}
@@ -14,24 +14,23 @@ use Rattle.node.specs.Node.{node}
 use Rattle.node.specs.Change.{Change, put, remove, link}
 use Rattle.node.specs.Replay.{Piece, Draft, unlinked, made, broken, replay}
 use Rattle.page.specs.Page.{Entry, Page, page, log, whole, checkpoint}
-use Rattle.page.specs.Limits.{ChangeFits, EntryFits, PageFits, NodeFits}
-use Rattle.tree.specs.Narrow.{Narrow, NarrowChange}
+use Rattle.page.specs.Limits.{EntryFits, PageFits, NodeFits}
+use Rattle.node.specs.Narrow.{Narrow, NarrowChange}
 use Rattle.store.specs.Item.{Item, entryItem, itemsOf, piecesIn}
 use Rattle.store.specs.View.{gather, greatest, pieces}
 use Rattle.store.specs.Pool.{Blocks, numbered, pageIn, orElse, find, itemsAt}
 use Rattle.store.specs.Store.{Store, view, draftOf, nodeIn, noNode, nodeOf}
 use Rattle.model.specs.State.{State, bookOf}
-use Rattle.demands.specs.EveryLaws.{every-consIf}
-use Rattle.demands.specs.StoreFits.{BlocksFit, StoreFits}
+use Rattle.store_laws.specs.StoreFits.{BlocksFit, StoreFits}
 use Rattle.demands.specs.ReplayNarrow.{NarrowPiece, NarrowDraft, replay-narrow}
 
 -- The page's limits of a change are the tree's.
-pub change-fits : (c : Change) → NarrowChange c → ChangeFits c
+pub change-fits : (c : Change) → NarrowChange c → NarrowChange c
 change-fits (put k p) n = n
 change-fits (remove k) n = n
 change-fits (link kind p) n = n
 
-pub fits-change : (c : Change) → ChangeFits c → NarrowChange c
+pub fits-change : (c : Change) → NarrowChange c → NarrowChange c
 fits-change (put k p) f = f
 fits-change (remove k) f = f
 fits-change (link kind p) f = f

@@ -28,7 +28,7 @@ use Rattle.store.specs.Store.{Store, view}
 use Rattle.store.specs.Run.{Moment}
 use Rattle.store.specs.Checkpoint.{checkpointOf, tariffIn}
 use Rattle.store.specs.Reopen.{Cells, poolOf, reopened}
-use Rattle.storelaws.specs.Good.{LeanAt}
+use Rattle.store_laws.specs.Good.{LeanAt}
 use Rattle.book.specs.Book.{Book}
 use Rattle.book.specs.Command.{Reply, repliesBytes}
 use Rattle.book.specs.Batch.{runBook, booksPassed, chargeBook, requestsBook}

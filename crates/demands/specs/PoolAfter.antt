@@ -12,8 +12,8 @@ use Rattle.account.specs.declared.Tariff.{Tariff}
 use Rattle.command.specs.declared.Command.{Command}
 use Rattle.tree.specs.Spells.{mapOf}
 use Rattle.store.specs.Store.{Store}
-use Rattle.storelaws.specs.CellLaws.{length-cells}
-use Rattle.storelaws.specs.Closing.{close-closed}
+use Rattle.store_laws.specs.CellLaws.{length-cells}
+use Rattle.store_laws.specs.Closing.{close-closed}
 use Rattle.store.specs.Reopen.{Cells, poolOf}
 use Rattle.model.specs.State.{State, bookOf}
 use Rattle.model.specs.Batch.{run, closed}
@@ -22,7 +22,7 @@ use Rattle.model.specs.Bytes.{bytesOf, cellsOf}
 use Rattle.demands.specs.Says.{Sound}
 use Rattle.demands.specs.Commands.{ValidAll}
 use Rattle.demands.specs.Mount.{Ready, opened-mounts, mounts-ready}
-use Rattle.demands.specs.StoreFits.{StoreFits}
+use Rattle.store_laws.specs.StoreFits.{StoreFits}
 use Rattle.demands.specs.CommandFits.{ValuesFit}
 use Rattle.demands.specs.BatchFits.{mostCommands, AfterBatch, sound-after, closed-after}
 use Rattle.demands.specs.PoolBytes.{length-bytesOf, bytes-bytesOf}

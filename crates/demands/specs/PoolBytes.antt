@@ -7,7 +7,7 @@ use Prim.Native.Nat.{ℕ, zero, suc, _*_, _/_}
 use native.Mathlib.Omega.{arith}
 use lib.ListN.{length, take, drop, length-append, length-drop, take-append-drop}
 use lib.Seq.{length-take-le, take-at, drop-at}
-use Rattle.laws.specs.Every.{Every, none, both, every-append}
+use Rattle.laws.specs.Every.{Every, none, both, every-append, every-take, every-drop}
 use Rattle.laws.specs.BigEndian.{Bytes}
 use Rattle.layout.specs.Layout.{pageBytes}
 use Rattle.page.specs.Page.{Page}
@@ -20,7 +20,6 @@ use Rattle.page.specs.Sizes.{length-image, decode-blankBytes, blank-decode}
 use Rattle.page.specs.ImageBytes.{bytes-image, bytes-blankBytes}
 use Rattle.store.specs.Reopen.{Cells}
 use Rattle.model.specs.Bytes.{cellBytes, bytesOf, cellFrom, joined, cellsFrom, cellsOf}
-use Rattle.demands.specs.EveryLaws.{every-take, every-drop}
 
 -- A cell is blank, or its page is within its limits.
 abbrev pub CellFits : Option Page → Type 0

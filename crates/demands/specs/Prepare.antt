@@ -35,7 +35,7 @@ use Rattle.store.specs.Store.{Store, seen, view, draftOf, nodeIn, nodeOf, modeA
 use Rattle.store.specs.Checkpoint as Checkpoint
 use Rattle.store.specs.Checkpoint.{checkpointOf, collect, complete, scoreIn, tariffIn}
 use Rattle.store.specs.Reopen.{Cells, cells, blocksIn, newest, blockOf, storeOf, reopened, allFilled, differ, differIn, fullOrAll, blocksPass, pagePasses, everyPage, pagesPass}
-use Rattle.storelaws.specs.CellLaws.{length-cells, blocksIn-cells, allFilled-cells}
+use Rattle.store_laws.specs.CellLaws.{length-cells, blocksIn-cells, allFilled-cells}
 use Rattle.book.specs.Book.{Book}
 use Rattle.model.specs.State.{State, bookOf}
 use Rattle.model.specs.Mount.{stateOf, threePages, scoresBelow, treeSound}

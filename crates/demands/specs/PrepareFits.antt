@@ -16,8 +16,8 @@ use Rattle.page.specs.Limits.{PageFits}
 use Rattle.store.specs.Prepare.{firstPages, preparedBlocks}
 use Rattle.model.specs.Prepare.{prepared}
 use Rattle.model.specs.Bytes.{bytesOf, cellsOf}
-use Rattle.demands.specs.StoreFits.{BlocksFit}
-use Rattle.demands.specs.CloseFits.{tariff-fits}
+use Rattle.store_laws.specs.StoreFits.{BlocksFit}
+use Rattle.store_laws.specs.CloseFits.{tariff-fits}
 use Rattle.demands.specs.PoolBytes.{CellFits, cellsOf-bytesOf}
 use Rattle.demands.specs.MountFits.{cells-fit}
 

@@ -9,7 +9,7 @@ use lib.ListN.{length}
 use Rattle.layout.specs.Layout.{pageBytes, blockBytes, pagesInBlock}
 use Rattle.account.specs.declared.Tariff.{Tariff}
 use Rattle.account.specs.Range.{inRange, Ranged, inRange-ranged}
-use Rattle.storelaws.specs.CellLaws.{length-cells}
+use Rattle.store_laws.specs.CellLaws.{length-cells}
 use Rattle.store.specs.Prepare.{preparedBlocks}
 use Rattle.model.specs.Prepare.{prepared, firstBook}
 use Rattle.model.specs.Bytes.{bytesOf}

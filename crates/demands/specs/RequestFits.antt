@@ -17,14 +17,14 @@ use Rattle.tree.specs.Fit.{Fit, Fits}
 use Rattle.tree.specs.Narrow.{NarrowRequest}
 use Rattle.store.specs.Run.{Run}
 use Rattle.store.specs.Serve as Store
-use Rattle.storelaws.specs.Keeps.{Keeps}
-use Rattle.storelaws.specs.Numbers.{last, serve-last, create-last}
+use Rattle.store_laws.specs.Keeps.{Keeps}
+use Rattle.store_laws.specs.Numbers.{last, serve-last, create-last}
 use Rattle.book.specs.Book.{Book, idOf, requestOf, accountBy}
 use Rattle.book.specs.Book as Book
 use Rattle.model.specs.State.{State, bookOf, write, serve, serveAll}
 use Rattle.demands.specs.Says.{Sound}
 use Rattle.demands.specs.Step.{serve-says}
-use Rattle.demands.specs.StoreFits.{RunFits}
+use Rattle.store_laws.specs.StoreFits.{RunFits}
 use Rattle.demands.specs.ServeFits.{serve-fits, create-fits}
 
 -- A run goes on to one that fits, and takes at most so many sequence numbers.

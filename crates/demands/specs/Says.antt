@@ -13,7 +13,7 @@ use Rattle.account.specs.Serve.{fresh}
 use Rattle.node.specs.Node.{Node}
 use Rattle.store.specs.Store.{noNode, nodeOf, modeOf}
 use Rattle.store.specs.Run.{Run}
-use Rattle.storelaws.specs.Keeps.{Keeps, holds-node, holds-mode}
+use Rattle.store_laws.specs.Keeps.{Keeps, holds-node, holds-mode}
 use Rattle.book.specs.Book.{Book}
 use Rattle.model.specs.State.{State, bookOf}
 

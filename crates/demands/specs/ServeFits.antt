@@ -11,18 +11,18 @@ use Rattle.account.specs.declared.Mode.the-variants.{Log, Disk}
 use Rattle.node.specs.Node.{Node, Neat}
 use Rattle.node.specs.Change.{change}
 use Rattle.page.specs.Limits.{bound16}
-use Rattle.tree.specs.Narrow.{Narrow, NarrowChange}
+use Rattle.node.specs.Narrow.{Narrow, NarrowChange}
 use Rattle.tree_map.specs.NarrowLaws.{change-narrow}
 use Rattle.store.specs.Run.{Run, writeGroup, writeNode}
 use Rattle.store.specs.Serve.{Work, read, edit, rewrite, switch, work, note, serve, create}
-use Rattle.storelaws.specs.Contents.{neat-fits}
-use Rattle.storelaws.specs.Versions.{InLog, InMode}
-use Rattle.storelaws.specs.Good.{Good}
-use Rattle.storelaws.specs.Keeps.{Keeps, holds-node, holds-mode, Fits, writeGroup-keeps}
-use Rattle.storelaws.specs.Numbers.{last, write-last, writeGroup-last}
-use Rattle.demands.specs.StoreFits.{RunFits}
+use Rattle.store_laws.specs.Contents.{neat-fits}
+use Rattle.store_laws.specs.Versions.{InLog, InMode}
+use Rattle.store_laws.specs.Good.{Good}
+use Rattle.store_laws.specs.Keeps.{Keeps, holds-node, holds-mode, Fits, writeGroup-keeps}
+use Rattle.store_laws.specs.Numbers.{last, write-last, writeGroup-last}
+use Rattle.store_laws.specs.StoreFits.{RunFits}
 use Rattle.demands.specs.NodesNarrow.{change-fits, node-narrow}
-use Rattle.demands.specs.WriteFits.{writeGroup-fits, writeNode-fits, writeEdit-fits}
+use Rattle.store_laws.specs.WriteFits.{writeGroup-fits, writeNode-fits, writeEdit-fits}
 
 -- What a request brings has 32-bit numbers.
 abbrev pub NarrowWork : Work → Type 0

@@ -19,7 +19,7 @@ use Rattle.tree.specs.Fit.{Fit}
 use Rattle.store.specs.Store.{noNode}
 use Rattle.store.specs.Run.{Run}
 use Rattle.store.specs.Serve as Store
-use Rattle.storelaws.specs.Keeps.{Keeps, serve-keeps, create-keeps}
+use Rattle.store_laws.specs.Keeps.{Keeps, serve-keeps, create-keeps}
 use Rattle.book.specs.Book.{Book, idOf, requestOf, accountBy}
 use Rattle.book.specs.Book as Book
 use Rattle.model.specs.State.{State, bookOf, write, serve}

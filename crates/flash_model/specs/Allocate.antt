@@ -16,15 +16,15 @@ use Rattle.store.specs.View.{View, greatest}
 use Rattle.store.specs.Pool.{Blocks, block}
 use Rattle.store.specs.Store.{Store, view}
 use Rattle.store.specs.Live.{carries, live}
-use Rattle.storelaws.specs.LiveLaws.{live-carries, live-closing}
+use Rattle.store_laws.specs.LiveLaws.{live-carries, live-closing}
 use Rattle.store.specs.Allocate.{blanks, Spot, spotBy, spot}
 use Rattle.store.specs.Allocate as Model
-use Rattle.storelaws.specs.AllocateLaws.{BlankAt, nextBlank-blank}
-use Rattle.storelaws.specs.PoolLaws.{Moves}
-use Rattle.storelaws.specs.BlockRules.{spot-moves}
-use Rattle.storelaws.specs.Placing.{Invariant, live-fits, found-same}
-use Rattle.storelaws.specs.Compaction.{found-unmoved}
-use Rattle.storelaws.specs.Versions.{InMode}
+use Rattle.store_laws.specs.AllocateLaws.{BlankAt, nextBlank-blank}
+use Rattle.store_laws.specs.PoolLaws.{Moves}
+use Rattle.store_laws.specs.BlockRules.{spot-moves}
+use Rattle.store_laws.specs.Placing.{Invariant, live-fits, found-same}
+use Rattle.store_laws.specs.Compaction.{found-unmoved}
+use Rattle.store_laws.specs.Versions.{InMode}
 use Rattle.store.specs.Write.{found}
 use Rattle.rows.specs.declared.Row.{Row}
 use Rattle.blocks.specs.Blank.{blankBlock, blankBlocks, nextBlank}

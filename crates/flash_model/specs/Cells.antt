@@ -11,7 +11,7 @@ use lib.Seq.{ext-getD, getD-append-add}
 use Rattle.page.specs.Page.{Page}
 use Rattle.store.specs.Pool.{Blocks, block}
 use Rattle.store.specs.Reopen.{cellsIn, cells}
-use Rattle.storelaws.specs.CellLaws.{length-cellsIn, length-cells}
+use Rattle.store_laws.specs.CellLaws.{length-cellsIn, length-cells}
 use Rattle.blocks.specs.Pages.{blankPage, pageAt}
 use Rattle.flash_model.specs.Mirror.{imageAt, PagesAre}
 

@@ -16,7 +16,7 @@ use Rattle.page.specs.Page.{Page}
 use Rattle.store.specs.Pool.{Blocks, block}
 use Rattle.store.specs.Allocate.{nothing, taken, better, compare, fewest}
 use Rattle.store.specs.Allocate as Model
-use Rattle.storelaws.specs.AllocateLaws.{Chosen, fewest-chosen}
+use Rattle.store_laws.specs.AllocateLaws.{Chosen, fewest-chosen}
 use Rattle.blocks.specs.Blank.{blankBlock}
 use Rattle.live.specs.Live.{liveIn}
 use Rattle.live.specs.Choose.{choice, weigh, best, victim}

@@ -18,7 +18,7 @@ use Rattle.laws.specs.Loops.{steps-keep}
 use Rattle.page.specs.Page.{Page}
 use Rattle.store.specs.Pool.{Blocks, block}
 use Rattle.store.specs.Allocate as Model
-use Rattle.storelaws.specs.PoolLaws.{Moves}
+use Rattle.store_laws.specs.PoolLaws.{Moves}
 use Rattle.blocks.specs.Pages.{pageAt, copied}
 use Rattle.live.specs.Live.{marked}
 use Rattle.place.specs.Compact.{Copying, copying, copyPage, copyLive, copyBlock}

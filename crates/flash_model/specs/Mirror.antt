@@ -11,7 +11,7 @@ use Rattle.store.specs.Pool.{Blocks, block}
 use Rattle.store.specs.View.{greatest, pages}
 use Rattle.store.specs.Store.{Store, view}
 use Rattle.store.specs.Live.{carries}
-use Rattle.storelaws.specs.Versions.{InMode}
+use Rattle.store_laws.specs.Versions.{InMode}
 use Rattle.rows.specs.Row.{noRow}
 use Rattle.rows.specs.Step.{names}
 use Rattle.rows.specs.declared.Row.{Row}

@@ -15,7 +15,7 @@ use Rattle.laws.specs.Counts.{count, count-le-length, filter, length-filter}
 use Rattle.page.specs.Page.{Page}
 use Rattle.store.specs.Pool.{Blocks, block}
 use Rattle.store.specs.Allocate as Model
-use Rattle.storelaws.specs.PoolLaws.{Moves, compact-to, compact-from, compact-other}
+use Rattle.store_laws.specs.PoolLaws.{Moves, compact-to, compact-from, compact-other}
 use Rattle.rows.specs.Step.{names, newPlace}
 use Rattle.rows.specs.declared.Row.{Row}
 use Rattle.live.specs.Live.{marked}

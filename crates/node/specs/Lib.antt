@@ -1,5 +1,6 @@
 pub mod Node
 pub mod Change
+pub mod Narrow
 pub mod Replay
 pub mod Splice
 pub mod Search

@@ -13,6 +13,7 @@ use Rattle.account.specs.declared.Tariff.{Tariff}
 use Rattle.node.specs.declared.Kind.{Kind}
 use Rattle.node.specs.Node.{Node, node}
 use Rattle.node.specs.Change.{Change, put, remove, link}
+use Rattle.node.specs.Narrow.{NarrowChange, NarrowPair}
 use Rattle.page.specs.Page.{Entry, Score, Content, log, whole, checkpoint, Page, page}
 use Rattle.page.specs.Decode.{mostScores}
 
@@ -20,24 +21,16 @@ use Rattle.page.specs.Decode.{mostScores}
 abbrev pub bound16 : ℕ
 bound16 = 65536
 
-abbrev pub ChangeFits : Change → Type 0
-ChangeFits (put k p) = (k < bound32) × (p < bound32)
-ChangeFits (remove k) = k < bound32
-ChangeFits (link kind p) = p < bound32
-
 -- An entry of a log page with a sequence number.
 pub record EntryFits (s : ℕ) (e : Entry) : Type 0 where
   pub id : e .id < bound16
   pub from : 1 ≤ e .version
   pub below : e .version < s
-  pub change : ChangeFits (e .change)
-
-abbrev pub PairFits : Pair → Type 0
-PairFits p = (p .0 < bound32) × (p .1 < bound32)
+  pub change : NarrowChange (e .change)
 
 pub record NodeFits (pairs : List Pair) (l : ℕ) : Type 0 where
   pub few : length pairs ≤ mostKeys
-  pub numbers : Every PairFits pairs
+  pub numbers : Every NarrowPair pairs
   pub link : l < bound32
 
 pub record CostsFit (c : Costs) : Type 0 where

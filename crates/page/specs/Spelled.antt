@@ -21,10 +21,11 @@ use Rattle.node.specs.declared.Kind.{Kind}
 use Rattle.node.specs.declared.Kind.the-variants.{Leaf, Branch}
 use Rattle.node.specs.Node.{Node, node}
 use Rattle.node.specs.Change.{Change, put, remove, link}
+use Rattle.node.specs.Narrow.{NarrowChange, NarrowPair}
 use Rattle.page.specs.Page.{Entry, Score}
 use Rattle.page.specs.Image.{kindNumber, changeNumber, changeKey, changePointer, entryBytes, pairsBytes, wholeBytes, tariffBytes, scoreBytes}
 use Rattle.page.specs.Decode.{changeOk, changeOf, entryOk, entryOf, pairsFrom, pairsIn, kindOfNumber, nodeOk, nodeOf, tariffOf, scoreOf}
-use Rattle.page.specs.Limits.{bound16, ChangeFits, EntryFits, PairFits, NodeFits, CostsFit, TariffFits, ScoreFits}
+use Rattle.page.specs.Limits.{bound16, EntryFits, NodeFits, CostsFit, TariffFits, ScoreFits}
 
 abbrev score-of : ℕ → ℕ → Score
 score-of i s = record { id = i; score = s }
@@ -73,12 +74,12 @@ changeOk-number (remove k) = refl
 changeOk-number (link Leaf p) = refl
 changeOk-number (link Branch p) = refl
 
-changeKey-lt : (c : Change) → ChangeFits c → changeKey c < bound32
+changeKey-lt : (c : Change) → NarrowChange c → changeKey c < bound32
 changeKey-lt (put k p) h = h .0
 changeKey-lt (remove k) h = h
 changeKey-lt (link kind p) h = omega arith
 
-changePointer-lt : (c : Change) → ChangeFits c → changePointer c < bound32
+changePointer-lt : (c : Change) → NarrowChange c → changePointer c < bound32
 changePointer-lt (put k p) h = h .1
 changePointer-lt (remove k) h = omega arith
 changePointer-lt (link kind p) h = h
@@ -113,11 +114,11 @@ unfolding entryBytes
 length-entryBytes e = refl
 
 -- Whatever kind, a change has the numbers that it was made of.
-changeOf-fits : (kind key pointer : ℕ) → key < bound32 → pointer < bound32 → ChangeFits (changeOf kind key pointer)
+changeOf-fits : (kind key pointer : ℕ) → key < bound32 → pointer < bound32 → NarrowChange (changeOf kind key pointer)
 unfolding changeOf
 changeOf-fits kind key pointer h k = go (eqb kind 1) (eqb kind 2) (eqb kind 3)
   where
-    go : (a b c : Bool) → ChangeFits (choose a (put key pointer) (choose b (remove key) (choose c (link Leaf pointer) (link Branch pointer))))
+    go : (a b c : Bool) → NarrowChange (choose a (put key pointer) (choose b (remove key) (choose c (link Leaf pointer) (link Branch pointer))))
     go true b c = (h, k)
     go false true c = h
     go false false true = k

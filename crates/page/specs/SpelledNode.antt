@@ -17,10 +17,11 @@ use Rattle.pairs.specs.Pairs.{Pair}
 use Rattle.node.specs.declared.Kind.{Kind}
 use Rattle.node.specs.declared.Kind.the-variants.{Leaf, Branch}
 use Rattle.node.specs.Node.{Node, node, pairsOf, linkOf}
+use Rattle.node.specs.Narrow.{NarrowPair}
 use Rattle.wire.specs.Tag.{nodeBytes, isNodeBytes}
 use Rattle.page.specs.Image.{kindNumber, pairsBytes, wholeBytes}
 use Rattle.page.specs.Decode.{found, pairsFrom, pairsIn, kindOfNumber, nodeOk, nodeOf}
-use Rattle.page.specs.Limits.{bound16, PairFits, NodeFits}
+use Rattle.page.specs.Limits.{bound16, NodeFits}
 use Rattle.page.specs.Spelled.{parts-whole, part-one}
 
 pub length-pairsBytes : (ps : List Pair) → length (pairsBytes ps) ≡ 8 * length ps
@@ -51,7 +52,7 @@ pointer-front : (front : List ℕ) (k v : ℕ) (ps : List Pair) → v < bound32 
 unfolding numberAt part pairsBytes
 pointer-front front k v ps h = ap number (part-append front (pairsBytes ((k, v) ∷ ps)) 4 4) ∙ number-bigEndian 4 v h
 
-pub pairsFrom-bytes : (ps : List Pair) → Every PairFits ps → (front : List ℕ) → pairsFrom (length ps) (front ++ pairsBytes ps) (length front) ≡ ps
+pub pairsFrom-bytes : (ps : List Pair) → Every NarrowPair ps → (front : List ℕ) → pairsFrom (length ps) (front ++ pairsBytes ps) (length front) ≡ ps
 unfolding pairsFrom
 pairsFrom-bytes [] none front = refl
 pairsFrom-bytes ((k, v) ∷ ps) (both h hs) front =
@@ -113,7 +114,7 @@ unfolding pairsFrom
 length-pairsFrom zero p at = refl
 length-pairsFrom (suc n) p at = ap suc (length-pairsFrom n p (at + 8))
 
-pairsFrom-fits : (n : ℕ) (p : List ℕ) (at : ℕ) → Bytes p → at + 8 * n ≤ length p → Every PairFits (pairsFrom n p at)
+pairsFrom-fits : (n : ℕ) (p : List ℕ) (at : ℕ) → Bytes p → at + 8 * n ≤ length p → Every NarrowPair (pairsFrom n p at)
 unfolding pairsFrom
 pairsFrom-fits zero p at b h = none
 pairsFrom-fits (suc n) p at b h =

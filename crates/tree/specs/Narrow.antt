@@ -1,24 +1,6 @@
--- Numbers stay 32-bit: keys, values, pointers and links of every node and of every node request (document 01: a log entry's key
--- and pointer, a node's link and pairs have four bytes each). Assumes nothing.
-use Prim.Native.Nat.{_<_}
-use Rattle.laws.specs.Every.{Every}
-use Rattle.layout.specs.Layout.{bound32}
-use Rattle.pairs.specs.Pairs.{Pair}
-use Rattle.node.specs.Node.{Node, pairsOf, linkOf}
-use Rattle.node.specs.Change.{Change, put, remove, link}
+-- A node request whose numbers are 32-bit. Assumes nothing.
+use Rattle.node.specs.Narrow.{Narrow, NarrowChange}
 use Rattle.tree.specs.NodeRequest.{NodeRequest, read, edit, rewrite, create}
-
-abbrev pub NarrowPair : Pair → Type 0
-NarrowPair p = (p .0 < bound32) × (p .1 < bound32)
-
-pub record Narrow (n : Node) : Type 0 where
-  pub pairs : Every NarrowPair (pairsOf n)
-  pub last : linkOf n < bound32
-
-abbrev pub NarrowChange : Change → Type 0
-NarrowChange (put k p) = (k < bound32) × (p < bound32)
-NarrowChange (remove k) = k < bound32
-NarrowChange (link kind p) = p < bound32
 
 abbrev pub NarrowRequest : NodeRequest → Type 0
 NarrowRequest (read id) = Unit {0}

@@ -29,7 +29,8 @@ use Rattle.tree.specs.Fit.{Fit, Fits}
 use Rattle.tree.specs.Spells.{Spells}
 use Rattle.tree_map.specs.Size.{depth-count}
 use Rattle.tree_map.specs.GetLaws.{path-found}
-use Rattle.tree.specs.Narrow.{NarrowPair, Narrow, NarrowChange, NarrowRequest}
+use Rattle.node.specs.Narrow.{NarrowPair, Narrow, NarrowChange}
+use Rattle.tree.specs.Narrow.{NarrowRequest}
 
 -- Parts of lists of pairs.
 module _ {P : Pair → Type 0} where

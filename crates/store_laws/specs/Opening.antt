@@ -26,10 +26,10 @@ use Rattle.store.specs.Live.{noClosing}
 use Rattle.store.specs.Run.{Run}
 use Rattle.store.specs.Checkpoint.{collect, checkpointOf, complete}
 use Rattle.store.specs.Reopen.{Cells, blocksIn, newest, blockOf, storeOf, reopened, poolOf, blocksPass, versionPasses, versionsPass, pagePasses, everyPage, pagesPass}
-use Rattle.storelaws.specs.ViewLaws.{gather-nil, Reached, greatestTo-reached}
-use Rattle.storelaws.specs.BlockRules.{BlockRules}
-use Rattle.storelaws.specs.Versions.{versionIs, VersionRules, InLog, OnPage, InMode, mode-is}
-use Rattle.storelaws.specs.BlockTests.{
+use Rattle.store_laws.specs.ViewLaws.{gather-nil, Reached, greatestTo-reached}
+use Rattle.store_laws.specs.BlockRules.{BlockRules}
+use Rattle.store_laws.specs.Versions.{versionIs, VersionRules, InLog, OnPage, InMode, mode-is}
+use Rattle.store_laws.specs.BlockTests.{
   passing,
   passing-true,
   passing-rules,
@@ -39,7 +39,7 @@ use Rattle.storelaws.specs.BlockTests.{
   rules-blocks,
   rules-passing,
 }
-use Rattle.storelaws.specs.PageTests.{
+use Rattle.store_laws.specs.PageTests.{
   VersionFits,
   version-fits,
   said-fits,
@@ -52,9 +52,9 @@ use Rattle.storelaws.specs.PageTests.{
   passing-versions,
   rules-pages,
 }
-use Rattle.storelaws.specs.Changes.{Lean}
-use Rattle.storelaws.specs.Good.{Good}
-use Rattle.storelaws.specs.Keeps.{Keeps}
+use Rattle.store_laws.specs.Changes.{Lean}
+use Rattle.store_laws.specs.Good.{Good}
+use Rattle.store_laws.specs.Keeps.{Keeps}
 
 none-closing-in : (b : List Page) → count noClosing b ≡ 0
 none-closing-in [] = refl

@@ -8,7 +8,7 @@ use mathlib.Core.Option.{none, some}
 use Prim.Native.Nat.{ℕ, zero, suc, _+_, _≤_, _<_}
 use native.Mathlib.Omega.{arith}
 use lib.ListN.{length, take, drop, length-take, drop-of-length-le}
-use Rattle.laws.specs.Every.{Every, none, both}
+use Rattle.laws.specs.Every.{Every, none, both, every-take, every-drop}
 use Rattle.laws.specs.Order.{le-or}
 use Rattle.layout.specs.Layout.{firstScores, otherScores, nodeLimit, mostBlocks, bound32}
 use Rattle.account.specs.declared.Costs.{Costs}
@@ -34,11 +34,10 @@ use Rattle.store.specs.Checkpoint.{
   writeSheets,
   close,
 }
-use Rattle.storelaws.specs.SheetLaws.{sheets-few, length-scoresFrom}
-use Rattle.storelaws.specs.Numbers.{last, write-last}
-use Rattle.demands.specs.EveryLaws.{every-take, every-drop}
-use Rattle.demands.specs.StoreFits.{RunFits, later-entries, write-fits}
-use Rattle.demands.specs.WriteFits.{flushRun-fits}
+use Rattle.store_laws.specs.SheetLaws.{sheets-few, length-scoresFrom}
+use Rattle.store_laws.specs.Numbers.{last, write-last}
+use Rattle.store_laws.specs.StoreFits.{RunFits, later-entries, write-fits}
+use Rattle.store_laws.specs.WriteFits.{flushRun-fits}
 
 -- A tariff in range has 32-bit numbers.
 costs-fit : (c : Costs) → Bounded c → CostsFit c

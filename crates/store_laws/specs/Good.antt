@@ -26,10 +26,10 @@ use Rattle.store.specs.Store.{Store, view}
 use Rattle.store.specs.Live.{noClosing}
 use Rattle.store.specs.Write.{place, flush, enter, start, nodePage}
 use Rattle.store.specs.Run.{Moment, Run, moment, write, flushRun, roomBy, makeRoom, begin, writeGroup, editBy, writeEdit, writeNode}
-use Rattle.storelaws.specs.ItemLaws.{length-entries}
-use Rattle.storelaws.specs.Changes.{Same, Now, Lean}
-use Rattle.storelaws.specs.BlockRules.{numbered-none}
-use Rattle.storelaws.specs.Placing.{
+use Rattle.store_laws.specs.ItemLaws.{length-entries}
+use Rattle.store_laws.specs.Changes.{Same, Now, Lean}
+use Rattle.store_laws.specs.BlockRules.{numbered-none}
+use Rattle.store_laws.specs.Placing.{
   Invariant,
   place-find,
   flush-now,
@@ -44,9 +44,9 @@ use Rattle.storelaws.specs.Placing.{
   start-other,
   start-invariant,
 }
-use Rattle.storelaws.specs.Versions.{VersionRules, flush-versions, page-versions, enter-versions, start-versions, InLog, InMode, place-mode, same-mode}
-use Rattle.storelaws.specs.Passed.{written-lean}
-use Rattle.storelaws.specs.Contents.{Spelled, spelled}
+use Rattle.store_laws.specs.Versions.{VersionRules, flush-versions, page-versions, enter-versions, start-versions, InLog, InMode, place-mode, same-mode}
+use Rattle.store_laws.specs.Passed.{written-lean}
+use Rattle.store_laws.specs.Contents.{Spelled, spelled}
 
 -- A state passed keeps the three-page rule.
 abbrev pub LeanAt : Moment → Type 0

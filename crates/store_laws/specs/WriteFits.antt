@@ -15,36 +15,36 @@ use Rattle.pairs.specs.Pairs.{Pair}
 use Rattle.node.specs.Node.{Node, node, pairsOf}
 use Rattle.node.specs.Change.{Change, put, link, puts, changesOf}
 use Rattle.page.specs.Page.{Page, log, whole}
-use Rattle.page.specs.Limits.{bound16, ChangeFits, EntryFits, Fits}
-use Rattle.tree.specs.Narrow.{NarrowPair, Narrow}
+use Rattle.page.specs.Limits.{bound16, EntryFits, Fits}
+use Rattle.node.specs.Narrow.{NarrowPair, Narrow, NarrowChange}
 use Rattle.store.specs.Item.{entries}
-use Rattle.storelaws.specs.ItemLaws.{length-entries}
+use Rattle.store_laws.specs.ItemLaws.{length-entries}
 use Rattle.store.specs.View.{greatest, pages}
 use Rattle.store.specs.Store.{Store, view}
 use Rattle.store.specs.Live.{noClosing}
 use Rattle.store.specs.Write.{place, flush, enter, start, nodePage}
 use Rattle.store.specs.Run.{Run, write, flushRun, roomBy, makeRoom, writeGroup, editBy, writeEdit, writeNode}
-use Rattle.storelaws.specs.Versions.{InLog}
-use Rattle.storelaws.specs.Good.{Good, Roomy, makeRoom-roomy}
-use Rattle.storelaws.specs.Numbers.{last}
-use Rattle.demands.specs.StoreFits.{StoreFits, RunFits, later-entries, place-fits, write-fits}
+use Rattle.store_laws.specs.Versions.{InLog}
+use Rattle.store_laws.specs.Good.{Good, Roomy, makeRoom-roomy}
+use Rattle.store_laws.specs.Numbers.{last}
+use Rattle.store_laws.specs.StoreFits.{StoreFits, RunFits, later-entries, place-fits, write-fits}
 
 -- The changes that spell a node, and its entries under a version.
-puts-fit : (ps : List Pair) → Every NarrowPair ps → Every ChangeFits (puts ps)
+puts-fit : (ps : List Pair) → Every NarrowPair ps → Every NarrowChange (puts ps)
 puts-fit [] none = none
 puts-fit (p ∷ ps) (both n e) = both {x = put (p .0) (p .1)} n (puts-fit ps e)
 
-pub changesOf-fit : (x : Node) → Narrow x → Every ChangeFits (changesOf x)
+pub changesOf-fit : (x : Node) → Narrow x → Every NarrowChange (changesOf x)
 changesOf-fit (node kind ps l) n = every-append (puts-fit ps (n .pairs)) (both {x = link kind l} (n .last) none)
 
-entries-fit : (s n v : ℕ) → n < bound16 → 1 ≤ v → v < s → (cs : List Change) → Every ChangeFits cs → Every (EntryFits s) (entries n v cs)
+entries-fit : (s n v : ℕ) → n < bound16 → 1 ≤ v → v < s → (cs : List Change) → Every NarrowChange cs → Every (EntryFits s) (entries n v cs)
 entries-fit s n v i a b [] none = none
 entries-fit s n v i a b (c ∷ cs) (both f e) =
     both (record { id = i; from = a; below = b; change = f }) (entries-fit s n v i a b cs e)
 
 -- Entries join the buffer: one under the node's version, or a group under a new one.
 module _ {st : Store} (h : StoreFits st) (n : ℕ) (id : n < bound16) where
-  pub enter-fits : (c : Change) → ChangeFits c → 1 ≤ greatest (view st) n → greatest (view st) n ≤ st .last →
+  pub enter-fits : (c : Change) → NarrowChange c → 1 ≤ greatest (view st) n → greatest (view st) n ≤ st .last →
       1 + length (st .buffer) ≤ mostEntries → StoreFits (enter n c st)
   unfolding enter
   enter-fits c f a b k =
@@ -56,7 +56,7 @@ module _ {st : Store} (h : StoreFits st) (n : ℕ) (id : n < bound16) where
         last = h .last;
       }
 
-  pub start-fits : (cs : List Change) → Every ChangeFits cs → length cs + length (st .buffer) ≤ mostEntries → suc (st .last) < bound32 →
+  pub start-fits : (cs : List Change) → Every NarrowChange cs → length cs + length (st .buffer) ≤ mostEntries → suc (st .last) < bound32 →
       StoreFits (start n cs st)
   unfolding start
   start-fits cs f k b =
@@ -134,7 +134,7 @@ module _ {run : Run} (h : RunFits run) (n : ℕ) (id : n < bound16) (x : Node) (
 
 -- AN EDIT in log mode: one entry more, or the whole edited content
 pub writeEdit-fits : {B : ℕ} {run : Run} → Good B run → RunFits run → (n : ℕ) → n < bound16 → n < run .nodes → InLog (run .now) n →
-    (c : Change) → ChangeFits c → (x : Node) → Narrow x → length (changesOf x) ≤ mostEntries → 3 + last run < bound32 →
+    (c : Change) → NarrowChange c → (x : Node) → Narrow x → length (changesOf x) ≤ mostEntries → 3 + last run < bound32 →
     RunFits (writeEdit n c x run)
 unfolding writeEdit
 writeEdit-fits {B} {run} v h n id there inLog c f x narrow k b = go (leb mostLogPages (pages (view (makeRoom 1 run .now)) n))

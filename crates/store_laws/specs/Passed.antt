@@ -16,11 +16,11 @@ use Rattle.store.specs.Live.{live}
 use Rattle.store.specs.Allocate.{blanks, nextBlank, victim}
 use Rattle.store.specs.Write.{place}
 use Rattle.store.specs.Run.{copying, oneTo, copiesBy, written}
-use Rattle.storelaws.specs.Steps.{Pruned, stays, pruned-greatest, pruned-pieces, pruned-pages, pruned-buffered}
-use Rattle.storelaws.specs.Changes.{Same, Lean, same-lean}
-use Rattle.storelaws.specs.PoolLaws.{Moves, find-copying}
-use Rattle.storelaws.specs.BlockRules.{spot-moves}
-use Rattle.storelaws.specs.Placing.{Invariant, live-fits}
+use Rattle.store_laws.specs.Steps.{Pruned, stays, pruned-greatest, pruned-pieces, pruned-pages, pruned-buffered}
+use Rattle.store_laws.specs.Changes.{Same, Lean, same-lean}
+use Rattle.store_laws.specs.PoolLaws.{Moves, find-copying}
+use Rattle.store_laws.specs.BlockRules.{spot-moves}
+use Rattle.store_laws.specs.Placing.{Invariant, live-fits}
 
 -- with q pages copied, every node is as it was
 copying-same : (keep : Page → Bool) (st : Store) {i j : ℕ} (q : ℕ) → ((s : ℕ) → tally (numbered s) (st .blocks) ≤ 1) → Moves (st .blocks) i j →

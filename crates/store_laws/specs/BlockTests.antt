@@ -17,10 +17,10 @@ use Rattle.page.specs.Page.{Page, sequence}
 use Rattle.store.specs.Pool.{Blocks, block, numbered, above}
 use Rattle.store.specs.Allocate.{blanks}
 use Rattle.store.specs.Reopen.{Cells, cells, blocksIn, greatestOf, newest, hereOrNext, blockOf, allFilled, differIn, differ, fullOr, fullOrAll, blocksPass}
-use Rattle.storelaws.specs.ItemLaws.{empty-nil}
-use Rattle.storelaws.specs.AllocateLaws.{a-blank, blanks-positive}
-use Rattle.storelaws.specs.BlockRules.{Whole, BlockRules}
-use Rattle.storelaws.specs.CellLaws.{length-cells, blocksIn-cells, allFilled-cells, length-blocksIn, block-blocksIn}
+use Rattle.store_laws.specs.ItemLaws.{empty-nil}
+use Rattle.store_laws.specs.AllocateLaws.{a-blank, blanks-positive}
+use Rattle.store_laws.specs.BlockRules.{Whole, BlockRules}
+use Rattle.store_laws.specs.CellLaws.{length-cells, blocksIn-cells, allFilled-cells, length-blocksIn, block-blocksIn}
 
 -- The numbers differ: each is counted at most once.
 differIn-once : (s : ℕ) (b : List Page) (bs : Blocks) → differIn b bs ≡ true → tally (numbered s) bs ≤ 1 →

@@ -45,8 +45,8 @@ use Rattle.store.specs.Checkpoint.{
   complete,
 }
 use Rattle.store.specs.Reopen.{reopened, poolOf, pagesPass}
-use Rattle.storelaws.specs.LiveLaws.{live-closing}
-use Rattle.storelaws.specs.Placing.{
+use Rattle.store_laws.specs.LiveLaws.{live-closing}
+use Rattle.store_laws.specs.Placing.{
   mostSheets,
   Invariant,
   place-find,
@@ -56,13 +56,13 @@ use Rattle.storelaws.specs.Placing.{
   silent-same,
   silent-invariant,
 }
-use Rattle.storelaws.specs.Versions.{says, late, VersionRules, silent-versions}
-use Rattle.storelaws.specs.Passed.{written-lean}
-use Rattle.storelaws.specs.Good.{LeanAt, Good, Keep, keep-refl, keep-trans, place-keep, flushRun-good, flushRun-keep}
-use Rattle.storelaws.specs.Keeps.{Keeps, keep-holds}
-use Rattle.storelaws.specs.Numbers.{last, write-last}
-use Rattle.storelaws.specs.Opening.{none-closing, opened, own-passes, reopen}
-use Rattle.storelaws.specs.SheetLaws.{sheets-few, scoresIn-sheets, countIn-sheets, tariffIn-sheets, length-scoresFrom, scoreIn-scoresFrom, sheets-complete}
+use Rattle.store_laws.specs.Versions.{says, late, VersionRules, silent-versions}
+use Rattle.store_laws.specs.Passed.{written-lean}
+use Rattle.store_laws.specs.Good.{LeanAt, Good, Keep, keep-refl, keep-trans, place-keep, flushRun-good, flushRun-keep}
+use Rattle.store_laws.specs.Keeps.{Keeps, keep-holds}
+use Rattle.store_laws.specs.Numbers.{last, write-last}
+use Rattle.store_laws.specs.Opening.{none-closing, opened, own-passes, reopen}
+use Rattle.store_laws.specs.SheetLaws.{sheets-few, scoresIn-sheets, countIn-sheets, tariffIn-sheets, length-scoresFrom, scoreIn-scoresFrom, sheets-complete}
 
 -- What a checkpoint page, or several, leave of a run.
 pub record Left (B : ℕ) (closing : Page → Bool) (run run′ : Run) : Type 0 where

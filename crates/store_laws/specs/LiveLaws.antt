@@ -19,11 +19,11 @@ use Rattle.store.specs.Pool.{Blocks, numbered, above, pageIn, orElse, find, ite
 use Rattle.store.specs.Store.{seen}
 use Rattle.store.specs.Live.{carries, live}
 use Rattle.store.specs.Allocate.{compact}
-use Rattle.storelaws.specs.ItemLaws.{empty-nil}
-use Rattle.storelaws.specs.ViewLaws.{sumTo-ext}
-use Rattle.storelaws.specs.Steps.{Pruned, Fate}
-use Rattle.storelaws.specs.Steps as Steps
-use Rattle.storelaws.specs.PoolLaws.{pageIn-none, Moves, Found, stays, goes, find-compact}
+use Rattle.store_laws.specs.ItemLaws.{empty-nil}
+use Rattle.store_laws.specs.ViewLaws.{sumTo-ext}
+use Rattle.store_laws.specs.Steps.{Pruned, Fate}
+use Rattle.store_laws.specs.Steps as Steps
+use Rattle.store_laws.specs.PoolLaws.{pageIn-none, Moves, Found, stays, goes, find-compact}
 
 not-false : (b : Bool) → not b ≡ false → b ≡ true
 not-false true e = refl

@@ -6,7 +6,7 @@ use Prim.Native.Nat.{ℕ, zero, suc, _≤_, _<_}
 use native.Mathlib.Omega.{arith}
 use lib.Dec.{leb, ltb}
 use lib.ListN.{length, set, take}
-use Rattle.laws.specs.Every.{Every, none, both, every-append, every-map, every-weaken}
+use Rattle.laws.specs.Every.{Every, none, both, every-append, every-map, every-weaken, every-take, every-set, every-filter, every-in}
 use Rattle.laws.specs.Counts.{count, filter}
 use Rattle.layout.specs.Layout.{pagesInBlock, mostEntries, bound32}
 use Rattle.page.specs.Page.{Entry, Content, Page}
@@ -17,7 +17,6 @@ use Rattle.store.specs.Allocate.{blanks, nextBlank, victim, copied, compact, sp
 use Rattle.store.specs.Store.{Store, view}
 use Rattle.store.specs.Write.{found, next, place}
 use Rattle.store.specs.Run.{Moment, Run, moment, copying, oneTo, copiesBy, copies, written, write}
-use Rattle.demands.specs.EveryLaws.{every-take, every-set, every-filter, every-in}
 
 abbrev pub BlocksFit : Blocks → Type 0
 BlocksFit = Every (Every PageFits)

@@ -19,9 +19,9 @@ use Rattle.store.specs.Store.{view}
 use Rattle.store.specs.Write.{place, enter, start}
 use Rattle.store.specs.Run.{Run, write, roomBy, makeRoom, writeGroup, editBy, writeEdit, writeNode}
 use Rattle.store.specs.Serve.{Work, read, edit, rewrite, switch, work, serve, create}
-use Rattle.storelaws.specs.Contents.{neat-fits}
-use Rattle.storelaws.specs.Good.{Good, makeRoom-roomy, writeGroup-done, writeGroup-pages}
-use Rattle.storelaws.specs.Keeps.{Keeps, holds-node, holds-mode, writeGroup-nodes}
+use Rattle.store_laws.specs.Contents.{neat-fits}
+use Rattle.store_laws.specs.Good.{Good, makeRoom-roomy, writeGroup-done, writeGroup-pages}
+use Rattle.store_laws.specs.Keeps.{Keeps, holds-node, holds-mode, writeGroup-nodes}
 
 abbrev pub last : Run → ℕ
 last run = run .now .last

@@ -22,10 +22,10 @@ use Rattle.store.specs.View.{pieces, pages}
 use Rattle.store.specs.Store.{Store, view, draftOf, nodeIn, nodeOf, modeOf}
 use Rattle.store.specs.Run.{Run, write, roomBy, makeRoom, writeGroup, editBy, writeEdit, writeNode}
 use Rattle.store.specs.Serve.{Work, read, edit, rewrite, workOn, switch, work, note, serve, create}
-use Rattle.storelaws.specs.Versions.{InMode, mode-is}
+use Rattle.store_laws.specs.Versions.{InMode, mode-is}
 use Rattle.node.specs.ReplayLaws.{replay-whole, replay-changesOf}
-use Rattle.storelaws.specs.Contents.{replay-snoc, redo-made, neat-fits}
-use Rattle.storelaws.specs.Good.{Good, Keep, Done, writeGroup-done, writeEdit-done, writeNode-done}
+use Rattle.store_laws.specs.Contents.{replay-snoc, redo-made, neat-fits}
+use Rattle.store_laws.specs.Good.{Good, Keep, Done, writeGroup-done, writeEdit-done, writeNode-done}
 
 -- A node's content is x, unbroken, and it is in this mode.
 pub record Holds (st : Store) (n : ℕ) (x : Node) (m : Mode) : Type 0 where

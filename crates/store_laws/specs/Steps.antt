@@ -11,8 +11,8 @@ use Rattle.laws.specs.Counts.{empty}
 use Rattle.node.specs.Replay.{Piece}
 use Rattle.store.specs.Item.{Item, piecesIn, greatestIn}
 use Rattle.store.specs.View.{View, gather, sumTo, greatestTo, some?, greatest, pieces, buffered, pages, piecesAt, pagesAt}
-use Rattle.storelaws.specs.ItemLaws.{piecesIn-append, greatestIn-append, piecesIn-above, piecesIn-greatest}
-use Rattle.storelaws.specs.ViewLaws.{
+use Rattle.store_laws.specs.ItemLaws.{piecesIn-append, greatestIn-append, piecesIn-above, piecesIn-greatest}
+use Rattle.store_laws.specs.ViewLaws.{
   gather-ext,
   gather-nil,
   sumTo-ext,

@@ -19,13 +19,13 @@ use Rattle.store.specs.Store.{Store, view}
 use Rattle.store.specs.Live.{carries}
 use Rattle.store.specs.Write.{found}
 use Rattle.store.specs.Run.{Run}
-use Rattle.storelaws.specs.Steps.{pruned-at}
-use Rattle.storelaws.specs.LiveLaws.{live-carries}
-use Rattle.storelaws.specs.AllocateLaws.{BlankAt}
-use Rattle.storelaws.specs.BlockRules.{how-tally}
-use Rattle.storelaws.specs.Placing.{Invariant, found-ready, found-how, found-pruned, found-live, found-same}
-use Rattle.storelaws.specs.Versions.{InMode}
-use Rattle.storelaws.specs.Good.{Good}
+use Rattle.store_laws.specs.Steps.{pruned-at}
+use Rattle.store_laws.specs.LiveLaws.{live-carries}
+use Rattle.store_laws.specs.AllocateLaws.{BlankAt}
+use Rattle.store_laws.specs.BlockRules.{how-tally}
+use Rattle.store_laws.specs.Placing.{Invariant, found-ready, found-how, found-pruned, found-live, found-same}
+use Rattle.store_laws.specs.Versions.{InMode}
+use Rattle.store_laws.specs.Good.{Good}
 
 -- A node has on every page what it had, its version and content, and its mode.
 pub record Unmoved (a b : Store) (n : ℕ) : Type 0 where

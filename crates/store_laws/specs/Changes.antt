@@ -13,7 +13,7 @@ use Rattle.layout.specs.Layout.{mostLogPages}
 use Rattle.node.specs.Replay.{Piece}
 use Rattle.store.specs.Item.{Item, piecesIn, greatestIn, group}
 use Rattle.store.specs.View.{View, some?, greatest, pieces, buffered, pages}
-use Rattle.storelaws.specs.ItemLaws.{
+use Rattle.store_laws.specs.ItemLaws.{
   piecesIn-append,
   greatestIn-append,
   piecesIn-group,
@@ -22,7 +22,7 @@ use Rattle.storelaws.specs.ItemLaws.{
   greatestIn-group-any,
   greatestIn-group-other,
 }
-use Rattle.storelaws.specs.Steps.{Fit, buffer-above, Wrote, wrote-greatest, wrote-same, wrote-fresh, Added, added-greatest, added-same}
+use Rattle.store_laws.specs.Steps.{Fit, buffer-above, Wrote, wrote-greatest, wrote-same, wrote-fresh, Added, added-greatest, added-same}
 
 -- A node is as it was: version, content, number of pages, what the buffer has of it.
 pub record Same (w w′ : View) (m : ℕ) : Type 0 where

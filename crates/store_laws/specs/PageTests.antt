@@ -18,12 +18,12 @@ use Rattle.store.specs.View.{greatest}
 use Rattle.store.specs.Pool.{Blocks, numbered, pageIn, orElse, find, itemsAt}
 use Rattle.store.specs.Store.{Store, seen}
 use Rattle.store.specs.Reopen.{greatestOf, newest, storeOf, versionPasses, versionsPass, pagePasses, every, everyPage}
-use Rattle.storelaws.specs.ViewLaws.{greatestTo-le}
-use Rattle.storelaws.specs.Steps.{Fit}
-use Rattle.storelaws.specs.PoolLaws.{find-none}
-use Rattle.storelaws.specs.BlockRules.{numbered-none}
-use Rattle.storelaws.specs.BlockTests.{newest-above}
-use Rattle.storelaws.specs.Versions.{versionIs, positive, says, said, lateIn, late, VersionRules}
+use Rattle.store_laws.specs.ViewLaws.{greatestTo-le}
+use Rattle.store_laws.specs.Steps.{Fit}
+use Rattle.store_laws.specs.PoolLaws.{find-none}
+use Rattle.store_laws.specs.BlockRules.{numbered-none}
+use Rattle.store_laws.specs.BlockTests.{newest-above}
+use Rattle.store_laws.specs.Versions.{versionIs, positive, says, said, lateIn, late, VersionRules}
 
 -- One entry's version: from 1, below the page's number, no page's number.
 pub record VersionFits (s : ℕ) (bs : Blocks) (v : ℕ) : Type 0 where

@@ -23,10 +23,10 @@ use Rattle.store.specs.Pool.{numbered, find}
 use Rattle.store.specs.Store.{Store, view, modeAt, modeOf}
 use Rattle.store.specs.Live.{carries}
 use Rattle.store.specs.Write.{next, place, flush, enter, start, nodePage}
-use Rattle.storelaws.specs.PoolLaws.{find-none}
-use Rattle.storelaws.specs.LiveLaws.{live-carries}
-use Rattle.storelaws.specs.BlockRules.{numbered-none}
-use Rattle.storelaws.specs.Placing.{Invariant, place-tally, place-find-live}
+use Rattle.store_laws.specs.PoolLaws.{find-none}
+use Rattle.store_laws.specs.LiveLaws.{live-carries}
+use Rattle.store_laws.specs.BlockRules.{numbered-none}
+use Rattle.store_laws.specs.Placing.{Invariant, place-tally, place-find-live}
 
 abbrev pub versionIs : ℕ → Entry → Bool
 versionIs v e = eqb (e .version) v

@@ -17,8 +17,8 @@ use Rattle.laws.specs.Counts.{bit, count, count-append, length-filter, filter, 
 use Rattle.page.specs.Page.{Page, sequence}
 use Rattle.store.specs.Pool.{Blocks, block, numbered, above, addTo}
 use Rattle.store.specs.Allocate.{blanks, nextBlank, victim, copied, compact, spotBy, spot}
-use Rattle.storelaws.specs.PoolLaws.{Moves, compact-to, compact-from, compact-other, compact-tally-le}
-use Rattle.storelaws.specs.AllocateLaws.{victim-room, blanks-occupied, blanks-positive, BlankAt, another-blank, nextBlank-blank}
+use Rattle.store_laws.specs.PoolLaws.{Moves, compact-to, compact-from, compact-other, compact-tally-le}
+use Rattle.store_laws.specs.AllocateLaws.{victim-room, blanks-occupied, blanks-positive, BlankAt, another-blank, nextBlank-blank}
 
 -- A block is blank or full.
 abbrev pub Whole : ℕ → List Page → Type 0

@@ -17,7 +17,7 @@ use Rattle.layout.specs.Layout.{firstScores, otherScores, mostBlocks, nodeLimit
 use Rattle.account.specs.declared.Tariff.{Tariff}
 use Rattle.page.specs.Page.{Score}
 use Rattle.store.specs.Checkpoint.{sheet, scoresFrom, parts, countIfLast, laterSheets, laterParts, sheets, tariffIn, scoresIn, countIn, scoreIn, countLast, scoreOf, onceBelow, complete}
-use Rattle.storelaws.specs.Placing.{mostSheets}
+use Rattle.store_laws.specs.Placing.{mostSheets}
 
 pub length-laterSheets : (n : ℕ) (xs : List (List Score)) → length (laterSheets n xs) ≡ length xs
 length-laterSheets n [] = refl

@@ -20,3 +20,6 @@ pub mod Opening
 pub mod SheetLaws
 pub mod Closing
 pub mod Compaction
+pub mod StoreFits
+pub mod WriteFits
+pub mod CloseFits

@@ -23,8 +23,8 @@ use Rattle.store.specs.Pool.{Blocks, block, numbered, pageIn, find, itemsAt, ad
 use Rattle.store.specs.Store.{Store, seen, view}
 use Rattle.store.specs.Live.{live}
 use Rattle.store.specs.Write.{found, next, place, flush, enter, start, nodePage}
-use Rattle.storelaws.specs.ItemLaws.{greatestIn-append, greatestIn-group-any, items-append}
-use Rattle.storelaws.specs.Steps.{
+use Rattle.store_laws.specs.ItemLaws.{greatestIn-append, greatestIn-group-any, items-append}
+use Rattle.store_laws.specs.Steps.{
   Fit,
   fit-buffer,
   Wrote,
@@ -36,8 +36,8 @@ use Rattle.storelaws.specs.Steps.{
   pruned-buffered,
   pruned-fit,
 }
-use Rattle.storelaws.specs.Steps as Steps
-use Rattle.storelaws.specs.Changes.{
+use Rattle.store_laws.specs.Steps as Steps
+use Rattle.store_laws.specs.Changes.{
   Same,
   same-trans,
   Now,
@@ -58,10 +58,10 @@ use Rattle.storelaws.specs.Changes.{
   started-lean,
   paged-lean,
 }
-use Rattle.storelaws.specs.PoolLaws.{find-block, find-set, pageIn-snoc, pageIn-snoc-other, Found, find-compact}
-use Rattle.storelaws.specs.PoolLaws as PoolLaws
-use Rattle.storelaws.specs.LiveLaws.{compact-pruned, live-bound}
-use Rattle.storelaws.specs.BlockRules.{
+use Rattle.store_laws.specs.PoolLaws.{find-block, find-set, pageIn-snoc, pageIn-snoc-other, Found, find-compact}
+use Rattle.store_laws.specs.PoolLaws as PoolLaws
+use Rattle.store_laws.specs.LiveLaws.{compact-pruned, live-bound}
+use Rattle.store_laws.specs.BlockRules.{
   BlockRules,
   Ready,
   addTo-tally,
@@ -74,7 +74,7 @@ use Rattle.storelaws.specs.BlockRules.{
   spot-ready,
   spot-how,
 }
-use Rattle.storelaws.specs.BlockRules as BlockRules
+use Rattle.store_laws.specs.BlockRules as BlockRules
 
 -- 620 nodes take twelve checkpoint pages.
 abbrev pub mostSheets : ℕ
