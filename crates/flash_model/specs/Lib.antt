@@ -12,3 +12,6 @@ pub mod Moves
 pub mod Allocate
 pub mod Written
 pub mod Placed
+pub mod Followed
+pub mod Ownership
+pub mod NodePages
