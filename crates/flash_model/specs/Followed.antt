@@ -27,6 +27,6 @@ module _ {B : ℕ} {score : ℕ → ℕ} {w : World} {run : Run} (b : Writable B
       (subst (λ (n : ℕ). Invariant B n noClosing (run .now)) (sym (f .nodes)) (b .good .invariant))
 
 -- Each node owns the pages that carry it, and nobody owns another.
-pub owners-open : (nodes : ℕ) (st : Store) → Owners (carries (view st)) noClosing nodes 0 st
-owners-open nodes st =
+pub owners-open : (nodes sheets : ℕ) → sheets ≡ 0 → (st : Store) → Owners (carries (view st)) noClosing nodes sheets st
+owners-open nodes sheets none st =
     record { nodes = λ n l p. refl; sheet = λ n a b p e. absurd (omega arith); sheets = λ p e. absurd (test-clash false e refl) }

@@ -20,6 +20,7 @@ use Rattle.page.specs.Page.{Page, page, whole}
 use Rattle.page.specs.Image.{image}
 use Rattle.store.specs.Item.{itemsOf, piecesIn}
 use Rattle.store.specs.View.{greatest}
+use Rattle.store.specs.View as View
 use Rattle.store.specs.Pool.{block}
 use Rattle.store.specs.Store.{Store, view}
 use Rattle.store.specs.Live.{carries, noClosing}
@@ -33,13 +34,14 @@ use Rattle.store_laws.specs.Versions.{InMode, place-mode}
 use Rattle.rows.specs.Row.{noRow}
 use Rattle.rows.specs.Step.{names, fresh, noted}
 use Rattle.rows.specs.declared.Row.{Row}
+use Rattle.page_write.specs.Chunks.{chunks}
 use Rattle.place.specs.declared.state.State.{State}
 use Rattle.place.specs.World.{World, world, used, spot}
 use Rattle.place.specs.Allocate.{allocate}
 use Rattle.log.specs.Flush.{nextNumber, advanced}
 use Rattle.node_write.specs.NodePage.{diskRow}
 use Rattle.node_write.specs.NodePage as Code
-use Rattle.flash_model.specs.Mirror.{rowAt, test, RowsSay}
+use Rattle.flash_model.specs.Mirror.{rowAt, test, RowsSay, Mirrors}
 use Rattle.flash_model.specs.Names.{mapped}
 use Rattle.flash_model.specs.Allocate.{Kept}
 use Rattle.flash_model.specs.Notes.{names-noted, names-fresh, pages-noted, keeps-noted}
@@ -145,3 +147,91 @@ module _ {B : ℕ} {score : ℕ → ℕ} {w : World} {run : Run} (b : Writable B
       place-found few v (f .mirrors) .names .each m i q l li lq ∙
       ap (λ (g : Page → Bool). test g (getElem? (block (found noClosing (w .state .nodes) st .blocks) i) q))
       (fun-ext (λ y. sym (carries-same (view st) (view after) m (other m (omega (arith, same .nodes, same .checkpoint, f .noSheet)) d .greatest) y)))
+
+  -- what it says beside
+  row-version : row .version ≡ suc (st .last)
+  unfolding fresh
+  row-version = keeps-noted (fresh (suc (st .last)) Disk (rowAt (before .rows) n)) at .version
+
+  row-mode : row .mode ≡ Disk
+  unfolding fresh
+  row-mode = keeps-noted (fresh (suc (st .last)) Disk (rowAt (before .rows) n)) at .mode
+
+  row-score : row .score ≡ rowAt (before .rows) n .score
+  unfolding fresh
+  row-score = keeps-noted (fresh (suc (st .last)) Disk (rowAt (before .rows) n)) at .score
+
+  row-pages : row .pages ≡ 1
+  unfolding fresh
+  row-pages = pages-noted (fresh (suc (st .last)) Disk (rowAt (before .rows) n)) at (omega arith)
+
+  -- another row is as it was, but for where its pages are
+  kept : (m : ℕ) → m < w .state .nodes → (n ≡ m → ⊥) → (g : ℕ → ℕ) × (rowAt rows′ m ≡ mapped g (rowAt (w .rows) m))
+  kept m l d = let k = same .rows m (omega arith) in (k .0, row-other m d ∙ k .1)
+
+  says : RowsSay (w .state .nodes) rows′ after
+  unfolding nodePage
+  says = record { version = λ m l. version m l (eq-or n m); mode = λ m l. mode m l (eq-or n m); pages = λ m l. pages m l (eq-or n m) }
+    where
+      version : (m : ℕ) → m < w .state .nodes → (n ≡ m) ⊎ (n ≡ m → ⊥) → rowAt rows′ m .version ≡ greatest (view after) m
+      version m l (inl e) = rw (← e) (ap (λ (r : Row). r .version) row-here ∙ row-version ∙ sym (now .greatest))
+      version m l (inr d) = ap (λ (r : Row). r .version) (kept m l d .1) ∙ f .mirrors .rows .version m l ∙ sym (other m l d .greatest)
+
+      mode : (m : ℕ) → m < w .state .nodes → (n ≡ m) ⊎ (n ≡ m → ⊥) → InMode (rowAt rows′ m .mode) after m
+      mode m l (inl e) =
+          subst (λ (k : ℕ). InMode (rowAt rows′ k .mode) after k) e
+          (subst (λ (k : Mode). InMode k after n) (sym (ap (λ (r : Row). r .mode) row-here ∙ row-mode))
+          (record { node = x; page = rw (now .greatest) (place-find v (whole n x) (st .buffer)) }))
+      mode m l (inr d) =
+          subst (λ (k : Mode). InMode k after m) (sym (ap (λ (r : Row). r .mode) (kept m l d .1)))
+          (place-mode v m (rowAt (w .rows) m .mode) (whole n x) (st .buffer) l (other m l d .greatest) (f .mirrors .rows .mode m l))
+
+      pages : (m : ℕ) → m < w .state .nodes → (n ≡ m) ⊎ (n ≡ m → ⊥) → rowAt rows′ m .pages ≡ View.pages (view after) m
+      pages m l (inl e) = rw (← e) (ap (λ (r : Row). r .pages) row-here ∙ row-pages ∙ sym (now .pages))
+      pages m l (inr d) = ap (λ (r : Row). r .pages) (kept m l d .1) ∙ f .mirrors .rows .pages m l ∙ sym (other m l d .pages)
+
+  mirrored : Mirrors image own′ noClosing (world (set (before .pages) at (image p)) rows′ s′) after
+  unfolding nodePage advanced
+  mirrored =
+      placed-mirrors few v (f .mirrors) (whole n x) (st .buffer) own′ rows′ s′
+      (record {
+        blocks = refl;
+        current = refl;
+        fill = refl;
+        last = refl;
+        named =
+            record {
+              long = rw (length-set (before .rows) n row) (place-found few v (f .mirrors) .names .long);
+              new = λ m l. names-new m l (eq-or n m);
+              old = λ m i q l li lq d. names-old m i q l li lq d (eq-or n m);
+            };
+        owners = owners-open (before .state .nodes) (before .state .checkpoint) (same .checkpoint ∙ f .noSheet) after;
+        rows = subst (λ (k : ℕ). RowsSay k rows′ after) (sym (same .nodes)) says;
+      })
+
+  -- THE NODE PAGE follows the store's.
+  pub node-page-follows : Follows score (Code.nodePage n x w) (writeNode n x run)
+  unfolding Code.nodePage Code.writeNode diskRow advanced nodePage write place
+  node-page-follows =
+      subst (λ (z : World). Follows score z (writeNode n x run)) (sym (step-found few v (f .mirrors) (Code.writeNode n x)))
+      (subst (λ (k : ℕ). Follows score (world (set (before .pages) at (image (page k (whole n x)))) (diskRow n k at (before .rows)) (advanced k (before .state))) (writeNode n x run))
+      (sym (ap nextNumber (same .last ∙ f .mirrors .last) ∙ nextNumber-is (st .last) room))
+      (record {
+        table = length-set (before .rows) n row ∙ same .table ∙ f .table ∙ ap (λ (k : ℕ). 64 * k) (sym (same .blocks));
+        nodes = same .nodes ∙ f .nodes;
+        noSheet = same .checkpoint ∙ f .noSheet;
+        mirrors = subst (λ (k : ℕ). Mirrors image (carries (view (nodePage noClosing k n x st))) noClosing (world (set (before .pages) at (image p)) rows′ s′) (nodePage noClosing k n x st)) (f .nodes) mirrored;
+        buffer =
+            record {
+              size = ap length (same .buffer) ∙ f .buffer .size;
+              number = same .entries ∙ f .buffer .number;
+              bytes = ap (λ (z : List ℕ). chunks 15 (length (st .buffer)) z 0) (same .buffer) ∙ f .buffer .bytes;
+            };
+        scores = λ m l. score-of m l (eq-or n m);
+      }))
+    where
+      score-of : (m : ℕ) → m < run .nodes → (n ≡ m) ⊎ (n ≡ m → ⊥) → rowAt rows′ m .score ≡ score m
+      score-of m l (inl e) =
+          rw (← e)
+          (ap (λ (r : Row). r .score) row-here ∙ row-score ∙ ap (λ (r : Row). r .score) (same .rows n (omega (arith, f .nodes)) .1) ∙ f .scores n there)
+      score-of m l (inr d) = ap (λ (r : Row). r .score) (kept m (omega (arith, f .nodes)) d .1) ∙ f .scores m l
