@@ -11,3 +11,4 @@ pub mod Copies
 pub mod Moves
 pub mod Allocate
 pub mod Written
+pub mod Buffer
