@@ -15,3 +15,5 @@ pub mod Placed
 pub mod Followed
 pub mod Ownership
 pub mod NodePages
+pub mod Buffer
+pub mod Starts
