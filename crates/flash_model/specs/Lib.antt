@@ -17,3 +17,4 @@ pub mod Ownership
 pub mod NodePages
 pub mod Buffer
 pub mod Starts
+pub mod Entries

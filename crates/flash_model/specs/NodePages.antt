@@ -1,5 +1,5 @@
 -- A NODE PAGE written by the code is the store's. Assumes nothing.
-use mathlib.Core.Path.{_≡_, refl, sym, ap, _∙_, subst, fun-ext}
+use mathlib.Core.Path.{_≡_, refl, sym, ap, _∙_, subst}
 use mathlib.Core.Bool.{Bool, true, false, not, _||_}
 use mathlib.Core.Logic.{_⊎_, inl, inr}
 use mathlib.Core.List.{List, [], _∷_}
@@ -46,7 +46,7 @@ use Rattle.flash_model.specs.Names.{mapped}
 use Rattle.flash_model.specs.Allocate.{Kept}
 use Rattle.flash_model.specs.Notes.{names-noted, names-fresh, pages-noted, keeps-noted}
 use Rattle.flash_model.specs.Follows.{Follows, Writable}
-use Rattle.flash_model.specs.Ownership.{none-owned, carries-same, carried-few}
+use Rattle.flash_model.specs.Ownership.{none-owned, owned-same, carried-few}
 use Rattle.flash_model.specs.Written.{Named}
 use Rattle.flash_model.specs.Followed.{few-blocks, invariant-here, owners-open}
 use Rattle.flash_model.specs.Placed.{nextNumber-is, stands-found, inside-found, place-found, step-found, kept-found, next-free, Fills, placed-mirrors}
@@ -145,8 +145,8 @@ module _ {B : ℕ} {score : ℕ → ℕ} {w : World} {run : Run} (b : Writable B
   names-old m i q l li lq apart (inr d) =
       ap (names (32 * i + q)) (row-other m d) ∙
       place-found few v (f .mirrors) .names .each m i q l li lq ∙
-      ap (λ (g : Page → Bool). test g (getElem? (block (found noClosing (w .state .nodes) st .blocks) i) q))
-      (fun-ext (λ y. sym (carries-same (view st) (view after) m (other m (omega (arith, same .nodes, same .checkpoint, f .noSheet)) d .greatest) y)))
+      owned-same (view st) (view after) m (other m (omega (arith, same .nodes, same .checkpoint, f .noSheet)) d .greatest)
+      (getElem? (block (found noClosing (w .state .nodes) st .blocks) i) q)
 
   -- what it says beside
   row-version : row .version ≡ suc (st .last)

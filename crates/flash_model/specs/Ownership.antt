@@ -1,8 +1,9 @@
 -- Whose a page is, by counts: a node owns no page of the pool where none carries it, and the same pages as long as its version stays.
 -- Assumes nothing.
-use mathlib.Core.Path.{_≡_, refl, ap}
+use mathlib.Core.Path.{_≡_, refl, sym, ap}
 use mathlib.Core.Bool.{Bool, true, false, not}
 use mathlib.Core.List.{List, [], _∷_}
+use mathlib.Core.Option.{Option, none, some}
 use Prim.Native.Nat.{ℕ, zero, suc, _+_, _≤_}
 use native.Mathlib.Omega.{arith}
 use lib.ListN.{getElem?}
@@ -34,6 +35,10 @@ none-owned f bs e i q = none-in f (block bs i) (omega (arith, tally-at f bs i)) 
 pub carries-same : (a b : View) (n : ℕ) → greatest b n ≡ greatest a n → (p : Page) → carries b n p ≡ carries a n p
 unfolding carries
 carries-same a b n e p = ap (λ (v : ℕ). not (empty (piecesIn n v (itemsOf p)))) e
+
+pub owned-same : (a b : View) (n : ℕ) → greatest b n ≡ greatest a n → (o : Option Page) → test (carries a n) o ≡ test (carries b n) o
+owned-same a b n e none = refl
+owned-same a b n e (some p) = sym (carries-same a b n e p)
 
 -- A node lies on as many pages as carry it, at most.
 pub carried-few : {width B : ℕ} (st : Store) (rules : BlockRules width B (st .blocks) (st .current) (st .last)) (n : ℕ) →

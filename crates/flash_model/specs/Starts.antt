@@ -1,6 +1,5 @@
 -- A FRESH START in log mode by the code is the store's: the whole content of a node, there or new, under a new version. Assumes nothing.
-use mathlib.Core.Path.{_≡_, refl, sym, ap, _∙_, subst, fun-ext}
-use mathlib.Core.Bool.{Bool}
+use mathlib.Core.Path.{_≡_, refl, sym, ap, _∙_, subst}
 use mathlib.Core.Logic.{_⊎_, inl, inr}
 use mathlib.Core.List.{List, [], _∷_, map}
 use Prim.Native.Nat.{ℕ, suc, _+_, _*_, _≤_, _<_, max}
@@ -14,7 +13,6 @@ use Rattle.account.specs.declared.Mode.{Mode}
 use Rattle.account.specs.declared.Mode.the-variants.{Log}
 use Rattle.node.specs.Change.{Change}
 use Rattle.node.specs.Replay.{step}
-use Rattle.page.specs.Page.{Page}
 use Rattle.page.specs.Image.{image}
 use Rattle.store.specs.View.{greatest}
 use Rattle.store.specs.View as View
@@ -39,7 +37,7 @@ use Rattle.flash_model.specs.Notes.{names-fresh}
 use Rattle.flash_model.specs.Buffer.{appendAll-is, appendAll-holds}
 use Rattle.flash_model.specs.Follows.{BufferIs, Follows, Writable}
 use Rattle.flash_model.specs.Followed.{blocks-are, owners-open}
-use Rattle.flash_model.specs.Ownership.{none-owned, carries-same, carried-few}
+use Rattle.flash_model.specs.Ownership.{none-owned, owned-same, carried-few}
 
 -- Node n, whose row was this, begins anew with these changes; there are N′ nodes then, and their scores are score′.
 module _ {B : ℕ} {score : ℕ → ℕ} {w : World} {run : Run} (b : Writable B run) (f : Follows score w run) (n : ℕ) (c : Change) (cs : List Change)
@@ -106,7 +104,7 @@ module _ {B : ℕ} {score : ℕ → ℕ} {w : World} {run : Run} (b : Writable B
       each m i q l li lq (inr d) =
           ap (names (32 * i + q)) (row-other m d) ∙
           f .mirrors .names .each m i q (omega (arith, there m l d, f .nodes)) li lq ∙
-          ap (λ (g : Page → Bool). test g (getElem? (block (st .blocks) i) q)) (fun-ext (λ y. sym (carries-same (view st) (view after) m (other m d .greatest) y)))
+          owned-same (view st) (view after) m (other m d .greatest) (getElem? (block (st .blocks) i) q)
 
   says : RowsSay N′ rows′ after
   unfolding fresh start
