@@ -18,3 +18,4 @@ pub mod NodePages
 pub mod Buffer
 pub mod Starts
 pub mod Entries
+pub mod Requests

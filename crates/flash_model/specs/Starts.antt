@@ -8,10 +8,14 @@ use lib.ListN.{length, getElem?, set, length-set}
 use lib.Seq.{getD-set-same, getD-set-other}
 use Rattle.laws.specs.Order.{eq-or}
 use Rattle.laws.specs.Counts.{tally}
-use Rattle.layout.specs.Layout.{mostEntries, nodeLimit}
+use Rattle.laws.specs.Lay.{part}
+use Rattle.laws.specs.BigEndian.{numberAt}
+use Rattle.laws.specs.Update.{update, update-same, update-other}
+use Rattle.layout.specs.Layout.{mostEntries, nodeLimit, bound32}
 use Rattle.account.specs.declared.Mode.{Mode}
 use Rattle.account.specs.declared.Mode.the-variants.{Log}
-use Rattle.node.specs.Change.{Change}
+use Rattle.node.specs.Node.{Node}
+use Rattle.node.specs.Change.{Change, changesOf}
 use Rattle.node.specs.Replay.{step}
 use Rattle.page.specs.Image.{image}
 use Rattle.store.specs.View.{greatest}
@@ -22,18 +26,22 @@ use Rattle.store.specs.Live.{carries, noClosing}
 use Rattle.store.specs.Write.{start}
 use Rattle.store.specs.Run.{Run, begin}
 use Rattle.store_laws.specs.Changes.{Same, Now}
+use Rattle.store_laws.specs.Contents.{Spelled, spelled}
 use Rattle.store_laws.specs.Placing.{Invariant, start-now, start-other, start-invariant}
 use Rattle.store_laws.specs.Versions.{InMode, same-mode}
 use Rattle.store_laws.specs.Good.{begin-mode}
-use Rattle.rows.specs.Row.{noRow}
+use Rattle.rows.specs.Row.{noRow, decode}
 use Rattle.rows.specs.Step.{names, fresh}
 use Rattle.rows.specs.declared.Row.{Row}
 use Rattle.place.specs.declared.state.State.{State}
 use Rattle.place.specs.World.{World, world, used}
 use Rattle.log.specs.Entry.{holding, appendAll}
-use Rattle.node_write.specs.Group.{numbered, withNodes}
+use Rattle.log.specs.Flush.{nextNumber}
+use Rattle.node_write.specs.Group.{numbered, withNodes, startRow, startState, restart, startNext}
+use Rattle.node_write.specs.Group as Code
 use Rattle.flash_model.specs.Mirror.{rowAt, test, RowsName, RowsSay, Mirrors}
 use Rattle.flash_model.specs.Notes.{names-fresh}
+use Rattle.flash_model.specs.Placed.{nextNumber-is}
 use Rattle.flash_model.specs.Buffer.{appendAll-is, appendAll-holds}
 use Rattle.flash_model.specs.Follows.{BufferIs, Follows, Writable}
 use Rattle.flash_model.specs.Followed.{blocks-are, owners-open}
@@ -142,8 +150,7 @@ module _ {B : ℕ} {score : ℕ → ℕ} {w : World} {run : Run} (b : Writable B
         last = refl;
       }
 
-  -- THE FRESH START follows the store's.
-  pub begin-follows : Follows score′ (world (w .pages) rows′ (withNodes N′ s′)) (begin n (c ∷ cs) run)
+  begin-follows : Follows score′ (world (w .pages) rows′ (withNodes N′ s′)) (begin n (c ∷ cs) run)
   unfolding start withNodes numbered fresh
   begin-follows =
       subst (λ (s : State). Follows score′ (world (w .pages) rows′ (withNodes N′ s)) (begin n (c ∷ cs) run)) (sym held)
@@ -162,3 +169,65 @@ module _ {B : ℕ} {score : ℕ → ℕ} {w : World} {run : Run} (b : Writable B
       score-of : (m : ℕ) → m < N′ → (n ≡ m) ⊎ (n ≡ m → ⊥) → rowAt rows′ m .score ≡ score′ m
       score-of m l (inl e) = rw (← e) (ap (λ (r : Row). r .score) row-here ∙ own-score)
       score-of m l (inr d) = ap (λ (r : Row). r .score) (row-other m d) ∙ f .scores m (there m l d) ∙ sym (other-score m l d)
+
+  -- the state's own count of nodes, where it stays
+  count-stays : withNodes (w .state .nodes) s′ ≡ s′
+  unfolding withNodes numbered
+  count-stays = ap (withNodes (w .state .nodes)) held ∙ sym held
+
+-- The same of a node's whole content, where the buffer has room for it.
+module _ {B : ℕ} {score : ℕ → ℕ} {w : World} {run : Run} (b : Writable B run) (f : Follows score w run) (number : suc (run .now .last) < bound32) (x : Node)
+    (fits : length (changesOf x) + length (run .now .buffer) ≤ mostEntries) where
+  s : Spelled x
+  s = spelled x
+
+  fits′ : length (s .first ∷ s .rest) + length (run .now .buffer) ≤ mostEntries
+  fits′ = omega (arith, ap length (s .is))
+
+  version : suc (run .now .last) ≡ nextNumber (w .state .last)
+  version = sym (ap nextNumber (f .mirrors .last) ∙ nextNumber-is (run .now .last) number)
+
+  -- A FRESH START of a node that is there follows the store's.
+  pub restart-follows : (n : ℕ) → n < run .nodes → Follows score (restart n x w) (begin n (changesOf x) run)
+  unfolding Code.start
+  restart-follows n there =
+      subst (λ (v : ℕ). Follows score (world (w .pages) (startRow n row v (w .rows)) (startState n v x (w .state))) (begin n (changesOf x) run)) version
+      (subst (λ (cs : List Change). Follows score (world (w .pages) (startRow n row v (w .rows)) (appendAll n v cs (numbered v (w .state)))) (begin n cs run)) (sym (s .is))
+      (subst (λ (t : State). Follows score (world (w .pages) (startRow n row v (w .rows)) t) (begin n (s .first ∷ s .rest) run))
+      (count-stays b f n (s .first) (s .rest) fits′ row (w .state .nodes) count next limit score (f .scores n there) (λ m l d. refl))
+      (begin-follows b f n (s .first) (s .rest) fits′ row (w .state .nodes) count next limit score (f .scores n there) (λ m l d. refl))))
+    where
+      v : ℕ
+      v = suc (run .now .last)
+
+      row : Row
+      row = rowAt (w .rows) n
+
+      count : w .state .nodes ≡ max (run .nodes) (suc n)
+      count = omega (arith, f .nodes)
+
+      next : n ≤ run .nodes
+      next = omega arith
+
+      limit : w .state .nodes ≤ nodeLimit B
+      limit = omega (arith, f .nodes, b .good .invariant .nodes)
+
+  -- A NEW NODE, "in log mode, score 0", follows the store's.
+  pub startNext-follows : suc (run .nodes) ≤ nodeLimit B → Follows (update score (run .nodes) 0) (startNext x w) (begin (run .nodes) (changesOf x) run)
+  unfolding Code.start noRow decode numberAt part
+  startNext-follows limit =
+      subst (λ (n : ℕ). Follows (update score n 0) (startNext x w) (begin n (changesOf x) run)) (f .nodes)
+      (subst (λ (v : ℕ). Follows score′ (world (w .pages) (startRow n noRow v (w .rows)) (withNodes (n + 1) (startState n v x (w .state)))) (begin n (changesOf x) run)) version
+      (subst (λ (cs : List Change). Follows score′ (world (w .pages) (startRow n noRow v (w .rows)) (withNodes (n + 1) (appendAll n v cs (numbered v (w .state))))) (begin n cs run))
+      (sym (s .is))
+      (begin-follows b f n (s .first) (s .rest) fits′ noRow (n + 1) (omega (arith, f .nodes)) (omega (arith, f .nodes)) (omega (arith, f .nodes)) score′
+      (sym (update-same score n 0 n refl)) (λ m l d. update-other score n 0 m (λ e. d (sym e))))))
+    where
+      n : ℕ
+      n = w .state .nodes
+
+      v : ℕ
+      v = suc (run .now .last)
+
+      score′ : ℕ → ℕ
+      score′ = update score n 0
