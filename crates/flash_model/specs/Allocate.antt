@@ -50,12 +50,15 @@ pub record Stands (image : Page → List ℕ) (own : ℕ → Page → Bool) (w :
   pub current : w .state .current ≡ here
   pub fill : w .state .fill ≡ length (block bs here)
 
--- What no step of an allocation changes: how many there are of everything but the fill, and of each row all but where its pages are.
+-- What no step of an allocation changes: the state but for the current block and its fill, and of each row all but where its pages are.
 pub record Kept (w w′ : World) : Type 0 where
   pub blocks : w′ .state .blocks ≡ w .state .blocks
   pub nodes : w′ .state .nodes ≡ w .state .nodes
   pub checkpoint : w′ .state .checkpoint ≡ w .state .checkpoint
   pub last : w′ .state .last ≡ w .state .last
+  pub entries : w′ .state .entries ≡ w .state .entries
+  pub buffer : w′ .state .buffer ≡ w .state .buffer
+  pub table : length (w′ .rows) ≡ length (w .rows)
   pub rows : (n : ℕ) → n < used (w .state) → (g : ℕ → ℕ) × (rowAt (w′ .rows) n ≡ mapped g (rowAt (w .rows) n))
 
 pub record Allocated (image : Page → List ℕ) (own : ℕ → Page → Bool) (w : World) (place : Spot) (w′ : World) : Type 0 where
@@ -101,13 +104,13 @@ module _ (image : Page → List ℕ) (written : Images image) (own : ℕ → Pag
         go (inr l) two e =
             rw (lt-ltb (length (block bs (s .current))) 32 (omega (arith, r .fill)))
             (subst (goal true (leb 2 (blanks bs))) (allocate-room (world ps rows s) l)
-            (record { stands = r; kept = record { blocks = refl; nodes = refl; checkpoint = refl; last = refl; rows = stays } }))
+            (record { stands = r; kept = record { blocks = refl; nodes = refl; checkpoint = refl; last = refl; entries = refl; buffer = refl; table = refl; rows = stays } }))
         go (inl l) true e =
             rw (full l, e)
             (subst (goal false true) (allocate-next ps rows s j (blanks bs) l (sym next-is) (sym blanks-is) (leb-true 2 (blanks bs) e) (at j 0 s) refl)
             (record {
               stands = record { pages = r .pages; names = r .names; current = refl; fill = rw (nextBlank-blank bs (s .current) (blank .number) (blank .inside) (blank .blank) .1) refl };
-              kept = record { blocks = refl; nodes = refl; checkpoint = refl; last = refl; rows = stays };
+              kept = record { blocks = refl; nodes = refl; checkpoint = refl; last = refl; entries = refl; buffer = refl; table = refl; rows = stays };
             }))
         go (inl l) false e =
             rw (full l, e)
@@ -115,7 +118,7 @@ module _ (image : Page → List ℕ) (written : Images image) (own : ℕ → Pag
             (allocate-compact ps rows s j (blanks bs) l (sym next-is) (sym blanks-is) (leb-false 2 (blanks bs) e) (z .pages) (z .rows) (z .fill) whole (at j (z .fill) s) refl)
             (record {
               stands = record { pages = c .pages; names = c .names; current = refl; fill = c .fill };
-              kept = record { blocks = refl; nodes = refl; checkpoint = refl; last = refl; rows = c .same };
+              kept = record { blocks = refl; nodes = refl; checkpoint = refl; last = refl; entries = refl; buffer = refl; table = c .long; rows = c .same };
             }))
           where
             v : Moves bs (Model.victim keep bs) (Model.nextBlank bs (s .current))
@@ -169,7 +172,7 @@ owned-live {own} {closing} {N} {C} {st} h =
 
 module _ {image : Page → List ℕ} {own : ℕ → Page → Bool} {closing : Page → Bool} {w : World} {st : Store} (written : Images image) (small : w .state .blocks ≤ 64)
     (v : Invariant (w .state .blocks) (w .state .nodes) closing st) (h : Mirrors image own closing w st) where
-  found-place : Allocated image own w (spot 32 (live (view st) closing (w .state .nodes)) (st .blocks) (st .current)) (allocate w)
+  pub found-place : Allocated image own w (spot 32 (live (view st) closing (w .state .nodes)) (st .blocks) (st .current)) (allocate w)
   found-place =
       subst (λ (c : ℕ). Allocated image own w (spot 32 (live (view st) closing (w .state .nodes)) (st .blocks) c) (allocate w)) (h .current)
       (allocate-is image written own (live (view st) closing (w .state .nodes)) (w .pages) (w .rows) (w .state) (st .blocks) small

@@ -11,4 +11,8 @@ pub mod Copies
 pub mod Moves
 pub mod Allocate
 pub mod Written
+pub mod Placed
+pub mod Followed
+pub mod Ownership
+pub mod NodePages
 pub mod Buffer

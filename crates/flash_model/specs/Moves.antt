@@ -146,6 +146,7 @@ pub record Compaction (B : ℕ) (image : Page → List ℕ) (rowsUsed : ℕ) (ow
   pub pages : PagesAre B image (c .pages) (Model.compact live bs i j)
   pub names : RowsName B rowsUsed own (c .rows) (Model.compact live bs i j)
   pub fill : c .fill ≡ length (block (Model.compact live bs i j) j)
+  pub long : length (c .rows) ≡ length rows
   pub same : (n : ℕ) → n < rowsUsed → (g : ℕ → ℕ) × (rowAt (c .rows) n ≡ mapped g (rowAt rows n))
 
 module _ {B rowsUsed : ℕ} {image : Page → List ℕ} {own : ℕ → Page → Bool} {ps : List (List ℕ)} {rows : List Row} {bs : Blocks} (live : Page → Bool) {i j : ℕ} (v : Moves bs i j)
@@ -161,6 +162,7 @@ module _ {B rowsUsed : ℕ} {image : Page → List ℕ} {own : ℕ → Page → 
         names = rows-compacted live v (pages .size) (pages .most i) named o (w .places) (c .places);
         fill =
             c .fill ∙ ap (count live) whole ∙ sym (length-filter live (block bs i)) ∙ ap length (sym (compact-to live v));
+        long = length-renameRows (32 * i) (w .places) rows rowsUsed;
         same = λ n l. (newPlace (32 * i) (w .places), rowAt-renameRows (32 * i) (w .places) rows rowsUsed n l (named .long));
       }
     where
