@@ -16,3 +16,4 @@ pub mod Followed
 pub mod Ownership
 pub mod NodePages
 pub mod Buffer
+pub mod Claims

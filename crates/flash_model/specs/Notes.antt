@@ -93,7 +93,7 @@ pub record Keeps (r r′ : Row) : Type 0 where
   pub mode : r′ .mode ≡ r .mode
   pub score : r′ .score ≡ r .score
 
-keeps-same : {r : Row} → Keeps r r
+pub keeps-same : {r : Row} → Keeps r r
 keeps-same = record { version = refl; mode = refl; score = refl }
 
 keeps-choose : {r x y : Row} (t : Bool) → Keeps r x → Keeps r y → Keeps r (choose t x y)
