@@ -5,7 +5,7 @@ use mathlib.Core.Bool.{Bool, true, false, not, _&&_, _||_, or-true, or-false}
 use mathlib.Core.Logic.{_⊎_, inl, inr}
 use mathlib.Core.Option.{some}
 use mathlib.Core.List.{List, [], _∷_, map}
-use Prim.Native.Nat.{ℕ, zero, suc, _+_, _≤_, _<_}
+use Prim.Native.Nat.{ℕ, suc, _+_, _≤_, _<_}
 use native.Mathlib.Nat.{zero-add, add-zero}
 use native.Mathlib.Omega.{arith}
 use borrow.Author.Tests.{lt-ltb, ltb-true, eqb-true, eqb-false, eq-eqb, ne-eqb}
@@ -30,7 +30,7 @@ use Rattle.rows.specs.declared.Row.{Row}
 use Rattle.rows.specs.declared.Claim.{Claim}
 use Rattle.rows.specs.declared.Claim.the-variants.{Same, Noted}
 use Rattle.place.specs.declared.state.State.{State}
-use Rattle.log.specs.Claim.{idAt, versionAt, claimRow, claimEntry, claimEntries}
+use Rattle.log.specs.Claim.{claimRow, claimEntry, claimEntries}
 use Rattle.flash_model.specs.Mirror.{rowAt}
 use Rattle.flash_model.specs.Follows.{BufferIs}
 use Rattle.flash_model.specs.Notes.{after, names-noted, pages-noted, Keeps, keeps-same, keeps-noted}

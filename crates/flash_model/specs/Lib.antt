@@ -17,3 +17,4 @@ pub mod Ownership
 pub mod NodePages
 pub mod Buffer
 pub mod Claims
+pub mod Flush
