@@ -60,6 +60,15 @@ module _ (n : ℕ) (e : Entry) (l : n < bound32) (f : EntryFits n e) where
   version-bytes = ap (λ (x : Entry). x .version) (entryOf-bytes n e l f)
 
 module _ {s : State} {es : List Entry} (b : BufferIs s es) where
+  -- the same buffer in another state
+  pub buffer-same : {s′ : State} → s′ .entries ≡ s .entries → s′ .buffer ≡ s .buffer → BufferIs s′ es
+  buffer-same e d =
+      record {
+        size = ap length d ∙ b .size;
+        number = e ∙ b .number;
+        bytes = ap (λ (z : List ℕ). chunks 15 (length es) z 0) d ∙ b .bytes;
+      }
+
   -- THE ENTRIES READ, one by one
   module _ (k : ℕ) (e : Entry) (q : getElem? es k ≡ some e) where
     pub entry-at : part (s .buffer) (15 * k) 15 ≡ entryBytes e
@@ -98,7 +107,8 @@ chunks-behind (suc n) s at to xs l e h =
 
 module _ (id version : ℕ) where
   -- ONE ENTRY MORE, where there is room
-  pub append-is : (c : Change) {s : State} {es : List Entry} → BufferIs s es → length es < mostEntries → BufferIs (append id version c s) (es ++ (entryOf id version c ∷ []))
+  pub append-is : (c : Change) {s : State} {es : List Entry} → BufferIs s es → length es < mostEntries →
+      BufferIs (append id version c s) (es ++ (entryOf id version c ∷ []))
   unfolding append entered
   append-is c {s} {es} b l =
       rw (lt-ltb (s .entries) mostEntries (omega (arith, b .number)))
@@ -107,7 +117,8 @@ module _ (id version : ℕ) where
         number = omega (arith, b .number, more);
         bytes =
             ap (λ (k : ℕ). chunks 15 k (lay (s .buffer) (15 * s .entries) (entryBytes e)) 0) more ∙
-            chunks-behind (length es) (s .buffer) 0 (15 * s .entries) (entryBytes e) (length-entryBytes e) (omega (arith, b .number)) (omega (arith, b .size, b .number)) ∙
+            chunks-behind (length es) (s .buffer) 0 (15 * s .entries) (entryBytes e) (length-entryBytes e)
+            (omega (arith, b .number)) (omega (arith, b .size, b .number)) ∙
             ap (λ (ps : List (List ℕ)). ps ++ (entryBytes e ∷ [])) (b .bytes) ∙
             sym (map-append entryBytes es (e ∷ []));
       })
@@ -139,7 +150,8 @@ module _ (id version : ℕ) where
       go true = refl
       go false = refl
 
-  pub appendAll-holds : (cs : List Change) (s : State) → appendAll id version cs s ≡ holding (appendAll id version cs s .entries) (appendAll id version cs s .buffer) s
+  pub appendAll-holds : (cs : List Change) (s : State) →
+      appendAll id version cs s ≡ holding (appendAll id version cs s .entries) (appendAll id version cs s .buffer) s
   unfolding appendAll
   appendAll-holds [] s = refl
   appendAll-holds (c ∷ cs) s =

@@ -14,8 +14,10 @@ pub mod Written
 pub mod Placed
 pub mod Followed
 pub mod Ownership
-pub mod NodePages
 pub mod Buffer
+pub mod Claims
+pub mod Flush
+pub mod NodePages
 pub mod Starts
 pub mod Entries
 pub mod Requests

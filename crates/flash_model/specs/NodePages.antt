@@ -34,7 +34,6 @@ use Rattle.store_laws.specs.Versions.{InMode, place-mode}
 use Rattle.rows.specs.Row.{noRow}
 use Rattle.rows.specs.Step.{names, fresh, noted}
 use Rattle.rows.specs.declared.Row.{Row}
-use Rattle.page_write.specs.Chunks.{chunks}
 use Rattle.place.specs.declared.state.State.{State}
 use Rattle.place.specs.World.{World, world, used, spot}
 use Rattle.place.specs.Allocate.{allocate}
@@ -45,6 +44,7 @@ use Rattle.flash_model.specs.Mirror.{rowAt, test, RowsSay, Mirrors}
 use Rattle.flash_model.specs.Names.{mapped}
 use Rattle.flash_model.specs.Allocate.{Kept}
 use Rattle.flash_model.specs.Notes.{names-noted, names-fresh, pages-noted, keeps-noted}
+use Rattle.flash_model.specs.Buffer.{buffer-same}
 use Rattle.flash_model.specs.Follows.{Follows, Writable}
 use Rattle.flash_model.specs.Ownership.{none-owned, owned-same, carried-few}
 use Rattle.flash_model.specs.Written.{Named}
@@ -221,12 +221,7 @@ module _ {B : ℕ} {score : ℕ → ℕ} {w : World} {run : Run} (b : Writable B
         nodes = same .nodes ∙ f .nodes;
         noSheet = same .checkpoint ∙ f .noSheet;
         mirrors = subst (λ (k : ℕ). Mirrors image (carries (view (nodePage noClosing k n x st))) noClosing (world (set (before .pages) at (image p)) rows′ s′) (nodePage noClosing k n x st)) (f .nodes) mirrored;
-        buffer =
-            record {
-              size = ap length (same .buffer) ∙ f .buffer .size;
-              number = same .entries ∙ f .buffer .number;
-              bytes = ap (λ (z : List ℕ). chunks 15 (length (st .buffer)) z 0) (same .buffer) ∙ f .buffer .bytes;
-            };
+        buffer = buffer-same (f .buffer) (same .entries) (same .buffer);
         scores = λ m l. score-of m l (eq-or n m);
       }))
     where
