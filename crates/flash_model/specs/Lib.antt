@@ -11,3 +11,5 @@ pub mod Copies
 pub mod Moves
 pub mod Allocate
 pub mod Written
+pub mod EntriesRead
+pub mod PageRead
