@@ -13,3 +13,6 @@ pub mod Allocate
 pub mod Written
 pub mod EntriesRead
 pub mod PageRead
+pub mod Stamps
+pub mod Lies
+pub mod SlotOrder
