@@ -16,3 +16,4 @@ pub mod PageRead
 pub mod Stamps
 pub mod Lies
 pub mod SlotOrder
+pub mod NodePieces

@@ -19,10 +19,10 @@ use Rattle.node.specs.Ascends.{ascends, within-ascends}
 use Rattle.wire.specs.Tag.{isNodeBytes, nodeBytes}
 use Rattle.wire.specs.Field.{field, payloadAt}
 use Rattle.wire.specs.FieldLaws.{payloadAt-field, payloadAt-other}
-use Rattle.page.specs.Page.{Entry, Content, Page, page, log, whole}
+use Rattle.page.specs.Page.{Entry, Content, Page, page, log, whole, sequence}
 use Rattle.page.specs.Image.{entryBytes, wholeBytes, fields, contentBytes, numbered, sumsField, sealed, image}
 use Rattle.page.specs.Decode.{run, payloads, entryOf, pairsIn, pairsFrom, nodeOf}
-use Rattle.page.specs.Limits.{EntryFits, Fits}
+use Rattle.page.specs.Limits.{Fits, PageFits}
 use Rattle.page.specs.Tags.{allowed-11, allowed-12}
 use Rattle.page.specs.Runs.{Good, run-fields, payloads-fields}
 use Rattle.page.specs.Spelled.{length-entryBytes}
@@ -45,9 +45,9 @@ unfolding image sealed numbered
 image-split s c = append-assoc (field 0x10 (bigEndian 4 s)) (contentBytes c) (behind s (contentBytes c))
 
 -- THE SEQUENCE NUMBER
-pub sequence-read : (s : ℕ) (c : Content) → s < bound32 → number (payloadAt (image (page s c)) 0 0x10) ≡ s
-sequence-read s c l =
-    ap (λ (b : List ℕ). number (payloadAt b 0 0x10)) (image-split s c) ∙ sequence-found s (contentBytes c ++ behind s (contentBytes c)) l
+pub sequence-read : (p : Page) → PageFits p → number (payloadAt (image p) 0 0x10) ≡ sequence p
+sequence-read (page s c) h =
+    ap (λ (b : List ℕ). number (payloadAt b 0 0x10)) (image-split s c) ∙ sequence-found s (contentBytes c ++ behind s (contentBytes c)) (h .below)
 
 -- Behind some bytes, no entry begins where the sums do.
 no-entry : (s : ℕ) (content front : List ℕ) → isEntry (payloadAt (front ++ behind s content) (length front) 0x12) ≡ false
