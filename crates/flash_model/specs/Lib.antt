@@ -17,3 +17,5 @@ pub mod Stamps
 pub mod Lies
 pub mod SlotOrder
 pub mod NodePieces
+pub mod SlotsInUse
+pub mod RowRedone

@@ -43,15 +43,15 @@ module _ (f : ℕ → List Piece) where
 
   -- Numbers below a bound that have a piece, each below the one before it.
   pub data Falling : ℕ → List ℕ → Type 0 where
-    none : {high : ℕ} → Falling high []
+    end : {high : ℕ} → Falling high []
     next : {high s : ℕ} {ss : List ℕ} → s < high → empty (f s) ≡ false → Falling s ss → Falling high (s ∷ ss)
 
   falling-below : {high high′ : ℕ} {ss : List ℕ} → high ≤ high′ → Falling high ss → Falling high′ ss
-  falling-below l none = none
+  falling-below l end = end
   falling-below l (next b e r) = next (le-trans b l) e r
 
   pub stamps-falling : (k : ℕ) → Falling (suc k) (stampsTo k)
-  stamps-falling zero = none
+  stamps-falling zero = end
   stamps-falling (suc k) = go (empty (f (suc k))) refl (stamps-falling k)
     where
       go : (t : Bool) → empty (f (suc k)) ≡ t → Falling (suc k) (stampsTo k) → Falling (suc (suc k)) (consIf (not t) (suc k) (stampsTo k))
