@@ -19,3 +19,4 @@ pub mod SlotOrder
 pub mod NodePieces
 pub mod SlotsInUse
 pub mod RowRedone
+pub mod Content

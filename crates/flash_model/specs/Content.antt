@@ -1,0 +1,140 @@
+-- THE CONTENT READ is the store's: what the code replays from the pages that a node's row names, and then from the buffer, is the node that
+-- the store says; and so is the whole node on its page in disk mode. Assumes nothing.
+use mathlib.Core.Path.{_≡_, refl, sym, ap, _∙_}
+use mathlib.Core.Bool.{Bool, true, false, not}
+use mathlib.Core.Option.{Option, none, some}
+use mathlib.Core.List.{List, [], _∷_, _++_, map}
+use Prim.Native.Nat.{ℕ, zero, suc, _+_, _*_, _≤_, _<_}
+use native.Mathlib.Omega.{arith}
+use lib.ListN.{length}
+use Rattle.laws.specs.Tests.{test-clash}
+use Rattle.laws.specs.BigEndian.{number}
+use Rattle.laws.specs.Counts.{empty}
+use Rattle.layout.specs.Layout.{mostEntries}
+use Rattle.account.specs.declared.Mode.{Mode}
+use Rattle.account.specs.declared.Mode.the-variants.{Log, Disk}
+use Rattle.node.specs.Node.{Node, node, Neat}
+use Rattle.node.specs.Replay.{Piece, Draft, unlinked, made, replayFrom, replay}
+use Rattle.node.specs.Replay as Replay
+use Rattle.node.specs.ReplayLaws.{replay-whole}
+use Rattle.wire.specs.Field.{payloadAt}
+use Rattle.page.specs.Page.{Page, page, whole}
+use Rattle.page.specs.Image.{image}
+use Rattle.page.specs.Limits.{PageFits}
+use Rattle.store.specs.Item.{entryItem, piecesIn}
+use Rattle.store.specs.View.{greatest, pieces, pages}
+use Rattle.store.specs.Pool.{numbered, find, itemsAt}
+use Rattle.store.specs.Store.{Store, view, draftOf}
+use Rattle.store.specs.Live.{carries}
+use Rattle.store.specs.Run.{Run}
+use Rattle.store_laws.specs.Versions.{InLog, OnPage, InMode}
+use Rattle.rows.specs.Step.{names, byMode}
+use Rattle.rows.specs.declared.Row.{Row}
+use Rattle.blocks.specs.Pages.{pageAt}
+use Rattle.place.specs.World.{World}
+use Rattle.node_read.specs.Replay.{redoRun, redoBuffer}
+use Rattle.node_read.specs.Slots.{sequenceAt, slotAt, redoAt}
+use Rattle.node_read.specs.Whole.{wholeOf, wholeAt}
+use Rattle.node_read.specs.Content.{redoPages, logContent, contentBy, content}
+use Rattle.flash_model.specs.Mirror.{rowAt, test}
+use Rattle.flash_model.specs.Follows.{Follows, Writable}
+use Rattle.flash_model.specs.EntriesRead.{buffer-redone}
+use Rattle.flash_model.specs.PageRead.{sequence-read, node-read}
+use Rattle.flash_model.specs.Stamps.{stampsTo, joined, length-stamps, gather-stamps, stamps-falling, stamps-one, replayFrom-append}
+use Rattle.flash_model.specs.Lies.{Lies, find-lies, placeOf, page-fits, block-below, place-below, image-here}
+use Rattle.flash_model.specs.SlotsInUse.{in-one}
+use Rattle.flash_model.specs.RowRedone.{Named, row-redone}
+use Rattle.flash_model.specs.NodePieces.{none-lies, log-redone, disk-buffer, disk-own, disk-other}
+
+-- The pieces of a node's greatest version at a sequence number.
+abbrev piecesOf : Store → ℕ → ℕ → List Piece
+piecesOf st n s = piecesIn n (greatest (view st) n) (itemsAt (find s (st .blocks)))
+
+-- The page of a sequence number at which the node has pieces: where it lies, and that the row names it there.
+record Carrier (w : World) (st : Store) (n s : ℕ) : Type 0 where
+  own : Page
+  found : find s (st .blocks) ≡ some own
+  lies : Lies (st .blocks) s own
+  named : names (placeOf lies) (rowAt (w .rows) n) ≡ true
+
+module _ {B : ℕ} {score : ℕ → ℕ} {w : World} {run : Run} (known : Writable B run) (h : Follows score w run) (n : ℕ) (l : n < run .nodes) where
+  inside : n < w .state .nodes
+  inside = omega (arith, h .nodes)
+
+  carrier : (s : ℕ) → empty (piecesOf (run .now) n s) ≡ false → Carrier w (run .now) n s
+  unfolding carries
+  carrier s has = go (find s (run .now .blocks)) refl has
+    where
+      go : (c : Option Page) → find s (run .now .blocks) ≡ c → empty (piecesIn n (greatest (view (run .now)) n) (itemsAt c)) ≡ false →
+          Carrier w (run .now) n s
+      go none e q = absurd (test-clash true refl q)
+      go (some p) e q =
+          let at = find-lies s (run .now .blocks) p e in
+          let m = h .mirrors in
+          record {
+            own = p;
+            found = e;
+            lies = at;
+            named =
+                m .names .each n (at .number) (at .at .place) (omega (arith, inside)) (block-below (m .pages) at) (place-below (m .pages) at) ∙
+                ap (test (carries (view (run .now)) n)) (at .at .here) ∙
+                ap not q;
+          }
+
+  -- As many sequence numbers have pieces as the row has pages.
+  stamps : List ℕ
+  stamps = stampsTo (piecesOf (run .now) n) (run .now .last)
+
+  pages-stamps : rowAt (w .rows) n .pages ≡ length stamps
+  unfolding stamps pages
+  pages-stamps = h .mirrors .rows .pages n inside ∙ sym (length-stamps (piecesOf (run .now) n) (run .now .last))
+
+  stamps-few : length stamps ≤ 3
+  unfolding stamps pages
+  stamps-few = omega (arith, known .good .invariant .lean .each n l, length-stamps (piecesOf (run .now) n) (run .now .last))
+
+  -- What the store says, by these numbers.
+  draft-stamps : draftOf (run .now) n ≡
+      replayFrom (replayFrom (unlinked []) (joined (piecesOf (run .now) n) stamps)) (piecesIn n (greatest (view (run .now)) n) (map entryItem (run .now .buffer)))
+  unfolding draftOf replay pieces stamps
+  draft-stamps =
+      let behind : List Piece = piecesIn n (greatest (view (run .now)) n) (map entryItem (run .now .buffer)) in
+      ap (λ (xs : List Piece). replayFrom (unlinked []) (xs ++ behind)) (gather-stamps (piecesOf (run .now) n) (run .now .last)) ∙
+      replayFrom-append (unlinked []) (joined (piecesOf (run .now) n) stamps) behind
+
+  -- LOG MODE: the pages, then the buffer
+  module _ (inLog : InLog (run .now) n) where
+    told : (s : ℕ) → empty (piecesOf (run .now) n s) ≡ false → Named (w .pages) (rowAt (w .rows) n) n (piecesOf (run .now) n) s
+    unfolding slotAt sequenceAt redoAt
+    told s has =
+        let v = greatest (view (run .now)) n in
+        let c = carrier s has in
+        let fits = page-fits (c .lies) (known .fits .pages) in
+        let here = image-here (h .mirrors .pages) (c .lies) in
+        let are : piecesOf (run .now) n s ≡ piecesIn n v (itemsAt (some (c .own))) = ap (λ (o : Option Page). piecesIn n v (itemsAt o)) (c .found) in
+        record {
+          place = placeOf (c .lies);
+          named = c .named;
+          tells =
+              record {
+                number = ap (λ (b : List ℕ). number (payloadAt b 0 0x10)) here ∙ sequence-read (c .own) fits ∙ c .lies .at .number;
+                redo =
+                    λ d.
+                    ap (λ (u : ℕ). redoRun n u mostEntries (pageAt (w .pages) (placeOf (c .lies))) 7 d) (h .mirrors .rows .version n inside) ∙
+                    ap (λ (b : List ℕ). redoRun n v mostEntries b 7 d) here ∙
+                    log-redone n v (c .own) (none-lies (numbered v) (inLog .none) (c .lies)) fits (ap empty (sym are) ∙ has) d ∙
+                    ap (replayFrom d) (sym are);
+              };
+        }
+
+    pub log-content : logContent (w .pages) (w .state) (rowAt (w .rows) n) n ≡ draftOf (run .now) n
+    unfolding logContent stamps
+    log-content =
+        let row = rowAt (w .rows) n in
+        let f = piecesOf (run .now) n in
+        let done : Draft = redoPages (w .pages) row n (unlinked []) in
+        ap (λ (u : ℕ). redoBuffer n u (w .state .buffer) (w .state .entries) done) (h .mirrors .rows .version n inside) ∙
+        buffer-redone n (greatest (view (run .now)) n) (run .now .last) (h .buffer) (known .fits .last) (known .fits .entries) done ∙
+        ap (λ (d : Draft). replayFrom d (piecesIn n (greatest (view (run .now)) n) (map entryItem (run .now .buffer))))
+        (row-redone (w .pages) row n f told stamps (stamps-falling f (run .now .last)) pages-stamps stamps-few (unlinked [])) ∙
+        sym draft-stamps
