@@ -1,6 +1,6 @@
 -- THE CONTENT READ is the store's: what the code replays from the pages that a node's row names, and then from the buffer, is the node that
 -- the store says; and so is the whole node on its page in disk mode. Assumes nothing.
-use mathlib.Core.Path.{_≡_, refl, sym, ap, _∙_}
+use mathlib.Core.Path.{_≡_, refl, sym, ap, subst, _∙_}
 use mathlib.Core.Bool.{Bool, true, false, not}
 use mathlib.Core.Option.{Option, none, some}
 use mathlib.Core.List.{List, [], _∷_, _++_, map}
@@ -14,8 +14,7 @@ use Rattle.layout.specs.Layout.{mostEntries}
 use Rattle.account.specs.declared.Mode.{Mode}
 use Rattle.account.specs.declared.Mode.the-variants.{Log, Disk}
 use Rattle.node.specs.Node.{Node, node, Neat}
-use Rattle.node.specs.Replay.{Piece, Draft, unlinked, made, replayFrom, replay}
-use Rattle.node.specs.Replay as Replay
+use Rattle.node.specs.Replay.{Piece, Draft, unlinked, made, redoPiece, replayFrom, replay}
 use Rattle.node.specs.ReplayLaws.{replay-whole}
 use Rattle.wire.specs.Field.{payloadAt}
 use Rattle.page.specs.Page.{Page, page, whole}
@@ -138,3 +137,51 @@ module _ {B : ℕ} {score : ℕ → ℕ} {w : World} {run : Run} (known : Writab
         ap (λ (d : Draft). replayFrom d (piecesIn n (greatest (view (run .now)) n) (map entryItem (run .now .buffer))))
         (row-redone (w .pages) row n f told stamps (stamps-falling f (run .now .last)) pages-stamps stamps-few (unlinked [])) ∙
         sym draft-stamps
+
+  -- DISK MODE: the node page alone
+  module _ (onPage : OnPage (run .now) n) where
+    abbrev version : ℕ
+    version = greatest (view (run .now)) n
+
+    has-piece : empty (piecesOf (run .now) n version) ≡ false
+    has-piece = ap empty (disk-own (known .good .versions) onPage)
+
+    own-page : PageFits (page version (whole n (onPage .node)))
+    own-page = page-fits (find-lies version (run .now .blocks) (page version (whole n (onPage .node))) (onPage .page)) (known .fits .pages)
+
+    one-stamp : stamps ≡ version ∷ []
+    unfolding stamps
+    one-stamp =
+        stamps-one (piecesOf (run .now) n) version (run .now .last) (own-page .from) (known .good .invariant .fit .versions n) has-piece
+        (disk-other (known .good .versions) onPage)
+
+    disk-draft : draftOf (run .now) n ≡ made (onPage .node)
+    unfolding replayFrom redoPiece
+    disk-draft =
+        draft-stamps ∙
+        rw (one-stamp, disk-own (known .good .versions) onPage, disk-buffer (known .good .versions) onPage)
+
+    pub disk-content : Neat (onPage .node) → wholeAt (w .pages) (rowAt (w .rows) n .first) ≡ made (onPage .node)
+    unfolding wholeAt
+    disk-content neat =
+        let c = carrier version has-piece in
+        let found = c .found in
+        let own = onPage .page in
+        let same : c .own ≡ page version (whole n (onPage .node)) = cc in
+        in-one (λ x. wholeOf (payloadAt (pageAt (w .pages) x) 7 0x11) ≡ made (onPage .node))
+        (ap (λ (b : List ℕ). wholeOf (payloadAt b 7 0x11)) (image-here (h .mirrors .pages) (c .lies) ∙ ap image same) ∙
+        node-read version n (onPage .node) own-page neat)
+        (rowAt (w .rows) n) (c .named) (omega (arith, pages-stamps, ap length one-stamp))
+
+  -- EITHER MODE
+  pub content-follows : (x : Node) → draftOf (run .now) n ≡ made x → Neat x → content (w .pages) (w .rows) (w .state) n ≡ made x
+  unfolding content contentBy
+  content-follows x e neat = go (rowAt (w .rows) n .mode) (h .mirrors .rows .mode n inside)
+    where
+      go : (m : Mode) → InMode m (run .now) n →
+          byMode m (logContent (w .pages) (w .state) (rowAt (w .rows) n) n) (wholeAt (w .pages) (rowAt (w .rows) n .first)) ≡ made x
+      go Log i = log-content i ∙ e
+      go Disk o =
+          let said = disk-draft o in
+          let same : x ≡ o .node = cc in
+          disk-content o (subst Neat same neat) ∙ ap made (sym same)

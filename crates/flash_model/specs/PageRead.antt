@@ -114,5 +114,5 @@ module _ (s id : ℕ) (kind : Kind) (ps : List Pair) (l : ℕ) (h : Fits s (whol
       ap (λ (x : Node). ascends 0 bound32 (pairsOf x)) is ∙ within-ascends 0 bound32 ps (neat .keys) in
       rw (le-ltb (length payload) 7 (omega arith), le-ltb mostKeys (pairsIn payload) (omega (arith, neat .size)), in-order) (ap made is)
 
-  pub node-read : Neat (node kind ps l) → wholeOf (payloadAt (image (page s (whole id (node kind ps l)))) 7 0x11) ≡ made (node kind ps l)
-  node-read neat = ap wholeOf payload-read ∙ wholeOf-bytes neat
+pub node-read : (s id : ℕ) (x : Node) → Fits s (whole id x) → Neat x → wholeOf (payloadAt (image (page s (whole id x))) 7 0x11) ≡ made x
+node-read s id (node kind ps l) h neat = ap wholeOf (payload-read s id kind ps l h) ∙ wholeOf-bytes s id kind ps l h neat
