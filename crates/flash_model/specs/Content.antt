@@ -1,10 +1,10 @@
 -- THE CONTENT READ is the store's: what the code replays from the pages that a node's row names, and then from the buffer, is the node that
 -- the store says; and so is the whole node on its page in disk mode. Assumes nothing.
 use mathlib.Core.Path.{_≡_, refl, sym, ap, subst, _∙_}
-use mathlib.Core.Bool.{Bool, true, false, not}
+use mathlib.Core.Bool.{true, false, not}
 use mathlib.Core.Option.{Option, none, some}
 use mathlib.Core.List.{List, [], _∷_, _++_, map}
-use Prim.Native.Nat.{ℕ, zero, suc, _+_, _*_, _≤_, _<_}
+use Prim.Native.Nat.{ℕ, _≤_, _<_}
 use native.Mathlib.Omega.{arith}
 use lib.ListN.{length}
 use Rattle.laws.specs.Tests.{test-clash}
@@ -15,7 +15,6 @@ use Rattle.account.specs.declared.Mode.{Mode}
 use Rattle.account.specs.declared.Mode.the-variants.{Log, Disk}
 use Rattle.node.specs.Node.{Node, node, Neat}
 use Rattle.node.specs.Replay.{Piece, Draft, unlinked, made, redoPiece, replayFrom, replay}
-use Rattle.node.specs.ReplayLaws.{replay-whole}
 use Rattle.wire.specs.Field.{payloadAt}
 use Rattle.page.specs.Page.{Page, page, whole}
 use Rattle.page.specs.Image.{image}
@@ -23,12 +22,11 @@ use Rattle.page.specs.Limits.{PageFits}
 use Rattle.store.specs.Item.{entryItem, piecesIn}
 use Rattle.store.specs.View.{greatest, pieces, pages}
 use Rattle.store.specs.Pool.{numbered, find, itemsAt}
-use Rattle.store.specs.Store.{Store, view, draftOf}
+use Rattle.store.specs.Store.{Store, view, draftOf, modeOf}
 use Rattle.store.specs.Live.{carries}
 use Rattle.store.specs.Run.{Run}
-use Rattle.store_laws.specs.Versions.{InLog, OnPage, InMode}
+use Rattle.store_laws.specs.Versions.{InLog, OnPage, InMode, mode-is}
 use Rattle.rows.specs.Step.{names, byMode}
-use Rattle.rows.specs.declared.Row.{Row}
 use Rattle.blocks.specs.Pages.{pageAt}
 use Rattle.place.specs.World.{World}
 use Rattle.node_read.specs.Replay.{redoRun, redoBuffer}
@@ -39,10 +37,10 @@ use Rattle.flash_model.specs.Mirror.{rowAt, test}
 use Rattle.flash_model.specs.Follows.{Follows, Writable}
 use Rattle.flash_model.specs.EntriesRead.{buffer-redone}
 use Rattle.flash_model.specs.PageRead.{sequence-read, node-read}
-use Rattle.flash_model.specs.Stamps.{stampsTo, joined, length-stamps, gather-stamps, stamps-falling, stamps-one, replayFrom-append}
+use Rattle.flash_model.specs.Stamps.{stampsTo, joined, length-stamps, gather-stamps, stamps-falling, stamps-one}
 use Rattle.flash_model.specs.Lies.{Lies, find-lies, placeOf, page-fits, block-below, place-below, image-here}
 use Rattle.flash_model.specs.SlotsInUse.{in-one}
-use Rattle.flash_model.specs.RowRedone.{Named, row-redone}
+use Rattle.flash_model.specs.RowRedone.{replayFrom-append, Named, row-redone}
 use Rattle.flash_model.specs.NodePieces.{none-lies, log-redone, disk-buffer, disk-own, disk-other}
 
 -- The pieces of a node's greatest version at a sequence number.
@@ -116,7 +114,7 @@ module _ {B : ℕ} {score : ℕ → ℕ} {w : World} {run : Run} (known : Writab
           named = c .named;
           tells =
               record {
-                number = ap (λ (b : List ℕ). number (payloadAt b 0 0x10)) here ∙ sequence-read (c .own) fits ∙ c .lies .at .number;
+                number = ap (λ (b : List ℕ). number (payloadAt b 0 0x10)) here ∙ sequence-read (c .own) fits ∙ c .lies .at .stamp;
                 redo =
                     λ d.
                     ap (λ (u : ℕ). redoRun n u mostEntries (pageAt (w .pages) (placeOf (c .lies))) 7 d) (h .mirrors .rows .version n inside) ∙
@@ -173,7 +171,17 @@ module _ {B : ℕ} {score : ℕ → ℕ} {w : World} {run : Run} (known : Writab
         node-read version n (onPage .node) own-page neat)
         (rowAt (w .rows) n) (c .named) (omega (arith, pages-stamps, ap length one-stamp))
 
-  -- EITHER MODE
+  -- IN LOG MODE whatever the store says is read
+  pub log-follows : modeOf (run .now) n ≡ Log → content (w .pages) (w .rows) (w .state) n ≡ draftOf (run .now) n
+  unfolding content contentBy
+  log-follows e = go (rowAt (w .rows) n .mode) (h .mirrors .rows .mode n inside)
+    where
+      go : (m : Mode) → InMode m (run .now) n →
+          byMode m (logContent (w .pages) (w .state) (rowAt (w .rows) n) n) (wholeAt (w .pages) (rowAt (w .rows) n .first)) ≡ draftOf (run .now) n
+      go Log i = log-content i
+      go Disk o = let d = mode-is Disk (run .now) n o in absurd (let z : _≡_ {A = ℕ} 0 1 = cc in omega arith)
+
+  -- IN EITHER MODE a neat node is read
   pub content-follows : (x : Node) → draftOf (run .now) n ≡ made x → Neat x → content (w .pages) (w .rows) (w .state) n ≡ made x
   unfolding content contentBy
   content-follows x e neat = go (rowAt (w .rows) n .mode) (h .mirrors .rows .mode n inside)

@@ -4,7 +4,7 @@ use mathlib.Core.Path.{_≡_, refl, sym, ap, _∙_}
 use mathlib.Core.Bool.{Bool, true, false}
 use mathlib.Core.Option.{Option, none, some}
 use mathlib.Core.List.{List, [], _∷_}
-use Prim.Native.Nat.{ℕ, zero, suc, _+_, _*_, _≤_, _<_, suc-le-suc}
+use Prim.Native.Nat.{ℕ, zero, suc, _+_, _*_, _<_, suc-le-suc}
 use native.Mathlib.Omega.{arith}
 use borrow.Author.Tests.{eqb-true}
 use lib.ListN.{length, getElem?}
@@ -17,15 +17,15 @@ use Rattle.store_laws.specs.StoreFits.{BlocksFit}
 use Rattle.blocks.specs.Pages.{pageAt}
 use Rattle.flash_model.specs.Mirror.{imageAt, PagesAre}
 
--- A page of a block.
+-- A page with a sequence number, in a block.
 pub record In (b : List Page) (s : ℕ) (p : Page) : Type 0 where
   pub place : ℕ
   pub inside : place < length b
   pub here : getElem? b place ≡ some p
-  pub number : sequence p ≡ s
+  pub stamp : sequence p ≡ s
 
-later : {b : List Page} {s : ℕ} {p : Page} (x : Page) → In b s p → In (x ∷ b) s p
-later x h = record { place = suc (h .place); inside = suc-le-suc (h .inside); here = h .here; number = h .number }
+one-behind : {b : List Page} {s : ℕ} {p : Page} (x : Page) → In b s p → In (x ∷ b) s p
+one-behind x h = record { place = suc (h .place); inside = suc-le-suc (h .inside); here = h .here; stamp = h .stamp }
 
 same-page : {a b : Page} → some a ≡ some b → a ≡ b
 same-page e = cc
@@ -37,10 +37,10 @@ pageIn-in s (x ∷ b) p e = go (numbered s x) refl e (λ q. pageIn-in s b p q)
     go : (t : Bool) → numbered s x ≡ t → choose t (some x) (pageIn s b) ≡ some p → (pageIn s b ≡ some p → In b s p) → In (x ∷ b) s p
     go true q h r =
         let same = same-page h in
-        record { place = 0; inside = omega arith; here = h; number = ap sequence (sym same) ∙ eqb-true (sequence x) s q }
-    go false q h r = later x (r h)
+        record { place = 0; inside = omega arith; here = h; stamp = ap sequence (sym same) ∙ eqb-true (sequence x) s q }
+    go false q h r = one-behind x (r h)
 
--- A page of a pool.
+-- The same in a pool: the number of its block, and its place there.
 pub record Lies (bs : Blocks) (s : ℕ) (p : Page) : Type 0 where
   pub number : ℕ
   pub inside : number < length bs
@@ -56,7 +56,7 @@ find-lies s (b ∷ bs) p e = go (pageIn s b) refl e (λ q. find-lies s bs p q)
 
 every-here : {P : Page → Type 0} {b : List Page} → Every P b → (q : ℕ) (p : Page) → getElem? b q ≡ some p → P p
 every-here none q p e = absurd (let z : _≡_ {A = ℕ} 0 1 = cc in omega arith)
-every-here {P} (both h hs) zero p e = rw (same-page e) at h
+every-here (both h hs) zero p e = rw (same-page e) at h
 every-here (both h hs) (suc q) p e = every-here hs q p e
 
 module _ {bs : Blocks} {s : ℕ} {p : Page} (h : Lies bs s p) where

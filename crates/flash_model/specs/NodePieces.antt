@@ -5,7 +5,7 @@ use mathlib.Core.Bool.{Bool, true, false, _&&_}
 use mathlib.Core.Logic.{_⊎_, inl, inr}
 use mathlib.Core.Option.{Option, none, some}
 use mathlib.Core.List.{List, [], _∷_, map}
-use Prim.Native.Nat.{ℕ, zero, suc, _+_, _≤_, _<_}
+use Prim.Native.Nat.{ℕ, zero, suc, _≤_, _<_}
 use native.Mathlib.Omega.{arith}
 use borrow.Author.Tests.{ne-eqb, eq-eqb}
 use lib.Dec.{eqb}
@@ -15,7 +15,7 @@ use Rattle.laws.specs.Order.{le-or}
 use Rattle.laws.specs.Counts.{bit, count, tally, tally-at, consIf, empty}
 use Rattle.layout.specs.Layout.{mostEntries}
 use Rattle.node.specs.Node.{Node}
-use Rattle.node.specs.Replay.{Piece, Draft, replayFrom}
+use Rattle.node.specs.Replay.{Draft, replayFrom}
 use Rattle.node.specs.Replay as Replay
 use Rattle.page.specs.Page.{Entry, Page, page, log, whole, checkpoint, sequence}
 use Rattle.page.specs.Image.{image}
@@ -109,4 +109,4 @@ module _ {st : Store} {n : ℕ} (rules : VersionRules st) (o : OnPage st n) wher
       go (some p) e =
           let lies = find-lies s (st .blocks) p e in
           pieces-unsaid n (greatest (view st) n) p (none-lies (says (greatest (view st) n)) (omega (arith, unsaid)) lies)
-          (λ z. apart (sym (lies .at .number) ∙ z))
+          (λ z. apart (sym (lies .at .stamp) ∙ z))

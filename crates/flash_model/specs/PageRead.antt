@@ -1,12 +1,11 @@
 -- What the code reads of a page within its limits is what the page holds: its sequence number, the entries of a log page, the node of a
 -- node page. Each field is found where it was laid. Assumes nothing.
-use mathlib.Core.Path.{_≡_, refl, sym, ap, ap₂, _∙_}
+use mathlib.Core.Path.{_≡_, ap, _∙_}
 use mathlib.Core.Bool.{true, false}
-use mathlib.Core.List.{List, [], _∷_, _++_, map, append-assoc}
-use Prim.Native.Nat.{ℕ, _+_, _-_, _*_, _%_, _≤_, _<_}
+use mathlib.Core.List.{List, _++_, map, append-assoc}
+use Prim.Native.Nat.{ℕ, _+_, _-_, _*_, _%_}
 use native.Mathlib.Omega.{arith}
 use borrow.Author.Tests.{eq-eqb, le-leb, le-ltb}
-use lib.Dec.{eqb, leb, ltb}
 use lib.ListN.{length, replicate, length-map}
 use Rattle.laws.specs.Every.{Every}
 use Rattle.laws.specs.BigEndian.{bigEndian, number}

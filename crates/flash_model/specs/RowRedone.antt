@@ -1,23 +1,28 @@
 -- What the code replays of the pages that a row names: where each sequence number that has pieces has its page in a slot, and there are as many
 -- of them as slots in use, it is the pieces of all of them, in the order of the numbers. Assumes nothing.
 use mathlib.Core.Path.{_≡_, refl, sym, ap, _∙_}
-use mathlib.Core.Bool.{Bool, true, false}
+use mathlib.Core.Bool.{true, false}
 use mathlib.Core.List.{List, [], _∷_, _++_}
-use Prim.Native.Nat.{ℕ, zero, suc, _+_, _≤_, _<_}
+use Prim.Native.Nat.{ℕ, _≤_}
 use native.Mathlib.Omega.{arith}
 use lib.Dec.{eqb}
 use lib.ListN.{length}
 use Rattle.laws.specs.Tests.{choose}
 use Rattle.laws.specs.Counts.{empty}
-use Rattle.node.specs.Replay.{Piece, Draft, replayFrom}
+use Rattle.node.specs.Replay.{Piece, Draft, redoPiece, replayFrom}
 use Rattle.rows.specs.Step.{names}
 use Rattle.rows.specs.declared.Row.{Row}
-use Rattle.node_read.specs.declared.slot.Slot.{Slot}
 use Rattle.node_read.specs.Slots.{slotAt, redoAt, redoTwo, redoThree}
 use Rattle.node_read.specs.Content.{redoPages}
-use Rattle.flash_model.specs.Stamps.{joined, Falling, end, next, replayFrom-append}
-use Rattle.flash_model.specs.SlotOrder.{OfTwo, OfThree, Tells, two-redone, three-redone}
+use Rattle.flash_model.specs.Stamps.{joined, Falling, end, next}
+use Rattle.flash_model.specs.SlotOrder.{Tells, two-redone, three-redone}
 use Rattle.flash_model.specs.SlotsInUse.{in-one, in-two, in-three}
+
+-- Replaying pieces in a row.
+pub replayFrom-append : (d : Draft) (xs ys : List Piece) → replayFrom d (xs ++ ys) ≡ replayFrom (replayFrom d xs) ys
+unfolding replayFrom
+replayFrom-append d [] ys = refl
+replayFrom-append d (x ∷ xs) ys = replayFrom-append (redoPiece d x) xs ys
 
 module _ (pages : List (List ℕ)) (row : Row) (n : ℕ) (f : ℕ → List Piece) where
   -- The page of a sequence number is one that the row names.

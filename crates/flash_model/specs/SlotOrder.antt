@@ -1,10 +1,10 @@
 -- The code takes the pages that a row names in the order of their sequence numbers: where each of as many numbers as there are slots is a
 -- slot's, the slots it takes one after another are those of the numbers in ascending order. Assumes nothing.
-use mathlib.Core.Path.{_≡_, refl, ap, ap₂, _∙_}
+use mathlib.Core.Path.{_≡_, refl, ap, _∙_}
 use mathlib.Core.Bool.{Bool, true, false}
 use mathlib.Core.Logic.{_⊎_, inl, inr}
-use mathlib.Core.List.{List, [], _∷_, _++_}
-use Prim.Native.Nat.{ℕ, suc, _+_, _≤_, _<_, max, min}
+use mathlib.Core.List.{List}
+use Prim.Native.Nat.{ℕ, _≤_, _<_, max, min}
 use native.Mathlib.Omega.{arith}
 use borrow.Author.Tests.{ltb-true, ltb-false}
 use lib.Dec.{ltb}
@@ -30,7 +30,7 @@ later-sequence a b = go (ltb (b .sequence) (a .sequence)) refl
     go true e = omega (arith, ltb-true (b .sequence) (a .sequence) e)
     go false e = omega (arith, ltb-false (b .sequence) (a .sequence) e)
 
--- What holds of one of two or three slots; it holds of one of them compared, too.
+-- What holds of one of two or three slots.
 abbrev pub OfTwo : (Slot → Type 0) → Slot → Slot → Type 0
 OfTwo P a b = P a ⊎ P b
 
@@ -57,6 +57,7 @@ in-order a b c =
     let mid : r .sequence ≤ highest a b c .sequence = omega (arith, earlier-sequence q c, later-sequence q c) in
     (omega (arith, earlier-sequence p r, later-sequence p r), omega (arith, later-sequence p r))
 
+-- Comparing slots loses none of them.
 module _ (P : Slot → Type 0) where
   compared : (a b : Slot) → OfTwo P a b → OfTwo P (earlier a b) (later a b)
   unfolding earlier later
@@ -67,7 +68,7 @@ module _ (P : Slot → Type 0) where
       go true (inr x) = inl x
       go false x = x
 
-  pub ordered : (a b c : Slot) → OfThree P a b c → OfThree P (lowest a b c) (between a b c) (highest a b c)
+  ordered : (a b c : Slot) → OfThree P a b c → OfThree P (lowest a b c) (between a b c) (highest a b c)
   ordered a b c h = go h
     where
       p : Slot

@@ -1,6 +1,6 @@
 -- The sequence numbers at which a node has pieces, the latest first: there are as many as pages that it lies on, and its pieces are theirs in
 -- a row. Assumes nothing.
-use mathlib.Core.Path.{_≡_, refl, ap, ap₂, _∙_}
+use mathlib.Core.Path.{_≡_, refl, ap, _∙_}
 use mathlib.Core.Bool.{Bool, true, false, not}
 use mathlib.Core.Logic.{_⊎_, inl, inr}
 use mathlib.Core.List.{List, [], _∷_, _++_, append-nil}
@@ -10,7 +10,7 @@ use native.Mathlib.Omega.{arith}
 use lib.ListN.{length}
 use Rattle.laws.specs.Order.{eq-or}
 use Rattle.laws.specs.Counts.{bit, consIf, empty}
-use Rattle.node.specs.Replay.{Piece, Draft, redoPiece, replayFrom}
+use Rattle.node.specs.Replay.{Piece}
 use Rattle.store.specs.View.{gather, sumTo, some?}
 use Rattle.store_laws.specs.ItemLaws.{empty-nil}
 
@@ -70,9 +70,3 @@ module _ (f : ℕ → List Piece) where
       go : (suc k ≡ v) ⊎ (suc k ≡ v → ⊥) → (v ≤ k → stampsTo k ≡ v ∷ []) → stampsTo (suc k) ≡ v ∷ []
       go (inl q) r = rw (q, e) (ap (λ (ss : List ℕ). v ∷ ss) (stamps-none k (λ s b. others s (λ z. omega arith))))
       go (inr q) r = rw (others (suc k) q) (r (omega arith))
-
--- Replaying pieces in a row.
-pub replayFrom-append : (d : Draft) (xs ys : List Piece) → replayFrom d (xs ++ ys) ≡ replayFrom (replayFrom d xs) ys
-unfolding replayFrom
-replayFrom-append d [] ys = refl
-replayFrom-append d (x ∷ xs) ys = replayFrom-append (redoPiece d x) xs ys
