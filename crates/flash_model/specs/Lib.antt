@@ -21,3 +21,12 @@ pub mod NodePages
 pub mod Starts
 pub mod Entries
 pub mod Requests
+pub mod EntriesRead
+pub mod PageRead
+pub mod Stamps
+pub mod Lies
+pub mod SlotOrder
+pub mod NodePieces
+pub mod SlotsInUse
+pub mod RowRedone
+pub mod Content

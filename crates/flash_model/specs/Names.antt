@@ -18,7 +18,7 @@ use Rattle.rows.specs.declared.Row.{Row}
 use Rattle.place.specs.Compact.{renameRow, renameRows}
 use Rattle.flash_model.specs.Mirror.{rowAt}
 
-or-cases : (a b : Bool) → (a || b) ≡ true → (a ≡ true) ⊎ (b ≡ true)
+pub or-cases : (a b : Bool) → (a || b) ≡ true → (a ≡ true) ⊎ (b ≡ true)
 or-cases true b e = inl refl
 or-cases false b e = inr e
 
@@ -41,7 +41,7 @@ mapped f r =
       third = f (r .third);
     }
 
-holds-slot : (k n y x : ℕ) → holds k n y x ≡ true → y ≡ x
+pub holds-slot : (k n y x : ℕ) → holds k n y x ≡ true → y ≡ x
 unfolding holds
 holds-slot k n y x e = eqb-true y x (and-right (ltb k n) (eqb y x) e)
 
