@@ -12,3 +12,4 @@ pub mod Moves
 pub mod Allocate
 pub mod Written
 pub mod Placed
+pub mod Sheets
