@@ -35,14 +35,18 @@ scoresOf-is rows score nodes h i (suc k) l =
     ap₂ (λ (s : ℕ) (rest : List Score). record { id = i; score = s } ∷ rest) (h i (omega arith))
     (ap (λ (j : ℕ). scoresOf rows j k) (add-one i) ∙ scoresOf-is rows score nodes h (suc i) k (omega arith))
 
--- The nodes of the sheets up to k are those before sheet k + 1.
-sheet-inside : (k nodes : ℕ) → sheetStart k ≤ nodes → sheetStart k + sheetSize k nodes ≤ nodes
+-- Sheet k takes the scores that are left, as far as it has room.
+size-is : (k nodes : ℕ) → sheetSize k nodes ≡ min (otherScores * k + firstScores) nodes - sheetStart k
 unfolding sheetSize
-sheet-inside k nodes l = go (le-or (54 * k + 50) nodes)
+size-is k nodes = go (le-or (otherScores * k + firstScores) nodes)
   where
-    go : (54 * k + 50 ≤ nodes) ⊎ (nodes < 54 * k + 50) → sheetStart k + sheetSize k nodes ≤ nodes
-    go (inl h) = rw (le-leb (54 * k + 50) nodes h) (omega arith)
-    go (inr h) = rw (lt-leb (54 * k + 50) nodes h) (omega arith)
+    go : (otherScores * k + firstScores ≤ nodes) ⊎ (nodes < otherScores * k + firstScores) →
+        sheetSize k nodes ≡ min (otherScores * k + firstScores) nodes - sheetStart k
+    go (inl h) = rw (le-leb (otherScores * k + firstScores) nodes h) (omega arith)
+    go (inr h) = rw (lt-leb (otherScores * k + firstScores) nodes h) (omega arith)
+
+pub sheet-inside : (k nodes : ℕ) → k < sheetCount nodes → sheetStart k + sheetSize k nodes ≤ nodes
+sheet-inside k nodes l = omega (arith, size-is k nodes)
 
 module _ (t : Tariff) (score : ℕ → ℕ) (nodes : ℕ) where
   -- What sheet k holds; and the sheets from k on, so many.
@@ -89,23 +93,6 @@ module _ (score : ℕ → ℕ) where
 same-eqb : (a b c d : ℕ) → (a ≡ b → c ≡ d) → (c ≡ d → a ≡ b) → eqb a b ≡ eqb c d
 same-eqb a b c d f g = same-test (eqb a b) (eqb c d) (λ e. eq-eqb c d (f (eqb-true a b e))) (λ e. eq-eqb a b (g (eqb-true c d e)))
 
--- Sheet k takes the scores that are left, as far as it has room.
-size-first : (nodes : ℕ) → sheetSize 0 nodes ≡ min firstScores nodes
-unfolding sheetSize
-size-first nodes = go (le-or 50 nodes)
-  where
-    go : (50 ≤ nodes) ⊎ (nodes < 50) → choose (leb 50 nodes) 50 (nodes - 0) ≡ min 50 nodes
-    go (inl h) = rw (le-leb 50 nodes h) (omega arith)
-    go (inr h) = rw (lt-leb 50 nodes h) (omega arith)
-
-size-later : (k nodes : ℕ) → 1 ≤ k → sheetSize k nodes ≡ min otherScores (nodes - sheetStart k)
-unfolding sheetSize
-size-later k nodes l = go (le-or (54 * k + 50) nodes)
-  where
-    go : (54 * k + 50 ≤ nodes) ⊎ (nodes < 54 * k + 50) → sheetSize k nodes ≡ min 54 (nodes - sheetStart k)
-    go (inl h) = rw (le-leb (54 * k + 50) nodes h) (omega arith)
-    go (inr h) = rw (lt-leb (54 * k + 50) nodes h) (omega arith)
-
 module _ (t : Tariff) (score : ℕ → ℕ) (nodes : ℕ) where
   -- the scores behind those of sheet k
   left-behind : (k m : ℕ) → 1 ≤ k → drop otherScores (scoresFrom (sheetStart k) m score) ≡ scoresFrom (sheetStart (k + 1)) (m - otherScores) score
@@ -117,7 +104,8 @@ module _ (t : Tariff) (score : ℕ → ℕ) (nodes : ℕ) where
       sheetOf t score nodes 0
   unfolding sheetOf
   sheet-first =
-      ap₂ (sheet (some t)) (take-scores score firstScores 0 nodes ∙ ap (λ (n : ℕ). scoresFrom 0 n score) (sym (size-first nodes)))
+      let size : min firstScores nodes ≡ sheetSize 0 nodes = omega (arith, size-is 0 nodes) in
+      ap₂ (sheet (some t)) (take-scores score firstScores 0 nodes ∙ ap (λ (n : ℕ). scoresFrom 0 n score) size)
       (ap (λ (l : List Score). countIfLast nodes (parts nodes otherScores l)) (drop-scores score firstScores 0 nodes) ∙
       count-last score nodes nodes otherScores (0 + firstScores) (nodes - firstScores) (omega arith) ∙
       ap (λ (b : Bool). onlyIf b nodes) (same-eqb (nodes - firstScores) 0 (0 + 1) (sheetCount nodes) (λ e. omega arith) (λ e. omega arith)))
@@ -128,7 +116,7 @@ module _ (t : Tariff) (score : ℕ → ℕ) (nodes : ℕ) where
       sheetOf t score nodes k
   unfolding sheetOf
   sheet-later most k m l f p e =
-      let size : min otherScores m ≡ sheetSize k nodes = omega (arith, size-later k nodes l) in
+      let size : min otherScores m ≡ sheetSize k nodes = omega (arith, size-is k nodes) in
       let no-tariff : none ≡ onlyIf (eqb k 0) t = ap (λ (b : Bool). onlyIf b t) (sym (ne-eqb k 0 (λ z. omega arith))) in
       ap (λ (o : Option Tariff). sheet o (take otherScores (scoresFrom (sheetStart k) m score)) (countIfLast nodes (parts most otherScores (scoresFrom (sheetStart (k + 1)) (m - otherScores) score)))) no-tariff ∙
       ap₂ (sheet (onlyIf (eqb k 0) t))
