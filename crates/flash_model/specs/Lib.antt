@@ -13,3 +13,5 @@ pub mod Allocate
 pub mod Written
 pub mod Placed
 pub mod Sheets
+pub mod SheetPage
+pub mod Closing

@@ -1,0 +1,149 @@
+-- THE CHECKPOINT of the code is the model's: sheet by sheet the world stands for the store, and at the end each page is the image of the
+-- store's page there. Assumes nothing.
+use mathlib.Core.Path.{_≡_, refl, sym, ap, _∙_, subst}
+use mathlib.Core.Bool.{Bool, true, false}
+use mathlib.Core.List.{List, [], _∷_}
+use Prim.Native.Nat.{ℕ, zero, suc, _+_, _*_, _≤_, _<_}
+use native.Mathlib.Numerals.{add-one}
+use native.Mathlib.Omega.{arith}
+use borrow.Author.Tests.{eq-eqb, ne-eqb, le-ltb}
+use lib.Dec.{eqb}
+use lib.ListN.{length, set, length-set}
+use Rattle.laws.specs.Tests.{choose, and-right}
+use Rattle.laws.specs.Loops.{steps}
+use Rattle.laws.specs.Counts.{bit-le-one, tally, tally-mono}
+use Rattle.layout.specs.Layout.{mostBlocks, bound32}
+use Rattle.account.specs.declared.Tariff.{Tariff}
+use Rattle.page.specs.Page.{Entry, Score, Page, page}
+use Rattle.page.specs.Page as p
+use Rattle.page.specs.Image.{image}
+use Rattle.store.specs.Pool.{block, above}
+use Rattle.store.specs.Store.{Store, view}
+use Rattle.store.specs.Live.{carries, isCheckpoint, noClosing, closingSince}
+use Rattle.store.specs.Write.{next, place}
+use Rattle.store.specs.Run.{Run, write, flushRun}
+use Rattle.store.specs.Checkpoint.{sheetContent, scoresFrom, writeSheets, drainBy, close}
+use Rattle.store.specs.Checkpoint as Model
+use Rattle.store_laws.specs.Placing.{Invariant, place-tally, silent-invariant}
+use Rattle.store_laws.specs.Good.{Good, flushRun-good}
+use Rattle.rows.specs.declared.Row.{Row}
+use Rattle.place.specs.World.{World, world, used, spot}
+use Rattle.place.specs.Allocate.{allocate}
+use Rattle.log.specs.Flush.{nextNumber, ifRoom, flush}
+use Rattle.checkpoint_write.specs.Checkpoint.{onlyIf}
+use Rattle.checkpoint.specs.Sheets.{sheetStart, sheetSize, sheetCount, sheetImage, sheetRow, closedBy, writeSheet, sheet, sheets, drain, checkpoint}
+use Rattle.flash_model.specs.Mirror.{rowAt, PagesAre, RowsName, Owners, Mirrors}
+use Rattle.flash_model.specs.Follows.{Follows, Writable}
+use Rattle.flash_model.specs.Placed.{nextNumber-is, kept-found, step-found}
+use Rattle.flash_model.specs.Sheets.{scoresOf-is, sheet-inside, sheetOf, sheetsFrom, sheets-are}
+use Rattle.flash_model.specs.SheetPage.{owner, owner-node, owners-closing, row-kept, sheet-mirrors}
+
+-- A world stands for a store while a checkpoint is written, `base` being the last number taken before it and k the sheets written: as many rows
+-- behind those of the nodes name its pages. With what the store keeps meanwhile.
+pub record Closes (score : ℕ → ℕ) (base k : ℕ) (w : World) (st : Store) : Type 0 where
+  pub few : w .state .blocks ≤ mostBlocks
+  pub table : length (w .rows) ≡ 64 * w .state .blocks
+  pub written : w .state .checkpoint ≡ k
+  pub number : st .last ≡ base + k
+  pub mirrors : Mirrors image (owner base (w .state .nodes) st) (closingSince base) w st
+  pub scores : (n : ℕ) → n < w .state .nodes → rowAt (w .rows) n .score ≡ score n
+  pub invariant : Invariant (w .state .blocks) (w .state .nodes) (closingSince base) st
+  pub sheets : tally (closingSince base) (st .blocks) ≤ k
+
+module _ {score : ℕ → ℕ} (base k : ℕ) {w : World} {st : Store} (h : Closes score base k w st) (t : Tariff) (needed : k < sheetCount (w .state .nodes))
+    (low : suc (st .last) < bound32) where
+  abbrev nodes : ℕ
+  nodes = w .state .nodes
+
+  abbrev content : p.Content
+  content = sheetContent (sheetOf t score (w .state .nodes) k)
+
+  room : used (w .state) < length (w .rows)
+  room = omega (arith, h .table, h .written, h .invariant .nodes, h .invariant .blocks, h .few)
+
+  -- the world with the sheet
+  abbrev with : World
+  with =
+      world (set (allocate w .pages) (spot (allocate w .state)) (image (next st content)))
+      (set (allocate w .rows) (used (allocate w .state)) (sheetRow (suc (st .last)) (spot (allocate w .state)))) (closedBy (suc (st .last)) (allocate w .state))
+
+  found-scores : (n : ℕ) → n < w .state .nodes → rowAt (allocate w .rows) n .score ≡ score n
+  found-scores n l =
+      ap (λ (r : Row). r .score) (kept-found (h .few) (h .invariant) (h .mirrors) .rows n (omega arith) .1) ∙ h .scores n l
+
+  sheet-image : sheetImage (suc (st .last)) t k (w .state .nodes) (allocate w .rows) ≡ image (next st content)
+  unfolding sheetImage sheetOf
+  sheet-image =
+      ap (λ (ss : List Score). image (page (suc (st .last)) (p.checkpoint (onlyIf (eqb k 0) t) ss (onlyIf (eqb (k + 1) (sheetCount nodes)) nodes))))
+      (scoresOf-is (allocate w .rows) score nodes found-scores (sheetStart k) (sheetSize k nodes) (sheet-inside k nodes needed))
+
+  sheet-is : sheet t k w ≡ with
+  unfolding sheet writeSheet
+  sheet-is =
+      let keep = kept-found (h .few) (h .invariant) (h .mirrors) in
+      let s = allocate w .state in
+      let number : nextNumber (s .last) ≡ suc (st .last) = ap nextNumber (keep .last ∙ h .mirrors .last) ∙ nextNumber-is (st .last) low in
+      step-found (h .few) (h .invariant) (h .mirrors) (writeSheet t k) ∙
+      ap (λ (n : ℕ). world (set (allocate w .pages) (spot s) (sheetImage n t k (s .nodes) (allocate w .rows))) (set (allocate w .rows) (used s) (sheetRow n (spot s))) (closedBy n s)) number ∙
+      ap (λ (bytes : List ℕ). world (set (allocate w .pages) (spot s) bytes) (set (allocate w .rows) (used s) (sheetRow (suc (st .last)) (spot s))) (closedBy (suc (st .last)) s))
+      (ap (λ (n : ℕ). sheetImage (suc (st .last)) t k n (allocate w .rows)) (keep .nodes) ∙ sheet-image)
+
+  -- ONE SHEET: the world with it stands for the store with the model's sheet.
+  closes-with : Closes score base (suc k) with (place (closingSince base) (w .state .nodes) content (st .buffer) st)
+  unfolding closedBy place
+  closes-with =
+      let keep = kept-found (h .few) (h .invariant) (h .mirrors) in
+      let after = place (closingSince base) (w .state .nodes) content (st .buffer) st in
+      let x = sheetOf t score (w .state .nodes) k in
+      let most : k < 12 = omega (arith, h .invariant .nodes, h .few) in
+      record {
+        few = omega (arith, keep .blocks, h .few);
+        table = omega (arith, length-set (allocate w .rows) (used (allocate w .state)) (sheetRow (suc (st .last)) (spot (allocate w .state))), keep .table, keep .blocks, h .table);
+        written = omega (arith, keep .checkpoint, h .written);
+        number = omega (arith, h .number);
+        mirrors =
+            subst (λ (n : ℕ). Mirrors image (owner base n after) (closingSince base) with after) (sym (keep .nodes))
+            (sheet-mirrors base (h .few) (h .invariant) (h .mirrors) (h .written) (h .number) room x);
+        scores =
+            λ n l.
+            let below : n < w .state .nodes = omega (arith, keep .nodes) in
+            ap (λ (r : Row). r .score) (row-kept base (h .few) (h .invariant) (h .mirrors) (h .written) (h .number) room x n below .1) ∙ h .scores n below;
+        invariant =
+            subst (λ (n : ℕ). Invariant (allocate w .state .blocks) n (closingSince base) after) (sym (keep .nodes))
+            (subst (λ (b : ℕ). Invariant b (w .state .nodes) (closingSince base) after) (sym (keep .blocks))
+            (silent-invariant (h .invariant) content refl (omega (arith, h .sheets))));
+        sheets =
+            omega (arith, place-tally (h .invariant) (closingSince base) content (st .buffer), h .sheets, bit-le-one (closingSince base (next st content)));
+      }
+
+  pub closes-sheet : Closes score base (suc k) (sheet t k w) (place (closingSince base) (w .state .nodes) content (st .buffer) st)
+  closes-sheet = subst (λ (w′ : World). Closes score base (suc k) w′ (place (closingSince base) (w .state .nodes) content (st .buffer) st)) (sym sheet-is) closes-with
+
+  sheet-nodes : sheet t k w .state .nodes ≡ w .state .nodes
+  unfolding closedBy
+  sheet-nodes = ap (λ (w′ : World). w′ .state .nodes) sheet-is ∙ kept-found (h .few) (h .invariant) (h .mirrors) .nodes
+
+-- A world whose pages are the images of the run's, in the same place: what a checkpoint leaves.
+pub record Closed (w : World) (run : Run) : Type 0 where
+  pub pages : PagesAre (w .state .blocks) image (w .pages) (run .now .blocks)
+  pub current : w .state .current ≡ run .now .current
+  pub fill : w .state .fill ≡ length (block (run .now .blocks) (run .now .current))
+  pub last : w .state .last ≡ run .now .last
+  pub nodes : w .state .nodes ≡ run .nodes
+
+module _ {score : ℕ → ℕ} (base : ℕ) (t : Tariff) where
+  -- the sheets that are left, from sheet k on
+  closes-rest : (m k : ℕ) (w : World) (run : Run) → w .state .nodes ≡ run .nodes → Closes score base k w (run .now) → k + m ≡ sheetCount (run .nodes) →
+      base + sheetCount (run .nodes) < bound32 → Closed (steps (sheet t) m k w) (writeSheets (closingSince base) (sheetsFrom t score (run .nodes) m k) run)
+  unfolding steps write
+  closes-rest zero k w run e h s l =
+      record { pages = h .mirrors .pages; current = h .mirrors .current; fill = h .mirrors .fill; last = h .mirrors .last; nodes = e }
+  closes-rest (suc m) k w run e h s l =
+      let needed : k < sheetCount (w .state .nodes) = omega arith in
+      let low : suc (run .now .last) < bound32 = omega (arith, h .number) in
+      closes-rest m (k + 1) (sheet t k w) (write (closingSince base) (sheetContent (sheetOf t score (run .nodes) k)) (run .now .buffer) run)
+      (sheet-nodes base k h t needed low ∙ e)
+      (subst (λ (j : ℕ). Closes score base j (sheet t k w) (write (closingSince base) (sheetContent (sheetOf t score (run .nodes) k)) (run .now .buffer) run .now)) (sym (add-one k))
+      (subst (λ (n : ℕ). Closes score base (suc k) (sheet t k w) (place (closingSince base) n (sheetContent (sheetOf t score n k)) (run .now .buffer) (run .now))) e
+      (closes-sheet base k h t needed low)))
+      (omega arith) l
