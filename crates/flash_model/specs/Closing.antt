@@ -2,13 +2,14 @@
 -- store's page there. Assumes nothing.
 use mathlib.Core.Path.{_≡_, refl, sym, ap, _∙_, subst}
 use mathlib.Core.Bool.{Bool, true, false}
+use mathlib.Core.Option.{Option, none, some}
 use mathlib.Core.List.{List, [], _∷_}
 use Prim.Native.Nat.{ℕ, zero, suc, _+_, _*_, _≤_, _<_}
 use native.Mathlib.Numerals.{add-one}
 use native.Mathlib.Omega.{arith}
 use borrow.Author.Tests.{eq-eqb, ne-eqb, le-ltb}
 use lib.Dec.{eqb}
-use lib.ListN.{length, set, length-set}
+use lib.ListN.{length, set, getElem?, length-set}
 use Rattle.laws.specs.Tests.{choose, and-right}
 use Rattle.laws.specs.Loops.{steps}
 use Rattle.laws.specs.Counts.{bit-le-one, tally, tally-mono}
@@ -22,7 +23,7 @@ use Rattle.store.specs.Store.{Store, view}
 use Rattle.store.specs.Live.{carries, isCheckpoint, noClosing, closingSince}
 use Rattle.store.specs.Write.{next, place}
 use Rattle.store.specs.Run.{Run, write, flushRun}
-use Rattle.store.specs.Checkpoint.{sheetContent, scoresFrom, writeSheets, drainBy, close}
+use Rattle.store.specs.Checkpoint.{Sheet, sheetContent, scoresFrom, writeSheets, drainBy, close}
 use Rattle.store.specs.Checkpoint as Model
 use Rattle.store_laws.specs.Placing.{Invariant, place-tally, silent-invariant}
 use Rattle.store_laws.specs.Good.{Good, flushRun-good}
@@ -32,7 +33,7 @@ use Rattle.place.specs.Allocate.{allocate}
 use Rattle.log.specs.Flush.{nextNumber, ifRoom, flush}
 use Rattle.checkpoint_write.specs.Checkpoint.{onlyIf}
 use Rattle.checkpoint.specs.Sheets.{sheetStart, sheetSize, sheetCount, sheetImage, sheetRow, closedBy, writeSheet, sheet, sheets, drain, checkpoint}
-use Rattle.flash_model.specs.Mirror.{rowAt, PagesAre, RowsName, Owners, Mirrors}
+use Rattle.flash_model.specs.Mirror.{rowAt, test, PagesAre, RowsName, Owners, Mirrors}
 use Rattle.flash_model.specs.Follows.{Follows, Writable}
 use Rattle.flash_model.specs.Placed.{nextNumber-is, kept-found, step-found}
 use Rattle.flash_model.specs.Sheets.{scoresOf-is, sheet-inside, sheetOf, sheetsFrom, sheets-are}
@@ -147,3 +148,86 @@ module _ {score : ℕ → ℕ} (base : ℕ) (t : Tariff) where
       (subst (λ (n : ℕ). Closes score base (suc k) (sheet t k w) (place (closingSince base) n (sheetContent (sheetOf t score n k)) (run .now .buffer) (run .now))) e
       (closes-sheet base k h t needed low)))
       (omega arith) l
+
+module _ {B : ℕ} {score : ℕ → ℕ} {w : World} {run : Run} (few : B ≤ mostBlocks) (good : Good B run) (h : Follows score w run) where
+  abbrev st : Store
+  st = run .now
+
+  blocks-are : w .state .blocks ≡ B
+  blocks-are = omega (arith, h .mirrors .pages .size, good .invariant .rules .size)
+
+  -- no page is of the checkpoint when it begins
+  none-closing : tally (closingSince (st .last)) (st .blocks) ≡ 0
+  unfolding closingSince
+  none-closing =
+      omega (
+        arith,
+        good .invariant .rules .within,
+        tally-mono (closingSince (st .last)) (above (st .last)) (st .blocks) (λ p. and-right (isCheckpoint p) (above (st .last) p)),
+      )
+
+  invariant-begins : Invariant (w .state .blocks) (w .state .nodes) (closingSince (st .last)) st
+  invariant-begins =
+      let v = good .invariant in
+      rw (blocks-are, h .nodes)
+      (record { blocks = v .blocks; nodes = v .nodes; sheets = omega (arith, none-closing); rules = v .rules; fit = v .fit; lean = v .lean })
+
+  mirrors-begin : Mirrors image (owner (st .last) (w .state .nodes) st) (closingSince (st .last)) w st
+  mirrors-begin =
+      let m = h .mirrors in
+      record {
+        pages = m .pages;
+        names =
+            record {
+              long = m .names .long;
+              each = λ n i q ln li lq. m .names .each n i q ln li lq ∙ carried n (omega (arith, h .noSheet)) (getElem? (block (st .blocks) i) q);
+            };
+        owners =
+            subst (λ (k : ℕ). Owners (owner (st .last) (w .state .nodes) st) (closingSince (st .last)) (w .state .nodes) k st) (sym (h .noSheet))
+            (owners-closing (st .last) 0 (w .state .nodes) st (omega arith));
+        rows = m .rows;
+        current = m .current;
+        fill = m .fill;
+        last = m .last;
+      }
+    where
+      carried : (n : ℕ) → n < w .state .nodes → (c : Option Page) → test (carries (view st) n) c ≡ test (owner (st .last) (w .state .nodes) st n) c
+      carried n l none = refl
+      carried n l (some p) = sym (owner-node (st .last) (w .state .nodes) st n p l)
+
+  closes-begin : Closes score (st .last) 0 w st
+  closes-begin =
+      record {
+        few = omega (arith, blocks-are);
+        table = h .table;
+        written = h .noSheet;
+        number = omega arith;
+        mirrors = mirrors-begin;
+        scores = λ n l. h .scores n (omega (arith, h .nodes));
+        invariant = invariant-begins;
+        sheets = omega (arith, none-closing);
+      }
+
+  -- ALL SHEETS: the pages left are the images of the store's.
+  pub sheets-close : 12 + run .now .last < bound32 → (t : Tariff) →
+      Closed (sheets t w) (writeSheets (closingSince (run .now .last)) (Model.sheets t (scoresFrom 0 (run .nodes) score)) run)
+  unfolding sheets
+  sheets-close low t =
+      subst (λ (xs : List Sheet). Closed (steps (sheet t) (sheetCount (w .state .nodes)) 0 w) (writeSheets (closingSince (st .last)) xs run)) (sym (sheets-are t score (run .nodes)))
+      (subst (λ (n : ℕ). Closed (steps (sheet t) (sheetCount n) 0 w) (writeSheets (closingSince (st .last)) (sheetsFrom t score (run .nodes) (sheetCount (run .nodes)) 0) run)) (sym (h .nodes))
+      (closes-rest (st .last) t (sheetCount (run .nodes)) 0 w run (h .nodes) closes-begin (omega arith) (omega (arith, good .invariant .nodes))))
+
+-- The buffer is drained first. It is taken that a flush follows the store's.
+module _ (flush-follows : (B : ℕ) (score : ℕ → ℕ) (w : World) (run : Run) → Writable B run → suc (run .now .last) < bound32 → Follows score w run → Follows score (flush w) (flushRun run)) where
+  -- THE CHECKPOINT.
+  pub checkpoint-follows : {B : ℕ} {score : ℕ → ℕ} {w : World} {run : Run} → Writable B run → 13 + run .now .last < bound32 → (t : Tariff) → Follows score w run →
+      Closed (checkpoint t w) (close t score run)
+  unfolding checkpoint close drain write place
+  checkpoint-follows {B} {score} {w} {run} v low t h = go (run .now .buffer) refl
+    where
+      go : (es : List Entry) → run .now .buffer ≡ es →
+          Closed (sheets t (drain w)) (writeSheets (closingSince (drainBy es run .now .last)) (Model.sheets t (scoresFrom 0 (run .nodes) score)) (drainBy es run))
+      go [] e = rw (eq-eqb (w .state .entries) 0 (h .buffer .number ∙ ap length e)) (sheets-close (v .few) (v .good) h (omega arith) t)
+      go (x ∷ es) e =
+          rw (ne-eqb (w .state .entries) 0 (λ z. omega (arith, h .buffer .number, ap length e)))
+          (sheets-close (v .few) (flushRun-good (v .good)) (flush-follows B score w run v (omega arith) h) (omega arith) t)
