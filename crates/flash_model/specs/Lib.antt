@@ -12,6 +12,15 @@ pub mod Moves
 pub mod Allocate
 pub mod Written
 pub mod Placed
+pub mod Followed
+pub mod Ownership
+pub mod Buffer
+pub mod Claims
+pub mod Flush
+pub mod NodePages
+pub mod Starts
+pub mod Entries
+pub mod Requests
 pub mod Sheets
 pub mod SheetPage
 pub mod Closing

@@ -69,31 +69,13 @@ abbrev pub after : Claim → Row → Row
 after Same r = r
 after (Noted r′) r = r′
 
-module _ (r : Row) (version page x : ℕ) where
-  -- A claim names the page for an entry of the row's version in log mode, and nothing else; it finds a slot where there is one.
-  pub names-claimed : (names page r ≡ false → r .pages < 3) →
-      names x (after (claim version page r) r) ≡ (names x r || byMode (r .mode) (eqb (r .version) version && eqb page x) false)
-  unfolding claim
-  names-claimed room = go (r .mode) (eqb (r .version) version) (names page r) refl
-    where
-      again : (t : Bool) → names page r ≡ true → eqb page x ≡ t → names x r ≡ (names x r || t)
-      again true n e = ap (λ (y : ℕ). names y r) (sym (eqb-true page x e)) ∙ n ∙ sym (or-true (names x r))
-      again false n e = sym (or-false (names x r))
-
-      go : (m : Mode) (v n : Bool) → names page r ≡ n →
-          names x (after (byMode m (choose v (choose n Same (Noted (noted page r))) Same) Same) r) ≡ (names x r || byMode m (v && eqb page x) false)
-      go Disk v n e = sym (or-false (names x r))
-      go Log false n e = sym (or-false (names x r))
-      go Log true true e = again (eqb page x) e refl
-      go Log true false e = names-noted r page x (room e)
-
 -- Version, mode and score stay.
 pub record Keeps (r r′ : Row) : Type 0 where
   pub version : r′ .version ≡ r .version
   pub mode : r′ .mode ≡ r .mode
   pub score : r′ .score ≡ r .score
 
-keeps-same : {r : Row} → Keeps r r
+pub keeps-same : {r : Row} → Keeps r r
 keeps-same = record { version = refl; mode = refl; score = refl }
 
 keeps-choose : {r x y : Row} (t : Bool) → Keeps r x → Keeps r y → Keeps r (choose t x y)
@@ -106,13 +88,3 @@ keeps-noted r page =
     keeps-choose (eqb (r .pages) 0) (record { version = refl; mode = refl; score = refl })
     (keeps-choose (eqb (r .pages) 1) (record { version = refl; mode = refl; score = refl })
     (keeps-choose (eqb (r .pages) 2) (record { version = refl; mode = refl; score = refl }) keeps-same))
-
-pub keeps-claimed : (r : Row) (version page : ℕ) → Keeps r (after (claim version page r) r)
-unfolding claim
-keeps-claimed r version page = go (r .mode) (eqb (r .version) version) (names page r)
-  where
-    go : (m : Mode) (v n : Bool) → Keeps r (after (byMode m (choose v (choose n Same (Noted (noted page r))) Same) Same) r)
-    go Disk v n = keeps-same
-    go Log false n = keeps-same
-    go Log true true = keeps-same
-    go Log true false = keeps-noted r page

@@ -165,7 +165,7 @@ module _ {B : ℕ} {run : Run} (v : Good B run) (n : ℕ) (c : Change) (cs : Lis
         passed = v .passed;
       }
 
-  begin-mode : InLog (start n (c ∷ cs) (run .now)) n
+  pub begin-mode : InLog (start n (c ∷ cs) (run .now)) n
   unfolding start
   begin-mode =
       let now = start-now (v .invariant) n c cs in

@@ -74,7 +74,7 @@ done-keeps {B} {N} {n} {table} {modes} {run} {run′} {xs} {m} {x} N′ v d e h 
     tidy k l (inr q) = rw (update-other table n x k q) (v .neat k (there k l q))
 
 -- how many nodes there are after each write
-makeRoom-nodes : (k : ℕ) (run : Run) → makeRoom k run .nodes ≡ run .nodes
+pub makeRoom-nodes : (k : ℕ) (run : Run) → makeRoom k run .nodes ≡ run .nodes
 unfolding makeRoom write
 makeRoom-nodes k run = go (leb (k + length (run .now .buffer)) mostEntries)
   where

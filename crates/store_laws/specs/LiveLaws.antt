@@ -169,7 +169,7 @@ tally-all f bs k once z o =
 module _ (bs : Blocks) (buffer : List Entry) (last : ℕ) (once : (s : ℕ) → tally (numbered s) bs ≤ 1) (z : tally (numbered 0) bs ≡ 0)
     (o : tally (above last) bs ≡ 0) where
   -- the pages that carry a node are no more than it lies on
-  carries-pages : (n : ℕ) → tally (carries (seen bs buffer last) n) bs ≤ pages (seen bs buffer last) n
+  pub carries-pages : (n : ℕ) → tally (carries (seen bs buffer last) n) bs ≤ pages (seen bs buffer last) n
   unfolding pages carries
   carries-pages n =
       omega (

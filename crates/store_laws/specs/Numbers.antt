@@ -30,7 +30,7 @@ pub write-last : (closing : Page → Bool) (c : Content) (rest : List Entry) (ru
 unfolding write place
 write-last closing c rest run = refl
 
-makeRoom-last : (k : ℕ) (run : Run) → last (makeRoom k run) ≤ suc (last run)
+pub makeRoom-last : (k : ℕ) (run : Run) → last (makeRoom k run) ≤ suc (last run)
 unfolding makeRoom write place
 makeRoom-last k run = go (leb (k + length (run .now .buffer)) mostEntries)
   where
