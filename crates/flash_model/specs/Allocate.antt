@@ -36,7 +36,8 @@ use Rattle.place.specs.World.{World, world, used}
 use Rattle.place.specs.Allocate.{at, allocate}
 use Rattle.place.proofs.Laws.{allocate-room, allocate-next, allocate-compact}
 use Rattle.flash_model.specs.Mirror.{rowAt, test, Images, PagesAre, RowsName, RowsSay, Owners, Mirrors}
-use Rattle.flash_model.specs.Pages.{page-within, blank-block}
+use Rattle.flash_model.specs.Pages.{blank-block}
+use Rattle.flash_model.specs.Ownership.{page-within}
 use Rattle.flash_model.specs.Blank.{blankBlocks-is, nextBlank-is}
 use Rattle.flash_model.specs.Live.{Owned, mark-live, liveIn-is}
 use Rattle.flash_model.specs.Choice.{victim-is}

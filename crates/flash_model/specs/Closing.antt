@@ -22,11 +22,13 @@ use Rattle.store.specs.Pool.{block, above}
 use Rattle.store.specs.Store.{Store, view}
 use Rattle.store.specs.Live.{carries, isCheckpoint, noClosing, closingSince}
 use Rattle.store.specs.Write.{next, place}
+use Rattle.store.specs.Write as Write
 use Rattle.store.specs.Run.{Run, write, flushRun}
 use Rattle.store.specs.Checkpoint.{Sheet, sheetContent, scoresFrom, writeSheets, drainBy, close}
 use Rattle.store.specs.Checkpoint as Model
 use Rattle.store_laws.specs.Placing.{Invariant, place-tally, silent-invariant}
-use Rattle.store_laws.specs.Good.{Good, flushRun-good}
+use Rattle.store_laws.specs.Good.{flushRun-good}
+use Rattle.store_laws.specs.WriteFits.{flush-fits}
 use Rattle.rows.specs.declared.Row.{Row}
 use Rattle.place.specs.World.{World, world, used, spot}
 use Rattle.place.specs.Allocate.{allocate}
@@ -35,6 +37,8 @@ use Rattle.checkpoint_write.specs.Checkpoint.{onlyIf}
 use Rattle.checkpoint.specs.Sheets.{sheetStart, sheetSize, sheetCount, sheetImage, sheetRow, closedBy, writeSheet, sheet, sheets, drain, checkpoint}
 use Rattle.flash_model.specs.Mirror.{rowAt, test, PagesAre, RowsName, Owners, Mirrors}
 use Rattle.flash_model.specs.Follows.{Follows, Writable}
+use Rattle.flash_model.specs.Followed.{few-blocks, invariant-here}
+use Rattle.flash_model.specs.Flush.{flush-follows}
 use Rattle.flash_model.specs.Placed.{nextNumber-is, kept-found, step-found}
 use Rattle.flash_model.specs.Sheets.{scoresOf-is, sheet-inside, sheetOf, sheetsFrom, sheets-are}
 use Rattle.flash_model.specs.SheetPage.{owner, owner-node, owners-closing, row-kept, sheet-mirrors}
@@ -149,12 +153,9 @@ module _ {score : ℕ → ℕ} (base : ℕ) (t : Tariff) where
       (closes-sheet base k h t needed low)))
       (omega arith) l
 
-module _ {B : ℕ} {score : ℕ → ℕ} {w : World} {run : Run} (few : B ≤ mostBlocks) (good : Good B run) (h : Follows score w run) where
+module _ {B : ℕ} {score : ℕ → ℕ} {w : World} {run : Run} (b : Writable B run) (f : Follows score w run) where
   abbrev st : Store
   st = run .now
-
-  blocks-are : w .state .blocks ≡ B
-  blocks-are = omega (arith, h .mirrors .pages .size, good .invariant .rules .size)
 
   -- no page is of the checkpoint when it begins
   none-closing : tally (closingSince (st .last)) (st .blocks) ≡ 0
@@ -162,28 +163,22 @@ module _ {B : ℕ} {score : ℕ → ℕ} {w : World} {run : Run} (few : B ≤ mo
   none-closing =
       omega (
         arith,
-        good .invariant .rules .within,
+        b .good .invariant .rules .within,
         tally-mono (closingSince (st .last)) (above (st .last)) (st .blocks) (λ p. and-right (isCheckpoint p) (above (st .last) p)),
       )
 
-  invariant-begins : Invariant (w .state .blocks) (w .state .nodes) (closingSince (st .last)) st
-  invariant-begins =
-      let v = good .invariant in
-      rw (blocks-are, h .nodes)
-      (record { blocks = v .blocks; nodes = v .nodes; sheets = omega (arith, none-closing); rules = v .rules; fit = v .fit; lean = v .lean })
-
   mirrors-begin : Mirrors image (owner (st .last) (w .state .nodes) st) (closingSince (st .last)) w st
   mirrors-begin =
-      let m = h .mirrors in
+      let m = f .mirrors in
       record {
         pages = m .pages;
         names =
             record {
               long = m .names .long;
-              each = λ n i q ln li lq. m .names .each n i q ln li lq ∙ carried n (omega (arith, h .noSheet)) (getElem? (block (st .blocks) i) q);
+              each = λ n i q ln li lq. m .names .each n i q ln li lq ∙ carried n (omega (arith, f .noSheet)) (getElem? (block (st .blocks) i) q);
             };
         owners =
-            subst (λ (k : ℕ). Owners (owner (st .last) (w .state .nodes) st) (closingSince (st .last)) (w .state .nodes) k st) (sym (h .noSheet))
+            subst (λ (k : ℕ). Owners (owner (st .last) (w .state .nodes) st) (closingSince (st .last)) (w .state .nodes) k st) (sym (f .noSheet))
             (owners-closing (st .last) 0 (w .state .nodes) st (omega arith));
         rows = m .rows;
         current = m .current;
@@ -197,14 +192,16 @@ module _ {B : ℕ} {score : ℕ → ℕ} {w : World} {run : Run} (few : B ≤ mo
 
   closes-begin : Closes score (st .last) 0 w st
   closes-begin =
+      let v = invariant-here b f in
       record {
-        few = omega (arith, blocks-are);
-        table = h .table;
-        written = h .noSheet;
+        few = few-blocks b f;
+        table = f .table;
+        written = f .noSheet;
         number = omega arith;
         mirrors = mirrors-begin;
-        scores = λ n l. h .scores n (omega (arith, h .nodes));
-        invariant = invariant-begins;
+        scores = λ n l. f .scores n (omega (arith, f .nodes));
+        invariant =
+            record { blocks = v .blocks; nodes = v .nodes; sheets = omega (arith, none-closing); rules = v .rules; fit = v .fit; lean = v .lean };
         sheets = omega (arith, none-closing);
       }
 
@@ -214,20 +211,22 @@ module _ {B : ℕ} {score : ℕ → ℕ} {w : World} {run : Run} (few : B ≤ mo
   unfolding sheets
   sheets-close low t =
       subst (λ (xs : List Sheet). Closed (steps (sheet t) (sheetCount (w .state .nodes)) 0 w) (writeSheets (closingSince (st .last)) xs run)) (sym (sheets-are t score (run .nodes)))
-      (subst (λ (n : ℕ). Closed (steps (sheet t) (sheetCount n) 0 w) (writeSheets (closingSince (st .last)) (sheetsFrom t score (run .nodes) (sheetCount (run .nodes)) 0) run)) (sym (h .nodes))
-      (closes-rest (st .last) t (sheetCount (run .nodes)) 0 w run (h .nodes) closes-begin (omega arith) (omega (arith, good .invariant .nodes))))
+      (subst (λ (n : ℕ). Closed (steps (sheet t) (sheetCount n) 0 w) (writeSheets (closingSince (st .last)) (sheetsFrom t score (run .nodes) (sheetCount (run .nodes)) 0) run)) (sym (f .nodes))
+      (closes-rest (st .last) t (sheetCount (run .nodes)) 0 w run (f .nodes) closes-begin (omega arith)
+      (omega (arith, b .few, b .good .invariant .nodes))))
 
--- The buffer is drained first. It is taken that a flush follows the store's.
-module _ (flush-follows : (B : ℕ) (score : ℕ → ℕ) (w : World) (run : Run) → Writable B run → suc (run .now .last) < bound32 → Follows score w run → Follows score (flush w) (flushRun run)) where
-  -- THE CHECKPOINT.
-  pub checkpoint-follows : {B : ℕ} {score : ℕ → ℕ} {w : World} {run : Run} → Writable B run → 13 + run .now .last < bound32 → (t : Tariff) → Follows score w run →
-      Closed (checkpoint t w) (close t score run)
-  unfolding checkpoint close drain write place
-  checkpoint-follows {B} {score} {w} {run} v low t h = go (run .now .buffer) refl
-    where
-      go : (es : List Entry) → run .now .buffer ≡ es →
-          Closed (sheets t (drain w)) (writeSheets (closingSince (drainBy es run .now .last)) (Model.sheets t (scoresFrom 0 (run .nodes) score)) (drainBy es run))
-      go [] e = rw (eq-eqb (w .state .entries) 0 (h .buffer .number ∙ ap length e)) (sheets-close (v .few) (v .good) h (omega arith) t)
-      go (x ∷ es) e =
-          rw (ne-eqb (w .state .entries) 0 (λ z. omega (arith, h .buffer .number, ap length e)))
-          (sheets-close (v .few) (flushRun-good (v .good)) (flush-follows B score w run v (omega arith) h) (omega arith) t)
+-- THE CHECKPOINT: the buffer is drained, then the sheets are written.
+pub checkpoint-follows : {B : ℕ} {score : ℕ → ℕ} {w : World} {run : Run} → Writable B run → 13 + run .now .last < bound32 → (t : Tariff) → Follows score w run →
+    Closed (checkpoint t w) (close t score run)
+unfolding checkpoint close drain write place Write.flush
+checkpoint-follows {B} {score} {w} {run} b low t f = go (run .now .buffer) refl
+  where
+    flushed : 1 ≤ length (run .now .buffer) → Writable B (flushRun run)
+    flushed l = record { few = b .few; good = flushRun-good (b .good); fits = flush-fits (b .fits) (omega arith) noClosing (run .nodes) l }
+
+    go : (es : List Entry) → run .now .buffer ≡ es →
+        Closed (sheets t (drain w)) (writeSheets (closingSince (drainBy es run .now .last)) (Model.sheets t (scoresFrom 0 (run .nodes) score)) (drainBy es run))
+    go [] e = rw (eq-eqb (w .state .entries) 0 (f .buffer .number ∙ ap length e)) (sheets-close b f (omega arith) t)
+    go (x ∷ es) e =
+        rw (ne-eqb (w .state .entries) 0 (λ z. omega (arith, f .buffer .number, ap length e)))
+        (sheets-close (flushed (omega (arith, ap length e))) (flush-follows b (omega arith) f) (omega arith) t)

@@ -1,20 +1,19 @@
 -- Pages that are images stay so: where one page is written behind the others of its block, and where a block is erased. Assumes nothing.
 use mathlib.Core.Path.{_≡_, refl, sym, ap, _∙_}
-use mathlib.Core.Bool.{Bool, true}
+use mathlib.Core.Bool.{true}
 use mathlib.Core.Logic.{_⊎_, inl, inr}
 use mathlib.Core.Option.{some}
 use mathlib.Core.List.{List, [], _∷_, _++_}
 use Prim.Native.Nat.{ℕ, zero, suc, _+_, _*_, _≤_, _<_}
 use native.Mathlib.Nat.{add-zero}
 use native.Mathlib.Omega.{arith}
-use borrow.Author.Tests.{lt-ltb}
 use lib.ListN.{length, getD, set, getElem?, length-set, length-append}
 use lib.Seq.{getD-set-same, getD-set-other}
 use Rattle.laws.specs.Order.{eq-or, le-or}
-use Rattle.laws.specs.Counts.{bit, count, tally, tally-at, empty}
+use Rattle.laws.specs.Counts.{empty}
 use Rattle.laws.specs.Chunks.{length-setRun, get-setRun-inside, get-setRun-outside}
-use Rattle.page.specs.Page.{Page, sequence}
-use Rattle.store.specs.Pool.{Blocks, block, above, addTo}
+use Rattle.page.specs.Page.{Page}
+use Rattle.store.specs.Pool.{Blocks, block, addTo}
 use Rattle.blocks.specs.Pages.{blankPage, pageAt, isBlank, erased}
 use Rattle.blocks.specs.Blank.{blankBlock}
 use Rattle.flash_model.specs.Mirror.{imageAt, Images, PagesAre}
@@ -29,20 +28,6 @@ snoc-old (x ∷ b) p (suc q) d = snoc-old b p q (λ e. d (ap suc e))
 pub snoc-new : (b : List Page) (p : Page) → getElem? (b ++ (p ∷ [])) (length b) ≡ some p
 snoc-new [] p = refl
 snoc-new (x ∷ b) p = snoc-new b p
-
--- A page that passes a test is counted; so a page of the pool has no number above those taken.
-count-page : (f : Page → Bool) (b : List Page) (q : ℕ) (p : Page) → getElem? b q ≡ some p → f p ≡ true → 0 < count f b
-count-page f [] q p e t = absurd (let z : _≡_ {A = ℕ} 0 1 = cc in omega arith)
-count-page f (x ∷ b) zero p e t = let d : x ≡ p = cc in omega (arith, ap bit (ap f d ∙ t))
-count-page f (x ∷ b) (suc q) p e t = omega (arith, count-page f b q p e t)
-
-pub page-within : (k : ℕ) (bs : Blocks) → tally (above k) bs ≡ 0 → (i q : ℕ) (p : Page) → getElem? (block bs i) q ≡ some p → sequence p ≤ k
-unfolding above
-page-within k bs none i q p e = go (le-or (sequence p) k)
-  where
-    go : (sequence p ≤ k) ⊎ (k < sequence p) → sequence p ≤ k
-    go (inl l) = l
-    go (inr l) = absurd (omega (arith, count-page (above k) (block bs i) q p e (lt-ltb k (sequence p) l), tally-at (above k) bs i))
 
 -- Two places are one only in one block.
 pub place-apart : (i j q r : ℕ) → q < 32 → r < 32 → (i ≡ j → ⊥) → 32 * i + q ≡ 32 * j + r → ⊥

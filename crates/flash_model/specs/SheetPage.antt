@@ -1,7 +1,7 @@
 -- While a checkpoint is written: the rows behind the nodes' name its pages, so that they are live, and a sheet written by the code is the
 -- store's. Assumes nothing.
 use mathlib.Core.Path.{_≡_, refl, sym, ap, _∙_, subst}
-use mathlib.Core.Bool.{Bool, true, false, not, _&&_, _||_, and-false}
+use mathlib.Core.Bool.{Bool, true, false, _&&_, _||_, and-false}
 use mathlib.Core.Logic.{_⊎_, inl, inr}
 use mathlib.Core.Option.{Option, none, some}
 use mathlib.Core.List.{List}
@@ -13,12 +13,10 @@ use lib.ListN.{length, set, getElem?, length-set}
 use lib.Seq.{getD-set-same, getD-set-other}
 use Rattle.laws.specs.Tests.{choose, and-left, and-right, and-both}
 use Rattle.laws.specs.Order.{eq-or, le-or}
-use Rattle.laws.specs.Counts.{empty}
 use Rattle.layout.specs.Layout.{mostBlocks}
 use Rattle.account.specs.declared.Mode.the-variants.{Disk}
 use Rattle.page.specs.Page.{Page, page, sequence}
 use Rattle.page.specs.Image.{image}
-use Rattle.store.specs.Item.{itemsOf, piecesIn}
 use Rattle.store.specs.View.{greatest}
 use Rattle.store.specs.Pool.{block, numbered, above}
 use Rattle.store.specs.Store.{Store, view}
@@ -37,7 +35,7 @@ use Rattle.place.specs.World.{World, world, used, spot}
 use Rattle.place.specs.Allocate.{allocate}
 use Rattle.checkpoint.specs.Sheets.{sheetRow, closedBy}
 use Rattle.flash_model.specs.Mirror.{rowAt, test, RowsSay, Owners, Mirrors}
-use Rattle.flash_model.specs.Pages.{page-within}
+use Rattle.flash_model.specs.Ownership.{page-within, carries-same}
 use Rattle.flash_model.specs.Names.{mapped}
 use Rattle.flash_model.specs.Notes.{names-noted, names-fresh}
 use Rattle.flash_model.specs.Written.{Named}
@@ -67,12 +65,12 @@ module _ (base nodes : ℕ) (st : Store) (n : ℕ) (p : Page) where
 
   -- a page stays its node's while the node keeps its version
   pub owner-stays : (st′ : Store) → (n < nodes → greatest (view st′) n ≡ greatest (view st) n) → owner base nodes st n p ≡ owner base nodes st′ n p
-  unfolding owner carries
+  unfolding owner
   owner-stays st′ h = go (le-or nodes n)
     where
       go : (nodes ≤ n) ⊎ (n < nodes) → owner base nodes st n p ≡ owner base nodes st′ n p
       go (inl l) = rw (le-ltb n nodes l) refl
-      go (inr l) = rw (lt-ltb n nodes l) (ap (λ (u : ℕ). not (empty (piecesIn n u (itemsOf p)))) (sym (h l)))
+      go (inr l) = rw (lt-ltb n nodes l) (sym (carries-same (view st) (view st′) n (h l) p))
 
 -- The pages of the checkpoint up to number `base + k` have k rows.
 pub owners-closing : (base k nodes : ℕ) (st : Store) → st .last ≡ base + k → Owners (owner base nodes st) (closingSince base) nodes k st
