@@ -1,16 +1,15 @@
 -- THE CHECKPOINT of the code is the model's: sheet by sheet the world stands for the store, and at the end each page is the image of the
 -- store's page there. Assumes nothing.
 use mathlib.Core.Path.{_≡_, refl, sym, ap, _∙_, subst}
-use mathlib.Core.Bool.{Bool, true, false}
 use mathlib.Core.Option.{Option, none, some}
 use mathlib.Core.List.{List, [], _∷_}
 use Prim.Native.Nat.{ℕ, zero, suc, _+_, _*_, _≤_, _<_}
 use native.Mathlib.Numerals.{add-one}
 use native.Mathlib.Omega.{arith}
-use borrow.Author.Tests.{eq-eqb, ne-eqb, le-ltb}
+use borrow.Author.Tests.{eq-eqb, ne-eqb}
 use lib.Dec.{eqb}
 use lib.ListN.{length, set, getElem?, length-set}
-use Rattle.laws.specs.Tests.{choose, and-right}
+use Rattle.laws.specs.Tests.{and-right}
 use Rattle.laws.specs.Loops.{steps}
 use Rattle.laws.specs.Counts.{bit-le-one, tally, tally-mono}
 use Rattle.layout.specs.Layout.{mostBlocks, bound32}
@@ -30,12 +29,14 @@ use Rattle.store_laws.specs.Placing.{Invariant, place-tally, silent-invariant}
 use Rattle.store_laws.specs.Good.{flushRun-good}
 use Rattle.store_laws.specs.WriteFits.{flush-fits}
 use Rattle.rows.specs.declared.Row.{Row}
+use Rattle.place.specs.declared.state.State.{State}
 use Rattle.place.specs.World.{World, world, used, spot}
 use Rattle.place.specs.Allocate.{allocate}
-use Rattle.log.specs.Flush.{nextNumber, ifRoom, flush}
+use Rattle.log.specs.Flush.{nextNumber, flush}
 use Rattle.checkpoint_write.specs.Checkpoint.{onlyIf}
 use Rattle.checkpoint.specs.Sheets.{sheetStart, sheetSize, sheetCount, sheetImage, sheetRow, closedBy, writeSheet, sheet, sheets, drain, checkpoint}
-use Rattle.flash_model.specs.Mirror.{rowAt, test, PagesAre, RowsName, Owners, Mirrors}
+use Rattle.flash_model.specs.Mirror.{rowAt, test, PagesAre, Owners, Mirrors}
+use Rattle.flash_model.specs.Allocate.{Kept}
 use Rattle.flash_model.specs.Follows.{Follows, Writable}
 use Rattle.flash_model.specs.Followed.{few-blocks, invariant-here}
 use Rattle.flash_model.specs.Flush.{flush-follows}
@@ -55,55 +56,62 @@ pub record Closes (score : ℕ → ℕ) (base k : ℕ) (w : World) (st : Store) 
   pub invariant : Invariant (w .state .blocks) (w .state .nodes) (closingSince base) st
   pub sheets : tally (closingSince base) (st .blocks) ≤ k
 
+-- The next sheet, k being written.
 module _ {score : ℕ → ℕ} (base k : ℕ) {w : World} {st : Store} (h : Closes score base k w st) (t : Tariff) (needed : k < sheetCount (w .state .nodes))
     (low : suc (st .last) < bound32) where
   abbrev nodes : ℕ
   nodes = w .state .nodes
 
-  abbrev content : p.Content
-  content = sheetContent (sheetOf t score (w .state .nodes) k)
+  -- what was found for it: rows and state
+  abbrev rows : List Row
+  rows = allocate w .rows
+
+  abbrev s : State
+  s = allocate w .state
+
+  -- what it holds; the store and the world with it
+  abbrev x : Sheet
+  x = sheetOf t score nodes k
+
+  abbrev after : Store
+  after = place (closingSince base) nodes (sheetContent x) (st .buffer) st
+
+  abbrev put : ℕ → List ℕ → World
+  put number bytes = world (set (allocate w .pages) (spot s) bytes) (set rows (used s) (sheetRow number (spot s))) (closedBy number s)
+
+  abbrev with : World
+  with = put (suc (st .last)) (image (next st (sheetContent x)))
 
   room : used (w .state) < length (w .rows)
   room = omega (arith, h .table, h .written, h .invariant .nodes, h .invariant .blocks, h .few)
 
-  -- the world with the sheet
-  abbrev with : World
-  with =
-      world (set (allocate w .pages) (spot (allocate w .state)) (image (next st content)))
-      (set (allocate w .rows) (used (allocate w .state)) (sheetRow (suc (st .last)) (spot (allocate w .state)))) (closedBy (suc (st .last)) (allocate w .state))
+  keep : Kept w (allocate w)
+  keep = kept-found (h .few) (h .invariant) (h .mirrors)
 
-  found-scores : (n : ℕ) → n < w .state .nodes → rowAt (allocate w .rows) n .score ≡ score n
-  found-scores n l =
-      ap (λ (r : Row). r .score) (kept-found (h .few) (h .invariant) (h .mirrors) .rows n (omega arith) .1) ∙ h .scores n l
+  found-scores : (n : ℕ) → n < nodes → rowAt rows n .score ≡ score n
+  found-scores n l = ap (λ (r : Row). r .score) (keep .rows n (omega arith) .1) ∙ h .scores n l
 
-  sheet-image : sheetImage (suc (st .last)) t k (w .state .nodes) (allocate w .rows) ≡ image (next st content)
+  sheet-image : sheetImage (suc (st .last)) t k nodes rows ≡ image (next st (sheetContent x))
   unfolding sheetImage sheetOf
   sheet-image =
       ap (λ (ss : List Score). image (page (suc (st .last)) (p.checkpoint (onlyIf (eqb k 0) t) ss (onlyIf (eqb (k + 1) (sheetCount nodes)) nodes))))
-      (scoresOf-is (allocate w .rows) score nodes found-scores (sheetStart k) (sheetSize k nodes) (sheet-inside k nodes needed))
+      (scoresOf-is rows score nodes found-scores (sheetStart k) (sheetSize k nodes) (sheet-inside k nodes needed))
 
   sheet-is : sheet t k w ≡ with
   unfolding sheet writeSheet
   sheet-is =
-      let keep = kept-found (h .few) (h .invariant) (h .mirrors) in
-      let s = allocate w .state in
       let number : nextNumber (s .last) ≡ suc (st .last) = ap nextNumber (keep .last ∙ h .mirrors .last) ∙ nextNumber-is (st .last) low in
       step-found (h .few) (h .invariant) (h .mirrors) (writeSheet t k) ∙
-      ap (λ (n : ℕ). world (set (allocate w .pages) (spot s) (sheetImage n t k (s .nodes) (allocate w .rows))) (set (allocate w .rows) (used s) (sheetRow n (spot s))) (closedBy n s)) number ∙
-      ap (λ (bytes : List ℕ). world (set (allocate w .pages) (spot s) bytes) (set (allocate w .rows) (used s) (sheetRow (suc (st .last)) (spot s))) (closedBy (suc (st .last)) s))
-      (ap (λ (n : ℕ). sheetImage (suc (st .last)) t k n (allocate w .rows)) (keep .nodes) ∙ sheet-image)
+      ap (λ (n : ℕ). put n (sheetImage n t k (s .nodes) rows)) number ∙
+      ap (put (suc (st .last))) (ap (λ (n : ℕ). sheetImage (suc (st .last)) t k n rows) (keep .nodes) ∙ sheet-image)
 
-  -- ONE SHEET: the world with it stands for the store with the model's sheet.
-  closes-with : Closes score base (suc k) with (place (closingSince base) (w .state .nodes) content (st .buffer) st)
+  closes-with : Closes score base (suc k) with after
   unfolding closedBy place
   closes-with =
-      let keep = kept-found (h .few) (h .invariant) (h .mirrors) in
-      let after = place (closingSince base) (w .state .nodes) content (st .buffer) st in
-      let x = sheetOf t score (w .state .nodes) k in
       let most : k < 12 = omega (arith, h .invariant .nodes, h .few) in
       record {
         few = omega (arith, keep .blocks, h .few);
-        table = omega (arith, length-set (allocate w .rows) (used (allocate w .state)) (sheetRow (suc (st .last)) (spot (allocate w .state))), keep .table, keep .blocks, h .table);
+        table = omega (arith, length-set rows (used s) (sheetRow (suc (st .last)) (spot s)), keep .table, keep .blocks, h .table);
         written = omega (arith, keep .checkpoint, h .written);
         number = omega (arith, h .number);
         mirrors =
@@ -111,22 +119,29 @@ module _ {score : ℕ → ℕ} (base k : ℕ) {w : World} {st : Store} (h : Clos
             (sheet-mirrors base (h .few) (h .invariant) (h .mirrors) (h .written) (h .number) room x);
         scores =
             λ n l.
-            let below : n < w .state .nodes = omega (arith, keep .nodes) in
+            let below : n < nodes = omega (arith, keep .nodes) in
             ap (λ (r : Row). r .score) (row-kept base (h .few) (h .invariant) (h .mirrors) (h .written) (h .number) room x n below .1) ∙ h .scores n below;
         invariant =
-            subst (λ (n : ℕ). Invariant (allocate w .state .blocks) n (closingSince base) after) (sym (keep .nodes))
-            (subst (λ (b : ℕ). Invariant b (w .state .nodes) (closingSince base) after) (sym (keep .blocks))
-            (silent-invariant (h .invariant) content refl (omega (arith, h .sheets))));
+            subst (λ (n : ℕ). Invariant (s .blocks) n (closingSince base) after) (sym (keep .nodes))
+            (subst (λ (b : ℕ). Invariant b nodes (closingSince base) after) (sym (keep .blocks))
+            (silent-invariant (h .invariant) (sheetContent x) refl (omega (arith, h .sheets))));
         sheets =
-            omega (arith, place-tally (h .invariant) (closingSince base) content (st .buffer), h .sheets, bit-le-one (closingSince base (next st content)));
+            omega (
+              arith,
+              place-tally (h .invariant) (closingSince base) (sheetContent x) (st .buffer),
+              h .sheets,
+              bit-le-one (closingSince base (next st (sheetContent x))),
+            );
       }
 
-  pub closes-sheet : Closes score base (suc k) (sheet t k w) (place (closingSince base) (w .state .nodes) content (st .buffer) st)
-  closes-sheet = subst (λ (w′ : World). Closes score base (suc k) w′ (place (closingSince base) (w .state .nodes) content (st .buffer) st)) (sym sheet-is) closes-with
+  -- ONE SHEET: the world that the code leaves stands for the store with the model's sheet.
+  pub closes-sheet : Closes score base (suc k) (sheet t k w)
+      (place (closingSince base) (w .state .nodes) (sheetContent (sheetOf t score (w .state .nodes) k)) (st .buffer) st)
+  closes-sheet = subst (λ (w′ : World). Closes score base (suc k) w′ after) (sym sheet-is) closes-with
 
-  sheet-nodes : sheet t k w .state .nodes ≡ w .state .nodes
+  sheet-nodes : sheet t k w .state .nodes ≡ nodes
   unfolding closedBy
-  sheet-nodes = ap (λ (w′ : World). w′ .state .nodes) sheet-is ∙ kept-found (h .few) (h .invariant) (h .mirrors) .nodes
+  sheet-nodes = ap (λ (w′ : World). w′ .state .nodes) sheet-is ∙ keep .nodes
 
 -- A world whose pages are the images of the run's, in the same place: what a checkpoint leaves.
 pub record Closed (w : World) (run : Run) : Type 0 where
@@ -136,7 +151,10 @@ pub record Closed (w : World) (run : Run) : Type 0 where
   pub last : w .state .last ≡ run .now .last
   pub nodes : w .state .nodes ≡ run .nodes
 
-module _ {score : ℕ → ℕ} (base : ℕ) (t : Tariff) where
+module _ (score : ℕ → ℕ) (base : ℕ) (t : Tariff) where
+  abbrev writeNext : ℕ → Run → Run
+  writeNext k run = write (closingSince base) (sheetContent (sheetOf t score (run .nodes) k)) (run .now .buffer) run
+
   -- the sheets that are left, from sheet k on
   closes-rest : (m k : ℕ) (w : World) (run : Run) → w .state .nodes ≡ run .nodes → Closes score base k w (run .now) → k + m ≡ sheetCount (run .nodes) →
       base + sheetCount (run .nodes) < bound32 → Closed (steps (sheet t) m k w) (writeSheets (closingSince base) (sheetsFrom t score (run .nodes) m k) run)
@@ -146,11 +164,12 @@ module _ {score : ℕ → ℕ} (base : ℕ) (t : Tariff) where
   closes-rest (suc m) k w run e h s l =
       let needed : k < sheetCount (w .state .nodes) = omega arith in
       let low : suc (run .now .last) < bound32 = omega (arith, h .number) in
-      closes-rest m (k + 1) (sheet t k w) (write (closingSince base) (sheetContent (sheetOf t score (run .nodes) k)) (run .now .buffer) run)
-      (sheet-nodes base k h t needed low ∙ e)
-      (subst (λ (j : ℕ). Closes score base j (sheet t k w) (write (closingSince base) (sheetContent (sheetOf t score (run .nodes) k)) (run .now .buffer) run .now)) (sym (add-one k))
-      (subst (λ (n : ℕ). Closes score base (suc k) (sheet t k w) (place (closingSince base) n (sheetContent (sheetOf t score n k)) (run .now .buffer) (run .now))) e
-      (closes-sheet base k h t needed low)))
+      closes-rest m (k + 1) (sheet t k w) (writeNext k run) (sheet-nodes base k h t needed low ∙ e)
+      (subst (λ (j : ℕ). Closes score base j (sheet t k w) (writeNext k run .now)) (sym (add-one k))
+      (subst
+      (λ (n : ℕ). Closes score base (suc k) (sheet t k w)
+      (place (closingSince base) n (sheetContent (sheetOf t score n k)) (run .now .buffer) (run .now)))
+      e (closes-sheet base k h t needed low)))
       (omega arith) l
 
 module _ {B : ℕ} {score : ℕ → ℕ} {w : World} {run : Run} (b : Writable B run) (f : Follows score w run) where
@@ -210,14 +229,17 @@ module _ {B : ℕ} {score : ℕ → ℕ} {w : World} {run : Run} (b : Writable B
       Closed (sheets t w) (writeSheets (closingSince (run .now .last)) (Model.sheets t (scoresFrom 0 (run .nodes) score)) run)
   unfolding sheets
   sheets-close low t =
-      subst (λ (xs : List Sheet). Closed (steps (sheet t) (sheetCount (w .state .nodes)) 0 w) (writeSheets (closingSince (st .last)) xs run)) (sym (sheets-are t score (run .nodes)))
-      (subst (λ (n : ℕ). Closed (steps (sheet t) (sheetCount n) 0 w) (writeSheets (closingSince (st .last)) (sheetsFrom t score (run .nodes) (sheetCount (run .nodes)) 0) run)) (sym (f .nodes))
-      (closes-rest (st .last) t (sheetCount (run .nodes)) 0 w run (f .nodes) closes-begin (omega arith)
+      subst (λ (n : ℕ). goal n (Model.sheets t (scoresFrom 0 (run .nodes) score))) (sym (f .nodes))
+      (subst (goal (run .nodes)) (sym (sheets-are t score (run .nodes)))
+      (closes-rest score (st .last) t (sheetCount (run .nodes)) 0 w run (f .nodes) closes-begin (omega arith)
       (omega (arith, b .few, b .good .invariant .nodes))))
+    where
+      goal : ℕ → List Sheet → Type 0
+      goal n xs = Closed (steps (sheet t) (sheetCount n) 0 w) (writeSheets (closingSince (st .last)) xs run)
 
 -- THE CHECKPOINT: the buffer is drained, then the sheets are written.
-pub checkpoint-follows : {B : ℕ} {score : ℕ → ℕ} {w : World} {run : Run} → Writable B run → 13 + run .now .last < bound32 → (t : Tariff) → Follows score w run →
-    Closed (checkpoint t w) (close t score run)
+pub checkpoint-follows : {B : ℕ} {score : ℕ → ℕ} {w : World} {run : Run} → Writable B run → 13 + run .now .last < bound32 → (t : Tariff) →
+    Follows score w run → Closed (checkpoint t w) (close t score run)
 unfolding checkpoint close drain write place Write.flush
 checkpoint-follows {B} {score} {w} {run} b low t f = go (run .now .buffer) refl
   where

@@ -15,7 +15,7 @@ use Rattle.laws.specs.Tests.{choose, and-left, and-right, and-both}
 use Rattle.laws.specs.Order.{eq-or, le-or}
 use Rattle.layout.specs.Layout.{mostBlocks}
 use Rattle.account.specs.declared.Mode.the-variants.{Disk}
-use Rattle.page.specs.Page.{Page, page, sequence}
+use Rattle.page.specs.Page.{Page, sequence}
 use Rattle.page.specs.Image.{image}
 use Rattle.store.specs.View.{greatest}
 use Rattle.store.specs.Pool.{block, numbered, above}
@@ -28,7 +28,7 @@ use Rattle.store_laws.specs.Compaction.{found-room}
 use Rattle.store_laws.specs.Changes.{Same}
 use Rattle.store_laws.specs.Versions.{InMode, place-mode}
 use Rattle.rows.specs.Row.{noRow}
-use Rattle.rows.specs.Step.{names, noted, fresh}
+use Rattle.rows.specs.Step.{names, fresh}
 use Rattle.rows.specs.declared.Row.{Row}
 use Rattle.place.specs.declared.state.State.{State}
 use Rattle.place.specs.World.{World, world, used, spot}
@@ -59,12 +59,13 @@ module _ (base nodes : ℕ) (st : Store) (n : ℕ) (p : Page) where
   owner-closing : nodes ≤ n → owner base nodes st n p ≡ true → closingSince base p ≡ true
   unfolding closingSince above
   owner-closing l e =
-      let d : (isCheckpoint p && numbered (suc (base + (n - nodes))) p) ≡ true = sym (owner-sheet l) ∙ e in
-      and-both (isCheckpoint p) (above base p) (and-left (isCheckpoint p) (numbered (suc (base + (n - nodes))) p) d)
-      (lt-ltb base (sequence p) (omega (arith, eqb-true (sequence p) (suc (base + (n - nodes))) (and-right (isCheckpoint p) (numbered (suc (base + (n - nodes))) p) d))))
+      let number : ℕ = suc (base + (n - nodes)) in
+      let d : (isCheckpoint p && numbered number p) ≡ true = sym (owner-sheet l) ∙ e in
+      and-both (isCheckpoint p) (above base p) (and-left (isCheckpoint p) (numbered number p) d)
+      (lt-ltb base (sequence p) (omega (arith, eqb-true (sequence p) number (and-right (isCheckpoint p) (numbered number p) d))))
 
   -- a page stays its node's while the node keeps its version
-  pub owner-stays : (st′ : Store) → (n < nodes → greatest (view st′) n ≡ greatest (view st) n) → owner base nodes st n p ≡ owner base nodes st′ n p
+  owner-stays : (st′ : Store) → (n < nodes → greatest (view st′) n ≡ greatest (view st) n) → owner base nodes st n p ≡ owner base nodes st′ n p
   unfolding owner
   owner-stays st′ h = go (le-or nodes n)
     where
@@ -234,5 +235,6 @@ module _ (base : ℕ) {k : ℕ} {w : World} {st : Store} (few : w .state .blocks
       }
 
   -- THE SHEET WRITTEN mirrors the store's.
-  pub sheet-mirrors : Mirrors image (owner base nodes after) (closingSince base) (world (set (allocate w .pages) (spot s) (image sheetPage)) rowsAfter stateAfter) after
+  pub sheet-mirrors : Mirrors image (owner base nodes after) (closingSince base)
+      (world (set (allocate w .pages) (spot s) (image sheetPage)) rowsAfter stateAfter) after
   sheet-mirrors = placed-mirrors few v h (sheetContent x) (st .buffer) (owner base nodes after) rowsAfter stateAfter sheet-fills

@@ -1,23 +1,21 @@
 -- The sheets of the code are the model's, one by one: sheet k has the scores of the nodes from 0, 50, 104, .. on, the first one the tariff,
 -- the last one the node count. Assumes nothing.
 use mathlib.Core.Path.{_≡_, refl, sym, ap, ap₂, _∙_}
-use mathlib.Core.Bool.{Bool, true, false}
+use mathlib.Core.Bool.{Bool}
 use mathlib.Core.Logic.{_⊎_, inl, inr}
-use mathlib.Core.Option.{Option, none, some}
+use mathlib.Core.Option.{none, some}
 use mathlib.Core.List.{List, [], _∷_}
-use Prim.Native.Nat.{ℕ, zero, suc, _+_, _-_, _*_, _/_, _≤_, _<_, min}
-use native.Mathlib.Nat.{sub-zero}
+use Prim.Native.Nat.{ℕ, zero, suc, _+_, _-_, _*_, _≤_, _<_, min}
 use native.Mathlib.Numerals.{add-one}
 use native.Mathlib.Omega.{arith}
 use borrow.Author.Tests.{eqb-true, eq-eqb, ne-eqb, le-leb, lt-leb}
-use lib.Dec.{eqb, leb}
-use lib.ListN.{length, take, drop}
-use Rattle.laws.specs.Tests.{choose}
+use lib.Dec.{eqb}
+use lib.ListN.{take, drop}
 use Rattle.laws.specs.Order.{le-or}
 use Rattle.layout.specs.Layout.{firstScores, otherScores}
 use Rattle.account.specs.declared.Tariff.{Tariff}
 use Rattle.page.specs.Page.{Score}
-use Rattle.store.specs.Checkpoint.{Sheet, sheet, scoresFrom, parts, countIfLast, laterSheets, laterParts, sheets}
+use Rattle.store.specs.Checkpoint.{Sheet, sheet, scoresFrom, parts, countIfLast, laterSheets, sheets}
 use Rattle.store_laws.specs.SheetLaws.{length-scoresFrom}
 use Rattle.rows.specs.declared.Row.{Row}
 use Rattle.checkpoint_write.specs.Checkpoint.{onlyIf}
@@ -94,14 +92,16 @@ same-eqb : (a b c d : ℕ) → (a ≡ b → c ≡ d) → (c ≡ d → a ≡ b) �
 same-eqb a b c d f g = same-test (eqb a b) (eqb c d) (λ e. eq-eqb c d (f (eqb-true a b e))) (λ e. eq-eqb a b (g (eqb-true c d e)))
 
 module _ (t : Tariff) (score : ℕ → ℕ) (nodes : ℕ) where
+  abbrev scores : List Score
+  scores = scoresFrom 0 nodes score
+
   -- the scores behind those of sheet k
   left-behind : (k m : ℕ) → 1 ≤ k → drop otherScores (scoresFrom (sheetStart k) m score) ≡ scoresFrom (sheetStart (k + 1)) (m - otherScores) score
   left-behind k m l =
       let e : sheetStart k + otherScores ≡ sheetStart (k + 1) = omega arith in
       drop-scores score otherScores (sheetStart k) m ∙ ap (λ (i : ℕ). scoresFrom i (m - otherScores) score) e
 
-  sheet-first : sheet (some t) (take firstScores (scoresFrom 0 nodes score)) (countIfLast nodes (parts nodes otherScores (drop firstScores (scoresFrom 0 nodes score)))) ≡
-      sheetOf t score nodes 0
+  sheet-first : sheet (some t) (take firstScores scores) (countIfLast nodes (parts nodes otherScores (drop firstScores scores))) ≡ sheetOf t score nodes 0
   unfolding sheetOf
   sheet-first =
       let size : min firstScores nodes ≡ sheetSize 0 nodes = omega (arith, size-is 0 nodes) in
@@ -117,12 +117,10 @@ module _ (t : Tariff) (score : ℕ → ℕ) (nodes : ℕ) where
   unfolding sheetOf
   sheet-later most k m l f p e =
       let size : min otherScores m ≡ sheetSize k nodes = omega (arith, size-is k nodes) in
-      let no-tariff : none ≡ onlyIf (eqb k 0) t = ap (λ (b : Bool). onlyIf b t) (sym (ne-eqb k 0 (λ z. omega arith))) in
-      ap (λ (o : Option Tariff). sheet o (take otherScores (scoresFrom (sheetStart k) m score)) (countIfLast nodes (parts most otherScores (scoresFrom (sheetStart (k + 1)) (m - otherScores) score)))) no-tariff ∙
-      ap₂ (sheet (onlyIf (eqb k 0) t))
-      (take-scores score otherScores (sheetStart k) m ∙ ap (λ (n : ℕ). scoresFrom (sheetStart k) n score) size)
+      rw (ne-eqb k 0 (λ z. omega arith))
+      (ap₂ (sheet none) (take-scores score otherScores (sheetStart k) m ∙ ap (λ (n : ℕ). scoresFrom (sheetStart k) n score) size)
       (count-last score nodes most otherScores (sheetStart (k + 1)) (m - otherScores) f ∙
-      ap (λ (b : Bool). onlyIf b nodes) (same-eqb (m - otherScores) 0 (k + 1) (sheetCount nodes) (λ z. omega arith) (λ z. omega arith)))
+      ap (λ (b : Bool). onlyIf b nodes) (same-eqb (m - otherScores) 0 (k + 1) (sheetCount nodes) (λ z. omega arith) (λ z. omega arith))))
 
   as-many : (a b k : ℕ) → a ≡ b → sheetsFrom t score nodes a k ≡ sheetsFrom t score nodes b k
   as-many a b k e = ap (λ (n : ℕ). sheetsFrom t score nodes n k) e
@@ -134,7 +132,8 @@ module _ (t : Tariff) (score : ℕ → ℕ) (nodes : ℕ) where
   later-are zero k (suc m) l f e = absurd (omega arith)
   later-are (suc most) k zero l f e = as-many 0 (sheetCount nodes - k) k (omega arith)
   later-are (suc most) k (suc m) l f e =
-      ap (λ (xs : List Score). laterSheets nodes (take otherScores (scoresFrom (sheetStart k) (suc m) score) ∷ parts most otherScores xs)) (left-behind k (suc m) l) ∙
+      ap (λ (xs : List Score). laterSheets nodes (take otherScores (scoresFrom (sheetStart k) (suc m) score) ∷ parts most otherScores xs))
+      (left-behind k (suc m) l) ∙
       ap₂ (λ (x : Sheet) (xs : List Sheet). x ∷ xs) (sheet-later most k (suc m) l (omega arith) (omega arith) e)
       (later-are most (k + 1) (suc m - otherScores) (omega arith) (omega arith) (omega arith)) ∙
       as-many (suc (sheetCount nodes - (k + 1))) (sheetCount nodes - k) k (omega arith)
@@ -143,12 +142,8 @@ module _ (t : Tariff) (score : ℕ → ℕ) (nodes : ℕ) where
   pub sheets-are : sheets t (scoresFrom 0 nodes score) ≡ sheetsFrom t score nodes (sheetCount nodes) 0
   unfolding sheets
   sheets-are =
-      ap (λ (n : ℕ). sheet (some t) (take firstScores scores) (countIfLast n (parts n otherScores (drop firstScores scores))) ∷ laterSheets n (parts n otherScores (drop firstScores scores)))
-      (length-scoresFrom 0 nodes score) ∙
-      ap₂ (λ (x : Sheet) (xs : List Sheet). x ∷ xs) sheet-first
+      rw (length-scoresFrom 0 nodes score)
+      (ap₂ (λ (x : Sheet) (xs : List Sheet). x ∷ xs) sheet-first
       (ap (λ (xs : List Score). laterSheets nodes (parts nodes otherScores xs)) (drop-scores score firstScores 0 nodes) ∙
       later-are nodes 1 (nodes - firstScores) (omega arith) (omega arith) (omega arith)) ∙
-      as-many (suc (sheetCount nodes - 1)) (sheetCount nodes) 0 (omega arith)
-    where
-      scores : List Score
-      scores = scoresFrom 0 nodes score
+      as-many (suc (sheetCount nodes - 1)) (sheetCount nodes) 0 (omega arith))
