@@ -9,11 +9,11 @@ use borrow.Author.Tests.{lt-ltb, le-ltb, leb-true, leb-false}
 use lib.Dec.{leb, ltb}
 use lib.ListN.{length, getD, getElem?}
 use Rattle.laws.specs.Order.{le-or}
-use Rattle.laws.specs.Counts.{count, empty}
-use Rattle.page.specs.Page.{Page}
+use Rattle.laws.specs.Counts.{count, tally, empty}
+use Rattle.page.specs.Page.{Page, sequence}
 use Rattle.store.specs.Item.{itemsOf, piecesIn}
 use Rattle.store.specs.View.{View, greatest}
-use Rattle.store.specs.Pool.{Blocks, block}
+use Rattle.store.specs.Pool.{Blocks, block, above}
 use Rattle.store.specs.Store.{Store, view}
 use Rattle.store.specs.Live.{carries, live}
 use Rattle.store_laws.specs.LiveLaws.{live-carries, live-closing}
@@ -37,6 +37,7 @@ use Rattle.place.specs.Allocate.{at, allocate}
 use Rattle.place.proofs.Laws.{allocate-room, allocate-next, allocate-compact}
 use Rattle.flash_model.specs.Mirror.{rowAt, test, Images, PagesAre, RowsName, RowsSay, Owners, Mirrors}
 use Rattle.flash_model.specs.Pages.{blank-block}
+use Rattle.flash_model.specs.Ownership.{page-within}
 use Rattle.flash_model.specs.Blank.{blankBlocks-is, nextBlank-is}
 use Rattle.flash_model.specs.Live.{Owned, mark-live, liveIn-is}
 use Rattle.flash_model.specs.Choice.{victim-is}
@@ -66,7 +67,7 @@ pub record Allocated (image : Page → List ℕ) (own : ℕ → Page → Bool) (
   pub kept : Kept w w′
 
 module _ (image : Page → List ℕ) (written : Images image) (own : ℕ → Page → Bool) (keep : Page → Bool) (ps : List (List ℕ)) (rows : List Row) (s : State) (bs : Blocks)
-    (small : s .blocks ≤ 64) (r : Stands image own (world ps rows s) bs (s .current)) (o : Owned keep own (used s)) (inside : s .current < s .blocks) where
+    (small : s .blocks ≤ 64) (r : Stands image own (world ps rows s) bs (s .current)) (o : Owned keep own (used s) bs) (inside : s .current < s .blocks) where
   blank-is : (i : ℕ) → i < length bs → blankBlock ps i ≡ empty (block bs i)
   blank-is i l = blank-block (r .pages) written i (omega (arith, r .pages .size))
 
@@ -158,13 +159,14 @@ live-cases w closing (suc k) p e = go (carries w k p) refl e (λ h. live-cases w
         by (inl f) = inl (f .0, omega (arith, f .1), f .2)
         by (inr f) = inr f
 
-owned-live : {own : ℕ → Page → Bool} {closing : Page → Bool} {N C : ℕ} {st : Store} → Owners own closing N C st → Owned (live (view st) closing N) own (N + C)
-owned-live {own} {closing} {N} {C} {st} h =
-    record { owner = λ p e. owner p (live-cases (view st) closing N p e); owned = λ n l p e. owned n l p e (le-or N n) }
+owned-live : {own : ℕ → Page → Bool} {closing : Page → Bool} {N C : ℕ} {st : Store} → tally (above (st .last)) (st .blocks) ≡ 0 → Owners own closing N C st →
+    Owned (live (view st) closing N) own (N + C) (st .blocks)
+owned-live {own} {closing} {N} {C} {st} within h =
+    record { owner = λ i q p d e. owner p (page-within (st .last) (st .blocks) within i q p d) (live-cases (view st) closing N p e); owned = λ n l p e. owned n l p e (le-or N n) }
   where
-    owner : (p : Page) → ((n : ℕ) × (n < N) × (carries (view st) n p ≡ true)) ⊎ (closing p ≡ true) → (n : ℕ) × (n < N + C) × (own n p ≡ true)
-    owner p (inl f) = (f .0, omega (arith, f .1), h .nodes (f .0) (f .1) p ∙ f .2)
-    owner p (inr f) = let x = h .sheets p f in (x .0, x .2, x .3)
+    owner : (p : Page) → sequence p ≤ st .last → ((n : ℕ) × (n < N) × (carries (view st) n p ≡ true)) ⊎ (closing p ≡ true) → (n : ℕ) × (n < N + C) × (own n p ≡ true)
+    owner p w (inl f) = (f .0, omega (arith, f .1), h .nodes (f .0) (f .1) p ∙ f .2)
+    owner p w (inr f) = let x = h .sheets p w f in (x .0, x .2, x .3)
 
     owned : (n : ℕ) → n < N + C → (p : Page) → own n p ≡ true → (N ≤ n) ⊎ (n < N) → live (view st) closing N p ≡ true
     owned n l p e (inr g) = live-carries (view st) closing N p n g (sym (h .nodes n g p) ∙ e)
@@ -182,7 +184,7 @@ module _ {image : Page → List ℕ} {own : ℕ → Page → Bool} {closing : Pa
         current = refl;
         fill = h .fill ∙ ap (λ (c : ℕ). length (block (st .blocks) c)) (sym (h .current));
       })
-      (owned-live (h .owners))
+      (owned-live (v .rules .within) (h .owners))
       (omega (arith, h .current, v .rules .inside))
       (v .rules .spare)
       (λ e. subst

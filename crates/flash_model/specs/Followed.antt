@@ -29,4 +29,4 @@ module _ {B : ℕ} {score : ℕ → ℕ} {w : World} {run : Run} (b : Writable B
 -- Each node owns the pages that carry it, and nobody owns another.
 pub owners-open : (nodes sheets : ℕ) → sheets ≡ 0 → (st : Store) → Owners (carries (view st)) noClosing nodes sheets st
 owners-open nodes sheets none st =
-    record { nodes = λ n l p. refl; sheet = λ n a b p e. absurd (omega arith); sheets = λ p e. absurd (test-clash false e refl) }
+    record { nodes = λ n l p. refl; sheet = λ n a b p e. absurd (omega arith); sheets = λ p l e. absurd (test-clash false e refl) }

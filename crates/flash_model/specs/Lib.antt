@@ -30,3 +30,6 @@ pub mod NodePieces
 pub mod SlotsInUse
 pub mod RowRedone
 pub mod Content
+pub mod Sheets
+pub mod SheetPage
+pub mod Closing

@@ -126,13 +126,13 @@ map-names used rows x l =
     steps-keep (MarkedBy rows) (markNth rows) used (λ k m q h. marked-more rows k m h) (replicate 2048 0)
     (record { long = length-replicate {A = ℕ} 2048 0; is = λ y q. ap marked (getD-replicate {A = ℕ} 2048 y 0 0 q) }) .is x l
 
--- A page is live exactly where one of the rows in use owns it.
-pub record Owned (live : Page → Bool) (own : ℕ → Page → Bool) (rowsUsed : ℕ) : Type 0 where
-  pub owner : (p : Page) → live p ≡ true → (n : ℕ) × (n < rowsUsed) × (own n p ≡ true)
+-- A page of the blocks is live exactly where one of the rows in use owns it.
+pub record Owned (live : Page → Bool) (own : ℕ → Page → Bool) (rowsUsed : ℕ) (bs : Blocks) : Type 0 where
+  pub owner : (i q : ℕ) (p : Page) → getElem? (block bs i) q ≡ some p → live p ≡ true → (n : ℕ) × (n < rowsUsed) × (own n p ≡ true)
   pub owned : (n : ℕ) → n < rowsUsed → (p : Page) → own n p ≡ true → live p ≡ true
 
 module _ {B rowsUsed : ℕ} {own : ℕ → Page → Bool} {rows : List Row} {bs : Blocks} {live : Page → Bool}
-    (small : B ≤ 64) (named : RowsName B rowsUsed own rows bs) (o : Owned live own rowsUsed) where
+    (small : B ≤ 64) (named : RowsName B rowsUsed own rows bs) (o : Owned live own rowsUsed bs) where
   -- the map says of a place what the model says of the page there
   pub mark-live : (i q : ℕ) → i < B → q < 32 → marked (getD (liveMap rowsUsed rows) (32 * i + q) 0) ≡ test live (getElem? (block bs i) q)
   mark-live i q li lq = map-names rowsUsed rows (32 * i + q) (omega arith) ∙ same-test (anyNames rowsUsed (32 * i + q) rows) (test live (getElem? (block bs i) q)) to (from (getElem? (block bs i) q) refl)
@@ -147,7 +147,7 @@ module _ {B rowsUsed : ℕ} {own : ℕ → Page → Bool} {rows : List Row} {bs 
       from : (c : Option Page) → getElem? (block bs i) q ≡ c → test live c ≡ true → anyNames rowsUsed (32 * i + q) rows ≡ true
       from none d e = absurd (let z : _≡_ {A = ℕ} 0 1 = cc in omega arith)
       from (some p) d e =
-          let f = o .owner p e in
+          let f = o .owner i q p d e in
           any-intro rowsUsed (32 * i + q) rows (f .0) (f .1) (named .each (f .0) i q (f .1) li lq ∙ ap (test (own (f .0))) d ∙ f .2)
 
 -- A sum over the places of a block.

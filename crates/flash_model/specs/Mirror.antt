@@ -6,7 +6,7 @@ use mathlib.Core.Option.{Option, none, some}
 use mathlib.Core.List.{List}
 use Prim.Native.Nat.{ℕ, _+_, _*_, _≤_, _<_}
 use lib.ListN.{length, getD, getElem?}
-use Rattle.page.specs.Page.{Page}
+use Rattle.page.specs.Page.{Page, sequence}
 use Rattle.store.specs.Pool.{Blocks, block}
 use Rattle.store.specs.View.{greatest, pages}
 use Rattle.store.specs.Store.{Store, view}
@@ -53,11 +53,12 @@ pub record RowsSay (nodeCount : ℕ) (rows : List Row) (st : Store) : Type 0 whe
   pub mode : (n : ℕ) → n < nodeCount → InMode (rowAt rows n .mode) st n
   pub pages : (n : ℕ) → n < nodeCount → rowAt rows n .pages ≡ pages (view st) n
 
--- A node's row owns the pages that carry the node; the rows behind them own the pages of the checkpoint being written.
+-- A node's row owns the pages that carry the node; the rows behind them own the pages of the checkpoint being written, as far as their
+-- numbers are taken.
 pub record Owners (own : ℕ → Page → Bool) (closing : Page → Bool) (nodeCount sheetCount : ℕ) (st : Store) : Type 0 where
   pub nodes : (n : ℕ) → n < nodeCount → (p : Page) → own n p ≡ carries (view st) n p
   pub sheet : (n : ℕ) → nodeCount ≤ n → n < nodeCount + sheetCount → (p : Page) → own n p ≡ true → closing p ≡ true
-  pub sheets : (p : Page) → closing p ≡ true → (n : ℕ) × (nodeCount ≤ n) × (n < nodeCount + sheetCount) × (own n p ≡ true)
+  pub sheets : (p : Page) → sequence p ≤ st .last → closing p ≡ true → (n : ℕ) × (nodeCount ≤ n) × (n < nodeCount + sheetCount) × (own n p ≡ true)
 
 -- A world stands for a store, up to the log buffer.
 pub record Mirrors (image : Page → List ℕ) (own : ℕ → Page → Bool) (closing : Page → Bool) (w : World) (st : Store) : Type 0 where

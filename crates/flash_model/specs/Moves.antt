@@ -44,7 +44,7 @@ page-below (x ∷ b) zero p e = omega arith
 page-below (x ∷ b) (suc q) p e = omega (arith, page-below b q p e)
 
 module _ {B rowsUsed : ℕ} {own : ℕ → Page → Bool} {rows : List Row} {bs : Blocks} (live : Page → Bool) {i j : ℕ} (v : Moves bs i j) (size : length bs ≡ B)
-    (most : length (block bs i) ≤ 32) (named : RowsName B rowsUsed own rows bs) (o : Owned live own rowsUsed) (places : List ℕ)
+    (most : length (block bs i) ≤ 32) (named : RowsName B rowsUsed own rows bs) (o : Owned live own rowsUsed bs) (places : List ℕ)
     (went : (q : ℕ) → q < 32 → (p : Page) → getElem? (block bs i) q ≡ some p → live p ≡ true → getD places q 0 ≡ 32 * j + rank live q (block bs i)) where
   rank-below : (q : ℕ) → q < 32 → rank live q (block bs i) < 32
   rank-below q l = omega (arith, count-le-length live (take q (block bs i)), length-take q (block bs i))
@@ -150,7 +150,7 @@ pub record Compaction (B : ℕ) (image : Page → List ℕ) (rowsUsed : ℕ) (ow
   pub same : (n : ℕ) → n < rowsUsed → (g : ℕ → ℕ) × (rowAt (c .rows) n ≡ mapped g (rowAt rows n))
 
 module _ {B rowsUsed : ℕ} {image : Page → List ℕ} {own : ℕ → Page → Bool} {ps : List (List ℕ)} {rows : List Row} {bs : Blocks} (live : Page → Bool) {i j : ℕ} (v : Moves bs i j)
-    (pages : PagesAre B image ps bs) (named : RowsName B rowsUsed own rows bs) (o : Owned live own rowsUsed) (m : List ℕ)
+    (pages : PagesAre B image ps bs) (named : RowsName B rowsUsed own rows bs) (o : Owned live own rowsUsed bs) (m : List ℕ)
     (mark : (q : ℕ) → q < 32 → marked (getD m (32 * i + q) 0) ≡ test live (getElem? (block bs i) q)) where
   pub compactBlock-is : Compaction B image rowsUsed own rows bs live i j (compactBlock i m rowsUsed j ps rows)
   unfolding compactBlock emptied

@@ -47,7 +47,6 @@ module _ {B : ℕ} {run : Run} (b : Writable B run) (k : ℕ) (few : k ≤ mostE
   pub room-writable : Writable B (makeRoom k run)
   room-writable = record { few = b .few; good = makeRoom-roomy (b .good) k few .good; fits = room-fits }
 
-
 -- Room for a content, in the code and in the store.
 module _ {B : ℕ} {score : ℕ → ℕ} {w : World} {run : Run} (b : Writable B run) (f : Follows score w run) (x : Node) (small : length (changesOf x) ≤ mostEntries)
     (number : 2 + run .now .last < bound32) where
