@@ -1,1 +1,1 @@
-// How bytes stand for the store's model; definitions and theorems stand in specs/, and there is no code here.
+// How pages, rows and state stand for the store; definitions and theorems stand in specs/, and there is no code here.

@@ -225,7 +225,7 @@ drained {B} {run} v = go (run .now .buffer) refl
     go (x ∷ b) e = record { good = flushRun-good v; nodes = refl; buffer = refl; number = omega arith; keep = flushRun-keep v }
 
 -- Nothing is in the checkpoint when it begins: older ones are dead.
-closing-none : {B N : ℕ} {st : Store} → Invariant B N noClosing st → tally (closingSince (st .last)) (st .blocks) ≡ 0
+pub closing-none : {B N : ℕ} {st : Store} → Invariant B N noClosing st → tally (closingSince (st .last)) (st .blocks) ≡ 0
 unfolding closingSince
 closing-none {st = st} v =
     omega (
@@ -234,7 +234,7 @@ closing-none {st = st} v =
       tally-mono (closingSince (st .last)) (above (st .last)) (st .blocks) (λ p. and-right (isCheckpoint p) (above (st .last) p)),
     )
 
-closing-begins : {B N : ℕ} {st : Store} → Invariant B N noClosing st → Invariant B N (closingSince (st .last)) st
+pub closing-begins : {B N : ℕ} {st : Store} → Invariant B N noClosing st → Invariant B N (closingSince (st .last)) st
 closing-begins v =
     record {
       blocks = v .blocks;

@@ -33,15 +33,15 @@ use Rattle.node_read.specs.Replay.{redoRun, redoBuffer}
 use Rattle.node_read.specs.Slots.{sequenceAt, slotAt, redoAt}
 use Rattle.node_read.specs.Whole.{wholeOf, wholeAt}
 use Rattle.node_read.specs.Content.{redoPages, logContent, contentBy, content}
 use Rattle.flash_model.specs.Mirror.{rowAt, test}
 use Rattle.flash_model.specs.Follows.{Follows, Writable}
-use Rattle.flash_model.specs.EntriesRead.{buffer-redone}
-use Rattle.flash_model.specs.PageRead.{sequence-read, node-read}
-use Rattle.flash_model.specs.Stamps.{stampsTo, joined, length-stamps, gather-stamps, stamps-falling, stamps-one}
-use Rattle.flash_model.specs.Lies.{Lies, find-lies, placeOf, page-fits, block-below, place-below, image-here}
-use Rattle.flash_model.specs.SlotsInUse.{in-one}
-use Rattle.flash_model.specs.RowRedone.{replayFrom-append, Named, row-redone}
-use Rattle.flash_model.specs.NodePieces.{none-lies, log-redone, disk-buffer, disk-own, disk-other}
+use Rattle.read_model.specs.EntriesRead.{buffer-redone}
+use Rattle.read_model.specs.PageRead.{sequence-read, node-read}
+use Rattle.read_model.specs.Stamps.{stampsTo, joined, length-stamps, gather-stamps, stamps-falling, stamps-one}
+use Rattle.read_model.specs.Lies.{Lies, find-lies, placeOf, page-fits, block-below, place-below, image-here}
+use Rattle.read_model.specs.SlotsInUse.{in-one}
+use Rattle.read_model.specs.RowRedone.{replayFrom-append, Named, row-redone}
+use Rattle.read_model.specs.NodePieces.{none-lies, log-redone, disk-buffer, disk-own, disk-other}
 
 -- The pieces of a node's greatest version at a sequence number.
 abbrev piecesOf : Store → ℕ → ℕ → List Piece

@@ -28,11 +28,11 @@ use Rattle.place.specs.World.{World}
 use Rattle.log.specs.Flush.{room}
 use Rattle.node_write.specs.Group.{roomFor, group, startNext, create}
 use Rattle.node_write.specs.Edit as Code
 use Rattle.flash_model.specs.Mirror.{rowAt}
 use Rattle.flash_model.specs.Follows.{Follows, Writable}
-use Rattle.flash_model.specs.Flush.{room-follows}
-use Rattle.flash_model.specs.Starts.{restart-follows, startNext-follows}
-use Rattle.flash_model.specs.Entries.{enter-follows}
+use Rattle.write_model.specs.Flush.{room-follows}
+use Rattle.write_model.specs.Starts.{restart-follows, startNext-follows}
+use Rattle.write_model.specs.Entries.{enter-follows}
 
 module _ {B : ℕ} {run : Run} (b : Writable B run) (k : ℕ) (few : k ≤ mostEntries) (number : suc (run .now .last) < bound32) where
   room-fits : StoreFits (makeRoom k run .now)

@@ -27,8 +27,8 @@ use Rattle.store.specs.Store.{Store, view}
 use Rattle.store_laws.specs.PoolLaws.{find-none}
 use Rattle.store_laws.specs.Versions.{versionIs, positive, says, said, VersionRules, OnPage}
 use Rattle.node_read.specs.Replay.{redoRun}
-use Rattle.flash_model.specs.PageRead.{entries-read}
-use Rattle.flash_model.specs.Lies.{Lies, find-lies}
+use Rattle.read_model.specs.PageRead.{entries-read}
+use Rattle.read_model.specs.Lies.{Lies, find-lies}
 
 -- What no page of a pool passes, the page of a number does not.
 count-here : (f : Page → Bool) (b : List Page) (q : ℕ) (p : Page) → getElem? b q ≡ some p → bit (f p) ≤ count f b

@@ -30,7 +30,7 @@ use Rattle.page.specs.ReadBack.{map-back, every-to, sequence-found}
 use Rattle.store.specs.Item.{entryItem, piecesIn}
 use Rattle.node_read.specs.Replay.{redoRun}
 use Rattle.node_read.specs.Whole.{wholeOf}
-use Rattle.flash_model.specs.EntriesRead.{redoAll, redoAll-pieces, isEntry, redoRun-payloads, entry-back}
+use Rattle.read_model.specs.EntriesRead.{redoAll, redoAll-pieces, isEntry, redoRun-payloads, entry-back}
 
 -- Behind a content: the sums, and FF to the end of the page.
 abbrev blanks : ℕ → List ℕ → List ℕ

@@ -14,9 +14,9 @@ use Rattle.rows.specs.Step.{names}
 use Rattle.rows.specs.declared.Row.{Row}
 use Rattle.node_read.specs.Slots.{slotAt, redoAt, redoTwo, redoThree}
 use Rattle.node_read.specs.Content.{redoPages}
-use Rattle.flash_model.specs.Stamps.{joined, Falling, end, next}
-use Rattle.flash_model.specs.SlotOrder.{Tells, two-redone, three-redone}
-use Rattle.flash_model.specs.SlotsInUse.{in-one, in-two, in-three}
+use Rattle.read_model.specs.Stamps.{joined, Falling, end, next}
+use Rattle.read_model.specs.SlotOrder.{Tells, two-redone, three-redone}
+use Rattle.read_model.specs.SlotsInUse.{in-one, in-two, in-three}
 
 -- Replaying pieces in a row.
 pub replayFrom-append : (d : Draft) (xs ys : List Piece) → replayFrom d (xs ++ ys) ≡ replayFrom (replayFrom d xs) ys

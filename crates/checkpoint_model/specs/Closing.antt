@@ -26,6 +26,7 @@ use Rattle.store.specs.Run.{Run, write, flushRun}
 use Rattle.store.specs.Checkpoint.{Sheet, sheetContent, scoresFrom, writeSheets, drainBy, close}
 use Rattle.store.specs.Checkpoint as Model
 use Rattle.store_laws.specs.Placing.{Invariant, place-tally, silent-invariant}
+use Rattle.store_laws.specs.Closing.{closing-none, closing-begins}
 use Rattle.store_laws.specs.Good.{flushRun-good}
 use Rattle.store_laws.specs.WriteFits.{flush-fits}
 use Rattle.rows.specs.declared.Row.{Row}
@@ -35,14 +36,14 @@ use Rattle.place.specs.Allocate.{allocate}
 use Rattle.log.specs.Flush.{nextNumber, flush}
 use Rattle.checkpoint_write.specs.Checkpoint.{onlyIf}
 use Rattle.checkpoint.specs.Sheets.{sheetStart, sheetSize, sheetCount, sheetImage, sheetRow, closedBy, writeSheet, sheet, sheets, drain, checkpoint}
 use Rattle.flash_model.specs.Mirror.{rowAt, test, PagesAre, Owners, Mirrors}
 use Rattle.flash_model.specs.Allocate.{Kept}
 use Rattle.flash_model.specs.Follows.{Follows, Writable}
 use Rattle.flash_model.specs.Followed.{few-blocks, invariant-here}
-use Rattle.flash_model.specs.Flush.{flush-follows}
+use Rattle.write_model.specs.Flush.{flush-follows}
 use Rattle.flash_model.specs.Placed.{nextNumber-is, kept-found, step-found}
-use Rattle.flash_model.specs.Sheets.{scoresOf-is, sheet-inside, sheetOf, sheetsFrom, sheets-are}
-use Rattle.flash_model.specs.SheetPage.{owner, owner-node, owners-closing, row-kept, sheet-mirrors}
+use Rattle.checkpoint_model.specs.Sheets.{scoresOf-is, sheet-inside, sheetOf, sheetsFrom, sheets-are}
+use Rattle.checkpoint_model.specs.SheetPage.{owner, owner-node, owners-closing, row-kept, sheet-mirrors}
 
 -- A world stands for a store while a checkpoint is written, `base` being the last number taken before it and k the sheets written: as many rows
 -- behind those of the nodes name its pages. With what the store keeps meanwhile.
@@ -176,16 +177,6 @@ module _ {B : ℕ} {score : ℕ → ℕ} {w : World} {run : Run} (b : Writable B
   abbrev st : Store
   st = run .now
 
-  -- no page is of the checkpoint when it begins
-  none-closing : tally (closingSince (st .last)) (st .blocks) ≡ 0
-  unfolding closingSince
-  none-closing =
-      omega (
-        arith,
-        b .good .invariant .rules .within,
-        tally-mono (closingSince (st .last)) (above (st .last)) (st .blocks) (λ p. and-right (isCheckpoint p) (above (st .last) p)),
-      )
-
   mirrors-begin : Mirrors image (owner (st .last) (w .state .nodes) st) (closingSince (st .last)) w st
   mirrors-begin =
       let m = f .mirrors in
@@ -211,7 +202,6 @@ module _ {B : ℕ} {score : ℕ → ℕ} {w : World} {run : Run} (b : Writable B
 
   closes-begin : Closes score (st .last) 0 w st
   closes-begin =
-      let v = invariant-here b f in
       record {
         few = few-blocks b f;
         table = f .table;
@@ -219,9 +209,8 @@ module _ {B : ℕ} {score : ℕ → ℕ} {w : World} {run : Run} (b : Writable B
         number = omega arith;
         mirrors = mirrors-begin;
         scores = λ n l. f .scores n (omega (arith, f .nodes));
-        invariant =
-            record { blocks = v .blocks; nodes = v .nodes; sheets = omega (arith, none-closing); rules = v .rules; fit = v .fit; lean = v .lean };
-        sheets = omega (arith, none-closing);
+        invariant = closing-begins (invariant-here b f);
+        sheets = omega (arith, closing-none (b .good .invariant));
       }
 
   -- ALL SHEETS: the pages left are the images of the store's.

@@ -39,15 +39,15 @@ use Rattle.place.specs.World.{World, world, used, spot}
 use Rattle.place.specs.Allocate.{allocate}
 use Rattle.log.specs.Claim.{claimEntries}
 use Rattle.log.specs.Flush.{nextNumber, advanced, emptied, writeBuffer, flush, room}
 use Rattle.flash_model.specs.Mirror.{rowAt, test, RowsSay, Mirrors}
 use Rattle.flash_model.specs.Names.{mapped}
 use Rattle.flash_model.specs.Allocate.{Kept}
 use Rattle.flash_model.specs.Follows.{BufferIs, Follows, Writable}
 use Rattle.flash_model.specs.Ownership.{owned-same}
 use Rattle.flash_model.specs.Followed.{few-blocks, invariant-here, owners-open}
 use Rattle.flash_model.specs.Placed.{nextNumber-is, place-found, step-found, kept-found, next-free, placed-mirrors}
 use Rattle.flash_model.specs.Buffer.{buffer-same, image-log}
-use Rattle.flash_model.specs.Claims.{concern, Claimed, length-claimed, claimed-row}
+use Rattle.write_model.specs.Claims.{concern, Claimed, length-claimed, claimed-row}
 
 -- No entry of a version: nothing of any node under it.
 unsaid-pieces : (n version : ℕ) (es : List Entry) → count (versionIs version) es ≡ 0 → piecesIn n version (map entryItem es) ≡ []

@@ -1,0 +1,3 @@
+pub mod Sheets
+pub mod SheetPage
+pub mod Closing

@@ -1,0 +1,9 @@
+pub mod EntriesRead
+pub mod PageRead
+pub mod Stamps
+pub mod Lies
+pub mod SlotOrder
+pub mod NodePieces
+pub mod SlotsInUse
+pub mod RowRedone
+pub mod Content
