@@ -1,0 +1,85 @@
+-- The two pages as the writers make them, and the ways out of prepare. Assumes nothing.
+use mathlib.Core.Path.{_≡_, refl, sym, ap, _∙_}
+use mathlib.Core.Bool.{true, false}
+use mathlib.Core.List.{List, [], _∷_}
+use Prim.Native.Nat.{ℕ}
+use native.Mathlib.Omega.{arith}
+use lib.ListN.{length, replicate}
+use Rattle.laws.specs.Lay.{lay, lay-whole, part, part-whole}
+use Rattle.laws.specs.BigEndian.{bigEndian, number, numberAt}
+use Rattle.layout.specs.Layout.{pageBytes, noLeaf}
+use Rattle.account.specs.declared.Tariff.{Tariff}
+use Rattle.account.specs.Range.{inRange}
+use Rattle.node.specs.declared.Kind.the-variants.{Leaf}
+use Rattle.node.specs.Change.{link}
+use Rattle.page.specs.Page.{Entry, Page}
+use Rattle.page.specs.Image.{entryBytes, contentBytes, fields, numbered, sealed, image}
+use Rattle.page.specs.Decode.{scoreOf}
+use Rattle.page.specs.Spelled.{length-entryBytes}
+use Rattle.page_write.specs.Chunks.{chunks}
+use Rattle.page_write.specs.Pages.{entryRecord, entryRecord-bytes, logBody, logImage}
+use Rattle.checkpoint_write.specs.Checkpoint.{scoresIn}
+use Rattle.checkpoint_write.specs.Checkpoint as Writer
+use Rattle.model.specs.Call.{poolLength, prepareOf}
+use Rattle.prepare.specs.Prepared.{rootPage, checkpointPage, blocksIf, firstBytes, Leaves, IsPool, Question, refused, passed, question-one, prepared-bytes}
+
+abbrev root : Entry
+root = record { id = 0; version = 1; change = link Leaf noLeaf }
+
+pub root-image : (buffer : List ℕ) → buffer ≡ lay (replicate 15 0) 0 (entryRecord 0 1 3 0 noLeaf) → logImage 2 1 buffer ≡ image rootPage
+unfolding logImage logBody chunks image contentBytes
+root-image buffer e = ap (λ (p : List ℕ). sealed pageBytes (numbered 2 (fields 0x12 (p ∷ [])))) whole
+  where
+    is : buffer ≡ entryBytes root
+    is =
+        e ∙ ap (lay (replicate 15 0) 0) (entryRecord-bytes 0 1 (link Leaf noLeaf)) ∙
+        lay-whole (replicate 15 0) (entryBytes root) (length-entryBytes root)
+
+    whole : part buffer 0 15 ≡ entryBytes root
+    whole = part-whole buffer 15 (ap length is ∙ length-entryBytes root) ∙ is
+
+pub checkpoint-page : (t : Tariff) → Writer.checkpointPage 3 true t 1 (replicate 6 0) true 1 ≡ checkpointPage t
+unfolding Writer.checkpointPage scoresIn chunks scoreOf numberAt part
+checkpoint-page t = refl
+
+-- The bytes erased, then one page and the other.
+pub first-written : (bytes : ℕ) (a b erased one two : List ℕ) → erased ≡ replicate bytes 255 → one ≡ lay erased 0 a → two ≡ lay one 512 b → two ≡ firstBytes bytes a b
+unfolding firstBytes
+first-written bytes a b erased one two e f g = g ∙ ap (λ (s : List ℕ). lay s 512 b) (f ∙ ap (λ (s : List ℕ). lay s 0 a) e)
+
+-- No block counted: no pool; some block counted: a pool.
+module _ (pool : List ℕ) (n : ℕ) (is : n ≡ blocksIf (length pool)) where
+  pub no-pool : n ≡ 0 → poolLength pool ≡ false
+  no-pool z = go (question-one pool)
+    where
+      go : Question pool → poolLength pool ≡ false
+      go (refused e q) = q
+      go (passed h) = absurd (omega (arith, is, h .blocks, h .least))
+
+  pub a-pool : (n ≡ 0 → ⊥) → IsPool pool
+  a-pool d = go (question-one pool)
+    where
+      go : Question pool → IsPool pool
+      go (refused e q) = absurd (d (is ∙ e))
+      go (passed h) = h
+
+-- Refused with 1, with 10, or prepared.
+module _ (pool : List ℕ) (t : Tariff) where
+  pub refused-length : poolLength pool ≡ false → Leaves (prepareOf pool t) 1 pool
+  unfolding prepareOf
+  refused-length e = rw e (record { number = refl; pool = refl })
+
+  module _ (h : IsPool pool) where
+    pub refused-tariff : inRange t ≡ false → Leaves (prepareOf pool t) 10 pool
+    unfolding prepareOf
+    refused-tariff e = rw (h .question, e) (record { number = refl; pool = refl })
+
+    pub prepared-pool : inRange t ≡ true → (a b left : List ℕ) → a ≡ image rootPage → b ≡ image (checkpointPage t) → length a ≡ pageBytes → length b ≡ pageBytes →
+        left ≡ firstBytes (length pool) a b → Leaves (prepareOf pool t) 0 left
+    unfolding prepareOf
+    prepared-pool e a b left ea eb la lb is =
+        rw (h .question, e)
+        (record {
+          number = refl;
+          pool = is ∙ rw (ea, eb) (prepared-bytes pool h t (ap length (sym ea) ∙ la) (ap length (sym eb) ∙ lb));
+        })

@@ -1,0 +1,32 @@
+-- `write_first` meets its contract: three writes, one behind another. Assumes nothing.
+use lib.ListN.{length}
+use Rattle.prepare.proofs.Laws.{first-written}
+use borrow.Author.Needs.{needs}
+use Rattle.prepare.proofs.write_first.Statement.{statement}
+use Rattle.prepare.proofs.write_first.Tie as tie
+use Rattle.page_write.proofs.frame.write_page.Reads as write-page-reads
+use Rattle.wire.proofs.bytes.fill.Reads as fill-reads
+
+fill-requires : tie.Need-fill-requires
+fill-requires c κs = search needs
+
+write-page-requires : tie.Need-write-page-requires
+write-page-requires c κs = search needs
+
+write-page-requires-2 : tie.Need-write-page-requires-2
+write-page-requires-2 c κs = search needs
+
+same-length : tie.Need-same-length
+same-length c = search needs
+
+returns : tie.Need-returns
+returns c = let a = c .before .before .before .before .before .before .before .before .before .before .before .before .before .args in
+    let erased = c .before .before .before .before .before .before .before .before .before .before .fill in
+    let one = c .before .before .before .before .before .before .write-page in
+    let two = c .before .before .write-page2 in
+    first-written (length (a .pool .now)) (a .root) (a .checkpoint) (erased .last .0) (one .last .0) (two .last .0) (erased .ensures) (one .ensures) (two .ensures)
+
+pub write-first-spec : {M : Type 1} → statement M
+write-first-spec =
+    tie.close
+    (tie.spec fill-requires write-page-requires write-page-requires-2 same-length returns)

@@ -1,0 +1,163 @@
+-- What prepare leaves, by bytes: all FF but the first two pages; and that these are the bytes of the prepared pool. Assumes nothing.
+use mathlib.Core.Path.{_≡_, refl, sym, ap, ap₂, _∙_}
+use mathlib.Core.Bool.{Bool, true, false, _&&_}
+use mathlib.Core.Logic.{_⊎_, inl, inr}
+use mathlib.Core.List.{List, [], _∷_, _++_, append-assoc}
+use mathlib.Core.Option.{Option, none, some}
+use Prim.Native.Nat.{ℕ, zero, suc, _+_, _-_, _*_, _/_, _≤_, _<_}
+use native.Mathlib.Nat.{zero-add, suc-add}
+use native.Mathlib.Omega.{arith}
+use borrow.Author.Tests.{leb-true, eqb-true, le-leb, lt-leb, lt-ltb, le-ltb, eq-eqb, ne-eqb}
+use lib.Dec.{eqb, leb, ltb}
+use lib.ListN.{length, replicate, length-append, length-replicate}
+use Rattle.laws.specs.Tests.{choose, and-left, and-right}
+use Rattle.laws.specs.Order.{eq-or, le-or}
+use Rattle.laws.specs.Lay.{lay, lay-replicate, lay-next}
+use Rattle.layout.specs.Layout.{pageBytes, pagesInBlock, blockBytes, fewestBlocks, mostBlocks, noLeaf}
+use Rattle.account.specs.declared.Tariff.{Tariff}
+use Rattle.node.specs.declared.Kind.the-variants.{Leaf}
+use Rattle.node.specs.Change.{link}
+use Rattle.page.specs.Page.{Page, page, log, checkpoint}
+use Rattle.page.specs.Image.{image, blankBytes}
+use Rattle.store.specs.Reopen.{Cells, cellsIn, cells}
+use Rattle.model.specs.Bytes.{cellBytes, bytesOf}
+use Rattle.model.specs.Prepare.{prepared}
+use Rattle.model.specs.Call.{blocksOf, poolLength, Prepared}
+
+-- The two pages.
+abbrev pub rootPage : Page
+rootPage = page 2 (log (record { id = 0; version = 1; change = link Leaf noLeaf } ∷ []))
+
+abbrev pub checkpointPage : Tariff → Page
+checkpointPage t = page 3 (checkpoint (some t) (record { id = 0; score = 0 } ∷ []) (some 1))
+
+-- The blocks of a pool of so many bytes; 0 where no pool has that length.
+unfoldable pub blocksIf : ℕ → ℕ
+blocksIf bytes =
+    choose (ltb (bytes / blockBytes) fewestBlocks) 0
+    (choose (ltb mostBlocks (bytes / blockBytes)) 0 (choose (eqb (blockBytes * (bytes / blockBytes)) bytes) (bytes / blockBytes) 0))
+
+-- Two images laid over erased bytes.
+unfoldable pub firstBytes : ℕ → List ℕ → List ℕ → List ℕ
+firstBytes bytes a b = lay (lay (replicate bytes 255) 0 a) pageBytes b
+
+-- What a call leaves is what the definition says: its number, and every byte of the pool.
+pub record Leaves (right : Prepared) (returned : ℕ) (left : List ℕ) : Type 0 where
+  pub number : returned ≡ right .number
+  pub pool : left ≡ right .pool
+
+-- The four ways out of the question for the length.
+module _ (bytes : ℕ) where
+  abbrev blocks : ℕ
+  blocks = bytes / blockBytes
+
+  pub too-few : blocks < fewestBlocks → 0 ≡ blocksIf bytes
+  unfolding blocksIf
+  too-few l = rw (lt-ltb blocks fewestBlocks l) refl
+
+  module _ (a : fewestBlocks ≤ blocks) where
+    pub too-many : mostBlocks < blocks → 0 ≡ blocksIf bytes
+    unfolding blocksIf
+    too-many l = rw (le-ltb blocks fewestBlocks a, lt-ltb mostBlocks blocks l) refl
+
+    module _ (b : blocks ≤ mostBlocks) where
+      pub whole-blocks : blockBytes * blocks ≡ bytes → blocks ≡ blocksIf bytes
+      unfolding blocksIf
+      whole-blocks e = rw (le-ltb blocks fewestBlocks a, le-ltb mostBlocks blocks b, eq-eqb (blockBytes * blocks) bytes e) refl
+
+      pub cut-block : (blockBytes * blocks ≡ bytes → ⊥) → 0 ≡ blocksIf bytes
+      unfolding blocksIf
+      cut-block d = rw (le-ltb blocks fewestBlocks a, le-ltb mostBlocks blocks b, ne-eqb (blockBytes * blocks) bytes d) refl
+
+-- A buffer is a pool by its length, or is none; question 1 says which.
+pub record IsPool (pool : List ℕ) : Type 0 where
+  pub question : poolLength pool ≡ true
+  pub least : fewestBlocks ≤ blocksOf pool
+  pub most : blocksOf pool ≤ mostBlocks
+  pub whole : length pool ≡ blockBytes * blocksOf pool
+  pub blocks : blocksIf (length pool) ≡ blocksOf pool
+
+pub data Question (pool : List ℕ) : Type 0 where
+  refused : blocksIf (length pool) ≡ 0 → poolLength pool ≡ false → Question pool
+  passed : IsPool pool → Question pool
+
+pub question-one : (pool : List ℕ) → Question pool
+unfolding poolLength
+question-one pool = go (le-or fewestBlocks (blocksOf pool)) (le-or (blocksOf pool) mostBlocks) (eq-or (blockBytes * blocksOf pool) (length pool))
+  where
+    n : ℕ
+    n = length pool
+
+    go : (fewestBlocks ≤ blocksOf pool) ⊎ (blocksOf pool < fewestBlocks) → (blocksOf pool ≤ mostBlocks) ⊎ (mostBlocks < blocksOf pool) →
+        (blockBytes * blocksOf pool ≡ length pool) ⊎ (blockBytes * blocksOf pool ≡ length pool → ⊥) → Question pool
+    go (inr l) b c = refused (sym (too-few n l)) (rw (lt-leb fewestBlocks (blocksOf pool) l) refl)
+    go (inl a) (inr l) c = refused (sym (too-many n a l)) (rw (le-leb fewestBlocks (blocksOf pool) a, lt-leb (blocksOf pool) mostBlocks l) refl)
+    go (inl a) (inl b) (inr d) =
+        refused (sym (cut-block n a b d))
+        (rw (le-leb fewestBlocks (blocksOf pool) a, le-leb (blocksOf pool) mostBlocks b, ne-eqb (blockBytes * blocksOf pool) (length pool) d) refl)
+    go (inl a) (inl b) (inl e) =
+        passed
+        (record {
+          question = rw (le-leb fewestBlocks (blocksOf pool) a, le-leb (blocksOf pool) mostBlocks b, eq-eqb (blockBytes * blocksOf pool) (length pool) e) refl;
+          least = a;
+          most = b;
+          whole = sym e;
+          blocks = sym (whole-blocks n a b e);
+        })
+
+-- ---- the bytes of the prepared pool
+
+abbrev erasedBytes : ℕ → List ℕ
+erasedBytes n = replicate n 255
+
+erased-same : (m n : ℕ) → m ≡ n → erasedBytes m ≡ erasedBytes n
+erased-same m n e = ap erasedBytes e
+
+replicate-add : (m n a : ℕ) → replicate m a ++ replicate n a ≡ replicate (m + n) a
+replicate-add zero n a = ap (λ (k : ℕ). replicate k a) (sym (zero-add n))
+replicate-add (suc m) n a = ap (a ∷_) (replicate-add m n a) ∙ ap (λ (k : ℕ). replicate k a) (sym (suc-add m n))
+
+bytes-append : (a b : Cells) → bytesOf (a ++ b) ≡ bytesOf a ++ bytesOf b
+bytes-append [] b = refl
+bytes-append (c ∷ a) b = ap (cellBytes c ++_) (bytes-append a b) ∙ sym (append-assoc (cellBytes c) (bytesOf a) (bytesOf b))
+
+bytes-blank : (k : ℕ) → bytesOf (cellsIn k []) ≡ replicate (pageBytes * k) 255
+unfolding cellsIn blankBytes
+bytes-blank zero = refl
+bytes-blank (suc k) =
+    ap (replicate pageBytes 255 ++_) (bytes-blank k) ∙
+    replicate-add pageBytes (pageBytes * k) 255 ∙ erased-same (pageBytes + pageBytes * k) (pageBytes * suc k) (omega arith)
+
+bytes-blanks : (k : ℕ) → bytesOf (cells pagesInBlock (replicate k [])) ≡ replicate (blockBytes * k) 255
+bytes-blanks zero = refl
+bytes-blanks (suc k) =
+    bytes-append (cellsIn pagesInBlock []) (cells pagesInBlock (replicate k [])) ∙
+    ap₂ {B = List ℕ} _++_ (bytes-blank pagesInBlock) (bytes-blanks k) ∙
+    replicate-add (pageBytes * pagesInBlock) (blockBytes * k) 255 ∙ erased-same (pageBytes * pagesInBlock + blockBytes * k) (blockBytes * suc k) (omega arith)
+
+module _ (a b : List ℕ) (la : length a ≡ pageBytes) (lb : length b ≡ pageBytes) where
+  first-laid : (bytes : ℕ) → 2 * pageBytes ≤ bytes → firstBytes bytes a b ≡ a ++ (b ++ replicate (bytes - 2 * pageBytes) 255)
+  unfolding firstBytes
+  first-laid bytes l =
+      let erased : List ℕ = replicate bytes 255 in
+      let n : length erased ≡ bytes = length-replicate {A = ℕ} bytes 255 in
+      lay-next erased 0 a b pageBytes (omega arith) (omega arith) ∙
+      lay-replicate bytes 255 (a ++ b) ∙
+      ap (λ (xs : List ℕ). (a ++ b) ++ xs) (erased-same (bytes - length (a ++ b)) (bytes - 2 * pageBytes) (omega (arith, length-append a b))) ∙
+      append-assoc a b (replicate (bytes - 2 * pageBytes) 255)
+
+-- THE PREPARED POOL is these bytes.
+pub prepared-bytes : (pool : List ℕ) → IsPool pool → (t : Tariff) → length (image rootPage) ≡ pageBytes → length (image (checkpointPage t)) ≡ pageBytes →
+    firstBytes (length pool) (image rootPage) (image (checkpointPage t)) ≡ bytesOf (prepared (blocksOf pool) t)
+unfolding prepared cellsIn
+prepared-bytes pool h t k l =
+    first-laid (image rootPage) (image (checkpointPage t)) k l (length pool) (omega (arith, h .whole, h .least)) ∙
+    ap (λ (xs : List ℕ). image rootPage ++ (image (checkpointPage t) ++ xs)) rest
+  where
+    rest : replicate (length pool - 2 * pageBytes) 255 ≡ bytesOf (cellsIn 30 [] ++ cells pagesInBlock (replicate (blocksOf pool - 1) []))
+    rest =
+        sym
+        (bytes-append (cellsIn 30 []) (cells pagesInBlock (replicate (blocksOf pool - 1) [])) ∙
+        ap₂ {B = List ℕ} _++_ (bytes-blank 30) (bytes-blanks (blocksOf pool - 1)) ∙
+        replicate-add (pageBytes * 30) (blockBytes * (blocksOf pool - 1)) 255 ∙
+        erased-same (pageBytes * 30 + blockBytes * (blocksOf pool - 1)) (length pool - 2 * pageBytes) (omega (arith, h .whole, h .least)))

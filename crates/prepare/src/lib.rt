@@ -1,0 +1,74 @@
+// Prepare: "it erases all, then writes from the first page of block 0: node 0 as an empty leaf (version 1, page stamp 2), a closing
+// page (stamp 3)".
+ghost use mathlib.Core.Path.{_≡_};
+ghost use Prim.Native.Nat.{_≤_};
+ghost use lib.ListN.{length};
+ghost use Rattle.page.specs.Image.{image};
+ghost use Rattle.model.specs.Call.{prepareOf};
+ghost use Rattle.prepare.specs.Prepared.{blocksIf, rootPage, checkpointPage, firstBytes, Leaves};
+use account::Tariff;
+use checkpoint_write::checkpoint_image;
+use page_write::frame::write_page;
+use page_write::log_page::lay_entry;
+use page_write::log_page::log_image;
+use wire::bytes::fill;
+
+// How many blocks a pool of so many bytes has; 0 where no pool has that length.
+pub fn pool_blocks(bytes: usize) -> usize
+    ensures { λ r. ⌜ r ≡ blocksIf bytes ⌝ }
+{
+    let blocks = bytes / 16384;
+    if blocks < 4 {
+        return 0;
+    }
+    if 64 < blocks {
+        return 0;
+    }
+    if 16384 * blocks == bytes {
+        return blocks;
+    }
+    0
+}
+
+// The first page: node 0 as an empty leaf.
+fn root_page() -> [u8; 512]
+    ensures { λ r. ⌜ r ≡ image rootPage ⌝ }
+{
+    let mut buffer = [0u8; 15];
+    lay_entry(&mut buffer, 0, 0, 1, 3, 0, 4294967295);
+    log_image(2, &buffer, 1)
+}
+
+// The second: the tariff, the score 0 of node 0, and the node count 1.
+fn checkpoint_page(tariff: Tariff) -> [u8; 512]
+    ensures { λ r. ⌜ r ≡ image (checkpointPage tariff) ⌝ }
+{
+    let records = [0u8; 6];
+    checkpoint_image(3, true, tariff, &records, 1, true, 1)
+}
+
+// All bytes erased, then the two pages.
+fn write_first(pool: &mut [u8], root: [u8; 512], checkpoint: [u8; 512])
+    requires { ⌜ 1024 ≤ length (now pool) ⌝ }
+    ensures { λ _. ⌜ now (pool .exit) ≡ firstBytes (length (now (pool .entry))) root checkpoint ⌝ }
+{
+    fill(pool, 255);
+    write_page(pool, 0, root);
+    write_page(pool, 512, checkpoint);
+}
+
+// A pool prepared, or refused with 1, no pool's length, or 10, a tariff number out of range.
+pub fn prepare(pool: &mut [u8], tariff: Tariff) -> u32
+    ensures { λ r. ⌜ Leaves (prepareOf (now (pool .entry)) tariff) r (now (pool .exit)) ⌝ }
+{
+    if pool_blocks(pool.len()) == 0 {
+        return 1;
+    }
+    if tariff.in_range() {} else {
+        return 10;
+    }
+    let root = root_page();
+    let checkpoint = checkpoint_page(tariff);
+    write_first(pool, root, checkpoint);
+    0
+}
