@@ -1,6 +1,6 @@
 // The account of a node: what its requests cost in each of two modes, and when it moves to the other.
 ghost use mathlib.Core.Path.{_≡_};
-ghost use Prim.Native.Nat.{ℕ, _-_};
+ghost use Prim.Native.Nat.{_-_};
 ghost use Rattle.account.specs.Tariff as tariffs;
 ghost use Rattle.account.specs.Range.{Ranged, withinRange, costsInRange, inRange};
 ghost use Rattle.account.specs.Serve as serves;

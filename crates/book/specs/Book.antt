@@ -1,7 +1,7 @@
 -- The reference model (document 01: the paper book): it "keeps the tree, modes and scores" and never sees a page. Assumes nothing.
 use mathlib.Core.List.{List, [], _∷_}
 use mathlib.Core.Option.{Option, none, some}
-use Prim.Native.Nat.{ℕ, _+_, _≤_, _<_}
+use Prim.Native.Nat.{ℕ, _+_}
 use Rattle.laws.specs.Update.{update}
 use Rattle.account.specs.declared.Request.{Request}
 use Rattle.account.specs.declared.Request.the-variants.{Read, Edit, Rewrite}

@@ -1,28 +1,26 @@
 -- The reference model is charged at most three times what any schedule pays, and one allowance for each node made: its charges are
 -- those of the accounts for its requests as events. Assumes nothing.
-use mathlib.Core.Path.{_≡_, refl, sym, ap, ap₂, _∙_}
-use mathlib.Core.List.{List, [], _∷_, map}
+use mathlib.Core.Path.{_≡_, refl, ap, _∙_}
+use mathlib.Core.List.{List, [], _∷_}
 use Prim.Native.Nat.{ℕ, zero, suc, _+_, _-_, _*_, _≤_, _<_}
 use native.Mathlib.Nat.{mul-le-mul-right}
 use native.Mathlib.Omega.{arith}
 use Rattle.laws.specs.Update.{update, sumBelow, sumBelow-ext}
-use Rattle.account.specs.declared.Mode.{Mode}
-use Rattle.account.specs.declared.Mode.the-variants.{Log, Disk}
-use Rattle.account.specs.declared.Request.{Request}
+use Rattle.account.specs.declared.Mode.the-variants.{Log}
 use Rattle.account.specs.declared.Request.the-variants.{Read, Edit, Rewrite}
 use Rattle.account.specs.declared.Tariff.{Tariff}
 use Rattle.account.specs.declared.Account.{Account}
 use Rattle.account.specs.Tariff.{switchTo, limit}
-use Rattle.account.specs.Serve.{serveOf, fresh}
+use Rattle.account.specs.Serve.{fresh}
 use Rattle.account.specs.Schedule.{Schedule}
 use Rattle.account.specs.Potential.{potential, allowance, allowance-le, potential-fresh}
-use Rattle.account.specs.Events.{Event, asks, makes, made, Known, chargesAll, paidAll}
+use Rattle.account.specs.Events.{made, Known, chargesAll}
 use Rattle.account.specs.Nodes.{potentials, Low, low-request, low-create, charges-all-from}
 use Rattle.tree.specs.Table.{Table}
-use Rattle.tree.specs.NodeRequest.{NodeRequest, read, edit, rewrite, create, apply, countAfter}
+use Rattle.tree.specs.NodeRequest.{NodeRequest, read, edit, rewrite, create}
 use Rattle.tree.specs.Fit.{Fit, Fits}
 use Rattle.book.specs.Book.{Book, serve, serveAll, charge, charges}
-use Rattle.book.specs.Schedule.{eventOf, eventsOf, paid}
+use Rattle.book.specs.Schedule.{eventsOf, paid}
 
 -- A list of requests that fits is a list of events of known nodes, and makes as many nodes as the count grows.
 known : (most : ℕ) (rs : List NodeRequest) (table : Table) (count final : ℕ) → Fits most rs table count final → Known count (eventsOf rs)

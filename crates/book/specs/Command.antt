@@ -2,13 +2,13 @@
 -- the flash store and the reference model ask these functions, so neither has requests or answers of its own. Assumes nothing.
 use mathlib.Core.Bool.{Bool, true, false}
 use mathlib.Core.List.{List, [], _∷_, _++_}
-use mathlib.Core.Option.{Option, none, some}
+use mathlib.Core.Option.{Option}
 use Prim.Native.Nat.{ℕ}
 use Rattle.command.specs.declared.Command.{Command}
 use Rattle.command.specs.declared.Command.the-variants.{Get, Put, Delete, Scan}
 use Rattle.pairs.specs.Pairs.{Pair}
 use Rattle.command.specs.declared.Answer.{Answer}
-use Rattle.command.specs.declared.Answer.the-variants.{Absent, Got, Replaced, Removed, Refused}
+use Rattle.command.specs.declared.Answer.the-variants.{Got, Replaced, Removed, Refused}
 use Rattle.command.specs.Answer.{answerBytes, scanBytes, valueOr}
 use Rattle.tree.specs.NodeRequest.{NodeRequest}
 use Rattle.tree.specs.Get.{getRequests, getAnswer}

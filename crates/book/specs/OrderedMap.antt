@@ -1,8 +1,7 @@
 -- The plain ordered map that demand 2 compares with: what each command answers, and the map after it. Of the book it is told one thing
 -- only: which puts were refused with 9. Assumes nothing.
-use mathlib.Core.Bool.{Bool, true, false}
+use mathlib.Core.Bool.{Bool}
 use mathlib.Core.List.{List, [], _∷_}
-use mathlib.Core.Option.{Option, none, some}
 use Prim.Native.Nat.{ℕ}
 use Rattle.laws.specs.Tests.{choose}
 use Rattle.pairs.specs.Pairs.{Pair, lookup, insert, delete, range}

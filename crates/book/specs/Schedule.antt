@@ -1,5 +1,5 @@
 -- Schedules over the node requests of a book: each is an event of the accounts, a request of its node or a node made. Assumes nothing.
-use mathlib.Core.List.{List, [], _∷_, map}
+use mathlib.Core.List.{List, map}
 use Prim.Native.Nat.{ℕ}
 use Rattle.account.specs.declared.Mode.the-variants.{Log}
 use Rattle.account.specs.declared.Request.the-variants.{Read, Edit, Rewrite}

@@ -1,6 +1,6 @@
 -- The records of scores one behind another, the image of a sheet, and the steps of a checkpoint put together. Assumes nothing.
 use mathlib.Core.Path.{_≡_, refl, sym, ap, ap₂, _∙_}
-use mathlib.Core.Bool.{Bool, true, false}
+use mathlib.Core.Bool.{Bool}
 use mathlib.Core.List.{List, [], _∷_, _++_, map, append-assoc}
 use Prim.Native.Nat.{ℕ, zero, suc, _+_, _-_, _*_, _≤_, _<_}
 use native.Mathlib.Nat.{add-zero, sub-zero}
@@ -10,7 +10,7 @@ use lib.ListN.{length, getD, set, take, drop, replicate, length-append}
 use borrow.Author.Tests.{le-leb, lt-leb, eq-eqb, ne-eqb}
 use Rattle.laws.specs.Every.{Every, none, both, every-append}
 use Rattle.laws.specs.Lay.{lay, part, lay-nil, lay-next, part-append, part-front}
-use Rattle.laws.specs.BigEndian.{Bytes, bigEndian, bytes-bigEndian}
+use Rattle.laws.specs.BigEndian.{Bytes, bytes-bigEndian}
 use Rattle.layout.specs.Layout.{pageBytes, nodeLimit}
 use Rattle.account.specs.declared.Tariff.{Tariff}
 use Rattle.rows.specs.Row.{noRow}

@@ -9,17 +9,16 @@ use native.Mathlib.Omega.{arith}
 use borrow.Author.Tests.{eq-eqb, ne-eqb}
 use lib.Dec.{eqb}
 use lib.ListN.{length, set, getElem?, length-set}
-use Rattle.laws.specs.Tests.{and-right}
 use Rattle.laws.specs.Loops.{steps}
-use Rattle.laws.specs.Counts.{bit-le-one, tally, tally-mono}
+use Rattle.laws.specs.Counts.{bit-le-one, tally}
 use Rattle.layout.specs.Layout.{mostBlocks, bound32}
 use Rattle.account.specs.declared.Tariff.{Tariff}
 use Rattle.page.specs.Page.{Entry, Score, Page, page}
 use Rattle.page.specs.Page as p
 use Rattle.page.specs.Image.{image}
-use Rattle.store.specs.Pool.{block, above}
+use Rattle.store.specs.Pool.{block}
 use Rattle.store.specs.Store.{Store, view}
-use Rattle.store.specs.Live.{carries, isCheckpoint, noClosing, closingSince}
+use Rattle.store.specs.Live.{carries, noClosing, closingSince}
 use Rattle.store.specs.Write.{next, place}
 use Rattle.store.specs.Write as Write
 use Rattle.store.specs.Run.{Run, write, flushRun}

@@ -26,7 +26,6 @@ use Rattle.store.specs.Checkpoint.{Sheet, sheetContent}
 use Rattle.store_laws.specs.Placing.{Invariant, found-ready, silent-same}
 use Rattle.store_laws.specs.Compaction.{found-room}
 use Rattle.store_laws.specs.Changes.{Same}
-use Rattle.store_laws.specs.Versions.{InMode, place-mode}
 use Rattle.rows.specs.Row.{noRow}
 use Rattle.rows.specs.Step.{names, fresh}
 use Rattle.rows.specs.declared.Row.{Row}
@@ -34,7 +33,8 @@ use Rattle.place.specs.declared.state.State.{State}
 use Rattle.place.specs.World.{World, world, used, spot}
 use Rattle.place.specs.Allocate.{allocate}
 use Rattle.checkpoint.specs.Sheets.{sheetRow, closedBy}
-use Rattle.flash_model.specs.Mirror.{rowAt, test, RowsSay, Owners, Mirrors}
+use Rattle.flash_model.specs.Mirror.{rowAt, test, RowMode, RowsSay, Owners, Mirrors}
+use Rattle.flash_model.specs.RowModes.{place-rowMode}
 use Rattle.flash_model.specs.Ownership.{page-within, carries-same}
 use Rattle.flash_model.specs.Names.{mapped}
 use Rattle.flash_model.specs.Notes.{names-noted, names-fresh}
@@ -208,8 +208,8 @@ module _ (base : ℕ) {k : ℕ} {w : World} {st : Store} (few : w .state .blocks
   rows-say =
       record {
         version = λ n l. ap (λ (r : Row). r .version) (row-kept n l .1) ∙ h .rows .version n l ∙ sym (same n l .greatest);
-        mode = λ n l. subst (λ (r : Row). InMode (r .mode) after n) (sym (row-kept n l .1))
-            (place-mode v n (rowAt (w .rows) n .mode) (sheetContent x) (st .buffer) l (same n l .greatest) (h .rows .mode n l));
+        mode = λ n l. subst (λ (r : Row). RowMode (r .mode) after n) (sym (row-kept n l .1))
+            (place-rowMode v n l (rowAt (w .rows) n .mode) (sheetContent x) (st .buffer) (same n l .greatest) (h .rows .mode n l));
         pages = λ n l. ap (λ (r : Row). r .pages) (row-kept n l .1) ∙ h .rows .pages n l ∙ sym (same n l .pages);
       }
 

@@ -1,14 +1,13 @@
 -- The page that the checkpoint writer writes, and its pieces laid one behind another. Assumes nothing.
 use mathlib.Core.Path.{_≡_, refl, sym, ap, _∙_}
 use mathlib.Core.Bool.{Bool, true, false}
-use mathlib.Core.List.{List, [], _∷_, _++_, map}
+use mathlib.Core.List.{List, _++_, map}
 use mathlib.Core.Option.{Option, none, some}
-use Prim.Native.Nat.{ℕ, _+_, _*_, _≤_, _<_}
+use Prim.Native.Nat.{ℕ, _+_, _*_, _≤_}
 use native.Mathlib.Omega.{arith}
 use lib.ListN.{length, length-append}
 use Rattle.laws.specs.Lay.{lay, lay-next, length-lay}
 use Rattle.laws.specs.BigEndian.{Bytes, bigEndian}
-use Rattle.account.specs.declared.Costs.{Costs}
 use Rattle.account.specs.declared.Tariff.{Tariff}
 use Rattle.wire.specs.Field.{field, head}
 use Rattle.wire.specs.FieldLaws.{lay-field, length-field}

@@ -1,9 +1,9 @@
 -- The end of a batch and the next mount: the pool left behind passes every question but the eighth, and is found saying the very book that
 -- the run said. Assumes nothing.
 use mathlib.Core.Path.{_≡_, refl, sym, ap, _∙_, subst}
-use mathlib.Core.Bool.{Bool, true, false, _&&_}
-use mathlib.Core.List.{List, [], _∷_}
-use mathlib.Core.Option.{Option, none, some}
+use mathlib.Core.Bool.{true}
+use mathlib.Core.List.{List}
+use mathlib.Core.Option.{none, some}
 use Prim.Native.Nat.{ℕ, zero, suc, _+_, _≤_, _<_}
 use native.Mathlib.Omega.{arith}
 use borrow.Author.Tests.{le-leb, lt-ltb}
@@ -11,29 +11,24 @@ use lib.Dec.{leb, ltb}
 use Rattle.laws.specs.Tests.{and-both}
 use Rattle.layout.specs.Layout.{mostBlocks, nodeLimit, mostLogPages}
 use Rattle.account.specs.declared.Tariff.{Tariff}
-use Rattle.account.specs.declared.Account.{Account}
 use Rattle.account.specs.Tariff.{limit}
-use Rattle.account.specs.Range.{inRange, Ranged, ranged-inRange}
+use Rattle.account.specs.Range.{inRange, ranged-inRange}
 use Rattle.pairs.specs.Pairs.{Pair}
-use Rattle.page.specs.Page.{Score}
 use Rattle.tree.specs.Sound.{sound}
 use Rattle.tree_map.specs.SoundLaws.{spells-sound}
 use Rattle.store.specs.View.{pages}
 use Rattle.store.specs.Store.{Store, view}
-use Rattle.store.specs.Run.{Run}
 use Rattle.store_laws.specs.Changes.{Lean}
 use Rattle.store_laws.specs.Keeps.{Keeps}
-use Rattle.store.specs.Checkpoint.{scoresFrom, sheets, close, checkpointOf, tariffIn, scoresIn, countIn, scoreIn, complete}
+use Rattle.store.specs.Checkpoint.{scoresFrom, close, checkpointOf, tariffIn, scoresIn, countIn, complete}
 use Rattle.store_laws.specs.SheetLaws.{scoresIn-sheets}
 use Rattle.store.specs.Reopen.{Cells, poolOf, reopened, pagesPass}
 use Rattle.store_laws.specs.Closing.{Closed, close-closed}
 use Rattle.book.specs.Book.{Book}
-use Rattle.book.specs.Bound.{Scored}
 use Rattle.model.specs.State.{State, bookOf}
 use Rattle.model.specs.Batch.{closed}
 use Rattle.model.specs.Mount.{stateOf, threePages, scoresBelow, treeSound, numbersLeft}
-use Rattle.demands.specs.Says.{modes, Sound, Says, bookOf-trimmed, score-is, says}
-use Rattle.demands.specs.Run as Run
+use Rattle.demands.specs.Says.{modes, Says, bookOf-trimmed, score-is, says}
 use Rattle.demands.specs.Mount.{Mounts, Ready}
 
 pub three-below : (n : ℕ) (st : Store) → ((k : ℕ) → k < n → pages (view st) k ≤ mostLogPages) → threePages n st ≡ true

@@ -1,9 +1,8 @@
 -- One command on a book that spells a map: the answer is the ordered map's, its node requests fit, and the table then spells the map
 -- after the command. Assumes nothing.
-use mathlib.Core.Path.{_≡_, refl, sym, ap, _∙_, subst}
+use mathlib.Core.Path.{_≡_, refl, ap}
 use mathlib.Core.Bool.{Bool, true, false}
 use mathlib.Core.List.{List, [], _∷_}
-use mathlib.Core.Option.{Option, none, some}
 use Prim.Native.Nat.{ℕ, _≤_, _<_}
 use native.Mathlib.Omega.{arith}
 use Rattle.layout.specs.Layout.{bound32, noLeaf}

@@ -5,22 +5,20 @@
 use mathlib.Core.Path.{_≡_, refl, sym, ap, ap₂, _∙_, subst}
 use mathlib.Core.List.{List, [], _∷_, _++_, map}
 use mathlib.Core.Option.{Option, none, some}
-use Prim.Native.Nat.{ℕ, zero, suc, _+_, _-_, _*_, _≤_, _<_}
+use Prim.Native.Nat.{ℕ, _+_, _-_, _*_, _≤_, _<_}
 use native.Mathlib.Omega.{arith}
 use Rattle.laws.specs.Every.{Every, both, every-append}
 use Rattle.laws.specs.Every as Every
 use Rattle.laws.specs.Lay.{lay}
 use Rattle.laws.specs.BigEndian.{Bytes}
-use Rattle.layout.specs.Layout.{nodeLimit, mostLogPages, fewestBlocks, mostBlocks}
+use Rattle.layout.specs.Layout.{nodeLimit, mostLogPages}
 use Rattle.account.specs.declared.Mode.the-variants.{Log, Disk}
 use Rattle.account.specs.declared.Tariff.{Tariff}
-use Rattle.account.specs.Tariff.{switchTo, limit}
-use Rattle.account.specs.Range.{Ranged, inRange-ranged, limit-some}
+use Rattle.account.specs.Tariff.{switchTo}
+use Rattle.account.specs.Range.{limit-some}
 use Rattle.account.specs.Schedule.{Schedule}
-use Rattle.account.specs.Potential.{allowance}
 use Rattle.pairs.specs.Pairs.{Pair}
-use Rattle.command.specs.declared.Command.{Command}
-use Rattle.tree.specs.NodeRequest.{NodeRequest, applyAll}
+use Rattle.tree.specs.NodeRequest.{NodeRequest}
 use Rattle.tree.specs.Table.{Table}
 use Rattle.tree.specs.Fit.{Fits}
 use Rattle.tree_map.specs.Requests.{fits-append}
@@ -30,41 +28,18 @@ use Rattle.store.specs.Reopen.{Cells, reopened}
 use Rattle.book.specs.Book.{Book}
 use Rattle.book.specs.Book as Book
 use Rattle.book.specs.Command.{Reply, repliesBytes}
-use Rattle.book.specs.Batch.{runBook, requestsBook}
+use Rattle.book.specs.Batch.{requestsBook}
 use Rattle.book.specs.OrderedMap.{mapRun}
 use Rattle.book.specs.Schedule.{paid}
 use Rattle.book.specs.Bound.{charges-sharp, charges-bound}
-use Rattle.model.specs.State.{State, bookOf}
+use Rattle.model.specs.State.{bookOf}
 use Rattle.model.specs.Mount.{stateOf}
-use Rattle.model.specs.Prepare.{prepared, firstBook}
-use Rattle.model.specs.Bytes.{bytesOf, cellsOf}
-use Rattle.model.specs.Call.{Outcome, blocksOf, poolLength, prepareOf}
-use Rattle.model.specs.Calls.{
-  Lent,
-  outcome,
-  outcomes,
-  lastPool,
-  bookIn,
-  workOf,
-  statesBy,
-  momentsBy,
-  allStates,
-  allMoments,
-  fed,
-  commandsIn,
-  fedBook,
-  booksAfter,
-  lastBook,
-  allBooks,
-  allCharges,
-  allRequests,
-  mapReplies,
-  lastMap,
-  sum,
-}
-use Rattle.demands.specs.Says.{Says, bookOf-count}
+use Rattle.model.specs.Prepare.{firstBook}
+use Rattle.model.specs.Bytes.{cellsOf}
+use Rattle.model.specs.Call.{Outcome, blocksOf}
+use Rattle.model.specs.Calls.{Lent, outcome, outcomes, lastPool, bookIn, workOf, statesBy, allStates, allMoments, fed, commandsIn, fedBook, booksAfter, lastBook, allBooks, allCharges, allRequests, mapReplies, lastMap, sum}
 use Rattle.demands.specs.Run.{map-append, serveAll-table, charges-append, runBook-requests, chargeBook-requests}
-use Rattle.demands.specs.OneCall.{OpenPool, Thin, bookIn-is, fedOf, CalledBy, Called, called}
+use Rattle.demands.specs.OneCall.{OpenPool, Thin, bookIn-is, fedOf, called}
 
 -- Every batch is made of bytes.
 abbrev pub OfBytes : List Lent → Type 0

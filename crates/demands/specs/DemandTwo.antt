@@ -2,50 +2,49 @@
 -- spells is unique. (That commands answer as the ordered map does, batch after batch, and that the pool left behind spells that map, is in
 -- DemandThree: `answers` and `stands`.) Assumes nothing.
 use mathlib.Core.Path.{_≡_, refl, sym, ap, _∙_, subst}
-use mathlib.Core.Bool.{Bool, true, false, _&&_}
+use mathlib.Core.Bool.{true}
 use mathlib.Core.List.{List, [], _∷_}
 use mathlib.Core.Option.{Option, none, some}
-use Prim.Native.Nat.{ℕ, zero, suc, _+_, _*_, _≤_, _<_}
+use Prim.Native.Nat.{ℕ, _*_, _≤_, _<_}
 use native.Mathlib.Omega.{arith}
 use borrow.Author.Tests.{leb-true, le-leb, ltb-true, lt-ltb}
-use lib.Dec.{leb, ltb}
+use lib.Dec.{ltb}
 use lib.ListN.{length}
 use Rattle.laws.specs.Tests.{and-left, and-right, and-both}
 use Rattle.laws.specs.Every.{Every, both}
 use Rattle.laws.specs.Every as Every
 use Rattle.laws.specs.BigEndian.{Bytes}
-use Rattle.layout.specs.Layout.{pagesInBlock, pageBytes, blockBytes, tableBytes, nodeLimit, mostLogPages, lastSequence}
+use Rattle.layout.specs.Layout.{pagesInBlock, tableBytes, nodeLimit, mostLogPages, lastSequence}
 use Rattle.account.specs.declared.Tariff.{Tariff}
 use Rattle.account.specs.Tariff.{limit}
-use Rattle.account.specs.Range.{inRange, Ranged, inRange-ranged, ranged-inRange}
+use Rattle.account.specs.Range.{inRange, Ranged, ranged-inRange}
 use Rattle.pairs.specs.Pairs.{Pair}
 use Rattle.command.specs.declared.Command.{Command}
 use Rattle.command.specs.Batch.{commandsOf, roomForAll}
 use Rattle.page.specs.Page.{Score}
 use Rattle.tree.specs.Spells.{Spells, mapOf}
 use Rattle.tree.specs.Sound.{sound}
-use Rattle.tree_map.specs.SoundLaws.{sound-limit, sound-spells, spells-sound, map-unique}
+use Rattle.tree_map.specs.SoundLaws.{spells-sound, map-unique}
 use Rattle.store.specs.View.{pages}
 use Rattle.store.specs.Pool.{Blocks}
 use Rattle.store.specs.Store.{Store, view}
 use Rattle.store.specs.Checkpoint.{checkpointOf, tariffIn, scoresIn, countIn, complete}
 use Rattle.store.specs.Reopen.{Cells, cells, blocksIn, newest, blockOf, storeOf, reopened, blocksPass, pagePasses, everyPage, pagesPass}
 use Rattle.store_laws.specs.BlockRules.{BlockRules}
-use Rattle.store_laws.specs.BlockTests.{Passing, passing, passing-rules, rules-blocks, rules-current}
+use Rattle.store_laws.specs.BlockTests.{Passing, passing, passing-rules, rules-blocks}
 use Rattle.store_laws.specs.CellLaws.{cells-blocksIn}
 use Rattle.store_laws.specs.PageTests.{passing-numbers, passing-versions}
 use Rattle.store_laws.specs.Versions.{VersionRules}
 use Rattle.store_laws.specs.Opening.{own-passes}
 use Rattle.model.specs.State.{State, bookOf}
-use Rattle.model.specs.Mount.{Mounted, refused, opened, stateOf, threePages, scoresBelow, treeSound, numbersLeft, mountCells}
+use Rattle.model.specs.Mount.{opened, stateOf, threePages, scoresBelow, treeSound}
 use Rattle.model.specs.Bytes.{bytesOf, cellsOf}
 use Rattle.model.specs.Call.{blocksOf, poolLength, mountBy, mountOf, accept, batchOf}
-use Rattle.demands.specs.Mount.{Mounts, mounts-opened, Opened, opened-mounts, three-each, some-page, ranged, rest-tests, range-tests, kept}
+use Rattle.demands.specs.Mount.{Mounts, mounts-opened, opened-mounts, three-each, some-page, ranged, rest-tests, range-tests, kept}
 use Rattle.demands.specs.Mount as Mount
 use Rattle.demands.specs.Close.{three-below}
 use Rattle.demands.specs.PoolBytes.{CellFits, cellsOf-bytesOf, IsPool, cellsOf-is}
-use Rattle.demands.specs.DemandOne.{Judged, unmounted, mounted, mount-judged}
-use Rattle.demands.specs.OneCall.{Sized, sized}
+use Rattle.demands.specs.OneCall.{sized}
 
 -- THE LAYOUT: what document 01 asks of a pool, but for the greatest stamp.
 pub record Obeys (pool : List ℕ) (t : Tariff) (ps : List Pair) : Type 0 where

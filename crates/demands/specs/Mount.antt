@@ -1,25 +1,23 @@
 -- Any pool that passes the questions opens, whoever wrote it: the state then says a book that spells a map, and the store holds what it
 -- says. Assumes nothing.
-use mathlib.Core.Path.{_≡_, refl, sym, ap, _∙_, subst}
+use mathlib.Core.Path.{_≡_, refl, sym, ap, subst}
 use mathlib.Core.Bool.{Bool, true, false, _&&_}
 use mathlib.Core.Logic.{_⊎_, inl, inr}
 use mathlib.Core.List.{List, [], _∷_}
 use mathlib.Core.Option.{Option, none, some}
-use Prim.Native.Nat.{ℕ, zero, suc, _+_, _≤_, _<_}
+use Prim.Native.Nat.{ℕ, zero, suc, _≤_, _<_}
 use native.Mathlib.Omega.{arith}
 use borrow.Author.Tests.{leb-true, ltb-true}
 use lib.Dec.{eqb, leb, ltb}
-use lib.ListN.{length}
-use Rattle.laws.specs.Tests.{choose, and-left, and-right, and-both, test-clash}
+use Rattle.laws.specs.Tests.{choose, and-left, and-right, test-clash}
 use Rattle.laws.specs.Order.{le-suc-or}
-use Rattle.layout.specs.Layout.{fewestBlocks, nodeLimit, mostLogPages, noLeaf, pagesInBlock}
+use Rattle.layout.specs.Layout.{fewestBlocks, nodeLimit, mostLogPages, pagesInBlock}
 use Rattle.account.specs.declared.Mode.{Mode}
 use Rattle.account.specs.declared.Tariff.{Tariff}
 use Rattle.account.specs.declared.Account.{Account}
 use Rattle.account.specs.Tariff.{limit}
 use Rattle.account.specs.Range.{inRange, Ranged, inRange-ranged, limit-some}
 use Rattle.pairs.specs.Pairs.{Pair}
-use Rattle.node.specs.Node.{Node, Neat}
 use Rattle.node.specs.Replay.{Draft, unlinked, made, broken}
 use Rattle.page.specs.Page.{Score}
 use Rattle.tree.specs.Table.{Table}
@@ -30,18 +28,18 @@ use Rattle.tree_map.specs.Standing.{Proper}
 use Rattle.tree_map.specs.GetLaws.{node-proper}
 use Rattle.store.specs.View.{pages}
 use Rattle.store.specs.Pool.{find}
-use Rattle.store.specs.Store.{Store, view, draftOf, nodeIn, nodeOf, modeOf, noNode}
+use Rattle.store.specs.Store.{Store, view, draftOf, nodeIn, nodeOf}
 use Rattle.store.specs.Run.{Run}
 use Rattle.store_laws.specs.Keeps.{Keeps, Holds}
-use Rattle.store.specs.Checkpoint.{Sheet, checkpointOf, collect, tariffIn, scoresIn, countIn, scoreIn, complete}
+use Rattle.store.specs.Checkpoint.{checkpointOf, collect, tariffIn, scoresIn, countIn, scoreIn, complete}
 use Rattle.store.specs.Reopen.{Cells, blocksIn, newest, reopened, pagesPass}
 use Rattle.store_laws.specs.Opening.{Opens, opened-keeps}
 use Rattle.store_laws.specs.Opening as Opening
 use Rattle.book.specs.Book.{Book}
 use Rattle.book.specs.Bound.{Scored}
 use Rattle.model.specs.State.{State, bookOf}
-use Rattle.model.specs.Mount.{Mounted, refused, opened, stateOf, threePages, scoresBelow, treeSound, numbersLeft, mountTree, mountCells}
-use Rattle.demands.specs.Says.{modes, Sound, Says, bookOf-count, bookOf-table, bookOf-account}
+use Rattle.model.specs.Mount.{refused, opened, stateOf, threePages, scoresBelow, treeSound, numbersLeft, mountCells}
+use Rattle.demands.specs.Says.{Sound, Says, bookOf-count, bookOf-table, bookOf-account}
 use Rattle.demands.specs.Run as Run
 
 -- The questions of a pool that opens, one by one.

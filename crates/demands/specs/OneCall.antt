@@ -1,10 +1,10 @@
 -- One batch on a pool that stands between calls, whatever its bytes, with any work table and answer buffer: what it returns and leaves is
 -- what the reference model and the ordered map say. Assumes nothing.
 use mathlib.Core.Path.{_≡_, refl, sym, ap, _∙_, subst}
-use mathlib.Core.Bool.{Bool, true, false, _&&_}
-use mathlib.Core.List.{List, [], _∷_, _++_, map}
+use mathlib.Core.Bool.{Bool, true, false}
+use mathlib.Core.List.{List, [], map}
 use mathlib.Core.Option.{Option, none, some}
-use Prim.Native.Nat.{ℕ, zero, suc, _+_, _*_, _/_, _≤_, _<_}
+use Prim.Native.Nat.{ℕ, _*_, _/_, _≤_, _<_}
 use native.Mathlib.Nat.{mul-div-cancel-left}
 use native.Mathlib.Omega.{arith}
 use borrow.Author.Tests.{leb-true, eqb-true, le-leb, eq-eqb, ne-eqb}
@@ -21,12 +21,10 @@ use Rattle.account.specs.Range.{limit-some}
 use Rattle.pairs.specs.Pairs.{Pair}
 use Rattle.command.specs.declared.Command.{Command}
 use Rattle.command.specs.Batch.{commandsOf}
-use Rattle.tree.specs.NodeRequest.{NodeRequest}
 use Rattle.tree.specs.Fit.{Fits}
 use Rattle.store.specs.View.{pages}
-use Rattle.store.specs.Store.{Store, view}
+use Rattle.store.specs.Store.{view}
 use Rattle.store.specs.Run.{Moment}
-use Rattle.store.specs.Checkpoint.{checkpointOf, tariffIn}
 use Rattle.store.specs.Reopen.{Cells, poolOf, reopened}
 use Rattle.store_laws.specs.Good.{LeanAt}
 use Rattle.book.specs.Book.{Book}
@@ -38,12 +36,12 @@ use Rattle.model.specs.State.{State, bookOf}
 use Rattle.model.specs.Batch.{run, closed}
 use Rattle.model.specs.Mount.{opened, stateOf, mountCells}
 use Rattle.model.specs.Bytes.{bytesOf, cellsOf}
-use Rattle.model.specs.Call.{Outcome, refuse, blocksOf, poolLength, mountBy, mountOf, accept, batchOf}
-use Rattle.model.specs.Calls.{Lent, outcome, accepted, bookBy, bookIn, Work, workBy, workOf, statesBy, momentsBy, Fed, commandsBy, commandsIn, fedBook}
-use Rattle.demands.specs.Says.{Sound, Says}
+use Rattle.model.specs.Call.{Outcome, refuse, blocksOf, poolLength, mountBy, mountOf, accept}
+use Rattle.model.specs.Calls.{Lent, outcome, accepted, bookIn, Work, workBy, workOf, statesBy, momentsBy, Fed, commandsBy, commandsIn}
+use Rattle.demands.specs.Says.{Says}
 use Rattle.demands.specs.Run as Run
 use Rattle.demands.specs.Run.{Batched, batch-batched, runBook-requests}
-use Rattle.demands.specs.Mount.{Mounts, Ready, opened-mounts}
+use Rattle.demands.specs.Mount.{Ready, opened-mounts}
 use Rattle.demands.specs.Close.{Sealed, closed-says, closed-sealed, closed-ready}
 use Rattle.demands.specs.DemandOne.{Ends, asFound, tableCleared, done, batch-ends}
 use Rattle.demands.specs.CommandBytes.{Batch, commandsOf-batch}

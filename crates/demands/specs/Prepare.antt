@@ -1,43 +1,38 @@
 -- The pool of an accepted prepare opens: node 0 alone, an empty leaf in log mode with score 0, and the empty map. Assumes nothing.
-use mathlib.Core.Path.{_≡_, refl, sym, ap, ap₂, _∙_, subst, fun-ext}
-use mathlib.Core.Bool.{Bool, true, false, _&&_}
-use mathlib.Core.List.{List, [], _∷_, _++_}
-use mathlib.Core.Option.{Option, none, some}
-use Prim.Native.Nat.{ℕ, zero, suc, _+_, _*_, _-_, _≤_, _<_, max}
+use mathlib.Core.Path.{_≡_, refl, ap, _∙_, subst, fun-ext}
+use mathlib.Core.Bool.{Bool, true}
+use mathlib.Core.List.{List, [], _∷_}
+use mathlib.Core.Option.{none, some}
+use Prim.Native.Nat.{ℕ, zero, suc, _*_, _-_, _≤_, max}
 use native.Mathlib.Omega.{arith}
 use borrow.Author.Tests.{le-leb, eq-eqb, lt-ltb, le-ltb}
 use lib.Dec.{eqb, leb, ltb}
 use lib.ListN.{length, replicate, length-replicate}
 use Rattle.laws.specs.Tests.{choose, and-both}
 use Rattle.laws.specs.Counts.{count, tally}
-use Rattle.layout.specs.Layout.{fewestBlocks, nodeLimit, pagesInBlock, lastSequence, noLeaf}
+use Rattle.layout.specs.Layout.{fewestBlocks, nodeLimit, pagesInBlock}
 use Rattle.account.specs.declared.Mode.{Mode}
-use Rattle.account.specs.declared.Mode.the-variants.{Log, Disk}
+use Rattle.account.specs.declared.Mode.the-variants.{Log}
 use Rattle.account.specs.declared.Tariff.{Tariff}
-use Rattle.account.specs.declared.Account.{Account}
 use Rattle.account.specs.Tariff.{limit}
-use Rattle.account.specs.Range.{inRange, Ranged, ranged-inRange, limit-some}
+use Rattle.account.specs.Range.{Ranged, ranged-inRange, limit-some}
 use Rattle.account.specs.Serve.{fresh}
-use Rattle.pairs.specs.Pairs.{Pair}
-use Rattle.pairs.specs.Pairs as Pairs
-use Rattle.node.specs.declared.Kind.the-variants.{Leaf}
-use Rattle.node.specs.Node.{Node, node}
 use Rattle.node.specs.Ascends.{ascends}
 use Rattle.node.specs.Replay as Replay
-use Rattle.page.specs.Page.{Page, page, log, checkpoint}
+use Rattle.page.specs.Page.{Page}
 use Rattle.tree.specs.Sound as Sound
-use Rattle.tree.specs.Spells.{mapOf, pairsBelow, pairsOfNode, joinPointers}
+use Rattle.tree.specs.Spells.{mapOf, pairsBelow, pairsOfNode}
 use Rattle.store.specs.View as View
 use Rattle.store.specs.View.{View}
 use Rattle.store.specs.Pool.{Blocks, block, numbered, pageIn, orElse, find, itemsAt}
 use Rattle.store.specs.Allocate.{blanks}
 use Rattle.store.specs.Store.{Store, seen, view, draftOf, nodeIn, nodeOf, modeAt, modeOf, noNode}
 use Rattle.store.specs.Checkpoint as Checkpoint
-use Rattle.store.specs.Checkpoint.{checkpointOf, collect, complete, scoreIn, tariffIn}
-use Rattle.store.specs.Reopen.{Cells, cells, blocksIn, newest, blockOf, storeOf, reopened, allFilled, differ, differIn, fullOrAll, blocksPass, pagePasses, everyPage, pagesPass}
+use Rattle.store.specs.Checkpoint.{checkpointOf, collect, complete, scoreIn}
+use Rattle.store.specs.Reopen.{cells, blocksIn, newest, storeOf, reopened, allFilled, differ, fullOrAll, blocksPass, pagePasses, everyPage, pagesPass}
 use Rattle.store_laws.specs.CellLaws.{length-cells, blocksIn-cells, allFilled-cells}
 use Rattle.book.specs.Book.{Book}
-use Rattle.model.specs.State.{State, bookOf}
+use Rattle.model.specs.State.{bookOf}
 use Rattle.model.specs.Mount.{stateOf, threePages, scoresBelow, treeSound}
 use Rattle.store.specs.Prepare.{emptyLeaf, firstPages, preparedBlocks}
 use Rattle.model.specs.Prepare.{prepared, rootAlone, firstBook}

@@ -2,25 +2,22 @@
 use mathlib.Core.Path.{_≡_, refl, sym, ap, _∙_, subst}
 use mathlib.Core.Bool.{true}
 use mathlib.Core.List.{List, []}
-use mathlib.Core.Option.{some}
-use Prim.Native.Nat.{ℕ, suc, _*_, _≤_}
+use Prim.Native.Nat.{ℕ, _*_}
 use native.Mathlib.Omega.{arith}
 use lib.ListN.{length}
-use Rattle.layout.specs.Layout.{pageBytes, blockBytes, pagesInBlock}
+use Rattle.layout.specs.Layout.{blockBytes, pagesInBlock}
 use Rattle.account.specs.declared.Tariff.{Tariff}
-use Rattle.account.specs.Range.{inRange, Ranged, inRange-ranged}
+use Rattle.account.specs.Range.{Ranged, inRange-ranged}
 use Rattle.store_laws.specs.CellLaws.{length-cells}
 use Rattle.store.specs.Prepare.{preparedBlocks}
 use Rattle.model.specs.Prepare.{prepared, firstBook}
 use Rattle.model.specs.Bytes.{bytesOf}
 use Rattle.model.specs.Call.{blocksOf, poolLength, Prepared, prepareOf}
-use Rattle.demands.specs.Mount.{Mounts}
-use Rattle.demands.specs.Close.{Sealed}
 use Rattle.demands.specs.Prepare.{length-blocks, prepared-mounts, prepared-ready}
 use Rattle.demands.specs.PoolBytes.{length-bytesOf, bytes-bytesOf}
 use Rattle.demands.specs.PrepareFits.{prepared-fits, prepared-back}
 use Rattle.demands.specs.DemandOne.{Prepares, wrongLength, wrongTariff, fresh, prepare-ends}
-use Rattle.demands.specs.OneCall.{OpenPool, Sized, sized, blocks-length, whole-length}
+use Rattle.demands.specs.OneCall.{OpenPool, sized, blocks-length, whole-length}
 
 module _ (pool : List ℕ) (t : Tariff) (r : Ranged t) (p : poolLength pool ≡ true) where
   abbrev B : ℕ

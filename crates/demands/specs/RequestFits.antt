@@ -9,7 +9,6 @@ use Rattle.laws.specs.Every.{Every, none, both}
 use Rattle.layout.specs.Layout.{nodeLimit, bound32}
 use Rattle.account.specs.declared.Mode.{Mode}
 use Rattle.account.specs.declared.Tariff.{Tariff}
-use Rattle.node.specs.Node.{Node}
 use Rattle.page.specs.Limits.{bound16}
 use Rattle.tree.specs.Table.{Table}
 use Rattle.tree.specs.NodeRequest.{NodeRequest, read, edit, rewrite, create}

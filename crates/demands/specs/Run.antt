@@ -2,27 +2,27 @@
 -- the answers are the ordered map's. Assumes nothing.
 use mathlib.Core.Path.{_≡_, refl, sym, ap, ap₂, _∙_, subst}
 use mathlib.Core.List.{List, [], _∷_, _++_, map}
-use Prim.Native.Nat.{ℕ, suc, _+_, _≤_, _<_}
+use Prim.Native.Nat.{ℕ, _+_, _≤_, _<_}
 use native.Mathlib.Omega.{arith}
-use Rattle.layout.specs.Layout.{nodeLimit, bound32, noLeaf}
+use Rattle.layout.specs.Layout.{nodeLimit, noLeaf}
 use Rattle.account.specs.declared.Tariff.{Tariff}
 use Rattle.pairs.specs.Pairs.{Pair}
 use Rattle.command.specs.declared.Command.{Command}
 use Rattle.tree.specs.Table.{Table}
-use Rattle.tree.specs.NodeRequest.{NodeRequest, apply, applyAll, countAfter, countAfterAll}
-use Rattle.tree.specs.Fit.{Fit, Fits}
+use Rattle.tree.specs.NodeRequest.{NodeRequest, applyAll, countAfterAll}
+use Rattle.tree.specs.Fit.{Fits}
 use Rattle.tree_map.specs.Requests.{fits-append}
 use Rattle.tree.specs.Spells.{Spells}
 use Rattle.book.specs.Book.{Book}
 use Rattle.book.specs.Book as Book
-use Rattle.book.specs.Command.{Reply, requests, answer, refuses}
+use Rattle.book.specs.Command.{Reply, requests, refuses}
 use Rattle.book.specs.Batch.{doneBook, runBook, booksPassed, chargeBook, requestsBook}
-use Rattle.book.specs.OrderedMap.{mapAnswer, mapAfter, mapAnswers, mapRun}
+use Rattle.book.specs.OrderedMap.{mapAfter, mapAnswers, mapRun}
 use Rattle.model.specs.State.{State, bookOf, serve, serveAll, afterEach, charges}
 use Rattle.model.specs.Batch.{done, run, statesPassed, chargeOf, answers}
 use Rattle.demands.specs.Says.{Sound, Says}
 use Rattle.demands.specs.Step.{serve-says}
-use Rattle.demands.specs.Commands.{Valid, ValidAll, Does, does}
+use Rattle.demands.specs.Commands.{Valid, ValidAll, does}
 
 -- The reference model's table and count change as the tree's requests say.
 pub serveAll-table : (t : Tariff) (rs : List NodeRequest) (b : Book) → Book.serveAll t rs b .table ≡ applyAll rs (b .table)

@@ -1,8 +1,8 @@
 -- A state of a run says a book of the reference model: the store holds the book's nodes in the book's modes, and the scores are the
 -- book's. Then the book read out of the state IS the book. Assumes nothing.
-use mathlib.Core.Path.{_≡_, refl, sym, ap, ap₂, _∙_, subst, fun-ext}
+use mathlib.Core.Path.{_≡_, refl, sym, ap, subst, fun-ext}
 use mathlib.Core.Bool.{Bool, true, false}
-use Prim.Native.Nat.{ℕ, suc, _≤_, _<_}
+use Prim.Native.Nat.{ℕ, _≤_, _<_}
 use native.Mathlib.Omega.{arith}
 use borrow.Author.Tests.{lt-ltb, le-ltb, ltb-true, ltb-false}
 use lib.Dec.{ltb}
@@ -10,9 +10,7 @@ use Rattle.laws.specs.Tests.{choose}
 use Rattle.account.specs.declared.Mode.{Mode}
 use Rattle.account.specs.declared.Account.{Account}
 use Rattle.account.specs.Serve.{fresh}
-use Rattle.node.specs.Node.{Node}
 use Rattle.store.specs.Store.{noNode, nodeOf, modeOf}
-use Rattle.store.specs.Run.{Run}
 use Rattle.store_laws.specs.Keeps.{Keeps, holds-node, holds-mode}
 use Rattle.book.specs.Book.{Book}
 use Rattle.model.specs.State.{State, bookOf}

@@ -1,8 +1,8 @@
 -- One node request: what the state of the run says afterwards is what the reference model says. Assumes nothing.
 use mathlib.Core.Path.{_≡_, refl, sym, ap, _∙_, subst, fun-ext}
 use mathlib.Core.Logic.{_⊎_, inl, inr}
-use mathlib.Core.Option.{Option, none, some}
-use Prim.Native.Nat.{ℕ, suc, _≤_, _<_}
+use mathlib.Core.Option.{Option, none}
+use Prim.Native.Nat.{ℕ, _≤_, _<_}
 use native.Mathlib.Omega.{arith}
 use Rattle.laws.specs.Order.{eq-or}
 use Rattle.laws.specs.Update.{update, update-same, update-other}
@@ -12,7 +12,6 @@ use Rattle.account.specs.declared.Request.{Request}
 use Rattle.account.specs.declared.Tariff.{Tariff}
 use Rattle.account.specs.declared.Account.{Account}
 use Rattle.account.specs.Serve.{fresh}
-use Rattle.node.specs.Node.{Node}
 use Rattle.tree.specs.Table.{Table}
 use Rattle.tree.specs.NodeRequest.{NodeRequest, read, edit, rewrite, create, apply, countAfter}
 use Rattle.tree.specs.Fit.{Fit}
@@ -23,7 +22,7 @@ use Rattle.store_laws.specs.Keeps.{Keeps, serve-keeps, create-keeps}
 use Rattle.book.specs.Book.{Book, idOf, requestOf, accountBy}
 use Rattle.book.specs.Book as Book
 use Rattle.model.specs.State.{State, bookOf, write, serve}
-use Rattle.demands.specs.Says.{modes, Trimmed, bookOf-trimmed, Sound, Says, score-is, says}
+use Rattle.demands.specs.Says.{bookOf-trimmed, Sound, Says, score-is, says}
 
 update-mode : (f : ℕ → Account) (n : ℕ) (a : Account) → update (λ k. f k .mode) n (a .mode) ≡ (λ k. update f n a k .mode)
 update-mode f n a = fun-ext (λ k. go k (eq-or k n))

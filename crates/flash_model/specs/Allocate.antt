@@ -23,8 +23,6 @@ use Rattle.store_laws.specs.AllocateLaws.{BlankAt, nextBlank-blank}
 use Rattle.store_laws.specs.PoolLaws.{Moves}
 use Rattle.store_laws.specs.BlockRules.{spot-moves}
 use Rattle.store_laws.specs.Placing.{Invariant, live-fits, found-same}
-use Rattle.store_laws.specs.Compaction.{found-unmoved}
-use Rattle.store_laws.specs.Versions.{InMode}
 use Rattle.store.specs.Write.{found}
 use Rattle.rows.specs.declared.Row.{Row}
 use Rattle.blocks.specs.Blank.{blankBlock, blankBlocks, nextBlank}
@@ -35,7 +33,8 @@ use Rattle.place.specs.Compact.{Compacted, compactBlock, compact}
 use Rattle.place.specs.World.{World, world, used}
 use Rattle.place.specs.Allocate.{at, allocate}
 use Rattle.place.proofs.Laws.{allocate-room, allocate-next, allocate-compact}
-use Rattle.flash_model.specs.Mirror.{rowAt, test, Images, PagesAre, RowsName, RowsSay, Owners, Mirrors}
+use Rattle.flash_model.specs.Mirror.{rowAt, test, Images, PagesAre, RowsName, RowMode, RowsSay, Owners, Mirrors}
+use Rattle.flash_model.specs.RowModes.{found-rowMode}
 use Rattle.flash_model.specs.Pages.{blank-block}
 use Rattle.flash_model.specs.Ownership.{page-within}
 use Rattle.flash_model.specs.Blank.{blankBlocks-is, nextBlank-is}
@@ -228,6 +227,6 @@ module _ {image : Page → List ℕ} {own : ℕ → Page → Bool} {closing : Pa
       rows =
           record {
             version = λ n l. ap (λ (x : Row). x .version) (row n l .1) ∙ h .rows .version n l ∙ sym (found-same v n l .greatest);
-            mode = λ n l. subst (λ (x : Row). InMode (x .mode) st′ n) (sym (row n l .1)) (found-unmoved v n l .mode (rowAt (w .rows) n .mode) (h .rows .mode n l));
+            mode = λ n l. subst (λ (x : Row). RowMode (x .mode) st′ n) (sym (row n l .1)) (found-rowMode v n l (rowAt (w .rows) n .mode) (h .rows .mode n l));
             pages = λ n l. ap (λ (x : Row). x .pages) (row n l .1) ∙ h .rows .pages n l ∙ sym (found-same v n l .pages);
           }

@@ -17,7 +17,6 @@ use Rattle.laws.specs.Counts.{bit, count, count-append, count-le-length, consIf
 use Rattle.laws.specs.Loops.{steps-keep}
 use Rattle.page.specs.Page.{Page}
 use Rattle.store.specs.Pool.{Blocks, block}
-use Rattle.store.specs.Allocate as Model
 use Rattle.store_laws.specs.PoolLaws.{Moves}
 use Rattle.blocks.specs.Pages.{pageAt, copied}
 use Rattle.live.specs.Live.{marked}

@@ -1,7 +1,7 @@
 -- What a world that follows a run knows: the run's invariant with the world's own numbers, and whose the pages are while no checkpoint is
 -- written. Assumes nothing.
 use mathlib.Core.Path.{_≡_, refl, sym, _∙_, subst}
-use mathlib.Core.Bool.{true, false}
+use mathlib.Core.Bool.{false}
 use Prim.Native.Nat.{ℕ, _≤_}
 use native.Mathlib.Omega.{arith}
 use Rattle.laws.specs.Tests.{test-clash}

@@ -1,4 +1,5 @@
 pub mod Mirror
+pub mod RowModes
 pub mod Follows
 pub mod Pages
 pub mod Cells

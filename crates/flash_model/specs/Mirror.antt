@@ -6,12 +6,15 @@ use mathlib.Core.Option.{Option, none, some}
 use mathlib.Core.List.{List}
 use Prim.Native.Nat.{ℕ, _+_, _*_, _≤_, _<_}
 use lib.ListN.{length, getD, getElem?}
+use Rattle.laws.specs.Counts.{tally}
+use Rattle.account.specs.declared.Mode.{Mode}
+use Rattle.account.specs.declared.Mode.the-variants.{Log, Disk}
 use Rattle.page.specs.Page.{Page, sequence}
-use Rattle.store.specs.Pool.{Blocks, block}
+use Rattle.store.specs.Pool.{Blocks, block, numbered}
 use Rattle.store.specs.View.{greatest, pages}
 use Rattle.store.specs.Store.{Store, view}
 use Rattle.store.specs.Live.{carries}
-use Rattle.store_laws.specs.Versions.{InMode}
+use Rattle.store_laws.specs.Versions.{OnPage}
 use Rattle.rows.specs.Row.{noRow}
 use Rattle.rows.specs.Step.{names}
 use Rattle.rows.specs.declared.Row.{Row}
@@ -47,10 +50,16 @@ pub record RowsName (B rowsUsed : ℕ) (own : ℕ → Page → Bool) (rows : Lis
   pub long : rowsUsed ≤ length rows
   pub each : (n i q : ℕ) → n < rowsUsed → i < B → q < 32 → names (32 * i + q) (rowAt rows n) ≡ test (own n) (getElem? (block bs i) q)
 
+-- A row's mode is what the store says: no page has a log node's version for its number, and the page that has a disk node's is its node
+-- page. A node that lies nowhere has version 0, and its row is a log node's.
+abbrev pub RowMode : Mode → Store → ℕ → Type 0
+RowMode Log st n = tally (numbered (greatest (view st) n)) (st .blocks) ≡ 0
+RowMode Disk st n = OnPage st n
+
 -- The rows of nodes say what the store says of them.
 pub record RowsSay (nodeCount : ℕ) (rows : List Row) (st : Store) : Type 0 where
   pub version : (n : ℕ) → n < nodeCount → rowAt rows n .version ≡ greatest (view st) n
-  pub mode : (n : ℕ) → n < nodeCount → InMode (rowAt rows n .mode) st n
+  pub mode : (n : ℕ) → n < nodeCount → RowMode (rowAt rows n .mode) st n
   pub pages : (n : ℕ) → n < nodeCount → rowAt rows n .pages ≡ pages (view st) n
 
 -- A node's row owns the pages that carry the node; the rows behind them own the pages of the checkpoint being written, as far as their

@@ -1,14 +1,12 @@
 -- What a row names after a page was noted, after a fresh start, with another score, and after a claim. Assumes nothing.
-use mathlib.Core.Path.{_≡_, refl, sym, ap, _∙_}
-use mathlib.Core.Bool.{Bool, true, false, _&&_, _||_, or-true, or-false}
+use mathlib.Core.Path.{_≡_, refl}
+use mathlib.Core.Bool.{Bool, true, false, _||_}
 use Prim.Native.Nat.{ℕ, zero, suc, _+_, _<_}
 use native.Mathlib.Omega.{arith}
-use borrow.Author.Tests.{eqb-true}
 use lib.Dec.{eqb}
 use Rattle.laws.specs.Tests.{choose}
 use Rattle.account.specs.declared.Mode.{Mode}
-use Rattle.account.specs.declared.Mode.the-variants.{Log, Disk}
-use Rattle.rows.specs.Step.{holds, names, noted, fresh, scored, byMode, claim}
+use Rattle.rows.specs.Step.{holds, names, noted, fresh, scored}
 use Rattle.rows.specs.declared.Row.{Row}
 use Rattle.rows.specs.declared.Claim.{Claim}
 use Rattle.rows.specs.declared.Claim.the-variants.{Same, Noted}

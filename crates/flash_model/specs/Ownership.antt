@@ -5,7 +5,7 @@ use mathlib.Core.Path.{_≡_, refl, sym, ap, _∙_}
 use mathlib.Core.Bool.{Bool, true, false, not}
 use mathlib.Core.List.{List, [], _∷_}
 use mathlib.Core.Option.{Option, none, some}
-use Prim.Native.Nat.{ℕ, zero, suc, _+_, _≤_}
+use Prim.Native.Nat.{ℕ, zero, suc, _≤_}
 use native.Mathlib.Omega.{arith}
 use borrow.Author.Tests.{ltb-false}
 use lib.ListN.{getElem?}
@@ -13,10 +13,10 @@ use Rattle.laws.specs.Counts.{bit, count, tally, tally-at, empty}
 use Rattle.page.specs.Page.{Page, sequence}
 use Rattle.store.specs.Item.{itemsOf, piecesIn}
 use Rattle.store.specs.View.{View, greatest, pages}
-use Rattle.store.specs.Pool.{Blocks, block, above, addTo}
+use Rattle.store.specs.Pool.{Blocks, block, above}
 use Rattle.store.specs.Store.{Store, view}
 use Rattle.store.specs.Live.{carries}
-use Rattle.store_laws.specs.BlockRules.{BlockRules, addTo-tally}
+use Rattle.store_laws.specs.BlockRules.{BlockRules}
 use Rattle.store_laws.specs.LiveLaws.{carries-pages}
 use Rattle.flash_model.specs.Mirror.{test}
 

@@ -1,19 +1,16 @@
 -- A page placed by the code is placed as the store's: with the rows that follow it, what the code leaves mirrors the store with the page.
 -- Assumes nothing.
-use mathlib.Core.Path.{_≡_, refl, sym, ap, _∙_, subst}
-use mathlib.Core.Bool.{Bool, true, false}
-use mathlib.Core.List.{List, []}
+use mathlib.Core.Path.{_≡_, refl}
+use mathlib.Core.Bool.{Bool, false}
+use mathlib.Core.List.{List}
 use Prim.Native.Nat.{ℕ, suc, _+_, _≤_, _<_}
 use native.Mathlib.Omega.{arith}
 use borrow.Author.Tests.{lt-ltb}
-use lib.Dec.{ltb}
-use lib.ListN.{length, set}
-use Rattle.laws.specs.Tests.{choose}
+use lib.ListN.{set}
 use Rattle.layout.specs.Layout.{mostBlocks, bound32}
-use Rattle.wire.specs.Field.{field, head}
+use Rattle.wire.specs.Field.{field}
 use Rattle.page.specs.Page.{Entry, Content, Page, page}
 use Rattle.page.specs.Image.{image, sealed, numbered}
-use Rattle.store.specs.Pool.{block}
 use Rattle.store.specs.Store.{Store}
 use Rattle.store.specs.Write.{found, next, place}
 use Rattle.store_laws.specs.Placing.{Invariant, found-ready}

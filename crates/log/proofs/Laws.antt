@@ -1,5 +1,5 @@
 -- The cases of a claim, of room in a block and of room in the buffer, and what each step of a flush keeps. Assumes nothing.
-use mathlib.Core.Path.{_≡_, refl, sym, ap, _∙_}
+use mathlib.Core.Path.{_≡_, refl, ap, _∙_}
 use mathlib.Core.Bool.{Bool, true, false}
 use mathlib.Core.List.{List}
 use Prim.Native.Nat.{ℕ, _+_, _*_, _≤_, _<_}
@@ -21,7 +21,7 @@ use Rattle.place.specs.Compact.{compact}
 use Rattle.place.specs.Allocate.{at, behind, nextBlock, allocate}
 use Rattle.place.specs.declared.state.State.{State}
 use Rattle.page_write.specs.Pages.{logImage}
-use Rattle.log.specs.Entry.{entryOf, holding, entered, append, appendAll}
+use Rattle.log.specs.Entry.{entryOf, holding, entered, append}
 use Rattle.log.specs.Claim.{idAt, versionAt, claimRow, claimEntry, claimEntries}
 use Rattle.log.specs.Flush.{nextNumber, advanced, emptied, writeBuffer, ifRoom, flush, room, Kept}
 

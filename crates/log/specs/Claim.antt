@@ -1,6 +1,5 @@
 -- The rows once a log page stands in its place: "a log node lies on the log pages that have an entry of its greatest version"
 -- (document 01, "What demand 3 compares"), so each row that an entry of the page concerns names the page, once.
-use mathlib.Core.Bool.{Bool}
 use mathlib.Core.List.{List}
 use Prim.Native.Nat.{ℕ, _+_, _*_}
 use lib.Dec.{ltb}

@@ -1,5 +1,4 @@
 -- Entries in the log buffer: "entries go to a buffer of 27" (document 01, "Nodes and tree"), 15 bytes each, one behind another.
-use mathlib.Core.Path.{_≡_}
 use mathlib.Core.List.{List, [], _∷_}
 use Prim.Native.Nat.{ℕ, _+_, _*_}
 use lib.Dec.{ltb}

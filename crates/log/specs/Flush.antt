@@ -1,12 +1,10 @@
 -- The buffer "written as one page when the next group does not fit" (document 01, "Nodes and tree").
 use mathlib.Core.Path.{_≡_}
-use mathlib.Core.List.{List}
 use Prim.Native.Nat.{ℕ, _+_}
 use lib.Dec.{ltb}
 use lib.ListN.{set}
 use Rattle.laws.specs.Tests.{choose}
-use Rattle.layout.specs.Layout.{pagesInBlock, mostEntries, noLeaf}
-use Rattle.rows.specs.declared.Row.{Row}
+use Rattle.layout.specs.Layout.{pagesInBlock, mostEntries}
 use Rattle.place.specs.World.{World, world, spot, Good}
 use Rattle.place.specs.Allocate.{allocate}
 use Rattle.place.specs.declared.state.State.{State}

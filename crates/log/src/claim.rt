@@ -1,7 +1,7 @@
 // The rows of the entries that a log page holds now.
 ghost use mathlib.Core.Path.{_≡_};
 ghost use Prim.Native.Nat.{_+_, _*_, _≤_, _<_};
-ghost use lib.ListN.{length, set};
+ghost use lib.ListN.{length};
 ghost use Rattle.rows.specs.Row.{rowsOf, noRow};
 ghost use Rattle.rows.specs.Step.{settled};
 ghost use Rattle.log.specs.Claim.{claimEntry, claimEntries};

@@ -4,7 +4,7 @@ ghost use Prim.Native.Nat.{_+_, _*_, _≤_, _<_};
 ghost use lib.ListN.{length, set};
 ghost use Rattle.rows.specs.Row.{rowsOf};
 ghost use Rattle.blocks.specs.Pages.{pagesOf};
-ghost use Rattle.place.specs.World.{Good, Made, world};
+ghost use Rattle.place.specs.World.{Good, world};
 ghost use Rattle.page_write.specs.Pages.{logImage};
 ghost use Rattle.log.specs.Flush as def;
 ghost use Rattle.log.specs.Flush.{Kept, nextNumber, advanced, emptied, writeBuffer};

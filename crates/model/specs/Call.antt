@@ -1,11 +1,11 @@
 -- The two calls: from the entry bytes of every buffer, and the numbers given, to everything that a call leaves (document 01, "Questions
 -- before the work"). The contracts of the entry points cite these two definitions. Assumes nothing.
-use mathlib.Core.Bool.{Bool, true, false, _&&_}
-use mathlib.Core.List.{List, [], _∷_, _++_}
+use mathlib.Core.Bool.{Bool, _&&_}
+use mathlib.Core.List.{List}
 use mathlib.Core.Option.{Option, none, some}
-use Prim.Native.Nat.{ℕ, _+_, _*_, _/_}
+use Prim.Native.Nat.{ℕ, _*_, _/_}
 use lib.Dec.{eqb, leb}
-use lib.ListN.{length, drop, replicate}
+use lib.ListN.{length, replicate}
 use Rattle.laws.specs.Tests.{choose}
 use Rattle.laws.specs.Lay.{lay}
 use Rattle.layout.specs.Layout.{blockBytes, fewestBlocks, mostBlocks, tableBytes, nodeLimit}

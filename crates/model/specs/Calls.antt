@@ -1,9 +1,9 @@
 -- A list of batches of any bytes, "each on the pool as the last call left it", and the reference model beside it (document 01, "What demand
 -- 3 compares"). Assumes nothing.
 use mathlib.Core.Bool.{Bool, true, false}
-use mathlib.Core.List.{List, [], _∷_, _++_, map}
+use mathlib.Core.List.{List, [], _∷_, _++_}
 use mathlib.Core.Option.{Option, none, some}
-use Prim.Native.Nat.{ℕ, zero, suc, _+_}
+use Prim.Native.Nat.{ℕ, _+_}
 use lib.Dec.{eqb}
 use Rattle.layout.specs.Layout.{nodeLimit}
 use Rattle.account.specs.declared.Tariff.{Tariff}

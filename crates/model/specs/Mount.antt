@@ -13,10 +13,8 @@ use Rattle.page.specs.Page.{Score}
 use Rattle.tree.specs.Sound.{sound}
 use Rattle.store.specs.View.{pages}
 use Rattle.store.specs.Store.{Store, view}
-use Rattle.store.specs.Run.{Run}
-use Rattle.store.specs.Checkpoint.{Sheet, checkpointOf, tariffIn, scoresIn, countIn, scoreIn, complete}
+use Rattle.store.specs.Checkpoint.{checkpointOf, tariffIn, scoresIn, countIn, scoreIn, complete}
 use Rattle.store.specs.Reopen.{Cells, reopened, pagesPass}
-use Rattle.book.specs.Book.{Book}
 use Rattle.model.specs.State.{State, bookOf}
 
 -- A refusal with its number, or the tariff and the state.

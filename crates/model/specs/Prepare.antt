@@ -1,5 +1,4 @@
 -- Prepare (document 01, the last sentence of "Account"). Assumes nothing.
-use mathlib.Core.List.{List, []}
 use Prim.Native.Nat.{ℕ, zero, suc}
 use Rattle.layout.specs.Layout.{pagesInBlock}
 use Rattle.account.specs.declared.Tariff.{Tariff}

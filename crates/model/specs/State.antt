@@ -7,7 +7,6 @@ use Rattle.laws.specs.Tests.{choose}
 use Rattle.laws.specs.Update.{update}
 use Rattle.account.specs.declared.Mode.{Mode}
 use Rattle.account.specs.declared.Tariff.{Tariff}
-use Rattle.account.specs.declared.Account.{Account}
 use Rattle.account.specs.Serve.{fresh}
 use Rattle.tree.specs.NodeRequest.{NodeRequest, read, edit, rewrite, create}
 use Rattle.store.specs.Store.{Store, noNode, nodeOf, modeOf}

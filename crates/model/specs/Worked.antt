@@ -1,9 +1,7 @@
 -- The cases that document 01 marks M, together, as one table with one theorem; and the two traces: a prepare and the worked batch, page by
 -- page and byte by byte, and 25 puts that split the root. All by computation. Assumes nothing.
 use mathlib.Core.Path.{_≡_, refl}
-use mathlib.Core.Bool.{Bool, true, false}
 use mathlib.Core.List.{List, [], _∷_, _++_, map}
-use mathlib.Core.Option.{Option, none, some}
 use Prim.Native.Nat.{ℕ, zero, suc, _+_}
 use lib.ListN.{length, take}
 use Rattle.account.specs.declared.Mode.{Mode}
@@ -20,10 +18,9 @@ use Rattle.node.specs.Node.{pairsOf}
 use Rattle.page.specs.Page.{Page, sequence}
 use Rattle.page.specs.Image.{image}
 use Rattle.store.specs.Pool.{block}
-use Rattle.store.specs.Reopen.{Cells}
 use Rattle.book.specs.Book.{Book}
-use Rattle.book.specs.Command.{Reply, repliesBytes}
-use Rattle.model.specs.State.{State, bookOf}
+use Rattle.book.specs.Command.{repliesBytes}
+use Rattle.model.specs.State.{bookOf}
 use Rattle.model.specs.Batch.{run, chargeOf, answers, closed}
 use Rattle.model.specs.Mount.{Mounted, refused, opened, mountCells}
 use Rattle.model.specs.Prepare.{prepared}

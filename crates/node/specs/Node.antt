@@ -1,5 +1,5 @@
 -- A tree node: leaf or branch, its pairs by ascending key, and its link (document 01, "Nodes and tree"). Assumes nothing.
-use mathlib.Core.List.{List, [], _∷_}
+use mathlib.Core.List.{List}
 use Prim.Native.Nat.{ℕ, _≤_}
 use lib.ListN.{length}
 use Rattle.layout.specs.Layout.{mostKeys, bound32}

@@ -1,7 +1,6 @@
 -- What the entries of a node's greatest version spell, taken one by one (document 01, "Sound"). Assumes nothing.
 use mathlib.Core.Bool.{Bool, true, false}
 use mathlib.Core.List.{List, [], _∷_}
-use Prim.Native.Nat.{ℕ}
 use lib.Dec.{leb}
 use lib.ListN.{length}
 use Rattle.layout.specs.Layout.{mostKeys}

@@ -1,18 +1,17 @@
 -- One entry more by cases, a turn of each loop, pages of the pool and none behind its end, and the cases of a row's pages. Assumes nothing.
 use mathlib.Core.Path.{_≡_, refl, sym, ap, ap₂, _∙_}
-use mathlib.Core.Bool.{Bool, true, false, _&&_}
+use mathlib.Core.Bool.{true, false}
 use mathlib.Core.List.{List, [], _∷_, _++_, append-assoc, append-nil}
-use Prim.Native.Nat.{ℕ, zero, suc, _+_, _-_, _*_, _/_, _≤_, _<_}
+use Prim.Native.Nat.{ℕ, suc, _+_, _-_, _*_, _≤_, _<_}
 use native.Mathlib.Nat.{sub-zero}
 use native.Mathlib.Numerals.{add-one}
 use native.Mathlib.Omega.{arith}
-use lib.Dec.{eqb, ltb}
 use lib.ListN.{length, getD, set, take, drop, replicate, getD-replicate, List·getD-eq-default}
 use lib.Seq.{take-suc-set, length-take-le}
 use borrow.Author.Tests.{eq-eqb, ne-eqb, lt-ltb, le-ltb}
 use Rattle.laws.specs.Lay.{part}
 use Rattle.laws.specs.BigEndian.{number, numberAt}
-use Rattle.layout.specs.Layout.{mostEntries, mostKeys, bound32}
+use Rattle.layout.specs.Layout.{mostEntries, bound32}
 use Rattle.pairs.specs.Pairs.{Pair}
 use Rattle.wire.specs.Field.{payloadAt}
 use Rattle.wire.specs.FieldLaws.{stands-payload}
@@ -28,7 +27,7 @@ use Rattle.node.specs.declared.DraftValue.{DraftValue}
 use Rattle.node.specs.declared.DraftState.the-variants.{Made}
 use Rattle.node.specs.declared.NodeValue.{NodeValue}
 use Rattle.node.specs.declared.Kind.{Kind}
-use Rattle.node.specs.Node.{Node, node, pairsOf}
+use Rattle.node.specs.Node.{node, pairsOf}
 use Rattle.node.specs.Splice.{zip}
 use Rattle.node.specs.Ascends.{ascends, ascends-within}
 use Rattle.node.specs.Replay.{Draft, made, broken, redo}
@@ -92,14 +91,14 @@ unfolding redoNth part
 nth-part id version buffer k n d e = ap (λ (m : ℕ). redoEntry id version (decode.entryOf (take m (drop (15 * k) buffer))) d) e
 
 -- No field of a tag stands where another byte does.
-payload-none : (s : List ℕ) (at tag : ℕ) → (getD s at 0 ≡ tag → ⊥) → payloadAt s at tag ≡ []
+pub payload-none : (s : List ℕ) (at tag : ℕ) → (getD s at 0 ≡ tag → ⊥) → payloadAt s at tag ≡ []
 payload-none s at tag h = go (payloadAt s at tag) refl
   where
     go : (p : List ℕ) → payloadAt s at tag ≡ p → payloadAt s at tag ≡ []
     go [] e = e
     go (x ∷ p) e = absurd (h (stands-payload s at tag (omega (arith, ap length e)) .tag-is))
 
-payload-blank : (at tag : ℕ) → at < 512 → (tag ≡ 255 → ⊥) → payloadAt blankPage at tag ≡ []
+pub payload-blank : (at tag : ℕ) → at < 512 → (tag ≡ 255 → ⊥) → payloadAt blankPage at tag ≡ []
 unfolding blankPage
 payload-blank at tag h t = payload-none (replicate 512 255) at tag (λ e. t (sym e ∙ getD-replicate {A = ℕ} 512 at 255 0 h))
 

@@ -1,5 +1,5 @@
 -- The entries of one node and one version, taken from a page or the buffer one by one (document 01, "Pages": "entries taken by page stamp, then by position").
-use mathlib.Core.Bool.{Bool, true, false, _&&_}
+use mathlib.Core.Bool.{true, false, _&&_}
 use mathlib.Core.List.{List}
 use Prim.Native.Nat.{ℕ, zero, suc, _+_, _*_}
 use lib.Dec.{eqb}

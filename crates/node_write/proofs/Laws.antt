@@ -1,6 +1,5 @@
 -- The entries of a whole content one by one, and the steps of a group, a node page and an edit put together. Assumes nothing.
 use mathlib.Core.Path.{_≡_, refl, sym, ap, ap₂, _∙_}
-use mathlib.Core.Bool.{Bool, true, false}
 use mathlib.Core.List.{List, [], _∷_, _++_}
 use Prim.Native.Nat.{ℕ, zero, suc, _+_, _-_, _*_, _≤_, _<_}
 use native.Mathlib.Nat.{sub-zero}
@@ -25,7 +24,7 @@ use Rattle.place.specs.declared.state.State.{State}
 use Rattle.log.specs.Entry.{append, appendAll}
 use Rattle.log.specs.Flush.{nextNumber, advanced, room, Kept}
 use Rattle.log.proofs.Laws.{Beside, beside-append, good-append, good-advanced}
-use Rattle.node_write.specs.Group.{numbered, withNodes, startRow, startState, start, Started, roomFor, restart, group, startNext, create, Grown}
+use Rattle.node_write.specs.Group.{numbered, withNodes, startState, start, Started, roomFor, restart, group, startNext, create, Grown}
 use Rattle.node_write.specs.NodePage.{diskRow, writeNode}
 use Rattle.node_write.specs.Edit.{editBy, editIn, edit}
 

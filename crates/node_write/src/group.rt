@@ -1,7 +1,7 @@
 // The whole content of a node as a group of entries under a new version.
 ghost use mathlib.Core.Path.{_≡_};
 ghost use Prim.Native.Nat.{_+_, _*_, _≤_, _<_};
-ghost use lib.ListN.{length, set};
+ghost use lib.ListN.{length};
 ghost use Rattle.rows.specs.Row.{rowsOf};
 ghost use Rattle.blocks.specs.Pages.{pagesOf};
 ghost use Rattle.node.specs.Change.{puts, changesOf};

@@ -1,6 +1,6 @@
 -- The page that bytes spell, as question 5 of document 01 judges one page: a parser from field to field. Assumes nothing.
 use mathlib.Core.Bool.{Bool, true, false, _&&_, _||_}
-use mathlib.Core.List.{List, [], _∷_, _++_, map}
+use mathlib.Core.List.{List, [], _∷_, map}
 use mathlib.Core.Option.{Option, none, some}
 use Prim.Native.Nat.{ℕ, zero, suc, _+_, _-_, _*_, _/_}
 use lib.Dec.{eqb, leb, ltb}
@@ -9,7 +9,6 @@ use Rattle.laws.specs.Tests.{choose}
 use Rattle.laws.specs.BigEndian.{number, numberAt}
 use Rattle.layout.specs.Layout.{mostEntries, firstScores, otherScores}
 use Rattle.pairs.specs.Pairs.{Pair}
-use Rattle.account.specs.declared.Costs.{Costs}
 use Rattle.account.specs.declared.Tariff.{Tariff}
 use Rattle.node.specs.declared.Kind.{Kind}
 use Rattle.node.specs.declared.Kind.the-variants.{Leaf, Branch}
@@ -17,7 +16,7 @@ use Rattle.node.specs.Node.{Node, node}
 use Rattle.node.specs.Change.{Change, put, remove, link}
 use Rattle.wire.specs.Sum.{sumsOf}
 use Rattle.wire.specs.Field.{payloadAt}
-use Rattle.page.specs.Page.{Entry, Score, Content, log, whole, checkpoint, Page, page}
+use Rattle.page.specs.Page.{Entry, Score, log, whole, checkpoint, Page, page}
 
 -- What a page is: blank, written, or bytes that do not check.
 pub data Decoded : Type 0 where

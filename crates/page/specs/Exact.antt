@@ -4,14 +4,13 @@ use mathlib.Core.Path.{_≡_, refl, sym, ap, ap₂, subst, _∙_}
 use mathlib.Core.Bool.{Bool, true, false, _&&_, _||_, true≢false}
 use mathlib.Core.List.{List, [], _∷_, _++_, map}
 use mathlib.Core.Option.{Option, none, some}
-use Prim.Native.Nat.{ℕ, zero, suc, _+_, _-_, _*_, _^_, _≤_, _<_}
+use Prim.Native.Nat.{ℕ, zero, suc, _+_, _-_, _*_, _≤_, _<_}
 use native.Mathlib.Nat.{not-suc-le-zero}
 use native.Mathlib.Omega.{arith}
 use lib.Dec.{eqb, leb}
-use lib.ListN.{length, getD, take, drop, replicate, length-map, List·getD-map}
+use lib.ListN.{length, getD, take, length-map, List·getD-map}
 use borrow.Author.Tests.{eqb-true, eqb-false, leb-true, leb-false}
 use Rattle.laws.specs.Tests.{and-left, and-right}
-use Rattle.laws.specs.Every.{Every}
 use Rattle.laws.specs.Lay.{part, part-add}
 use Rattle.laws.specs.BigEndian.{bigEndian, number, numberAt, Bytes, bigEndian-number, number-lt, numberAt-lt}
 use Rattle.layout.specs.Layout.{pageBytes, mostEntries, bound32}
@@ -20,75 +19,15 @@ use Rattle.wire.specs.Tag.{lengthOf, allowed, isNodeBytes}
 use Rattle.wire.specs.Field.{field, payloadAt}
 use Rattle.wire.specs.FieldLaws.{stands-payload, part-payload, bytes-payload, allowed-payload}
 use Rattle.page.specs.Page.{Entry, Score, Content, log, whole, checkpoint, Page, page, sequence, contentOf}
-use Rattle.page.specs.Image.{
-  entryBytes,
-  wholeBytes,
-  tariffBytes,
-  scoreBytes,
-  countBytes,
-  fields,
-  fieldIf,
-  contentBytes,
-  numbered,
-  sealed,
-  image,
-  blankBytes,
-}
-use Rattle.page.specs.Decode.{
-  Decoded,
-  blank,
-  written,
-  bad,
-  found,
-  taken,
-  sealedAt,
-  allBlank,
-  run,
-  payloads,
-  entryOk,
-  entryOf,
-  nodeOk,
-  nodeOf,
-  tariffOf,
-  scoreOk,
-  scoreOf,
-  readIf,
-  when,
-  mostScores,
-  decodeLog,
-  decodeNode,
-  decodeScores,
-  decodeCounted,
-  decodeCheckpoint,
-  decodeContent,
-  decodeWritten,
-  decode,
-}
-use Rattle.page.specs.Limits.{bound16, TariffIfFits, Filled, given, Fits, PageFits}
-use Rattle.page.specs.Cases.{
-  decode-blank,
-  decode-other,
-  written-zero,
-  written-from,
-  content-log,
-  content-node,
-  content-checkpoint,
-  Passed,
-  when-passed,
-}
+use Rattle.page.specs.Image.{entryBytes, tariffBytes, scoreBytes, countBytes, fields, fieldIf, contentBytes, numbered, sealed, image}
+use Rattle.page.specs.Decode.{Decoded, written, bad, found, taken, sealedAt, allBlank, run, payloads, entryOk, entryOf, nodeOk, nodeOf, tariffOf, scoreOk, scoreOf, readIf, mostScores, decodeLog, decodeNode, decodeScores, decodeCounted, decodeCheckpoint, decodeContent, decodeWritten, decode}
+use Rattle.page.specs.Limits.{TariffIfFits, Filled, given, Fits, PageFits}
+use Rattle.page.specs.Cases.{decode-blank, decode-other, written-zero, written-from, content-log, content-node, content-checkpoint, when-passed}
 use Rattle.page.specs.Tags.{allowed-11, only-10, only-13, only-15}
 use Rattle.page.specs.Runs.{length-payloads, Ran, ran}
-use Rattle.page.specs.Spelled.{
-  length-entryOk,
-  entryBytes-of,
-  entryOf-fits,
-  scoreBytes-of,
-  scoreOf-fits,
-  tariffBytes-of,
-  tariffOf-fits,
-}
+use Rattle.page.specs.Spelled.{entryBytes-of, entryOf-fits, scoreBytes-of, scoreOf-fits, tariffBytes-of, tariffOf-fits}
 use Rattle.page.specs.SpelledNode.{wholeBytes-of, nodeOf-fits, node-long}
-use Rattle.page.specs.Seal.{allBlank-is, sealedAt-is}
+use Rattle.page.specs.Seal.{sealedAt-is}
 use Rattle.page.specs.ReadBack.{map-back, every-to, taken-found}
 
 -- Where on a page that checks its values stand: the entries in the fields 12 behind field 10, the node in field 11, the tariff

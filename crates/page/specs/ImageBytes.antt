@@ -4,7 +4,7 @@ use mathlib.Core.Option.{Option, none, some}
 use Prim.Native.Nat.{ℕ, zero, suc, _-_, _<_}
 use native.Mathlib.Omega.{arith}
 use lib.ListN.{length, replicate}
-use Rattle.laws.specs.Every.{Every, none, both, every-append}
+use Rattle.laws.specs.Every.{none, both, every-append}
 use Rattle.laws.specs.BigEndian.{bigEndian, Bytes, bytes-bigEndian}
 use Rattle.layout.specs.Layout.{pageBytes}
 use Rattle.pairs.specs.Pairs.{Pair}

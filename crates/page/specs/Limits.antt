@@ -1,6 +1,6 @@
 -- The pages that document 01 allows: what every number of a page has to keep to, and how many fields it has. Assumes nothing.
 use mathlib.Core.Bool.{Bool, true, false}
-use mathlib.Core.List.{List, [], _∷_}
+use mathlib.Core.List.{List}
 use mathlib.Core.Option.{Option, none, some}
 use mathlib.Core.Path.{_≡_}
 use Prim.Native.Nat.{ℕ, _≤_, _<_}
@@ -10,9 +10,8 @@ use Rattle.layout.specs.Layout.{mostEntries, mostKeys, bound32}
 use Rattle.pairs.specs.Pairs.{Pair}
 use Rattle.account.specs.declared.Costs.{Costs}
 use Rattle.account.specs.declared.Tariff.{Tariff}
-use Rattle.node.specs.declared.Kind.{Kind}
-use Rattle.node.specs.Node.{Node, node}
-use Rattle.node.specs.Change.{Change, put, remove, link}
+use Rattle.node.specs.Node.{node}
+use Rattle.node.specs.Change.{link}
 use Rattle.node.specs.Narrow.{NarrowChange, NarrowPair}
 use Rattle.page.specs.Page.{Entry, Score, Content, log, whole, checkpoint, Page, page}
 use Rattle.page.specs.Decode.{mostScores}

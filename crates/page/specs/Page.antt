@@ -1,6 +1,6 @@
 -- A written page of the pool: its sequence number and one kind of content (document 01, "Pages"). Assumes nothing.
-use mathlib.Core.List.{List, [], _∷_}
-use mathlib.Core.Option.{Option, none, some}
+use mathlib.Core.List.{List}
+use mathlib.Core.Option.{Option}
 use Prim.Native.Nat.{ℕ}
 use Rattle.account.specs.declared.Tariff.{Tariff}
 use Rattle.node.specs.Node.{Node}

@@ -1,57 +1,29 @@
 -- A page within its limits is read back from its bytes: `decode (image p) ≡ written p`. Each field is found where it was laid,
 -- and the field behind it has another tag. Assumes nothing.
-use mathlib.Core.Path.{_≡_, refl, sym, ap, ap₂, subst, _∙_}
-use mathlib.Core.Bool.{Bool, true, false, _&&_, _||_}
+use mathlib.Core.Path.{_≡_, refl, sym, ap, ap₂, _∙_}
+use mathlib.Core.Bool.{true, false, _||_}
 use mathlib.Core.List.{List, [], _∷_, _++_, map, append-assoc}
 use mathlib.Core.Option.{Option, none, some}
-use Prim.Native.Nat.{ℕ, zero, suc, _+_, _-_, _*_, _%_, _^_, _≤_, _<_}
-use native.Mathlib.Nat.{not-suc-le-zero, add-zero}
+use Prim.Native.Nat.{ℕ, _+_, _-_, _*_, _%_, _^_, _≤_, _<_}
+use native.Mathlib.Nat.{not-suc-le-zero}
 use native.Mathlib.Omega.{arith}
-use lib.Dec.{eqb, leb}
+use lib.Dec.{eqb}
 use lib.ListN.{length, getD, replicate, length-append, length-map}
 use borrow.Author.Tests.{eq-eqb, le-leb}
-use Rattle.laws.specs.Tests.{choose}
 use Rattle.laws.specs.Every.{Every, none, both}
 use Rattle.laws.specs.BigEndian.{bigEndian, number, number-bigEndian}
 use Rattle.layout.specs.Layout.{pageBytes, mostEntries, mostKeys, bound32}
 use Rattle.pairs.specs.Pairs.{Pair}
 use Rattle.account.specs.declared.Tariff.{Tariff}
 use Rattle.node.specs.declared.Kind.{Kind}
-use Rattle.node.specs.Node.{Node, node}
+use Rattle.node.specs.Node.{node}
 use Rattle.wire.specs.Tag.{lengthOf, allowed, isNodeBytes, nodeBytes}
 use Rattle.wire.specs.Field.{field, payloadAt}
 use Rattle.wire.specs.FieldLaws.{length-field, payloadAt-field, payloadAt-other}
 use Rattle.page.specs.Page.{Entry, Score, Content, log, whole, checkpoint, Page, page}
 use Rattle.page.specs.Image.{entryBytes, wholeBytes, tariffBytes, scoreBytes, countBytes, fields, fieldIf, contentBytes, numbered, sumsField, sealed, image}
-use Rattle.page.specs.Decode.{
-  Decoded,
-  written,
-  found,
-  taken,
-  sealedAt,
-  allBlank,
-  run,
-  payloads,
-  entryOk,
-  entryOf,
-  nodeOk,
-  nodeOf,
-  tariffOf,
-  scoreOk,
-  scoreOf,
-  readIf,
-  when,
-  mostScores,
-  decodeLog,
-  decodeNode,
-  decodeScores,
-  decodeCounted,
-  decodeCheckpoint,
-  decodeContent,
-  decodeWritten,
-  decode,
-}
-use Rattle.page.specs.Limits.{bound16, EntryFits, ScoreFits, TariffFits, TariffIfFits, given, Filled, LogFits, WholeFits, CheckpointFits, ContentFits, Fits, PageFits}
+use Rattle.page.specs.Decode.{written, found, taken, sealedAt, allBlank, run, payloads, entryOk, entryOf, tariffOf, scoreOk, scoreOf, readIf, when, mostScores, decodeLog, decodeNode, decodeScores, decodeCounted, decodeCheckpoint, decodeContent, decodeWritten, decode}
+use Rattle.page.specs.Limits.{TariffIfFits, given, Filled, Fits, PageFits}
 use Rattle.page.specs.Cases.{content-log, content-node, content-checkpoint}
 use Rattle.page.specs.Tags.{allowed-10, allowed-11, allowed-12, allowed-13, allowed-14, allowed-15}
 use Rattle.page.specs.Runs.{Good, run-fields, payloads-fields}

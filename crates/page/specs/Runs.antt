@@ -4,7 +4,7 @@ use mathlib.Core.Path.{_≡_, refl, sym, ap, ap₂, _∙_}
 use mathlib.Core.Bool.{Bool, true, false}
 use mathlib.Core.List.{List, [], _∷_, _++_, append-assoc}
 use Prim.Native.Nat.{ℕ, zero, suc, _+_, _*_, _^_, _≤_, _<_, zero-le, suc-le-suc}
-use native.Mathlib.Nat.{add-zero, add-assoc, mul-zero, mul-suc, le-of-suc-le-suc, not-suc-le-zero}
+use native.Mathlib.Nat.{mul-zero, le-of-suc-le-suc, not-suc-le-zero}
 use native.Mathlib.Omega.{arith}
 use lib.ListN.{length, length-append}
 use Rattle.laws.specs.Every.{Every, none, both}
@@ -12,7 +12,7 @@ use Rattle.laws.specs.Lay.{part, part-add}
 use Rattle.laws.specs.BigEndian.{Bytes}
 use Rattle.wire.specs.Tag.{lengthOf, allowed}
 use Rattle.wire.specs.Field.{field, payloadAt}
-use Rattle.wire.specs.FieldLaws.{length-field, payloadAt-field, stands-payload, stands-within, part-payload, bytes-payload}
+use Rattle.wire.specs.FieldLaws.{length-field, payloadAt-field, stands-payload, part-payload, bytes-payload}
 use Rattle.page.specs.Image.{fields}
 use Rattle.page.specs.Decode.{run, payloads}
 

@@ -1,19 +1,19 @@
 -- The sums and the FF behind them, both ways: a sealed body passes, and what passes is a sealed body. Assumes nothing.
 use mathlib.Core.Path.{_≡_, refl, sym, ap, ap₂, _∙_}
-use mathlib.Core.Bool.{Bool, true, false, _&&_}
-use mathlib.Core.List.{List, [], _∷_, _++_, append-assoc}
-use Prim.Native.Nat.{ℕ, zero, suc, _+_, _-_, _≤_, _<_}
+use mathlib.Core.Bool.{true, _&&_}
+use mathlib.Core.List.{List, [], _∷_, _++_}
+use Prim.Native.Nat.{ℕ, zero, suc, _+_, _-_, _≤_}
 use native.Mathlib.Omega.{arith}
 use lib.Dec.{eqb}
-use lib.ListN.{length, getD, take, drop, replicate, length-append, length-drop, length-replicate, take-append-drop}
+use lib.ListN.{length, take, drop, replicate, length-append, length-drop, length-replicate, take-append-drop}
 use lib.Seq.{take-at, drop-append-add, drop-drop, length-take-le}
 use borrow.Author.Tests.{eqb-true, eq-eqb}
-use Rattle.laws.specs.Tests.{and-left, and-right, and-both}
-use Rattle.laws.specs.Lay.{part, part-add, part-whole, part-rest}
-use Rattle.laws.specs.BigEndian.{bigEndian, number, numberAt, Bytes, number-bigEndian, bigEndian-numberAt}
+use Rattle.laws.specs.Tests.{and-left, and-right}
+use Rattle.laws.specs.Lay.{part}
+use Rattle.laws.specs.BigEndian.{bigEndian, numberAt, Bytes, number-bigEndian, bigEndian-numberAt}
 use Rattle.wire.specs.Sum.{sumsOf, sumsOf-small}
 use Rattle.wire.specs.Field.{field, payloadAt}
-use Rattle.wire.specs.FieldLaws.{length-field, payloadAt-field, stands-payload, stands-within, part-payload, bytes-payload}
+use Rattle.wire.specs.FieldLaws.{payloadAt-field, stands-payload, stands-within, part-payload, bytes-payload}
 use Rattle.page.specs.Image.{sumsField, sealed}
 use Rattle.page.specs.Decode.{allBlank, sealedAt}
 use Rattle.page.specs.Tags.{allowed-1F}

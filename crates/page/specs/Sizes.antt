@@ -1,43 +1,22 @@
 -- A page within its limits fits the page's size; blank bytes are read as blank, and nothing else is. Assumes nothing.
-use mathlib.Core.Path.{_≡_, refl, sym, ap, ap₂, _∙_}
+use mathlib.Core.Path.{_≡_, refl, sym, ap, _∙_}
 use mathlib.Core.Bool.{Bool, true, false}
-use mathlib.Core.List.{List, [], _∷_, _++_, map}
+use mathlib.Core.List.{List, _++_, map}
 use mathlib.Core.Option.{Option, none, some}
-use Prim.Native.Nat.{ℕ, zero, suc, _+_, _-_, _*_, _≤_, _<_}
+use Prim.Native.Nat.{ℕ, _+_, _-_, _*_, _≤_}
 use native.Mathlib.Omega.{arith}
 use lib.Dec.{eqb, leb}
 use lib.ListN.{length, getD, replicate, length-append, length-map}
 use borrow.Author.Tests.{eqb-true, eqb-false, leb-true, leb-false}
-use Rattle.laws.specs.Tests.{choose}
-use Rattle.laws.specs.Every.{Every}
-use Rattle.laws.specs.BigEndian.{bigEndian, number}
-use Rattle.layout.specs.Layout.{pageBytes, mostEntries, mostKeys, firstScores, otherScores}
+use Rattle.layout.specs.Layout.{pageBytes}
 use Rattle.account.specs.declared.Tariff.{Tariff}
-use Rattle.node.specs.Node.{Node, node}
-use Rattle.wire.specs.Field.{field, payloadAt}
+use Rattle.node.specs.Node.{node}
+use Rattle.wire.specs.Field.{field}
 use Rattle.wire.specs.FieldLaws.{length-field}
-use Rattle.page.specs.Page.{Entry, Score, Content, log, whole, checkpoint, Page, page}
+use Rattle.page.specs.Page.{Content, log, whole, checkpoint, Page, page}
 use Rattle.page.specs.Image.{entryBytes, wholeBytes, tariffBytes, scoreBytes, countBytes, fields, fieldIf, contentBytes, numbered, image, blankBytes}
-use Rattle.page.specs.Decode.{
-  Decoded,
-  blank,
-  written,
-  bad,
-  allBlank,
-  run,
-  entryOk,
-  when,
-  mostScores,
-  decodeLog,
-  decodeNode,
-  decodeScores,
-  decodeCounted,
-  decodeCheckpoint,
-  decodeContent,
-  decodeWritten,
-  decode,
-}
-use Rattle.page.specs.Limits.{given, ContentFits, Fits, PageFits}
+use Rattle.page.specs.Decode.{Decoded, blank, bad, allBlank, when, mostScores, decodeLog, decodeNode, decodeScores, decodeCounted, decodeCheckpoint, decodeContent, decodeWritten, decode}
+use Rattle.page.specs.Limits.{given, ContentFits, PageFits}
 use Rattle.page.specs.Cases.{
   decode-blank,
   decode-other,

@@ -1,31 +1,26 @@
 -- Payloads and what they spell: the bytes of a value are read as the value, and a payload that was read is the value's bytes.
 -- Assumes nothing.
 use mathlib.Core.Path.{_≡_, refl, sym, ap, ap₂, _∙_}
-use mathlib.Core.Bool.{Bool, true, false, _&&_, _||_}
-use mathlib.Core.List.{List, [], _∷_, _++_, map, append-assoc, append-nil}
-use Prim.Native.Nat.{ℕ, zero, suc, _+_, _-_, _*_, _/_, _%_, _^_, _≤_, _<_}
-use native.Mathlib.Nat.{add-zero, add-assoc, zero-add, mul-zero}
+use mathlib.Core.Bool.{Bool, true, false, _&&_}
+use mathlib.Core.List.{List, [], _∷_, _++_}
+use Prim.Native.Nat.{ℕ, _+_, _-_, _≤_, _<_}
 use native.Mathlib.Omega.{arith}
 use lib.Dec.{eqb, leb, ltb}
-use lib.ListN.{length, getD, length-append}
-use borrow.Author.Tests.{eqb-true, leb-true, ltb-true, eq-eqb, ne-eqb, le-leb, lt-ltb}
-use Rattle.laws.specs.Tests.{choose, and-left, and-right, and-both}
-use Rattle.laws.specs.Every.{Every, none, both}
-use Rattle.laws.specs.Lay.{part, part-add, part-cons, part-whole, part-append}
-use Rattle.laws.specs.BigEndian.{bigEndian, number, numberAt, Bytes, number-bigEndian, bigEndian-number, bigEndian-numberAt, numberAt-lt, length-bigEndian}
-use Rattle.layout.specs.Layout.{mostKeys, bound32}
-use Rattle.pairs.specs.Pairs.{Pair}
+use lib.ListN.{length, getD}
+use borrow.Author.Tests.{eqb-true, leb-true, ltb-true, le-leb, lt-ltb}
+use Rattle.laws.specs.Tests.{choose, and-left, and-right}
+use Rattle.laws.specs.Lay.{part, part-add, part-cons, part-whole}
+use Rattle.laws.specs.BigEndian.{bigEndian, number, numberAt, Bytes, number-bigEndian, bigEndian-numberAt, numberAt-lt}
+use Rattle.layout.specs.Layout.{bound32}
 use Rattle.account.specs.declared.Costs.{Costs}
 use Rattle.account.specs.declared.Tariff.{Tariff}
-use Rattle.node.specs.declared.Kind.{Kind}
 use Rattle.node.specs.declared.Kind.the-variants.{Leaf, Branch}
-use Rattle.node.specs.Node.{Node, node}
 use Rattle.node.specs.Change.{Change, put, remove, link}
-use Rattle.node.specs.Narrow.{NarrowChange, NarrowPair}
+use Rattle.node.specs.Narrow.{NarrowChange}
 use Rattle.page.specs.Page.{Entry, Score}
-use Rattle.page.specs.Image.{kindNumber, changeNumber, changeKey, changePointer, entryBytes, pairsBytes, wholeBytes, tariffBytes, scoreBytes}
-use Rattle.page.specs.Decode.{changeOk, changeOf, entryOk, entryOf, pairsFrom, pairsIn, kindOfNumber, nodeOk, nodeOf, tariffOf, scoreOf}
-use Rattle.page.specs.Limits.{bound16, EntryFits, NodeFits, CostsFit, TariffFits, ScoreFits}
+use Rattle.page.specs.Image.{changeNumber, changeKey, changePointer, entryBytes, tariffBytes, scoreBytes}
+use Rattle.page.specs.Decode.{changeOk, changeOf, entryOk, entryOf, tariffOf, scoreOf}
+use Rattle.page.specs.Limits.{EntryFits, TariffFits, ScoreFits}
 
 abbrev score-of : ℕ → ℕ → Score
 score-of i s = record { id = i; score = s }

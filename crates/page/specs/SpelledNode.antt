@@ -1,14 +1,14 @@
 -- A whole node's payload and what it spells, both ways, by induction over its pairs. Assumes nothing.
 use mathlib.Core.Path.{_≡_, refl, sym, ap, ap₂, _∙_}
-use mathlib.Core.Bool.{Bool, true, false, _&&_, _||_}
+use mathlib.Core.Bool.{Bool, true, false, _||_}
 use mathlib.Core.List.{List, [], _∷_, _++_, append-assoc}
-use Prim.Native.Nat.{ℕ, zero, suc, _+_, _-_, _*_, _/_, _%_, _≤_, _<_}
-use native.Mathlib.Nat.{add-zero, mul-zero}
+use Prim.Native.Nat.{ℕ, zero, suc, _+_, _-_, _*_, _%_, _≤_, _<_}
+use native.Mathlib.Nat.{add-zero}
 use native.Mathlib.Omega.{arith}
-use lib.Dec.{eqb, leb}
+use lib.Dec.{eqb}
 use lib.ListN.{length, getD, length-append}
 use borrow.Author.Tests.{eqb-true, leb-true}
-use Rattle.laws.specs.Tests.{choose, and-left, and-right}
+use Rattle.laws.specs.Tests.{and-left, and-right}
 use Rattle.laws.specs.Every.{Every, none, both}
 use Rattle.laws.specs.Lay.{part, part-add, part-append}
 use Rattle.laws.specs.BigEndian.{bigEndian, number, numberAt, Bytes, number-bigEndian, bigEndian-numberAt, numberAt-lt}

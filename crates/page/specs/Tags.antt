@@ -1,6 +1,6 @@
 -- What the tag table says of each page field. Assumes nothing.
 use mathlib.Core.Path.{_≡_, refl}
-use mathlib.Core.Bool.{Bool, true, false}
+use mathlib.Core.Bool.{true}
 use Prim.Native.Nat.{ℕ}
 use borrow.Author.Tests.{eqb-true}
 use Rattle.wire.specs.Tag.{lengthOf, find, rows, allowed, isNodeBytes}

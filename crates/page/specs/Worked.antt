@@ -1,33 +1,17 @@
 -- Pages whose bytes are known: those that prepare and the worked batch of document 01 leave, and one of a leaf. Each is the
 -- page's image and is read back. Assumes nothing.
 use mathlib.Core.Path.{_≡_, refl}
-use mathlib.Core.List.{List, [], _∷_, _++_}
-use mathlib.Core.Option.{Option, none, some}
+use mathlib.Core.List.{[], _∷_}
+use mathlib.Core.Option.{some}
 use Prim.Native.Nat.{ℕ}
-use lib.ListN.{take, replicate}
+use lib.ListN.{take}
 use Rattle.account.specs.declared.Costs.{Costs}
 use Rattle.account.specs.declared.Tariff.{Tariff}
 use Rattle.node.specs.declared.Kind.the-variants.{Leaf}
-use Rattle.node.specs.Node.{node}
 use Rattle.node.specs.Change.{Change, put, remove, link}
-use Rattle.laws.specs.BigEndian.{numberAt}
-use Rattle.laws.specs.Lay.{part}
-use Rattle.wire.specs.Tag.{lengthOf, find, rows, isNodeBytes}
-use Rattle.wire.specs.Field.{field, fieldAt, payloadAt}
-use Rattle.page.specs.Page.{Entry, Score, log, whole, checkpoint, Page, page}
-use Rattle.page.specs.Image.{
-  entryBytes,
-  pairsBytes,
-  wholeBytes,
-  tariffBytes,
-  scoreBytes,
-  fields,
-  contentBytes,
-  numbered,
-  sumsField,
-  sealed,
-  image,
-}
+use Rattle.wire.specs.Field.{field}
+use Rattle.page.specs.Page.{Entry, log, checkpoint, Page, page}
+use Rattle.page.specs.Image.{entryBytes, tariffBytes, scoreBytes, fields, contentBytes, numbered, sumsField, sealed, image}
 
 abbrev entry : ℕ → ℕ → Change → Entry
 entry i v c = record { id = i; version = v; change = c }

@@ -1,60 +1,27 @@
 -- The reader's loops and tests, a step at a time. Assumes nothing.
-use mathlib.Core.Path.{_≡_, refl, sym, ap, ap₂, _∙_}
-use mathlib.Core.Bool.{Bool, true, false, _&&_, _||_}
+use mathlib.Core.Path.{_≡_, refl, sym, ap, _∙_}
+use mathlib.Core.Bool.{Bool, true, false, _||_}
 use mathlib.Core.List.{List, [], _∷_, map}
-use mathlib.Core.Option.{Option, none, some}
-use Prim.Native.Nat.{ℕ, zero, suc, _+_, _-_, _*_, _≤_, _<_}
+use Prim.Native.Nat.{ℕ, suc, _+_, _-_, _*_, _≤_, _<_}
 use native.Mathlib.Nat.{add-zero}
 use native.Mathlib.Numerals.{add-one}
 use native.Mathlib.Omega.{arith}
-use lib.Dec.{eqb, leb, ltb}
+use lib.Dec.{eqb}
 use lib.ListN.{length, getD, take, drop, drop-of-length-le, length-map}
 use lib.Seq.{drop-cons}
 use borrow.Author.Tests.{eq-eqb, ne-eqb, le-leb, lt-leb, lt-ltb, le-ltb}
 use Rattle.laws.specs.BigEndian.{number, numberAt}
-use Rattle.layout.specs.Layout.{mostEntries}
-use Rattle.node.specs.Node.{kindOf, pairsOf}
 use Rattle.wire.specs.Sum.{sumsOf}
 use Rattle.wire.specs.Field.{payloadAt}
-use Rattle.page.specs.Page.{Content, log, whole, checkpoint, Page, page}
-use Rattle.page.specs.Decode.{
-  Decoded,
-  written,
-  bad,
-  found,
-  taken,
-  allBlank,
-  sealedAt,
-  run,
-  payloads,
-  changeOk,
-  entryOk,
-  entryOf,
-  pairsIn,
-  kindOfNumber,
-  nodeOk,
-  nodeOf,
-  tariffOf,
-  scoreOk,
-  scoreOf,
-  readIf,
-  when,
-  mostScores,
-  decodeLog,
-  decodeNode,
-  decodeScores,
-  decodeCounted,
-  decodeCheckpoint,
-}
+use Rattle.page.specs.Page.{log, whole, checkpoint, Page, page}
+use Rattle.page.specs.Decode.{written, found, taken, allBlank, sealedAt, run, payloads, changeOk, entryOk, entryOf, pairsIn, kindOfNumber, nodeOk, nodeOf, tariffOf, scoreOk, scoreOf, readIf, when, mostScores, decodeLog, decodeNode, decodeScores, decodeCounted, decodeCheckpoint}
 use Rattle.page.specs.Limits.{given}
 use Rattle.page.specs.Runs.{run-goes, run-stops, length-payloads}
 use Rattle.page.specs.SpelledNode.{length-pairsFrom}
 use Rattle.page.specs.Cases.{when-true, when-false}
 use Rattle.page_read.specs.View.{view, nodesOf}
-use Rattle.page_read.specs.declared.view.Nodes.{Nodes}
 use Rattle.page_read.specs.declared.view.Nodes.the-variants.{Count, Open}
-use Rattle.page_read.specs.declared.view.PageView.{PageView}
-use Rattle.page_read.specs.declared.view.PageView.the-variants.{Blank, Log, Whole, Checkpoint, Bad}
+use Rattle.page_read.specs.declared.view.PageView.the-variants.{Log, Whole, Checkpoint, Bad}
 
 -- ---- FF to the end
 

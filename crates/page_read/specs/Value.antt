@@ -1,6 +1,6 @@
 -- The values in single payloads, and what they are on a page that checks. Assumes nothing.
-use mathlib.Core.Path.{_≡_, refl, sym, ap, _∙_}
-use mathlib.Core.List.{List, [], _∷_}
+use mathlib.Core.Path.{_≡_, refl, _∙_}
+use mathlib.Core.List.{List, []}
 use mathlib.Core.Option.{Option}
 use Prim.Native.Nat.{ℕ, zero, suc, _+_, _*_, _<_}
 use native.Mathlib.Omega.{arith}
@@ -9,7 +9,6 @@ use Rattle.laws.specs.BigEndian.{Bytes, numberAt}
 use Rattle.laws.specs.Lay.{part}
 use Rattle.account.specs.declared.Costs.{Costs}
 use Rattle.account.specs.declared.Tariff.{Tariff}
-use Rattle.pairs.specs.Pairs.{Pair}
 use Rattle.wire.specs.Field.{payloadAt}
 use Rattle.page.specs.Page.{Entry, Score, log, checkpoint, page}
 use Rattle.page.specs.Decode.{decode, written, taken, changeOf, entryOf, scoreOf, pairsFrom, tariffOf}

@@ -1,10 +1,9 @@
 -- What the page reader answers, read off the page that the bytes spell. Assumes nothing.
-use mathlib.Core.Bool.{Bool, true, false}
 use mathlib.Core.List.{List}
 use mathlib.Core.Option.{Option, none, some}
 use Prim.Native.Nat.{ℕ}
 use lib.ListN.{length}
-use Rattle.node.specs.Node.{Node, kindOf, pairsOf}
+use Rattle.node.specs.Node.{kindOf, pairsOf}
 use Rattle.page.specs.Page.{Content, log, whole, checkpoint, Page, page}
 use Rattle.page.specs.Decode.{Decoded, blank, written, bad, decode}
 use Rattle.page.specs.Limits.{given}

@@ -1,7 +1,6 @@
 // The fields of a content: log entries and scores, how many stand one behind another, and the values in them.
 ghost use mathlib.Core.Path.{_≡_};
-ghost use Prim.Native.Nat.{_+_, _*_, _≤_, _<_};
-ghost use lib.ListN.{length};
+ghost use Prim.Native.Nat.{_+_, _≤_, _<_};
 ghost use Rattle.layout.specs.Layout.{mostEntries};
 ghost use Rattle.page.specs.Decode.{changeOk, entryOk, scoreOk, run};
 use wire::field::payload;

@@ -1,12 +1,12 @@
 // What a page is, decided in one pass.
 ghost use mathlib.Core.Path.{_≡_};
 ghost use mathlib.Core.Bool.{_||_};
-ghost use Prim.Native.Nat.{_+_, _*_, _≤_, _<_};
+ghost use Prim.Native.Nat.{_+_, _*_, _<_};
 ghost use lib.Dec.{eqb};
 ghost use lib.ListN.{length};
 ghost use Rattle.layout.specs.Layout.{pageBytes, mostEntries};
 ghost use Rattle.wire.specs.Field.{payloadAt};
-ghost use Rattle.page.specs.Decode.{entryOk, run, found, taken, mostScores, decodeLog, decodeNode, decodeCounted, decodeCheckpoint, kindOfNumber};
+ghost use Rattle.page.specs.Decode.{entryOk, run, decodeLog, decodeNode, decodeCounted, decodeCheckpoint, kindOfNumber};
 ghost use Rattle.page_read.specs.View.{view, viewOf};
 ghost use Rattle.page_read.specs.Asked.{Asked};
 use super::field::count_entries;

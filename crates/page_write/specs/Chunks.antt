@@ -1,9 +1,9 @@
 -- Records of one size one behind another in a buffer: log entries of 15 bytes, scores of 6. Assumes nothing.
-use mathlib.Core.Path.{_≡_, refl, sym, ap, ap₂, _∙_}
-use mathlib.Core.List.{List, [], _∷_, _++_, map}
+use mathlib.Core.Path.{_≡_, refl, sym, ap, _∙_}
+use mathlib.Core.List.{List, [], _∷_}
 use Prim.Native.Nat.{ℕ, zero, suc, _+_, _-_, _*_, _≤_, _<_}
 use native.Mathlib.Omega.{arith}
-use lib.ListN.{length, take, drop, length-append}
+use lib.ListN.{length, take, drop}
 use Rattle.laws.specs.Every.{Every, none, both}
 use Rattle.laws.specs.Lay.{lay, part, lay-nil, lay-next, length-part}
 use Rattle.laws.specs.BigEndian.{Bytes, bytes-part}

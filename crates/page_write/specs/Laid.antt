@@ -1,15 +1,15 @@
 -- A page laid field by field over a buffer: what its writers leave, and that over FF this is the page. Assumes nothing.
-use mathlib.Core.Path.{_≡_, refl, sym, ap, ap₂, _∙_}
-use mathlib.Core.List.{List, [], _∷_, _++_, append-assoc}
+use mathlib.Core.Path.{_≡_, refl, sym, _∙_}
+use mathlib.Core.List.{List, _++_, append-assoc}
 use Prim.Native.Nat.{ℕ, _+_, _-_, _≤_}
 use native.Mathlib.Nat.{zero-add}
 use native.Mathlib.Omega.{arith}
-use lib.ListN.{length, take, replicate, length-append}
+use lib.ListN.{length, take, replicate}
 use Rattle.laws.specs.Lay.{lay, lay-lay, lay-next, take-lay, lay-replicate, length-lay}
 use Rattle.laws.specs.BigEndian.{bigEndian}
 use Rattle.wire.specs.Sum.{sumsOf}
 use Rattle.wire.specs.Field.{field, head}
-use Rattle.wire.specs.FieldLaws.{length-field, lay-field}
+use Rattle.wire.specs.FieldLaws.{lay-field}
 use Rattle.page.specs.Image.{numbered, sumsField, sealed}
 
 -- A body and its sums: a page but for the FF behind.

@@ -6,13 +6,13 @@ use Prim.Native.Nat.{ℕ}
 use native.Mathlib.Omega.{arith}
 use lib.ListN.{length, replicate}
 use Rattle.laws.specs.Lay.{lay, lay-whole, part, part-whole}
-use Rattle.laws.specs.BigEndian.{bigEndian, number, numberAt}
+use Rattle.laws.specs.BigEndian.{number, numberAt}
 use Rattle.layout.specs.Layout.{pageBytes, noLeaf}
 use Rattle.account.specs.declared.Tariff.{Tariff}
 use Rattle.account.specs.Range.{inRange}
 use Rattle.node.specs.declared.Kind.the-variants.{Leaf}
 use Rattle.node.specs.Change.{link}
-use Rattle.page.specs.Page.{Entry, Page}
+use Rattle.page.specs.Page.{Entry}
 use Rattle.page.specs.Image.{entryBytes, contentBytes, fields, numbered, sealed, image}
 use Rattle.page.specs.Decode.{scoreOf}
 use Rattle.page.specs.Spelled.{length-entryBytes}

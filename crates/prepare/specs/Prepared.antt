@@ -1,16 +1,16 @@
 -- What prepare leaves, by bytes: all FF but the first two pages; and that these are the bytes of the prepared pool. Assumes nothing.
 use mathlib.Core.Path.{_≡_, refl, sym, ap, ap₂, _∙_}
-use mathlib.Core.Bool.{Bool, true, false, _&&_}
+use mathlib.Core.Bool.{true, false}
 use mathlib.Core.Logic.{_⊎_, inl, inr}
 use mathlib.Core.List.{List, [], _∷_, _++_, append-assoc}
-use mathlib.Core.Option.{Option, none, some}
+use mathlib.Core.Option.{some}
 use Prim.Native.Nat.{ℕ, zero, suc, _+_, _-_, _*_, _/_, _≤_, _<_}
 use native.Mathlib.Nat.{zero-add, suc-add}
 use native.Mathlib.Omega.{arith}
-use borrow.Author.Tests.{leb-true, eqb-true, le-leb, lt-leb, lt-ltb, le-ltb, eq-eqb, ne-eqb}
-use lib.Dec.{eqb, leb, ltb}
+use borrow.Author.Tests.{le-leb, lt-leb, lt-ltb, le-ltb, eq-eqb, ne-eqb}
+use lib.Dec.{eqb, ltb}
 use lib.ListN.{length, replicate, length-append, length-replicate}
-use Rattle.laws.specs.Tests.{choose, and-left, and-right}
+use Rattle.laws.specs.Tests.{choose}
 use Rattle.laws.specs.Order.{eq-or, le-or}
 use Rattle.laws.specs.Lay.{lay, lay-replicate, lay-next}
 use Rattle.layout.specs.Layout.{pageBytes, pagesInBlock, blockBytes, fewestBlocks, mostBlocks, noLeaf}

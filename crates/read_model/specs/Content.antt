@@ -25,7 +25,7 @@ use Rattle.store.specs.Pool.{numbered, find, itemsAt}
 use Rattle.store.specs.Store.{Store, view, draftOf, modeOf}
 use Rattle.store.specs.Live.{carries}
 use Rattle.store.specs.Run.{Run}
-use Rattle.store_laws.specs.Versions.{InLog, OnPage, InMode, mode-is}
+use Rattle.store_laws.specs.Versions.{OnPage, mode-is}
 use Rattle.rows.specs.Step.{names, byMode}
 use Rattle.blocks.specs.Pages.{pageAt}
 use Rattle.place.specs.World.{World}
@@ -33,7 +33,7 @@ use Rattle.node_read.specs.Replay.{redoRun, redoBuffer}
 use Rattle.node_read.specs.Slots.{sequenceAt, slotAt, redoAt}
 use Rattle.node_read.specs.Whole.{wholeOf, wholeAt}
 use Rattle.node_read.specs.Content.{redoPages, logContent, contentBy, content}
-use Rattle.flash_model.specs.Mirror.{rowAt, test}
+use Rattle.flash_model.specs.Mirror.{rowAt, test, RowMode}
 use Rattle.flash_model.specs.Follows.{Follows, Writable}
 use Rattle.read_model.specs.EntriesRead.{buffer-redone}
 use Rattle.read_model.specs.PageRead.{sequence-read, node-read}
@@ -100,7 +100,7 @@ module _ {B : ℕ} {score : ℕ → ℕ} {w : World} {run : Run} (known : Writab
       replayFrom-append (unlinked []) (joined (piecesOf (run .now) n) stamps) behind
 
   -- LOG MODE: the pages, then the buffer
-  module _ (inLog : InLog (run .now) n) where
+  module _ (inLog : RowMode Log (run .now) n) where
     told : (s : ℕ) → empty (piecesOf (run .now) n s) ≡ false → Named (w .pages) (rowAt (w .rows) n) n (piecesOf (run .now) n) s
     unfolding slotAt sequenceAt redoAt
     told s has =
@@ -119,7 +119,7 @@ module _ {B : ℕ} {score : ℕ → ℕ} {w : World} {run : Run} (known : Writab
                     λ d.
                     ap (λ (u : ℕ). redoRun n u mostEntries (pageAt (w .pages) (placeOf (c .lies))) 7 d) (h .mirrors .rows .version n inside) ∙
                     ap (λ (b : List ℕ). redoRun n v mostEntries b 7 d) here ∙
-                    log-redone n v (c .own) (none-lies (numbered v) (inLog .none) (c .lies)) fits (ap empty (sym are) ∙ has) d ∙
+                    log-redone n v (c .own) (none-lies (numbered v) inLog (c .lies)) fits (ap empty (sym are) ∙ has) d ∙
                     ap (replayFrom d) (sym are);
               };
         }
@@ -144,7 +144,7 @@ module _ {B : ℕ} {score : ℕ → ℕ} {w : World} {run : Run} (known : Writab
     has-piece : empty (piecesOf (run .now) n version) ≡ false
     has-piece = ap empty (disk-own (known .good .versions) onPage)
 
-    own-page : PageFits (page version (whole n (onPage .node)))
+    pub own-page : PageFits (page version (whole n (onPage .node)))
     own-page = page-fits (find-lies version (run .now .blocks) (page version (whole n (onPage .node))) (onPage .page)) (known .fits .pages)
 
     one-stamp : stamps ≡ version ∷ []
@@ -153,30 +153,33 @@ module _ {B : ℕ} {score : ℕ → ℕ} {w : World} {run : Run} (known : Writab
         stamps-one (piecesOf (run .now) n) version (run .now .last) (own-page .from) (known .good .invariant .fit .versions n) has-piece
         (disk-other (known .good .versions) onPage)
 
-    disk-draft : draftOf (run .now) n ≡ made (onPage .node)
+    pub disk-draft : draftOf (run .now) n ≡ made (onPage .node)
     unfolding replayFrom redoPiece
     disk-draft =
         draft-stamps ∙
         rw (one-stamp, disk-own (known .good .versions) onPage, disk-buffer (known .good .versions) onPage)
 
-    pub disk-content : Neat (onPage .node) → wholeAt (w .pages) (rowAt (w .rows) n .first) ≡ made (onPage .node)
+    -- the page that its row names is the node page, whatever node stands there
+    pub disk-page : wholeAt (w .pages) (rowAt (w .rows) n .first) ≡ wholeOf (payloadAt (image (page version (whole n (onPage .node)))) 7 0x11)
     unfolding wholeAt
-    disk-content neat =
+    disk-page =
         let c = carrier version has-piece in
         let found = c .found in
         let own = onPage .page in
         let same : c .own ≡ page version (whole n (onPage .node)) = cc in
-        in-one (λ x. wholeOf (payloadAt (pageAt (w .pages) x) 7 0x11) ≡ made (onPage .node))
-        (ap (λ (b : List ℕ). wholeOf (payloadAt b 7 0x11)) (image-here (h .mirrors .pages) (c .lies) ∙ ap image same) ∙
-        node-read version n (onPage .node) own-page neat)
+        in-one (λ x. wholeOf (payloadAt (pageAt (w .pages) x) 7 0x11) ≡ wholeOf (payloadAt (image (page version (whole n (onPage .node)))) 7 0x11))
+        (ap (λ (b : List ℕ). wholeOf (payloadAt b 7 0x11)) (image-here (h .mirrors .pages) (c .lies) ∙ ap image same))
         (rowAt (w .rows) n) (c .named) (omega (arith, pages-stamps, ap length one-stamp))
+
+    pub disk-content : Neat (onPage .node) → wholeAt (w .pages) (rowAt (w .rows) n .first) ≡ made (onPage .node)
+    disk-content neat = disk-page ∙ node-read version n (onPage .node) own-page neat
 
   -- IN LOG MODE whatever the store says is read
   pub log-follows : modeOf (run .now) n ≡ Log → content (w .pages) (w .rows) (w .state) n ≡ draftOf (run .now) n
   unfolding content contentBy
   log-follows e = go (rowAt (w .rows) n .mode) (h .mirrors .rows .mode n inside)
     where
-      go : (m : Mode) → InMode m (run .now) n →
+      go : (m : Mode) → RowMode m (run .now) n →
           byMode m (logContent (w .pages) (w .state) (rowAt (w .rows) n) n) (wholeAt (w .pages) (rowAt (w .rows) n .first)) ≡ draftOf (run .now) n
       go Log i = log-content i
       go Disk o = let d = mode-is Disk (run .now) n o in absurd (let z : _≡_ {A = ℕ} 0 1 = cc in omega arith)
@@ -186,7 +189,7 @@ module _ {B : ℕ} {score : ℕ → ℕ} {w : World} {run : Run} (known : Writab
   unfolding content contentBy
   content-follows x e neat = go (rowAt (w .rows) n .mode) (h .mirrors .rows .mode n inside)
     where
-      go : (m : Mode) → InMode m (run .now) n →
+      go : (m : Mode) → RowMode m (run .now) n →
           byMode m (logContent (w .pages) (w .state) (rowAt (w .rows) n) n) (wholeAt (w .pages) (rowAt (w .rows) n .first)) ≡ made x
       go Log i = log-content i ∙ e
       go Disk o =

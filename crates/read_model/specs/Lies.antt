@@ -27,7 +27,7 @@ pub record In (b : List Page) (s : ℕ) (p : Page) : Type 0 where
 one-behind : {b : List Page} {s : ℕ} {p : Page} (x : Page) → In b s p → In (x ∷ b) s p
 one-behind x h = record { place = suc (h .place); inside = suc-le-suc (h .inside); here = h .here; stamp = h .stamp }
 
-same-page : {a b : Page} → some a ≡ some b → a ≡ b
+pub same-page : {a b : Page} → some a ≡ some b → a ≡ b
 same-page e = cc
 
 pageIn-in : (s : ℕ) (b : List Page) (p : Page) → pageIn s b ≡ some p → In b s p

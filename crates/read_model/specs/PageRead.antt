@@ -33,13 +33,13 @@ use Rattle.node_read.specs.Whole.{wholeOf}
 use Rattle.read_model.specs.EntriesRead.{redoAll, redoAll-pieces, isEntry, redoRun-payloads, entry-back}
 
 -- Behind a content: the sums, and FF to the end of the page.
-abbrev blanks : ℕ → List ℕ → List ℕ
+abbrev pub blanks : ℕ → List ℕ → List ℕ
 blanks s content = replicate (pageBytes - length (numbered s content ++ sumsField (numbered s content))) 255
 
-abbrev behind : ℕ → List ℕ → List ℕ
+abbrev pub behind : ℕ → List ℕ → List ℕ
 behind s content = sumsField (numbered s content) ++ blanks s content
 
-image-split : (s : ℕ) (c : Content) → image (page s c) ≡ numbered s (contentBytes c ++ behind s (contentBytes c))
+pub image-split : (s : ℕ) (c : Content) → image (page s c) ≡ numbered s (contentBytes c ++ behind s (contentBytes c))
 unfolding image sealed numbered
 image-split s c = append-assoc (field 0x10 (bigEndian 4 s)) (contentBytes c) (behind s (contentBytes c))
 
@@ -62,13 +62,13 @@ module _ (s : ℕ) (es : List Entry) (h : Fits s (log es)) where
   laid-good =
       every-to entryBytes (λ e f. record { size = length-entryBytes e; passes = eq-eqb _ _ (length-entryBytes e) }) es (h .content .entries)
 
-  run-read : run isEntry 0x12 18 mostEntries (numbered s (fields 0x12 laid ++ behind s (fields 0x12 laid))) 7 ≡ length laid
+  pub run-read : run isEntry 0x12 18 mostEntries (numbered s (fields 0x12 laid ++ behind s (fields 0x12 laid))) 7 ≡ length laid
   unfolding numbered field
   run-read =
       run-fields isEntry 0x12 15 (omega arith) allowed-12 (behind s (fields 0x12 laid)) (no-entry s (fields 0x12 laid)) laid laid-good mostEntries
       (omega (arith, length-map es entryBytes, h .content .few)) (field 0x10 (bigEndian 4 s))
 
-  payloads-read : payloads 0x12 18 (length laid) (numbered s (fields 0x12 laid ++ behind s (fields 0x12 laid))) 7 ≡ laid
+  pub payloads-read : payloads 0x12 18 (length laid) (numbered s (fields 0x12 laid ++ behind s (fields 0x12 laid))) 7 ≡ laid
   unfolding numbered field
   payloads-read =
       payloads-fields isEntry 0x12 15 (omega arith) allowed-12 laid laid-good (field 0x10 (bigEndian 4 s)) (behind s (fields 0x12 laid))
@@ -97,7 +97,7 @@ module _ (s id : ℕ) (kind : Kind) (ps : List Pair) (l : ℕ) (h : Fits s (whol
       let m : length payload % 8 ≡ 7 = omega arith in
       rw (eq-eqb _ _ m) (le-leb (length payload) (nodeBytes mostKeys) (omega (arith, h .content .node .few)))
 
-  payload-read : payloadAt (image (page s (whole id (node kind ps l)))) 7 0x11 ≡ payload
+  pub payload-read : payloadAt (image (page s (whole id (node kind ps l)))) 7 0x11 ≡ payload
   unfolding contentBytes numbered field
   payload-read =
       ap (λ (b : List ℕ). payloadAt b 7 0x11) (image-split s (whole id (node kind ps l))) ∙

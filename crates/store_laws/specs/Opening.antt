@@ -150,7 +150,7 @@ module _ (bs : Blocks) (h : everyPage (pagePasses bs) bs ≡ true) (n : ℕ) whe
   abbrev u : ℕ
   u = greatest (view (storeOf bs)) n
 
-  no-pieces : u ≡ 0 → pieces (view (storeOf bs)) n ≡ []
+  pub no-pieces : u ≡ 0 → pieces (view (storeOf bs)) n ≡ []
   unfolding pieces
   no-pieces e =
       ap (λ z. gather (λ s. piecesIn n z (itemsAt (find s bs))) (newest bs) ++ []) e ∙

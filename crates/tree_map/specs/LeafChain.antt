@@ -1,6 +1,6 @@
 -- The leaves by their links: from the leaf of a key on they spell what is left of the map behind the pairs below the key, and
 -- they are at most as many as the tree has leaves. Assumes nothing.
-use mathlib.Core.Path.{_≡_, refl, ap}
+use mathlib.Core.Path.{_≡_, refl}
 use mathlib.Core.List.{List, [], _∷_, _++_, append-assoc}
 use Prim.Native.Nat.{ℕ, zero, suc, _+_, _≤_, _<_}
 use native.Mathlib.Omega.{arith}

@@ -7,6 +7,7 @@ pub mod LeafOfKey
 pub mod LeafChain
 pub mod Pointers
 pub mod SoundLaws
+pub mod Levels
 -- A change at one key, leaf upwards.
 pub mod Requests
 pub mod Halves
@@ -17,6 +18,7 @@ pub mod IdsNeeded
 -- Each command is the map's.
 pub mod Served
 pub mod GetLaws
+pub mod Agree
 pub mod PutLaws
 pub mod DeleteLaws
 pub mod ScanLaws

@@ -19,7 +19,7 @@ use Rattle.layout.specs.Layout.{mostKeys, noLeaf, bound32}
 use Rattle.pairs.specs.Pairs.{Pair, Within}
 use Rattle.node.specs.declared.Kind.the-variants.{Leaf, Branch}
 use Rattle.node.specs.Node.{Node, node}
-use Rattle.node.specs.Ascends.{ascends}
+use Rattle.node.specs.Ascends.{ascends, ascends-within, within-ascends}
 use Rattle.node.specs.Search.{pointerAt}
 use Rattle.tree.specs.Table.{Table}
 use Rattle.tree.specs.Tree.{keysOf, firstOf, joinOf, sumOf, EachChild, Tree, rootOf, firstLeaf, pairsIn, reached, Holds, Stands}
@@ -28,25 +28,6 @@ use Rattle.tree.specs.Sound.{Walk, inOrder, visitLeaf, visitChildren, visitBran
 use Rattle.tree_map.specs.Children.{childAt, length-keysOf, pointerAt-keysOf, each-childAt}
 use Rattle.tree_map.specs.Ids.{id-self, id-other, used-in, used-out, used-le, used-below}
 use Rattle.tree_map.specs.Size.{depth-count}
-
-ascends-within : (low high : ℕ) (ps : List Pair) → ascends low high ps ≡ true → Within low high ps
-unfolding ascends Within
-ascends-within low high [] e = tt
-ascends-within low high (p ∷ ps) e =
-    let x = leb low (p .0) in
-    let y = ltb (p .0) high in
-    let z = ascends (suc (p .0)) high ps in (
-      leb-true low (p .0) (and-left x (y && z) e),
-      ltb-true (p .0) high (and-left y z (and-right x (y && z) e)),
-      ascends-within (suc (p .0)) high ps (and-right y z (and-right x (y && z) e)),
-    )
-
-within-ascends : (low high : ℕ) (ps : List Pair) → Within low high ps → ascends low high ps ≡ true
-unfolding ascends Within
-within-ascends low high [] w = refl
-within-ascends low high (p ∷ ps) w =
-    and-both (leb low (p .0)) _ (le-leb low (p .0) (w .0))
-    (and-both (ltb (p .0) high) _ (lt-ltb (p .0) high (w .1)) (within-ascends (suc (p .0)) high ps (w .2)))
 
 -- What a node in order is.
 record Ordered (id low high : ℕ) (ps : List Pair) (marks : List ℕ) : Type 0 where
@@ -266,18 +247,18 @@ childAt-first : {X : Type 0} (first : X → ℕ) (xs : List (X × ℕ)) (last : 
 childAt-first first [] last = refl
 childAt-first first (x ∷ xs) last = refl
 
-leftmost-leaf : (fuel : ℕ) (table : Table) (depth id : ℕ) (ps : List Pair) (next : ℕ) → table id ≡ node Leaf ps next →
+pub leftmost-leaf : (fuel : ℕ) (table : Table) (depth id : ℕ) (ps : List Pair) (next : ℕ) → table id ≡ node Leaf ps next →
     leftmost fuel table depth id ≡ record { depth = depth; leaf = id }
 unfolding leftmost
 leftmost-leaf zero table depth id ps next e = refl
 leftmost-leaf (suc fuel) table depth id ps next e = rw (e, leftmost)
 
-leftmost-branch : (fuel : ℕ) (table : Table) (depth id : ℕ) (ks : List Pair) (last : ℕ) → table id ≡ node Branch ks last →
+pub leftmost-branch : (fuel : ℕ) (table : Table) (depth id : ℕ) (ks : List Pair) (last : ℕ) → table id ≡ node Branch ks last →
     leftmost (suc fuel) table depth id ≡ leftmost fuel table (suc depth) (pointerAt ks last 0)
 unfolding leftmost
 leftmost-branch fuel table depth id ks last e = rw (e, leftmost)
 
-leftmost-is : (d fuel : ℕ) (table : Table) (t : Tree d) (low high next depth : ℕ) → d ≤ fuel → Stands d table t low high next →
+pub leftmost-is : (d fuel : ℕ) (table : Table) (t : Tree d) (low high next depth : ℕ) → d ≤ fuel → Stands d table t low high next →
     leftmost fuel table depth (rootOf d t) ≡ record { depth = depth + d; leaf = firstLeaf d t }
 unfolding Holds rootOf firstLeaf
 leftmost-is zero fuel table t low high next depth l h =
@@ -320,11 +301,11 @@ all-reached count marks adds size all h i = go (le-or count i)
     go (inl l) = omega (arith, h i, unmarked count i, used-out count i l, List·getD-eq-default marks 0 {n = i} (omega arith))
     go (inr l) = omega (arith, h i, unmarked count i, used-in count i l, allMarked-get marks i all (omega arith))
 
-record Spelled (table : Table) (count : ℕ) : Type 0 where
-  pairs : List Pair
-  spells : Spells table count pairs
+pub record Spelled (table : Table) (count : ℕ) : Type 0 where
+  pub pairs : List Pair
+  pub spells : Spells table count pairs
 
-walk-spells : (table : Table) (count : ℕ) (l : Leftmost) (o : Option Walk) → walkFrom count table l ≡ o → complete o ≡ true → Spelled table count
+pub walk-spells : (table : Table) (count : ℕ) (l : Leftmost) (o : Option Walk) → walkFrom count table l ≡ o → complete o ≡ true → Spelled table count
 unfolding complete walkFrom
 walk-spells table count l none f e = let z : _≡_ {A = ℕ} 0 1 = cc in absurd (omega arith)
 walk-spells table count l (some w) f e =
@@ -367,6 +348,12 @@ pairsBelow-is (suc d) (suc fuel) table t low high next l h =
 pub map-unique : (table : Table) (count : ℕ) (pairs : List Pair) → Spells table count pairs → mapOf count table ≡ pairs
 map-unique table count pairs s =
     rw (s .root) at (pairsBelow-is (s .depth) count table (s .tree) 0 bound32 noLeaf (depth-count table count pairs s) (s .stands)) ∙ s .spelled
+
+-- Two tests of which each passes where the other does.
+pub same-test : (a b : Bool) → (a ≡ true → b ≡ true) → (b ≡ true → a ≡ true) → a ≡ b
+same-test true b to from = sym (to refl)
+same-test false true to from = from refl
+same-test false false to from = refl
 
 -- The test passes: the limit is kept, and the table spells its map.
 module _ (limit count : ℕ) (table : Table) where

@@ -1,13 +1,12 @@
 -- The tag table's rule: every byte of the code's table stands for the length that document 01 gives its tag. Assumes nothing.
-use mathlib.Core.Path.{_≡_, refl, sym, ap}
+use mathlib.Core.Path.{_≡_, refl, ap}
 use mathlib.Core.Bool.{Bool, true, false}
-use mathlib.Core.List.{List, [], _∷_}
+use mathlib.Core.List.{List}
 use Prim.Native.Nat.{ℕ, _≤_, _<_}
 use native.Mathlib.Omega.{arith}
 use lib.Dec.{eqb}
 use lib.ListN.{length, getD}
 use borrow.Author.Tests.{eqb-true, ne-eqb}
-use Rattle.laws.specs.Tests.{test-clash}
 use Rattle.wire.specs.Tag.{lengthOf, find, rows, spelt}
 use Rattle.wire.specs.declared.tag.Length.{Length}
 use Rattle.wire.specs.declared.tag.Length.the-variants.{Exact, Node, Unknown}

@@ -1,27 +1,17 @@
 -- Fields laid and read: a field is found where it was laid, and what is found as a field is one. Assumes nothing.
 use mathlib.Core.Path.{_≡_, refl, sym, ap, ap₂, subst, _∙_}
 use mathlib.Core.Bool.{Bool, true, false, _&&_, true≢false}
-use mathlib.Core.List.{List, [], _∷_, _++_, append-assoc}
-use Prim.Native.Nat.{ℕ, zero, suc, _+_, _-_, _^_, _≤_, _<_}
-use native.Mathlib.Nat.{add-zero, add-assoc}
+use mathlib.Core.List.{List, [], _∷_, _++_}
+use Prim.Native.Nat.{ℕ, _+_, _-_, _^_, _≤_, _<_}
+use native.Mathlib.Nat.{add-zero}
 use native.Mathlib.Omega.{arith}
 use lib.Dec.{eqb, leb}
-use lib.ListN.{length, take, drop, getD, length-append}
-use lib.Seq.{take-at, drop-append-add, getD-append-add}
+use lib.ListN.{length, getD, length-append}
+use lib.Seq.{take-at, getD-append-add}
 use borrow.Author.Tests.{eqb-true, leb-true, eq-eqb, ne-eqb, le-leb}
-use Rattle.laws.specs.Tests.{choose, and-left, and-right}
+use Rattle.laws.specs.Tests.{and-left, and-right}
 use Rattle.laws.specs.Lay.{lay, part, lay-lay, length-part, part-add, part-cons, part-append}
-use Rattle.laws.specs.BigEndian.{
-  bigEndian,
-  number,
-  numberAt,
-  number-bigEndian,
-  length-bigEndian,
-  Bytes,
-  bigEndian-numberAt,
-  numberAt-lt,
-  bytes-part,
-}
+use Rattle.laws.specs.BigEndian.{bigEndian, number, numberAt, number-bigEndian, Bytes, bigEndian-numberAt, bytes-part}
 use Rattle.wire.specs.Tag.{lengthOf, allowed}
 use Rattle.wire.specs.Field.{head, field, lengthAt, fieldAt, payloadOf, payloadAt, isPayload, standsAt}
 use Rattle.wire.specs.declared.field.Field.{Field}

@@ -1,7 +1,7 @@
 // Bytes laid over buffers.
 ghost use mathlib.Core.Path.{_≡_};
 ghost use Prim.Native.Nat.{_+_, _≤_, _<_};
-ghost use lib.ListN.{length, replicate, set};
+ghost use lib.ListN.{length, replicate};
 ghost use Rattle.laws.specs.Lay.{lay};
 
 // Lays bytes over a buffer at a place.

@@ -1,30 +1,29 @@
 -- ONE ENTRY appended by the code is the store's. Assumes nothing.
-use mathlib.Core.Path.{_≡_, refl, sym, ap, _∙_, subst}
+use mathlib.Core.Path.{_≡_, refl, sym, _∙_, subst}
 use mathlib.Core.Bool.{false}
 use mathlib.Core.Logic.{_⊎_, inl, inr}
-use mathlib.Core.List.{List, [], _∷_, _++_}
-use Prim.Native.Nat.{ℕ, suc, _+_, _*_, _≤_, _<_}
+use mathlib.Core.List.{[], _∷_, _++_}
+use Prim.Native.Nat.{ℕ, _+_, _≤_, _<_}
 use native.Mathlib.Omega.{arith}
 use lib.ListN.{length, getElem?}
 use Rattle.laws.specs.Order.{eq-or}
 use Rattle.layout.specs.Layout.{mostEntries}
 use Rattle.node.specs.Node.{Node}
 use Rattle.node.specs.Change.{Change}
-use Rattle.page.specs.Image.{image}
 use Rattle.store.specs.View.{greatest}
 use Rattle.store.specs.View as View
 use Rattle.store.specs.Pool.{block}
 use Rattle.store.specs.Store.{Store, view}
-use Rattle.store.specs.Live.{carries, noClosing}
+use Rattle.store.specs.Live.{carries}
 use Rattle.store.specs.Write.{enter}
 use Rattle.store.specs.Run.{Run, editBy}
 use Rattle.store_laws.specs.Placing.{enter-now, enter-other}
-use Rattle.store_laws.specs.Versions.{same-mode}
 use Rattle.rows.specs.Step.{names}
 use Rattle.place.specs.declared.state.State.{State}
 use Rattle.place.specs.World.{World, world}
 use Rattle.log.specs.Entry.{entryOf, holding, append}
-use Rattle.flash_model.specs.Mirror.{rowAt, test, RowsName, RowsSay, Mirrors}
+use Rattle.flash_model.specs.Mirror.{rowAt, RowsName, RowsSay}
+use Rattle.flash_model.specs.RowModes.{same-rowMode}
 use Rattle.flash_model.specs.Buffer.{append-is, append-holds}
 use Rattle.flash_model.specs.Follows.{BufferIs, Follows, Writable}
 use Rattle.flash_model.specs.Followed.{owners-open}
@@ -70,7 +69,7 @@ module _ {B : ℕ} {score : ℕ → ℕ} {w : World} {run : Run} (b : Writable B
   says =
       record {
         version = λ m l. f .mirrors .rows .version m l ∙ sym (version-same m);
-        mode = λ m l. same-mode (rowAt (w .rows) m .mode) st after m (version-same m) refl (f .mirrors .rows .mode m l);
+        mode = λ m l. same-rowMode (rowAt (w .rows) m .mode) st after m (version-same m) refl (f .mirrors .rows .mode m l);
         pages = λ m l. f .mirrors .rows .pages m l ∙ sym (pages-same m);
       }
 

@@ -29,7 +29,7 @@ use Rattle.store.specs.Run.{Run, write, flushRun, roomBy, makeRoom}
 use Rattle.store_laws.specs.Changes.{Now}
 use Rattle.store_laws.specs.PoolLaws.{find-none}
 use Rattle.store_laws.specs.Placing.{Invariant, flush-now}
-use Rattle.store_laws.specs.Versions.{versionIs, said, VersionRules, OnPage, InMode, place-mode}
+use Rattle.store_laws.specs.Versions.{versionIs, said, VersionRules, OnPage}
 use Rattle.rows.specs.Step.{names, byMode}
 use Rattle.rows.specs.declared.Row.{Row}
 use Rattle.page_write.specs.Chunks.{chunks}
@@ -39,7 +39,8 @@ use Rattle.place.specs.World.{World, world, used, spot}
 use Rattle.place.specs.Allocate.{allocate}
 use Rattle.log.specs.Claim.{claimEntries}
 use Rattle.log.specs.Flush.{nextNumber, advanced, emptied, writeBuffer, flush, room}
-use Rattle.flash_model.specs.Mirror.{rowAt, test, RowsSay, Mirrors}
+use Rattle.flash_model.specs.Mirror.{rowAt, RowMode, RowsSay, Mirrors}
+use Rattle.flash_model.specs.RowModes.{place-rowMode}
 use Rattle.flash_model.specs.Names.{mapped}
 use Rattle.flash_model.specs.Allocate.{Kept}
 use Rattle.flash_model.specs.Follows.{BufferIs, Follows, Writable}
@@ -125,8 +126,8 @@ module _ {B : ℕ} {score : ℕ → ℕ} {w : World} {run : Run} (b : Writable B
     row-version : row .version ≡ greatest (view st) m
     row-version = ap (λ (r : Row). r .version) (kept .1) ∙ f .mirrors .rows .version m l
 
-    row-mode : InMode (row .mode) st m
-    row-mode = subst (λ (r : Row). InMode (r .mode) st m) (sym (kept .1)) (f .mirrors .rows .mode m l)
+    row-mode : RowMode (row .mode) st m
+    row-mode = subst (λ (r : Row). RowMode (r .mode) st m) (sym (kept .1)) (f .mirrors .rows .mode m l)
 
     row-pages : row .pages ≡ View.pages (view st) m
     row-pages = ap (λ (r : Row). r .pages) (kept .1) ∙ f .mirrors .rows .pages m l
@@ -137,7 +138,7 @@ module _ {B : ℕ} {score : ℕ → ℕ} {w : World} {run : Run} (b : Writable B
     concerned =
         ap (λ (u : ℕ). byMode (row .mode) (not (empty (piecesIn m u (map entryItem (st .buffer))))) false) row-version ∙ go (row .mode) row-mode
       where
-        go : (mode : Mode) → InMode mode st m → byMode mode (waits m) false ≡ waits m
+        go : (mode : Mode) → RowMode mode st m → byMode mode (waits m) false ≡ waits m
         go Log h = refl
         go Disk h = sym (ap (λ (xs : List Piece). not (empty xs)) (disk-waits (b .good .versions) m h))
 
@@ -175,8 +176,8 @@ module _ {B : ℕ} {score : ℕ → ℕ} {w : World} {run : Run} (b : Writable B
         version = λ m l. claimed m l .keeps .version ∙ row-version m l ∙ sym (now m l .greatest);
         mode =
             λ m l.
-            subst (λ (k : Mode). InMode k after m) (sym (claimed m l .keeps .mode))
-            (place-mode v m (row m l .mode) (log (st .buffer)) [] l (now m l .greatest) (row-mode m l));
+            subst (λ (k : Mode). RowMode k after m) (sym (claimed m l .keeps .mode))
+            (place-rowMode v m l (row m l .mode) (log (st .buffer)) [] (now m l .greatest) (row-mode m l));
         pages = λ m l. claimed m l .pages ∙ ap (λ (k : ℕ). k + bit (waits m)) (row-pages m l) ∙ sym (now m l .pages);
       }
 

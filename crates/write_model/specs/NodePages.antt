@@ -1,16 +1,16 @@
 -- A NODE PAGE written by the code is the store's. Assumes nothing.
 use mathlib.Core.Path.{_≡_, refl, sym, ap, _∙_, subst}
-use mathlib.Core.Bool.{Bool, true, false, not, _||_}
+use mathlib.Core.Bool.{Bool, true, false, _||_}
 use mathlib.Core.Logic.{_⊎_, inl, inr}
 use mathlib.Core.List.{List, [], _∷_}
 use Prim.Native.Nat.{ℕ, suc, _+_, _*_, _≤_, _<_}
 use native.Mathlib.Omega.{arith}
 use borrow.Author.Tests.{eq-eqb, ne-eqb}
 use lib.Dec.{eqb}
-use lib.ListN.{length, getElem?, set, length-set}
+use lib.ListN.{getElem?, set, length-set}
 use lib.Seq.{getD-set-same, getD-set-other}
 use Rattle.laws.specs.Order.{eq-or}
-use Rattle.laws.specs.Counts.{bit, tally, empty}
+use Rattle.laws.specs.Counts.{bit, tally}
 use Rattle.layout.specs.Layout.{bound32}
 use Rattle.account.specs.declared.Mode.{Mode}
 use Rattle.account.specs.declared.Mode.the-variants.{Disk}
@@ -18,7 +18,6 @@ use Rattle.node.specs.Node.{Node}
 use Rattle.node.specs.Replay as Replay
 use Rattle.page.specs.Page.{Page, page, whole}
 use Rattle.page.specs.Image.{image}
-use Rattle.store.specs.Item.{itemsOf, piecesIn}
 use Rattle.store.specs.View.{greatest}
 use Rattle.store.specs.View as View
 use Rattle.store.specs.Pool.{block}
@@ -28,9 +27,7 @@ use Rattle.store.specs.Write.{found, next, place, nodePage}
 use Rattle.store.specs.Run.{Run, write, writeNode}
 use Rattle.store_laws.specs.Changes.{Same, Now}
 use Rattle.store_laws.specs.Placing.{Invariant, page-now, page-other, page-invariant, place-find, found-ready}
-use Rattle.store_laws.specs.Compaction.{found-room}
 use Rattle.store_laws.specs.BlockRules.{addTo-tally}
-use Rattle.store_laws.specs.Versions.{InMode, place-mode}
 use Rattle.rows.specs.Row.{noRow}
 use Rattle.rows.specs.Step.{names, fresh, noted}
 use Rattle.rows.specs.declared.Row.{Row}
@@ -40,16 +37,16 @@ use Rattle.place.specs.Allocate.{allocate}
 use Rattle.log.specs.Flush.{nextNumber, advanced}
 use Rattle.node_write.specs.NodePage.{diskRow}
 use Rattle.node_write.specs.NodePage as Code
-use Rattle.flash_model.specs.Mirror.{rowAt, test, RowsSay, Mirrors}
+use Rattle.flash_model.specs.Mirror.{rowAt, test, RowMode, RowsSay, Mirrors}
+use Rattle.flash_model.specs.RowModes.{place-rowMode}
 use Rattle.flash_model.specs.Names.{mapped}
 use Rattle.flash_model.specs.Allocate.{Kept}
 use Rattle.flash_model.specs.Notes.{names-noted, names-fresh, pages-noted, keeps-noted}
 use Rattle.flash_model.specs.Buffer.{buffer-same}
 use Rattle.flash_model.specs.Follows.{Follows, Writable}
 use Rattle.flash_model.specs.Ownership.{none-owned, owned-same, carried-few}
-use Rattle.flash_model.specs.Written.{Named}
 use Rattle.flash_model.specs.Followed.{few-blocks, invariant-here, owners-open}
-use Rattle.flash_model.specs.Placed.{nextNumber-is, stands-found, inside-found, place-found, step-found, kept-found, next-free, Fills, placed-mirrors}
+use Rattle.flash_model.specs.Placed.{nextNumber-is, place-found, step-found, kept-found, next-free, placed-mirrors}
 
 module _ {B : ℕ} {score : ℕ → ℕ} {w : World} {run : Run} (b : Writable B run) (room : suc (run .now .last) < bound32) (f : Follows score w run)
     (n : ℕ) (there : n < run .nodes) (x : Node) where
@@ -177,14 +174,14 @@ module _ {B : ℕ} {score : ℕ → ℕ} {w : World} {run : Run} (b : Writable B
       version m l (inl e) = rw (← e) (ap (λ (r : Row). r .version) row-here ∙ row-version ∙ sym (now .greatest))
       version m l (inr d) = ap (λ (r : Row). r .version) (kept m l d .1) ∙ f .mirrors .rows .version m l ∙ sym (other m l d .greatest)
 
-      mode : (m : ℕ) → m < w .state .nodes → (n ≡ m) ⊎ (n ≡ m → ⊥) → InMode (rowAt rows′ m .mode) after m
+      mode : (m : ℕ) → m < w .state .nodes → (n ≡ m) ⊎ (n ≡ m → ⊥) → RowMode (rowAt rows′ m .mode) after m
       mode m l (inl e) =
-          subst (λ (k : ℕ). InMode (rowAt rows′ k .mode) after k) e
-          (subst (λ (k : Mode). InMode k after n) (sym (ap (λ (r : Row). r .mode) row-here ∙ row-mode))
+          subst (λ (k : ℕ). RowMode (rowAt rows′ k .mode) after k) e
+          (subst (λ (k : Mode). RowMode k after n) (sym (ap (λ (r : Row). r .mode) row-here ∙ row-mode))
           (record { node = x; page = rw (now .greatest) (place-find v (whole n x) (st .buffer)) }))
       mode m l (inr d) =
-          subst (λ (k : Mode). InMode k after m) (sym (ap (λ (r : Row). r .mode) (kept m l d .1)))
-          (place-mode v m (rowAt (w .rows) m .mode) (whole n x) (st .buffer) l (other m l d .greatest) (f .mirrors .rows .mode m l))
+          subst (λ (k : Mode). RowMode k after m) (sym (ap (λ (r : Row). r .mode) (kept m l d .1)))
+          (place-rowMode v m l (rowAt (w .rows) m .mode) (whole n x) (st .buffer) (other m l d .greatest) (f .mirrors .rows .mode m l))
 
       pages : (m : ℕ) → m < w .state .nodes → (n ≡ m) ⊎ (n ≡ m → ⊥) → rowAt rows′ m .pages ≡ View.pages (view after) m
       pages m l (inl e) = rw (← e) (ap (λ (r : Row). r .pages) row-here ∙ row-pages ∙ sym (now .pages))

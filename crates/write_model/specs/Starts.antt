@@ -1,7 +1,7 @@
 -- A FRESH START in log mode by the code is the store's: the whole content of a node, there or new, under a new version. Assumes nothing.
 use mathlib.Core.Path.{_≡_, refl, sym, ap, _∙_, subst}
 use mathlib.Core.Logic.{_⊎_, inl, inr}
-use mathlib.Core.List.{List, [], _∷_, map}
+use mathlib.Core.List.{List, _∷_, map}
 use Prim.Native.Nat.{ℕ, suc, _+_, _*_, _≤_, _<_, max}
 use native.Mathlib.Omega.{arith}
 use lib.ListN.{length, getElem?, set, length-set}
@@ -28,18 +28,18 @@ use Rattle.store.specs.Run.{Run, begin}
 use Rattle.store_laws.specs.Changes.{Same, Now}
 use Rattle.store_laws.specs.Contents.{Spelled, spelled}
 use Rattle.store_laws.specs.Placing.{Invariant, start-now, start-other, start-invariant}
-use Rattle.store_laws.specs.Versions.{InMode, same-mode}
 use Rattle.store_laws.specs.Good.{begin-mode}
 use Rattle.rows.specs.Row.{noRow, decode}
 use Rattle.rows.specs.Step.{names, fresh}
 use Rattle.rows.specs.declared.Row.{Row}
 use Rattle.place.specs.declared.state.State.{State}
-use Rattle.place.specs.World.{World, world, used}
+use Rattle.place.specs.World.{World, world}
 use Rattle.log.specs.Entry.{holding, appendAll}
 use Rattle.log.specs.Flush.{nextNumber}
 use Rattle.node_write.specs.Group.{numbered, withNodes, startRow, startState, restart, startNext}
 use Rattle.node_write.specs.Group as Code
-use Rattle.flash_model.specs.Mirror.{rowAt, test, RowsName, RowsSay, Mirrors}
+use Rattle.flash_model.specs.Mirror.{rowAt, test, RowsName, RowMode, RowsSay, Mirrors}
+use Rattle.flash_model.specs.RowModes.{same-rowMode}
 use Rattle.flash_model.specs.Notes.{names-fresh}
 use Rattle.flash_model.specs.Placed.{nextNumber-is}
 use Rattle.flash_model.specs.Buffer.{appendAll-is, appendAll-holds}
@@ -125,13 +125,13 @@ module _ {B : ℕ} {score : ℕ → ℕ} {w : World} {run : Run} (b : Writable B
       version m l (inl e) = rw (← e) (ap (λ (r : Row). r .version) row-here ∙ sym (now .greatest))
       version m l (inr d) = ap (λ (r : Row). r .version) (row-other m d) ∙ f .mirrors .rows .version m (here m l d) ∙ sym (other m d .greatest)
 
-      mode : (m : ℕ) → m < N′ → (n ≡ m) ⊎ (n ≡ m → ⊥) → InMode (rowAt rows′ m .mode) after m
+      mode : (m : ℕ) → m < N′ → (n ≡ m) ⊎ (n ≡ m → ⊥) → RowMode (rowAt rows′ m .mode) after m
       mode m l (inl e) =
-          subst (λ (k : ℕ). InMode (rowAt rows′ k .mode) after k) e
-          (subst (λ (k : Mode). InMode k after n) (sym (ap (λ (r : Row). r .mode) row-here)) (begin-mode (b .good) n c cs fits next (omega (arith, count))))
+          subst (λ (k : ℕ). RowMode (rowAt rows′ k .mode) after k) e
+          (subst (λ (k : Mode). RowMode k after n) (sym (ap (λ (r : Row). r .mode) row-here)) (begin-mode (b .good) n c cs fits next (omega (arith, count)) .none))
       mode m l (inr d) =
-          subst (λ (k : Mode). InMode k after m) (sym (ap (λ (r : Row). r .mode) (row-other m d)))
-          (same-mode (rowAt (w .rows) m .mode) st after m (other m d .greatest) refl (f .mirrors .rows .mode m (here m l d)))
+          subst (λ (k : Mode). RowMode k after m) (sym (ap (λ (r : Row). r .mode) (row-other m d)))
+          (same-rowMode (rowAt (w .rows) m .mode) st after m (other m d .greatest) refl (f .mirrors .rows .mode m (here m l d)))
 
       pages : (m : ℕ) → m < N′ → (n ≡ m) ⊎ (n ≡ m → ⊥) → rowAt rows′ m .pages ≡ View.pages (view after) m
       pages m l (inl e) = rw (← e) (ap (λ (r : Row). r .pages) row-here ∙ sym (now .pages))

@@ -1,12 +1,12 @@
 -- `sheets` meets its contract. The invariant: the sheets left, written from here, give the whole checkpoint. Assumes nothing.
-use mathlib.Core.Path.{_≡_, refl, sym, ap, _∙_}
-use Prim.Native.Nat.{ℕ, _+_, _-_, _≤_}
+use mathlib.Core.Path.{_≡_, sym, ap, _∙_}
+use Prim.Native.Nat.{ℕ, _+_, _-_}
 use native.Mathlib.Omega.{arith}
 use lib.ListN.{length}
 use Rattle.laws.specs.Loops.{steps, steps-begin, steps-more, steps-done}
 use Rattle.rows.specs.Row.{rowsOf}
 use Rattle.blocks.specs.Pages.{pagesOf}
-use Rattle.place.specs.World.{World, world}
+use Rattle.place.specs.World.{world}
 use Rattle.checkpoint.specs.Sheets.{sheet, sheets}
 use Rattle.checkpoint.proofs.Laws.{Between, between-begin, between-closing, between-more}
 use Rattle.checkpoint.proofs.sheets.Statement.{statement}

@@ -1,16 +1,15 @@
 -- `checkpoint_write::lay_checkpoint` meets its contract. Field 10, the tariff, the scores, the count and the sums
 -- laid one behind another; there is room for each. Assumes nothing.
 use mathlib.Core.Path.{_≡_, refl, _∙_}
-use Prim.Native.Nat.{ℕ, _+_, _*_}
+use Prim.Native.Nat.{_+_, _*_}
 use native.Mathlib.Omega.{arith}
-use lib.ListN.{length}
 use borrow.Author.Needs.{needs}
 use Rattle.laws.specs.Lay.{lay}
 use Rattle.laws.specs.BigEndian.{bytes-getD}
 use Rattle.page_write.specs.Laid.{summed-laid}
 use Rattle.checkpoint_write.specs.Checkpoint.{checkpointPage}
 use Rattle.page_write.specs.Pages.{bodyOf}
-use Rattle.checkpoint_write.specs.Checkpoint.{checkpoint-laid, length-checkpointBody, scores-room, count-room, length-tariffIf}
+use Rattle.checkpoint_write.specs.Checkpoint.{checkpoint-laid, length-checkpointBody, scores-room, count-room}
 use Rattle.checkpoint_write.proofs.lay_checkpoint.Statement.{statement}
 use Rattle.checkpoint_write.proofs.lay_checkpoint.Tie as tie
 

@@ -1,6 +1,5 @@
 -- `checkpoint_write::lay_costs` meets its contract. Three numbers laid one behind another. Assumes nothing.
 use mathlib.Core.Path.{_∙_}
-use native.Mathlib.Omega.{arith}
 use borrow.Author.Needs.{needs}
 use Rattle.checkpoint_write.specs.Checkpoint.{three-laid}
 use Rattle.checkpoint_write.proofs.lay_costs.Statement.{statement}

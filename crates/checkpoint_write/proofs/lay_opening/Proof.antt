@@ -1,7 +1,6 @@
 -- `checkpoint_write::lay_opening` meets its contract. Field 13 where the page is the first, nothing else. Assumes
 -- nothing.
-use mathlib.Core.Path.{sym, _∙_}
-use native.Mathlib.Nat.{add-zero}
+use mathlib.Core.Path.{sym}
 use native.Mathlib.Omega.{arith}
 use borrow.Author.Needs.{needs}
 use Rattle.laws.specs.Lay.{lay-nil}

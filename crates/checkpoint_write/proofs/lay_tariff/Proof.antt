@@ -1,7 +1,6 @@
 -- `checkpoint_write::lay_tariff` meets its contract. Five pieces laid one behind another are field 13. Assumes
 -- nothing.
 use mathlib.Core.Path.{_∙_}
-use native.Mathlib.Omega.{arith}
 use borrow.Author.Needs.{needs}
 use Rattle.checkpoint_write.specs.Checkpoint.{tariff-laid}
 use Rattle.checkpoint_write.proofs.lay_tariff.Statement.{statement}

@@ -4,7 +4,6 @@ use mathlib.Core.Path.{_≡_}
 use Prim.Native.Nat.{_+_, _-_, _≤_}
 use native.Mathlib.Omega.{arith}
 use lib.ListN.{length}
-use Rattle.node.specs.Value.{Sized}
 use Rattle.flash_trace.proofs.leaf.Statement.{statement}
 use Rattle.flash_trace.proofs.leaf.Tie as tie
 

@@ -3,7 +3,6 @@ use mathlib.Core.Path.{_≡_, refl, _∙_}
 use Prim.Native.Nat.{_-_, _≤_}
 use native.Mathlib.Omega.{arith}
 use lib.ListN.{length}
-use borrow.Author.Needs.{needs}
 use Rattle.flash_trace.specs.Trace.{Ready}
 use Rattle.flash_trace.proofs.put_keys.Statement.{statement}
 use Rattle.flash_trace.proofs.put_keys.Tie as tie

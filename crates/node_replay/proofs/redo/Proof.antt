@@ -1,6 +1,5 @@
 -- `node_replay::redo` meets its contract: each kind of change has its own function. Assumes nothing.
 use borrow.Author.Needs.{needs}
-use Rattle.node.specs.Replay.{redo}
 use Rattle.node_replay.proofs.redo.Statement.{statement}
 use Rattle.node_replay.proofs.redo.Tie as tie
 

@@ -5,7 +5,6 @@ use Rattle.prepare.proofs.Laws.{checkpoint-page}
 use borrow.Author.Needs.{needs}
 use Rattle.prepare.proofs.checkpoint_page.Statement.{statement}
 use Rattle.prepare.proofs.checkpoint_page.Tie as tie
-use Rattle.checkpoint_write.proofs.checkpoint_image.Reads as checkpoint-image-reads
 
 slice-aggregate-checkpoint-image : tie.Need-slice-aggregate-checkpoint-image
 slice-aggregate-checkpoint-image c = search needs

@@ -5,11 +5,6 @@ use Rattle.prepare.proofs.Laws.{no-pool, a-pool, refused-length, refuse
 use borrow.Author.Needs.{needs}
 use Rattle.prepare.proofs.prepare.Statement.{statement}
 use Rattle.prepare.proofs.prepare.Tie as tie
-use Rattle.account.proofs.Tariff.in_range.Reads as in-range-reads
-use Rattle.prepare.proofs.checkpoint_page.Reads as checkpoint-page-reads
-use Rattle.prepare.proofs.pool_blocks.Reads as pool-blocks-reads
-use Rattle.prepare.proofs.root_page.Reads as root-page-reads
-use Rattle.prepare.proofs.write_first.Reads as write-first-reads
 
 pool-blocks-requires : tie.Need-pool-blocks-requires
 pool-blocks-requires c κs = search needs

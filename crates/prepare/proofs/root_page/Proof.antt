@@ -4,8 +4,6 @@ use Rattle.prepare.proofs.Laws.{root-image}
 use borrow.Author.Needs.{needs}
 use Rattle.prepare.proofs.root_page.Statement.{statement}
 use Rattle.prepare.proofs.root_page.Tie as tie
-use Rattle.page_write.proofs.log_page.lay_entry.Reads as lay-entry-reads
-use Rattle.page_write.proofs.log_page.log_image.Reads as log-image-reads
 
 slice-aggregate-lay-entry : tie.Need-slice-aggregate-lay-entry
 slice-aggregate-lay-entry c = search needs

@@ -4,8 +4,6 @@ use Rattle.prepare.proofs.Laws.{first-written}
 use borrow.Author.Needs.{needs}
 use Rattle.prepare.proofs.write_first.Statement.{statement}
 use Rattle.prepare.proofs.write_first.Tie as tie
-use Rattle.page_write.proofs.frame.write_page.Reads as write-page-reads
-use Rattle.wire.proofs.bytes.fill.Reads as fill-reads
 
 fill-requires : tie.Need-fill-requires
 fill-requires c κs = search needs

@@ -1,6 +1,6 @@
 -- `claim::claim_entries` meets its contract. The invariant: the claims of the entries left give those of all. Assumes nothing.
 use mathlib.Core.Path.{_≡_, sym, _∙_}
-use Prim.Native.Nat.{_+_, _-_, _≤_}
+use Prim.Native.Nat.{_-_, _≤_}
 use native.Mathlib.Omega.{arith}
 use lib.ListN.{length}
 use Rattle.laws.specs.Loops.{steps, steps-begin, steps-more, steps-done}

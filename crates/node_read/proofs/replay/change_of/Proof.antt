@@ -2,7 +2,6 @@
 use mathlib.Core.Path.{refl}
 use borrow.Author.Tests.{eq-eqb, ne-eqb}
 use Rattle.page.specs.Decode as decode
-use borrow.Author.Needs.{needs}
 use Rattle.node_read.proofs.replay.change_of.Statement.{statement}
 use Rattle.node_read.proofs.replay.change_of.Tie as tie
 

@@ -1,7 +1,4 @@
 -- `replay::redo_entry` meets its contract: id and version compared, then the change replayed. Assumes nothing.
-use mathlib.Core.Path.{_≡_, ap, _∙_}
-use Rattle.node.specs.Drafts.{changeOf}
-use Rattle.page.specs.Decode as decode
 use Rattle.node_read.proofs.Laws.{entry-own, entry-older, entry-other}
 use borrow.Author.Needs.{needs}
 use Rattle.node_read.proofs.replay.redo_entry.Statement.{statement}

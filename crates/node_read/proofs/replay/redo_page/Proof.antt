@@ -1,12 +1,10 @@
 -- `replay::redo_page` meets its contract. The invariant: the entries left, replayed from here, give the page's. Assumes nothing.
 use mathlib.Core.Path.{_≡_, refl, sym, ap, _∙_}
 use mathlib.Core.List.{List}
-use Prim.Native.Nat.{ℕ, _+_, _-_, _*_, _≤_}
+use Prim.Native.Nat.{ℕ, _+_, _-_, _*_}
 use native.Mathlib.Omega.{arith}
 use lib.ListN.{length}
-use Rattle.wire.specs.Field.{payloadAt}
 use Rattle.page.specs.Decode as decode
-use Rattle.node.specs.Replay.{Draft}
 use Rattle.node.specs.Value.{Held}
 use Rattle.node.specs.Drafts.{draftOf}
 use Rattle.node_read.specs.Replay.{redoEntry, redoRun}

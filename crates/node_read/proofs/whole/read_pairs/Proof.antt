@@ -1,12 +1,11 @@
 -- `whole::read_pairs` meets its contract. The invariant: the pairs in the arrays, then those left, are the payload's. Assumes nothing.
-use mathlib.Core.Path.{_≡_, refl, sym, ap, _∙_}
-use mathlib.Core.List.{List, [], _++_}
+use mathlib.Core.Path.{_≡_, sym, ap, _∙_}
+use mathlib.Core.List.{List, _++_}
 use Prim.Native.Nat.{ℕ, _+_, _-_, _*_, _≤_}
 use native.Mathlib.Omega.{arith}
-use lib.ListN.{length, take, set, replicate, length-replicate, length-set}
-use borrow.Author.Needs.{needs}
+use lib.ListN.{length, take, length-replicate, length-set}
 use Rattle.pairs.specs.Pairs.{Pair}
-use Rattle.node.specs.Node.{Node, node}
+use Rattle.node.specs.Node.{node}
 use Rattle.node.specs.Splice.{zip}
 use Rattle.node.specs.Value.{pairsIn}
 use Rattle.page.specs.Decode as decode

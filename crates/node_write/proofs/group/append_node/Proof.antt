@@ -1,6 +1,5 @@
 -- `group::append_node` meets its contract: the pairs' entries, then the link's. Assumes nothing.
 use mathlib.Core.Path.{_∙_}
-use Rattle.node.specs.declared.ChangeValue.the-variants.{Link}
 use Rattle.node.specs.Change.{puts, link}
 use Rattle.node.specs.Value.{pairsIn}
 use Rattle.node_write.proofs.Laws.{appendAll-last}

@@ -1,7 +1,7 @@
 -- `group::append_pairs` meets its contract. The invariant: the entries of the pairs left give those of all pairs. Assumes nothing.
 use mathlib.Core.Path.{_≡_, sym, ap, _∙_}
 use mathlib.Core.List.{List}
-use Prim.Native.Nat.{_+_, _-_, _≤_}
+use Prim.Native.Nat.{_-_, _≤_}
 use native.Mathlib.Omega.{arith}
 use Rattle.pairs.specs.Pairs.{Pair}
 use Rattle.node.specs.Change.{puts}

@@ -1,5 +1,4 @@
 -- `group::start` meets its contract: the fresh row stored, the entries of the content in the buffer. Assumes nothing.
-use mathlib.Core.Path.{refl, _∙_}
 use borrow.Author.Needs.{needs}
 use Rattle.node_write.proofs.group.start.Statement.{statement}
 use Rattle.node_write.proofs.group.start.Tie as tie

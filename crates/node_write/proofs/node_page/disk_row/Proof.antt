@@ -1,5 +1,4 @@
 -- `node_page::disk_row` meets its contract: the row fresh in disk mode, with one page. Assumes nothing.
-use mathlib.Core.Path.{_∙_}
 use Rattle.node_write.specs.NodePage.{diskRow}
 use borrow.Author.Needs.{needs}
 use Rattle.node_write.proofs.node_page.disk_row.Statement.{statement}

@@ -2,7 +2,6 @@
 use mathlib.Core.Path.{_≡_, ap, _∙_}
 use mathlib.Core.List.{List}
 use Rattle.pairs.specs.Pairs.{Pair}
-use Rattle.blocks.specs.Pages.{pagesOf}
 use Rattle.node.specs.Node.{node}
 use Rattle.node.specs.Value.{nodeOf}
 use Rattle.page.specs.Page.{page, whole}

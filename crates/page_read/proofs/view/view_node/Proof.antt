@@ -1,9 +1,9 @@
 -- `page_read::view::view_node` meets its contract. Each return is the view of the case that the tests before it pick; a payload
 -- that is too short for a node is none. Assumes nothing.
-use mathlib.Core.Path.{_≡_, sym, ap, ap₂, _∙_}
+use mathlib.Core.Path.{_≡_, sym, ap, _∙_}
 use mathlib.Core.Bool.{Bool, _||_}
 use mathlib.Core.List.{List}
-use Prim.Native.Nat.{ℕ, _+_, _-_, _/_, _≤_, _<_}
+use Prim.Native.Nat.{ℕ, _+_, _-_, _≤_}
 use native.Mathlib.Omega.{arith}
 use lib.Dec.{eqb}
 use lib.ListN.{length, getD}
@@ -11,7 +11,6 @@ use borrow.Author.Needs.{needs}
 use Rattle.laws.specs.BigEndian.{numberAt}
 use Rattle.wire.specs.Field.{payloadAt}
 use Rattle.page.specs.Decode.{sealedAt, taken, kindOfNumber, pairsIn}
-use Rattle.page_read.specs.declared.view.PageView.{PageView}
 use Rattle.page_read.specs.declared.view.PageView.the-variants.{Whole}
 use Rattle.page_read.specs.Payload.{found-true, found-false, taken-some, node-short}
 use Rattle.page_read.specs.Steps.{node-none, node-other, node-unsealed, node-sealed}

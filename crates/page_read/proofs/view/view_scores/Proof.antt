@@ -1,9 +1,8 @@
 -- `page_read::view::view_scores` meets its contract. Each return is the view of the case that the tests before it pick. Assumes
 -- nothing.
-use mathlib.Core.Path.{_≡_, refl, sym, ap, ap₂, _∙_}
+use mathlib.Core.Path.{_≡_, sym, ap, ap₂, _∙_}
 use mathlib.Core.Bool.{Bool, true, false, _||_}
-use mathlib.Core.List.{List}
-use Prim.Native.Nat.{ℕ, _+_, _*_, _≤_, _<_}
+use Prim.Native.Nat.{_+_, _*_, _≤_}
 use native.Mathlib.Omega.{arith}
 use lib.Dec.{eqb}
 use lib.ListN.{length}
@@ -16,7 +15,7 @@ use Rattle.page.specs.Tags.{only-15}
 use Rattle.page_read.specs.declared.view.Nodes.{Nodes}
 use Rattle.page_read.specs.declared.view.Nodes.the-variants.{Count}
 use Rattle.page_read.specs.declared.view.PageView.the-variants.{Checkpoint}
-use Rattle.page_read.specs.Payload.{payload-empty, found-true, taken-some, taken-none, number-whole}
+use Rattle.page_read.specs.Payload.{payload-empty, found-true, taken-some, number-whole}
 use Rattle.page_read.specs.Steps.{scores-none, scores-unfilled, scores-unsealed, scores-sealed, given-read, nodes-none, nodes-some}
 use Rattle.page_read.proofs.view.view_scores.Statement.{statement}
 use Rattle.page_read.proofs.view.view_scores.Tie as tie

@@ -1,6 +1,5 @@
 -- `page_write::frame::fill_page` meets its contract. Bytes laid over the whole of a part are the part. Assumes nothing.
 use mathlib.Core.Path.{_∙_}
-use native.Mathlib.Omega.{arith}
 use borrow.Author.Needs.{needs}
 use Rattle.laws.specs.Lay.{lay-whole}
 use Rattle.page_write.proofs.frame.fill_page.Statement.{statement}

@@ -1,13 +1,12 @@
 -- `page_write::frame::lay_run` meets its contract. The invariant: the fields of the records that are left, laid over the page as
 -- it is, give what is to come out. Assumes nothing.
-use mathlib.Core.Path.{_≡_, refl, sym, ap, _∙_}
-use Prim.Native.Nat.{ℕ, _+_, _-_, _*_, _≤_}
+use mathlib.Core.Path.{_≡_, refl, sym, _∙_}
+use Prim.Native.Nat.{_+_, _-_, _*_, _≤_}
 use native.Mathlib.Omega.{arith}
-use lib.ListN.{length, take, drop}
+use lib.ListN.{length}
 use Rattle.page_write.specs.Chunks.{lent-part}
 use Rattle.laws.specs.Lay.{length-part}
-use Rattle.laws.specs.Lay.{lay, part}
-use Rattle.wire.specs.Field.{field}
+use Rattle.laws.specs.Lay.{lay}
 use Rattle.page.specs.Image.{fields}
 use Rattle.page_write.specs.Chunks.{chunks, run-next, run-end, mul-split}
 use Rattle.page_write.proofs.frame.lay_run.Statement.{statement}

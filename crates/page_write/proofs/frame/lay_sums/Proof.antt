@@ -1,6 +1,6 @@
 -- `page_write::frame::lay_sums` meets its contract. The sums are those of the bytes before the place, which no later store
 -- touches. Assumes nothing.
-use mathlib.Core.Path.{_≡_, sym, ap, _∙_}
+use mathlib.Core.Path.{sym, ap, _∙_}
 use native.Mathlib.Omega.{arith}
 use lib.ListN.{take}
 use lib.Seq.{length-take-le}

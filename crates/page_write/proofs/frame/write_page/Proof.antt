@@ -1,6 +1,5 @@
 -- `page_write::frame::write_page` meets its contract. A part that was lent and came back filled is the page laid there. Assumes
 -- nothing.
-use mathlib.Core.Path.{_∙_}
 use Prim.Native.Nat.{_+_}
 use native.Mathlib.Omega.{arith}
 use borrow.Author.Needs.{needs}

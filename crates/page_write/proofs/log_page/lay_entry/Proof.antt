@@ -1,7 +1,6 @@
 -- `page_write::log_page::lay_entry` meets its contract. Five pieces laid one behind another are the entry's bytes. Assumes
 -- nothing.
 use mathlib.Core.Path.{_∙_}
-use native.Mathlib.Omega.{arith}
 use borrow.Author.Needs.{needs}
 use Rattle.page_write.specs.Parts.{entry-laid}
 use Rattle.page_write.proofs.log_page.lay_entry.Statement.{statement}

@@ -1,6 +1,6 @@
 -- `page_write::node_page::lay_pairs` meets its contract. The invariant: the pairs that are left, laid over the page as it is,
 -- give what is to come out. Assumes nothing.
-use mathlib.Core.Path.{_≡_, refl, sym, _∙_}
+use mathlib.Core.Path.{_≡_, sym, _∙_}
 use Prim.Native.Nat.{_+_, _-_, _*_, _≤_}
 use native.Mathlib.Nat.{sub-zero}
 use native.Mathlib.Omega.{arith}

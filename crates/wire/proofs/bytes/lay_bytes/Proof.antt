@@ -1,6 +1,6 @@
 -- `wire::bytes::lay_bytes` meets its contract. The invariant: what is left of the source, laid over the buffer as it is, gives
 -- what is to come out. Assumes nothing.
-use mathlib.Core.Path.{_≡_, refl, sym, _∙_}
+use mathlib.Core.Path.{_≡_, sym, _∙_}
 use Prim.Native.Nat.{_+_, _-_, _≤_}
 use native.Mathlib.Nat.{add-zero}
 use native.Mathlib.Omega.{arith}

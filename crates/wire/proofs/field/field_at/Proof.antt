@@ -1,6 +1,6 @@
 -- `wire::field::field_at` meets its contract. Each return is the case of the definition that the tests before it pick. Assumes
 -- nothing.
-use mathlib.Core.Path.{_≡_, sym, ap, _∙_}
+use mathlib.Core.Path.{sym, _∙_}
 use native.Mathlib.Omega.{arith}
 use borrow.Author.Needs.{needs}
 use Rattle.wire.proofs.Cases.{is-missing, is-foreign-tag, is-foreign-length, is-overlong, is-payload}

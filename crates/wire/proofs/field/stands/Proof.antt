@@ -1,5 +1,5 @@
 -- `wire::field::stands` meets its contract. By the cases of what stands there. Assumes nothing.
-use mathlib.Core.Path.{_≡_, sym, ap, _∙_}
+use mathlib.Core.Path.{sym, ap, _∙_}
 use borrow.Author.Needs.{needs}
 use Rattle.wire.specs.Field.{isPayload, standsAt}
 use Rattle.wire.proofs.field.stands.Statement.{statement}

@@ -1,7 +1,6 @@
 -- `wire::tag::entry` meets its contract. One test computed over the whole table gives its rule at each tag. Assumes nothing.
 use mathlib.Core.Path.{refl}
-use mathlib.Core.List.{List, [], _∷_, _++_}
-use Prim.Native.Nat.{ℕ}
+use mathlib.Core.List.{[], _∷_, _++_}
 use lib.ListN.{replicate}
 use borrow.Author.Needs.{needs}
 use Rattle.wire.specs.Tag.{lengthOf, find, rows}
