@@ -1,0 +1,4 @@
+pub mod Content
+pub mod Write
+pub mod Settle
+pub mod Serve

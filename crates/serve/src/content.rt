@@ -1,0 +1,40 @@
+// The content of a node as a request finds it, and as an edit leaves it.
+ghost use Prim.Native.Nat.{_+_, _*_, _≤_};
+ghost use lib.ListN.{length};
+ghost use Rattle.rows.specs.Row.{rowsOf};
+ghost use Rattle.blocks.specs.Pages.{pagesOf};
+ghost use Rattle.node.specs.Value.{Becomes};
+ghost use Rattle.node.specs.Drafts.{changeOf};
+ghost use Rattle.place.specs.World.{world};
+ghost use Rattle.serve.specs.Content.{contentOf, editedOf};
+use node::ChangeValue;
+use node::NodeValue;
+use node_read::content::content;
+use node_replay::redo;
+use node_table::node_in;
+use place::state::State;
+
+// The content of node n.
+pub fn current<'a>(pool: &'a [u8], table: &'a [u8], state: State, n: usize) -> NodeValue
+    requires { ⌜ (state .entries ≤ 27) × (16 * n + 16 ≤ length (now table)) ⌝ }
+    ensures { λ r. ⌜ Becomes r (contentOf n (world (pagesOf (now (pool .entry))) (rowsOf (now (table .entry))) state)) ⌝ }
+{
+    let d = content(pool, table, state, n);
+    node_in(d)
+}
+
+// The content of node n with one change more.
+pub fn edited<'a>(
+    pool: &'a [u8],
+    table: &'a [u8],
+    state: State,
+    n: usize,
+    change: ChangeValue,
+) -> NodeValue
+    requires { ⌜ (state .entries ≤ 27) × (16 * n + 16 ≤ length (now table)) ⌝ }
+    ensures { λ r. ⌜ Becomes r (editedOf (changeOf change) n (world (pagesOf (now (pool .entry))) (rowsOf (now (table .entry))) state)) ⌝ }
+{
+    let d = content(pool, table, state, n);
+    let e = redo(d, change);
+    node_in(e)
+}

@@ -1,0 +1,5 @@
+// One node request served: by the node's account, in the mode that the account says.
+pub mod content;
+pub mod request;
+pub mod settle;
+pub mod write;
