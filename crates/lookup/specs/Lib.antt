@@ -1,0 +1,5 @@
+pub mod Value
+pub mod Get
+pub mod Finding
+pub mod Delete
+pub mod Removal

@@ -1,0 +1,3 @@
+// The way from the root to a leaf: found, and read as requests.
+pub mod path;
+pub mod reads;
