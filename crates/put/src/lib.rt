@@ -1,0 +1,3 @@
+// The command put (document 01: hang): refused where too few node ids are unused, else the reads of the way, then one edit or the splits.
+pub mod ids;
+pub mod put;
