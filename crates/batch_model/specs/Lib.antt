@@ -1,0 +1,2 @@
+pub mod PoolLeft
+pub mod Ending
