@@ -1,0 +1,4 @@
+pub mod EveryFrom
+pub mod Marks
+pub mod Find
+pub mod Scores

@@ -1,0 +1,232 @@
+-- Scores by id: as many scores as ids, and each id with one at least, means each with exactly one, and none beyond. Assumes nothing.
+use mathlib.Core.Path.{_≡_, refl, sym, ap, _∙_}
+use mathlib.Core.Bool.{Bool, true, false, _&&_}
+use mathlib.Core.Logic.{_⊎_, inl, inr}
+use mathlib.Core.List.{List, [], _∷_, _++_}
+use Prim.Native.Nat.{ℕ, zero, suc, _+_, _≤_, _<_}
+use native.Mathlib.Omega.{arith}
+use lib.Dec.{eqb, leb, ltb}
+use lib.ListN.{length}
+use borrow.Author.Tests.{eqb-true, eq-eqb, ne-eqb, le-leb, lt-leb, lt-ltb, le-ltb}
+use Rattle.laws.specs.Tests.{choose, and-left, and-right, and-both}
+use Rattle.laws.specs.Order.{eq-or, le-or}
+use Rattle.laws.specs.Counts.{bit, bit-le-one, count}
+use Rattle.laws.specs.Update.{sumBelow, sumBelow-ext}
+use Rattle.page.specs.Page.{Score}
+use Rattle.store.specs.Checkpoint.{scoreIn, scoreOf, onceBelow}
+use Rattle.model.specs.Mount.{scoresBelow}
+
+-- A sum over scores, and over those of one id.
+abbrev pub sumScores : (Score → ℕ) → List Score → ℕ
+sumScores g [] = 0
+sumScores g (x ∷ xs) = g x + sumScores g xs
+
+abbrev pub ofId : ℕ → (Score → ℕ) → Score → ℕ
+ofId m g x = choose (eqb m (x .id)) (g x) 0
+
+abbrev beyond : ℕ → (Score → ℕ) → Score → ℕ
+beyond n g x = choose (leb n (x .id)) (g x) 0
+
+pub sumScores-append : (g : Score → ℕ) (xs ys : List Score) → sumScores g (xs ++ ys) ≡ sumScores g xs + sumScores g ys
+sumScores-append g [] ys = omega arith
+sumScores-append g (x ∷ xs) ys = omega (arith, sumScores-append g xs ys)
+
+abbrev pub one : Score → ℕ
+one x = 1
+
+pub sumScores-one : (xs : List Score) → sumScores one xs ≡ length xs
+sumScores-one [] = refl
+sumScores-one (x ∷ xs) = omega (arith, sumScores-one xs)
+
+pub count-ofId : (m : ℕ) (xs : List Score) → count (scoreOf m) xs ≡ sumScores (ofId m one) xs
+count-ofId m [] = refl
+count-ofId m (x ∷ xs) = go (eqb m (x .id)) (count-ofId m xs)
+  where
+    go : (t : Bool) → count (scoreOf m) xs ≡ sumScores (ofId m one) xs → bit t + count (scoreOf m) xs ≡ choose t 1 0 + sumScores (ofId m one) xs
+    go true r = omega arith
+    go false r = omega arith
+
+-- ---- every score has one id
+
+shares : (g : Score → ℕ) (x : Score) (n : ℕ) → sumBelow n (λ m. ofId m g x) + beyond n g x ≡ g x
+shares g x zero = ap (λ (t : Bool). 0 + choose t (g x) 0) (le-leb 0 (x .id) (omega arith)) ∙ omega arith
+shares g x (suc n) = go (eq-or n (x .id)) (le-or n (x .id)) (shares g x n)
+  where
+    go : (n ≡ x .id) ⊎ (n ≡ x .id → ⊥) → (n ≤ x .id) ⊎ (x .id < n) → sumBelow n (λ m. ofId m g x) + beyond n g x ≡ g x →
+        sumBelow n (λ m. ofId m g x) + ofId n g x + beyond (suc n) g x ≡ g x
+    go (inl e) l r =
+        omega (
+          arith,
+          ap (λ (t : Bool). choose t (g x) 0) (eq-eqb n (x .id) e),
+          ap (λ (t : Bool). choose t (g x) 0) (lt-leb (suc n) (x .id) (omega arith)),
+          ap (λ (t : Bool). choose t (g x) 0) (le-leb n (x .id) (omega arith)),
+        )
+    go (inr e) (inl l) r =
+        omega (
+          arith,
+          ap (λ (t : Bool). choose t (g x) 0) (ne-eqb n (x .id) e),
+          ap (λ (t : Bool). choose t (g x) 0) (le-leb (suc n) (x .id) (above (le-or (suc n) (x .id)))),
+          ap (λ (t : Bool). choose t (g x) 0) (le-leb n (x .id) l),
+        )
+      where
+        above : (suc n ≤ x .id) ⊎ (x .id < suc n) → suc n ≤ x .id
+        above (inl h) = h
+        above (inr h) = absurd (e (omega arith))
+    go (inr e) (inr l) r =
+        omega (
+          arith,
+          ap (λ (t : Bool). choose t (g x) 0) (ne-eqb n (x .id) e),
+          ap (λ (t : Bool). choose t (g x) 0) (lt-leb (suc n) (x .id) (omega arith)),
+          ap (λ (t : Bool). choose t (g x) 0) (lt-leb n (x .id) l),
+        )
+
+sumBelow-add : (n : ℕ) (f g : ℕ → ℕ) → sumBelow n (λ i. f i + g i) ≡ sumBelow n f + sumBelow n g
+sumBelow-add zero f g = refl
+sumBelow-add (suc n) f g = omega (arith, sumBelow-add n f g)
+
+sumBelow-zeros : (n : ℕ) → sumBelow n (λ i. 0) ≡ 0
+sumBelow-zeros zero = refl
+sumBelow-zeros (suc n) = omega (arith, sumBelow-zeros n)
+
+by-id : (g : Score → ℕ) (n : ℕ) (xs : List Score) → sumBelow n (λ m. sumScores (ofId m g) xs) + sumScores (beyond n g) xs ≡ sumScores g xs
+by-id g n [] = omega (arith, sumBelow-zeros n)
+by-id g n (x ∷ xs) = omega (arith, sumBelow-add n (λ m. ofId m g x) (λ m. sumScores (ofId m g) xs), shares g x n, by-id g n xs)
+
+-- ---- one each
+
+pub sumBelow-at : (n : ℕ) (f : ℕ → ℕ) (i : ℕ) → i < n → f i ≤ sumBelow n f
+sumBelow-at zero f i l = absurd (omega arith)
+sumBelow-at (suc n) f i l = go (eq-or i n) (λ h. sumBelow-at n f i h)
+  where
+    go : (i ≡ n) ⊎ (i ≡ n → ⊥) → (i < n → f i ≤ sumBelow n f) → f i ≤ sumBelow n f + f n
+    go (inl e) r = omega (arith, ap f e)
+    go (inr e) r = omega (arith, r (below (le-or n i)))
+      where
+        below : (n ≤ i) ⊎ (i < n) → i < n
+        below (inl h) = absurd (e (omega arith))
+        below (inr h) = h
+
+sumBelow-ones : (n : ℕ) (f : ℕ → ℕ) → ((i : ℕ) → i < n → 1 ≤ f i) → n ≤ sumBelow n f
+sumBelow-ones zero f h = omega arith
+sumBelow-ones (suc n) f h = omega (arith, sumBelow-ones n f (λ i l. h i (omega arith)), h n (omega arith))
+
+-- where each is at least one, one of them exceeds the others' least by what it has
+sumBelow-more : (n : ℕ) (f : ℕ → ℕ) → ((i : ℕ) → i < n → 1 ≤ f i) → (k : ℕ) → k < n → n + f k ≤ sumBelow n f + 1
+sumBelow-more zero f h k l = absurd (omega arith)
+sumBelow-more (suc n) f h k l = go (eq-or k n) (λ m. sumBelow-more n f (λ i q. h i (omega arith)) k m)
+  where
+    go : (k ≡ n) ⊎ (k ≡ n → ⊥) → (k < n → n + f k ≤ sumBelow n f + 1) → suc n + f k ≤ sumBelow n f + f n + 1
+    go (inl e) r = omega (arith, ap f e, sumBelow-ones n f (λ i q. h i (omega arith)))
+    go (inr e) r = omega (arith, r (below (le-or n k)), h n (omega arith))
+      where
+        below : (n ≤ k) ⊎ (k < n) → k < n
+        below (inl q) = absurd (e (omega arith))
+        below (inr q) = q
+
+pub once-at : (n : ℕ) (xs : List Score) → onceBelow n xs ≡ true → (i : ℕ) → i < n → count (scoreOf i) xs ≡ 1
+once-at zero xs e i l = absurd (omega arith)
+once-at (suc n) xs e i l = go (eq-or i n) (λ h. once-at n xs (and-right (eqb (count (scoreOf n) xs) 1) (onceBelow n xs) e) i h)
+  where
+    go : (i ≡ n) ⊎ (i ≡ n → ⊥) → (i < n → count (scoreOf i) xs ≡ 1) → count (scoreOf i) xs ≡ 1
+    go (inl q) r = rw q (eqb-true (count (scoreOf n) xs) 1 (and-left (eqb (count (scoreOf n) xs) 1) (onceBelow n xs) e))
+    go (inr q) r = r (below (le-or n i))
+      where
+        below : (n ≤ i) ⊎ (i < n) → i < n
+        below (inl h) = absurd (q (omega arith))
+        below (inr h) = h
+
+once-all : (n : ℕ) (xs : List Score) → ((i : ℕ) → i < n → count (scoreOf i) xs ≡ 1) → onceBelow n xs ≡ true
+once-all zero xs h = refl
+once-all (suc n) xs h =
+    and-both (eqb (count (scoreOf n) xs) 1) (onceBelow n xs) (eq-eqb _ 1 (h n (omega arith))) (once-all n xs (λ i l. h i (omega arith)))
+
+module _ (n : ℕ) (xs : List Score) (size : length xs ≡ n) where
+  shared : sumBelow n (λ m. sumScores (ofId m one) xs) + sumScores (beyond n one) xs ≡ n
+  shared = by-id one n xs ∙ sumScores-one xs ∙ size
+
+  -- AS MANY SCORES AS IDS, each id at least once: each exactly once
+  pub once-enough : ((i : ℕ) → i < n → 1 ≤ count (scoreOf i) xs) → onceBelow n xs ≡ true
+  once-enough h = once-all n xs each
+    where
+      some : (i : ℕ) → i < n → 1 ≤ sumScores (ofId i one) xs
+      some i l = omega (arith, h i l, count-ofId i xs)
+
+      each : (i : ℕ) → i < n → count (scoreOf i) xs ≡ 1
+      each i l = omega (arith, sumBelow-more n (λ m. sumScores (ofId m one) xs) some i l, shared, some i l, count-ofId i xs)
+
+  module _ (o : onceBelow n xs ≡ true) where
+    -- no id is beyond them
+    none-beyond : sumScores (beyond n one) xs ≡ 0
+    none-beyond =
+        omega (
+          arith,
+          shared,
+          sumBelow-ones n (λ m. sumScores (ofId m one) xs) (λ i l. omega (arith, once-at n xs o i l, count-ofId i xs)),
+        )
+
+    none-beyond-of : (g : Score → ℕ) → ((x : Score) → g x ≤ 1) → sumScores (beyond n g) xs ≡ 0
+    none-beyond-of g small = omega (arith, less xs, none-beyond)
+      where
+        less : (ys : List Score) → sumScores (beyond n g) ys ≤ sumScores (beyond n one) ys
+        less [] = omega arith
+        less (y ∷ ys) = go (leb n (y .id)) (less ys)
+          where
+            go : (t : Bool) → sumScores (beyond n g) ys ≤ sumScores (beyond n one) ys →
+                choose t (g y) 0 + sumScores (beyond n g) ys ≤ choose t 1 0 + sumScores (beyond n one) ys
+            go true r = omega (arith, small y)
+            go false r = omega arith
+
+    pub by-id-once : (g : Score → ℕ) → ((x : Score) → g x ≤ 1) → sumBelow n (λ m. sumScores (ofId m g) xs) ≡ sumScores g xs
+    by-id-once g small = omega (arith, by-id g n xs, none-beyond-of g small)
+
+-- ---- the score of an id that has one
+
+sum-none : (m : ℕ) (g : Score → ℕ) (xs : List Score) → count (scoreOf m) xs ≡ 0 → sumScores (ofId m g) xs ≡ 0
+sum-none m g [] e = refl
+sum-none m g (x ∷ xs) e = go (eqb m (x .id)) e (sum-none m g xs)
+  where
+    go : (t : Bool) → bit t + count (scoreOf m) xs ≡ 0 → (count (scoreOf m) xs ≡ 0 → sumScores (ofId m g) xs ≡ 0) →
+        choose t (g x) 0 + sumScores (ofId m g) xs ≡ 0
+    go true f r = absurd (omega arith)
+    go false f r = omega (arith, r (omega arith))
+
+pub sum-once : (m : ℕ) (g : ℕ → ℕ) (xs : List Score) → count (scoreOf m) xs ≡ 1 → sumScores (ofId m (λ x. g (x .score))) xs ≡ g (scoreIn xs m)
+unfolding scoreIn
+sum-once m g [] e = absurd (omega arith)
+sum-once m g (x ∷ xs) e = go (eqb m (x .id)) e (sum-once m g xs)
+  where
+    go : (t : Bool) → bit t + count (scoreOf m) xs ≡ 1 → (count (scoreOf m) xs ≡ 1 → sumScores (ofId m (λ x. g (x .score))) xs ≡ g (scoreIn xs m)) →
+        choose t (g (x .score)) 0 + sumScores (ofId m (λ x. g (x .score))) xs ≡ g (choose t (x .score) (scoreIn xs m))
+    go true f r = omega (arith, sum-none m (λ x. g (x .score)) xs (omega arith))
+    go false f r = omega (arith, r (omega arith))
+
+-- ---- all below a limit, by scores and by ids
+
+over : ℕ → ℕ → ℕ
+over limit n = bit (leb limit n)
+
+scoresBelow-sum : (limit : ℕ) (xs : List Score) → scoresBelow limit xs ≡ eqb (sumScores (λ x. over limit (x .score)) xs) 0
+unfolding scoresBelow over
+scoresBelow-sum limit [] = refl
+scoresBelow-sum limit (x ∷ xs) = go (le-or limit (x .score)) (scoresBelow-sum limit xs)
+  where
+    go : (limit ≤ x .score) ⊎ (x .score < limit) → scoresBelow limit xs ≡ eqb (sumScores (λ x. over limit (x .score)) xs) 0 →
+        (ltb (x .score) limit && scoresBelow limit xs) ≡ eqb (bit (leb limit (x .score)) + sumScores (λ x. over limit (x .score)) xs) 0
+    go (inl l) r =
+        ap (λ (t : Bool). t && scoresBelow limit xs) (le-ltb (x .score) limit l) ∙
+        sym (ne-eqb (bit (leb limit (x .score)) + sumScores (λ x. over limit (x .score)) xs) 0 (λ z. omega (arith, ap bit (le-leb limit (x .score) l))))
+    go (inr l) r =
+        let n = sumScores (λ x. over limit (x .score)) xs in
+        let e : n ≡ bit (leb limit (x .score)) + n = omega (arith, ap bit (lt-leb limit (x .score) l)) in
+        ap (λ (t : Bool). t && scoresBelow limit xs) (lt-ltb (x .score) limit l) ∙ r ∙ ap (λ (i : ℕ). eqb i 0) e
+
+-- Each of n scores by id is below the limit exactly where all scores are.
+pub scoresBelow-ids : (limit n : ℕ) (xs : List Score) → length xs ≡ n → onceBelow n xs ≡ true →
+    scoresBelow limit xs ≡ eqb (sumBelow n (λ m. bit (leb limit (scoreIn xs m)))) 0
+unfolding over
+scoresBelow-ids limit n xs size o =
+    scoresBelow-sum limit xs ∙
+    ap (λ (i : ℕ). eqb i 0)
+    (sym (by-id-once n xs size o (λ x. over limit (x .score)) (λ x. bit-le-one (leb limit (x .score)))) ∙
+    sumBelow-ext n (λ m. sumScores (ofId m (λ x. over limit (x .score))) xs) (λ m. bit (leb limit (scoreIn xs m)))
+    (λ m l. sum-once m (over limit) xs (once-at n xs o m l)))

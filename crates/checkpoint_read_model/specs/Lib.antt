@@ -1,0 +1,10 @@
+pub mod Header
+pub mod Written
+pub mod Ids
+pub mod Collect
+pub mod Pool
+pub mod Extent
+pub mod Totals
+pub mod Marks
+pub mod Found
+pub mod Scores
