@@ -1,0 +1,42 @@
+// Mount: questions 5 to 8 of document 01, from the bytes of a pool to the state that a batch begins with.
+pub mod answer;
+
+ghost use lib.ListN.{length};
+ghost use Rattle.rows.specs.Row.{rowsOf};
+ghost use Rattle.mount.specs.Begin.{Sized};
+ghost use Rattle.mount.specs.Mounted.{MountedAs};
+use answer::Mount;
+use answer::first_state;
+use answer::refuse;
+use checkpoint_read::find::Checkpoint;
+use checkpoint_read::find::find_checkpoint;
+use restore::questions::refusal;
+use survey::survey;
+
+// Mounts a pool, with a table lent for the rows; of a pool that is refused, what the table holds means nothing.
+pub fn mount(pool: &[u8], table: &mut [u8], blocks: usize) -> Mount
+    requires { ⌜ Sized (length (now pool)) (length (now table)) blocks ⌝ }
+    ensures { λ r. ⌜ MountedAs (now (pool .entry)) (length (now (table .exit))) blocks (rowsOf (now (table .exit))) r ⌝ }
+{
+    let found = survey(pool, table, blocks);
+    if found.ok {} else {
+        return refuse(5, found);
+    }
+    let checkpoint = find_checkpoint(pool, table, blocks);
+    match checkpoint {
+        Checkpoint::Complete {
+            tariff,
+            nodes,
+            since,
+        } => {
+            let state = first_state(found, blocks, nodes);
+            let refused = refusal(pool, table, state, tariff, since);
+            Mount {
+                refused,
+                tariff,
+                state,
+            }
+        }
+        Checkpoint::Incomplete => refuse(6, found),
+    }
+}

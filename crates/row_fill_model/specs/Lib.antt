@@ -1,0 +1,13 @@
+pub mod Pieces
+pub mod PageItems
+pub mod Cells
+pub mod Pages
+pub mod Places
+pub mod Greatest
+pub mod PageCount
+pub mod Modes
+pub mod PoolPages
+pub mod Given
+pub mod Rows
+pub mod Fill
+pub mod Reads

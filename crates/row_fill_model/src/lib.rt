@@ -1,0 +1,1 @@
+// The theorems stand in specs/; there is no code here.
