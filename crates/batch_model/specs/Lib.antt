@@ -1,2 +1,4 @@
 pub mod PoolLeft
 pub mod Ending
+pub mod Run
+pub mod Accepted

@@ -3,7 +3,6 @@ use mathlib.Core.Path.{_≡_, refl, sym, ap, _∙_}
 use mathlib.Core.Bool.{true, false}
 use mathlib.Core.List.{List, [], _∷_}
 use Prim.Native.Nat.{ℕ}
-use native.Mathlib.Omega.{arith}
 use lib.ListN.{length, replicate}
 use Rattle.laws.specs.Lay.{lay, lay-whole, part, part-whole}
 use Rattle.laws.specs.BigEndian.{number, numberAt}
@@ -21,7 +20,7 @@ use Rattle.page_write.specs.Pages.{entryRecord, entryRecord-bytes, logBody, log
 use Rattle.checkpoint_write.specs.Checkpoint.{scoresIn}
 use Rattle.checkpoint_write.specs.Checkpoint as Writer
 use Rattle.model.specs.Call.{poolLength, prepareOf}
-use Rattle.prepare.specs.Prepared.{rootPage, checkpointPage, blocksIf, firstBytes, Leaves, IsPool, Question, refused, passed, question-one, prepared-bytes}
+use Rattle.prepare.specs.Prepared.{rootPage, checkpointPage, firstBytes, Leaves, IsPool, prepared-bytes}
 
 abbrev root : Entry
 root = record { id = 0; version = 1; change = link Leaf noLeaf }
@@ -46,22 +45,6 @@ checkpoint-page t = refl
 pub first-written : (bytes : ℕ) (a b erased one two : List ℕ) → erased ≡ replicate bytes 255 → one ≡ lay erased 0 a → two ≡ lay one 512 b → two ≡ firstBytes bytes a b
 unfolding firstBytes
 first-written bytes a b erased one two e f g = g ∙ ap (λ (s : List ℕ). lay s 512 b) (f ∙ ap (λ (s : List ℕ). lay s 0 a) e)
-
--- No block counted: no pool; some block counted: a pool.
-module _ (pool : List ℕ) (n : ℕ) (is : n ≡ blocksIf (length pool)) where
-  pub no-pool : n ≡ 0 → poolLength pool ≡ false
-  no-pool z = go (question-one pool)
-    where
-      go : Question pool → poolLength pool ≡ false
-      go (refused e q) = q
-      go (passed h) = absurd (omega (arith, is, h .blocks, h .least))
-
-  pub a-pool : (n ≡ 0 → ⊥) → IsPool pool
-  a-pool d = go (question-one pool)
-    where
-      go : Question pool → IsPool pool
-      go (refused e q) = absurd (d (is ∙ e))
-      go (passed h) = h
 
 -- Refused with 1, with 10, or prepared.
 module _ (pool : List ℕ) (t : Tariff) where

@@ -105,6 +105,22 @@ question-one pool = go (le-or fewestBlocks (blocksOf pool)) (le-or (blocksOf poo
           blocks = sym (whole-blocks n a b e);
         })
 
+-- No block counted: no pool; some block counted: a pool.
+module _ (pool : List ℕ) (n : ℕ) (is : n ≡ blocksIf (length pool)) where
+  pub no-pool : n ≡ 0 → poolLength pool ≡ false
+  no-pool z = go (question-one pool)
+    where
+      go : Question pool → poolLength pool ≡ false
+      go (refused e q) = q
+      go (passed h) = absurd (omega (arith, is, h .blocks, h .least))
+
+  pub a-pool : (n ≡ 0 → ⊥) → IsPool pool
+  a-pool d = go (question-one pool)
+    where
+      go : Question pool → IsPool pool
+      go (refused e q) = absurd (d (is ∙ e))
+      go (passed h) = h
+
 -- ---- the bytes of the prepared pool
 
 abbrev erasedBytes : ℕ → List ℕ

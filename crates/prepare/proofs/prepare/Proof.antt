@@ -1,7 +1,8 @@
 -- `prepare` meets its contract: refused with 1, with 10, or prepared. Assumes nothing.
 use mathlib.Core.Path.{sym, _∙_}
 use native.Mathlib.Omega.{arith}
-use Rattle.prepare.proofs.Laws.{no-pool, a-pool, refused-length, refused-tariff, prepared-pool}
+use Rattle.prepare.specs.Prepared.{no-pool, a-pool}
+use Rattle.prepare.proofs.Laws.{refused-length, refused-tariff, prepared-pool}
 use borrow.Author.Needs.{needs}
 use Rattle.prepare.proofs.prepare.Statement.{statement}
 use Rattle.prepare.proofs.prepare.Tie as tie

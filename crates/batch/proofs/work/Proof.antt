@@ -1,0 +1,85 @@
+-- `work` meets its contract: a pool refused, or its commands run and its checkpoint written. Assumes nothing.
+use mathlib.Core.Path.{sym, ap, _∙_, subst}
+use lib.ListN.{length}
+use Rattle.laws.specs.BigEndian.{bytes-getD}
+use Rattle.commands.specs.Valid.{valid-fits}
+use Rattle.batch.specs.declared.answer.Outcome.{Outcome}
+use Rattle.batch.specs.Left.{Worked}
+use Rattle.batch.specs.Work.{zeros, worked-refused, worked-by, grows}
+use borrow.Author.Needs.{needs}
+use Rattle.batch.proofs.work.Statement.{statement}
+use Rattle.batch.proofs.work.Tie as tie
+
+mount-requires : tie.Need-mount-requires
+mount-requires c κs = search needs
+
+fill-requires : tie.Need-fill-requires
+fill-requires c κs = search needs
+
+refused-requires : tie.Need-refused-requires
+refused-requires c κs = search needs
+
+same-length : tie.Need-same-length
+same-length c = search needs
+
+same-length-2 : tie.Need-same-length-2
+same-length-2 c = search needs
+
+returns : tie.Need-returns
+returns c =
+    let a = c .before .before .before .before .before .before .before .before .before .before .before .before .before .before .before .before .args in
+    let m = c .before .before .before .before .before .before .before .before .before .mount in
+    let f = c .before .before .before .fill in
+    subst (λ (r : Outcome). Worked (a .pool .now) (a .pool .now) (a .table .now) (f .last .0) (a .commands .now) (a .answers .now) (a .answers .now) r) (sym (c .refused .ensures))
+    (worked-refused (a .pool .now) (a .table .now) (a .commands .now) (a .answers .now) (c .before .before .before .before .before .before .before .before .before .before .before .before .before .before .before .before .pre) (f .last .0) (f .ensures ∙ ap zeros (m .kept .1 .0))
+    (m .result .refused) (m .ensures .refused (c .before .before .before .before .before .if1 .left)))
+
+run-commands-requires : tie.Need-run-commands-requires
+run-commands-requires c κs =
+    let a = c .before .before .before .before .before .before .before .before .before .before .before .before .before .before .before .before .args in
+    let pre = c .before .before .before .before .before .before .before .before .before .before .before .before .before .before .before .before .pre in
+    let o = c .before .before .before .before .before .before .before .before .before .mount .ensures .opened (c .before .before .before .before .before .if1 .taken) in
+    (grows o, o .ranged, valid-fits (a .commands .now) (pre .commands) (pre .are) (length (a .answers .now)) (pre .enough))
+
+checkpoint-requires : tie.Need-checkpoint-requires
+checkpoint-requires c κs = search needs
+
+fill-requires-2 : tie.Need-fill-requires-2
+fill-requires-2 c κs = search needs
+
+same-length-3 : tie.Need-same-length-3
+same-length-3 c = search needs
+
+same-length-4 : tie.Need-same-length-4
+same-length-4 c = c .before .before .fill2 .kept .0 ∙ c .before .before .before .before .before .before .before .before .checkpoint .kept .1 .0 ∙ c .before .before .before .before .before .before .before .before .before .before .before .before .before .before .before .before .before .before .run-commands .kept .1 .0 ∙ c .before .before .before .before .before .before .before .before .before .before .before .before .before .before .before .before .before .before .before .before .before .before .before .before .before .before .before .before .mount .kept .1 .0
+
+same-length-5 : tie.Need-same-length-5
+same-length-5 c = search needs
+
+returns-2 : tie.Need-returns-2
+returns-2 c =
+    let a = c .before .before .before .before .before .before .before .before .before .before .before .before .before .before .before .before .before .before .before .before .before .before .before .before .before .before .before .before .before .before .before .before .before .before .before .args in
+    let m = c .before .before .before .before .before .before .before .before .before .before .before .before .before .before .before .before .before .before .before .before .before .before .before .before .before .before .before .before .mount in
+    let r = c .before .before .before .before .before .before .before .before .before .before .before .before .before .before .before .before .before .before .run-commands in
+    let e = c .before .before .before .before .before .before .before .before .checkpoint in
+    worked-by (c .before .before .before .before .before .before .before .before .before .before .before .before .before .before .before .before .before .before .before .before .before .before .before .before .before .before .before .before .before .before .before .before .before .before .before .pre) (c .before .before .fill2 .last .0) (c .before .before .fill2 .ensures ∙ ap zeros (e .kept .1 .0 ∙ r .kept .1 .0 ∙ m .kept .1 .0))
+    (bytes-getD (a .commands .now) (λ i. c .before .before .before .before .before .before .before .before .before .before .before .before .before .before .before .before .before .before .before .before .before .before .before .before .before .before .before .before .before .before .before .before .shared-slice-known .given i .fits)) (m .ensures .opened (c .before .before .before .before .before .before .before .before .before .before .before .before .before .before .before .before .before .before .before .before .before .before .before .before .if1 .taken)) (r .ensures) (e .last .0) (e .ensures)
+    (e .kept .0 ∙ r .kept .0)
+
+pub work-spec : {M : Type 1} → statement M
+work-spec =
+    tie.close
+    (tie.spec
+    mount-requires
+    fill-requires
+    refused-requires
+    same-length
+    same-length-2
+    returns
+    run-commands-requires
+    checkpoint-requires
+    fill-requires-2
+    same-length-3
+    same-length-4
+    same-length-5
+    returns-2)

@@ -1,0 +1,3 @@
+pub mod Left
+pub mod Questions
+pub mod Work

@@ -1,0 +1,76 @@
+-- Questions 1 to 4 of a batch, and what each refusal leaves. Assumes nothing.
+use mathlib.Core.Path.{_≡_, refl, sym, ap}
+use mathlib.Core.Bool.{false}
+use mathlib.Core.List.{List}
+use mathlib.Core.Option.{Option, none, some}
+use Prim.Native.Nat.{ℕ, _≤_, _<_}
+use native.Mathlib.Omega.{arith}
+use borrow.Author.Tests.{le-leb, lt-leb}
+use lib.ListN.{length}
+use Rattle.layout.specs.Layout.{tableBytes}
+use Rattle.command.specs.declared.Asked.{Asked}
+use Rattle.command.specs.declared.Asked.the-variants as asked
+use Rattle.command.specs.declared.Command.{Command}
+use Rattle.command.specs.Batch.{commandsOf, roomForAll, askedAs, askedOf}
+use Rattle.model.specs.Call.{blocksOf, poolLength, batchOf, batchMounted, mountOf}
+use Rattle.prepare.specs.Prepared.{IsPool}
+use Rattle.batch.specs.Left.{refusedWith, wiped, Leaves}
+
+-- What `asked` tells of the commands.
+told-none : (o : Option (List Command)) → asked.Invalid ≡ askedAs o → o ≡ none
+told-none none e = refl
+told-none (some cs) e = cc
+
+told-some : (o : Option (List Command)) (n : ℕ) → asked.Bytes n ≡ askedAs o → (cs : List Command) × (o ≡ some cs) × (roomForAll cs ≡ n)
+told-some none n e = let z : _≡_ {A = ℕ} 0 1 = cc in absurd (omega arith)
+told-some (some cs) n e = (cs, refl, sym (room e))
+  where
+    bytes : Asked → ℕ
+    bytes (asked.Bytes k) = k
+    bytes asked.Invalid = 0
+
+    room : asked.Bytes n ≡ asked.Bytes (roomForAll cs) → n ≡ roomForAll cs
+    room z = ap bytes z
+
+module _ (batch : List ℕ) where
+  pub not-valid : asked.Invalid ≡ askedOf batch → commandsOf batch ≡ none
+  unfolding askedOf
+  not-valid e = told-none (commandsOf batch) e
+
+  pub asks-for : (n : ℕ) → asked.Bytes n ≡ askedOf batch → (cs : List Command) × (commandsOf batch ≡ some cs) × (roomForAll cs ≡ n)
+  unfolding askedOf
+  asks-for n e = told-some (commandsOf batch) n e
+
+-- The refusals, in their order.
+module _ (pool table batch answers : List ℕ) where
+  pub refused-one : poolLength pool ≡ false → Leaves (batchOf pool table batch answers) (refusedWith 1) pool table answers
+  unfolding batchOf
+  refused-one e = rw e (record { number = refl; pool = refl; cleared = refl; replies = refl; long = refl; charge = refl })
+
+  module _ (h : IsPool pool) where
+    pub refused-two : length table < tableBytes (blocksOf pool) → Leaves (batchOf pool table batch answers) (refusedWith 2) pool table answers
+    unfolding batchOf
+    refused-two l =
+        rw (h .question, lt-leb (tableBytes (blocksOf pool)) (length table) l)
+        (record { number = refl; pool = refl; cleared = refl; replies = refl; long = refl; charge = refl })
+
+    module _ (enough : tableBytes (blocksOf pool) ≤ length table) where
+      pub refused-three : commandsOf batch ≡ none → (left : List ℕ) → left ≡ wiped (tableBytes (blocksOf pool)) table →
+          Leaves (batchOf pool table batch answers) (refusedWith 3) pool left answers
+      unfolding batchOf wiped
+      refused-three e left is =
+          rw (h .question, le-leb (tableBytes (blocksOf pool)) (length table) enough, e)
+          (record { number = refl; pool = refl; cleared = is; replies = refl; long = refl; charge = refl })
+
+      module _ (cs : List Command) (are : commandsOf batch ≡ some cs) where
+        pub refused-four : length answers < roomForAll cs → (left : List ℕ) → left ≡ wiped (tableBytes (blocksOf pool)) table →
+            Leaves (batchOf pool table batch answers) (refusedWith 4) pool left answers
+        unfolding batchOf wiped
+        refused-four l left is =
+            rw (h .question, le-leb (tableBytes (blocksOf pool)) (length table) enough, are, lt-leb (roomForAll cs) (length answers) l)
+            (record { number = refl; pool = refl; cleared = is; replies = refl; long = refl; charge = refl })
+
+        pub passed-four : roomForAll cs ≤ length answers → batchOf pool table batch answers ≡ batchMounted (mountOf pool) cs pool table answers
+        unfolding batchOf
+        passed-four l =
+            rw (h .question, le-leb (tableBytes (blocksOf pool)) (length table) enough, are, le-leb (roomForAll cs) (length answers) l) refl

@@ -1,0 +1,117 @@
+-- Questions 5 to 8, the commands and the checkpoint, put together from what the code of each leaves. Assumes nothing.
+use mathlib.Core.Path.{_≡_, refl, sym, ap, _∙_, subst}
+use mathlib.Core.List.{List}
+use mathlib.Core.Option.{some}
+use Prim.Native.Nat.{ℕ}
+use native.Mathlib.Omega.{arith}
+use lib.ListN.{length, replicate, length-replicate}
+use Rattle.laws.specs.BigEndian.{Bytes}
+use Rattle.laws.specs.Lay.{lay-whole}
+use Rattle.layout.specs.Layout.{tableBytes}
+use Rattle.account.specs.declared.Tariff.{Tariff}
+use Rattle.command.specs.declared.Command.{Command}
+use Rattle.model.specs.Mount.{Mounted, refused}
+use Rattle.model.specs.Call.{blocksOf, cleared, mountOf, batchMounted, accept}
+use Rattle.demands.specs.OneCall.{blocks-length}
+use Rattle.rows.specs.declared.Row.{Row}
+use Rattle.blocks.specs.Pages.{pagesOf}
+use Rattle.place.specs.declared.state.State.{State}
+use Rattle.place.specs.World.{World, world}
+use Rattle.checkpoint.specs.Sheets.{checkpoint, Ended}
+use Rattle.split_up.specs.Growing.{Growing}
+use Rattle.mount_model.specs.Opens.{Opens}
+use Rattle.commands.specs.declared.Progress.{Progress}
+use Rattle.commands.specs.Run.{runWorld, RunAs}
+use Rattle.commands.specs.Valid.{commandsIn, commandsIn-is}
+use Rattle.batch_model.specs.Accepted.{accepted}
+use Rattle.batch.specs.Left.{refusedWith, Leaves, Accepts, Worked}
+
+abbrev pub zeros : ℕ → List ℕ
+zeros n = replicate n 0
+
+-- A table of just the pool's size is all zero afterwards.
+pub cleared-whole : (blocks : ℕ) (table : List ℕ) → length table ≡ tableBytes blocks → cleared blocks table ≡ zeros (length table)
+cleared-whole blocks table e =
+    lay-whole table (zeros (tableBytes blocks)) (length-replicate {A = ℕ} (tableBytes blocks) 0 ∙ sym e) ∙ ap zeros (sym e)
+
+same-some : {A : Type 0} (a b : A) → some a ≡ some b → a ≡ b
+same-some a b e = cc
+
+module _ (pool table batch answers : List ℕ) {blocks : ℕ} (a : Accepts (length pool) (length table) blocks batch (length answers)) (table′ : List ℕ)
+    (zero : table′ ≡ zeros (length table)) where
+  blocks-are : blocksOf pool ≡ blocks
+  blocks-are = blocks-length pool blocks (a .pool)
+
+  cleared-is : table′ ≡ cleared (blocksOf pool) table
+  cleared-is = zero ∙ sym (cleared-whole (blocksOf pool) table (rw blocks-are (a .table)))
+
+  -- A pool that is refused.
+  pub worked-refused : (number : ℕ) → mountOf pool ≡ refused number → Worked pool pool table table′ batch answers answers (refusedWith number)
+  worked-refused number e =
+      record {
+        leaves =
+            λ cs are.
+            subst (λ (m : Mounted). Leaves (batchMounted m cs pool table answers) (refusedWith number) pool table′ answers) (sym e)
+            (record { number = refl; pool = refl; cleared = cleared-is; replies = refl; long = refl; charge = refl });
+      }
+
+  -- One that opens, its commands run and its checkpoint written.
+  module _ (bytes : Bytes batch) {tableLength P T : ℕ} {rows rows₁ rows₂ : List Row} {t : Tariff} {st st₂ : State} (o : Opens pool tableLength blocks rows t st)
+      {pages₁ : List (List ℕ)} {answers₁ : List ℕ} {p : Progress} (ran : RunAs P T pages₁ rows₁ answers answers₁ p t (a .commands) (world (pagesOf pool) rows st))
+      (pool′ : List ℕ) (ended : world (pagesOf pool′) rows₂ st₂ ≡ checkpoint t (world pages₁ rows₁ (p .state))) (kept : st₂ .blocks ≡ p .state .blocks)
+      (size : length pool′ ≡ length pool) where
+    abbrev w : World
+    w = world (pagesOf pool) rows st
+
+    end : world (pagesOf pool′) rows₂ st₂ ≡ checkpoint t (runWorld t (a .commands) w)
+    end = ended ∙ ap (checkpoint t) (ran .is)
+
+    blocks-end : checkpoint t (runWorld t (a .commands) w) .state .blocks ≡ blocks
+    blocks-end =
+        ap (λ (z : World). z .state .blocks) (sym end) ∙ kept ∙ ran .blocks ∙ sym (o .runs .agrees .mirrors .pages .size) ∙
+        o .runs .sound .good .invariant .rules .size
+
+    by-commands : Leaves (accept blocks t (a .commands) (o .state) table answers) (record { number = 0; length = p .at; charge = p .charge }) pool′ table′ answers₁
+    by-commands =
+        let l =
+        accepted o (a .least) (a .pool) batch bytes (a .commands) (a .are) table answers pool′ (ap (λ (z : World). z .pages) end) blocks-end (size ∙ a .pool) in
+        record {
+          number = refl;
+          pool = l .pool;
+          cleared = zero ∙ sym (cleared-whole blocks table (a .table));
+          replies = ran .answers ∙ l .answers;
+          long = ran .behind ∙ l .length;
+          charge = ran .charge ∙ l .charge;
+        }
+
+    pub worked-done : Worked pool pool′ table table′ batch answers answers₁ (record { number = 0; length = p .at; charge = p .charge })
+    worked-done =
+        record {
+          leaves =
+              λ cs are.
+              let same : a .commands ≡ cs = same-some (a .commands) cs (sym (a .are) ∙ are) in
+              subst (λ (m : Mounted). Leaves (batchMounted m cs pool table answers) (record { number = 0; length = p .at; charge = p .charge }) pool′ table′ answers₁) (sym (o .is))
+              (subst
+              (λ (b : ℕ). Leaves (accept b t cs (o .state) table answers) (record { number = 0; length = p .at; charge = p .charge }) pool′ table′ answers₁)
+              (sym blocks-are)
+              (subst (λ (ds : List Command). Leaves (accept blocks t ds (o .state) table answers) (record { number = 0; length = p .at; charge = p .charge }) pool′ table′ answers₁)
+              same by-commands));
+        }
+
+-- The same, from what the code of each leaves.
+pub worked-by : {pool table batch answers : List ℕ} {blocks : ℕ} (a : Accepts (length pool) (length table) blocks batch (length answers)) (table′ : List ℕ) →
+    table′ ≡ zeros (length table) → Bytes batch → {tableLength P T P₂ T₂ : ℕ} {rows rows₁ rows₂ : List Row} {t : Tariff} {st st₂ : State} →
+    Opens pool tableLength blocks rows t st → {pages₁ : List (List ℕ)} {answers₁ : List ℕ} {p : Progress} →
+    RunAs P T pages₁ rows₁ answers answers₁ p t (commandsIn batch) (world (pagesOf pool) rows st) → (pool′ : List ℕ) →
+    Ended P₂ T₂ (p .state) (world (pagesOf pool′) rows₂ st₂) (checkpoint t (world pages₁ rows₁ (p .state))) → length pool′ ≡ length pool →
+    Worked pool pool′ table table′ batch answers answers₁ (record { number = 0; length = p .at; charge = p .charge })
+worked-by {pool} {table} {batch} {answers} a table′ zero bytes {tableLength} {P} {T} {P₂} {T₂} {rows} {rows₁} {rows₂} {t} {st} {st₂} o {pages₁} {answers₁} {p} ran pool′ ended size =
+    worked-done pool table batch answers a table′ zero bytes {P = P} {T = T} o
+    (subst (λ (cs : List Command). RunAs P T pages₁ rows₁ answers answers₁ p t cs (world (pagesOf pool) rows st)) (commandsIn-is batch (a .commands) (a .are)) ran)
+    pool′ (ended .is) (ended .blocks) size
+
+-- A pool that opens has what the commands and the checkpoint ask for.
+pub grows : {pool : List ℕ} {tableLength blocks : ℕ} {rows : List Row} {t : Tariff} {st : State} → Opens pool tableLength blocks rows t st → Growing (length pool) tableLength st
+grows {pool} {tableLength} {blocks} {rows} {t} {st} o =
+    let here : st .blocks ≡ blocks = sym (o .runs .agrees .mirrors .pages .size) ∙ o .runs .sound .good .invariant .rules .size in
+    record { good = o .good; limited = omega (arith, here, o .runs .agrees .nodes, o .runs .sound .good .invariant .nodes); noSheet = o .noSheet }

@@ -1,0 +1,83 @@
+// Batch: the questions in their order, then the commands, then the checkpoint.
+ghost use mathlib.Core.Path.{_≡_};
+ghost use Prim.Native.Nat.{_≤_};
+ghost use lib.ListN.{length};
+ghost use Rattle.model.specs.Call.{batchOf};
+ghost use Rattle.batch.specs.Left.{Accepts, Worked, Leaves, wiped};
+
+pub mod answer;
+
+use answer::Outcome;
+use answer::refused;
+use checkpoint::checkpoint;
+use command::Asked;
+use command::batch::asked;
+use commands::run::run_commands;
+use mount::mount;
+use prepare::pool_blocks;
+use wire::bytes::fill;
+
+// The first bytes of the table zero.
+fn wipe(table: &mut [u8], bytes: usize)
+    requires { ⌜ bytes ≤ length (now table) ⌝ }
+    ensures { λ _. ⌜ now (table .exit) ≡ wiped bytes (now (table .entry)) ⌝ }
+{
+    fill(&mut table[0..bytes], 0);
+}
+
+// Questions 5 to 8, the commands and the checkpoint, in a table of the pool's size.
+fn work(
+    pool: &mut [u8],
+    table: &mut [u8],
+    commands: &[u8],
+    answers: &mut [u8],
+    blocks: usize,
+) -> Outcome
+    requires { ⌜ Accepts (length (now pool)) (length (now table)) blocks (now commands) (length (now answers)) ⌝ }
+    ensures { λ r. ⌜ Worked (now (pool .entry)) (now (pool .exit)) (now (table .entry)) (now (table .exit)) (now (commands .entry)) (now (answers .entry)) (now (answers .exit)) r ⌝ }
+{
+    let mounted = mount(pool, table, blocks);
+    if mounted.refused == 0 {} else {
+        fill(table, 0);
+        return refused(mounted.refused);
+    }
+    let tariff = mounted.tariff;
+    let state = mounted.state;
+    let done = run_commands(pool, table, commands, answers, state, tariff);
+    let s = done.state;
+    checkpoint(pool, table, s, tariff);
+    fill(table, 0);
+    Outcome {
+        number: 0,
+        length: done.at,
+        charge: done.charge,
+    }
+}
+
+// A batch: refused with its number, or run.
+pub fn batch(pool: &mut [u8], table: &mut [u8], commands: &[u8], answers: &mut [u8]) -> Outcome
+    ensures { λ r. ⌜ Leaves (batchOf (now (pool .entry)) (now (table .entry)) (now (commands .entry)) (now (answers .entry))) r (now (pool .exit)) (now (table .exit)) (now (answers .exit)) ⌝ }
+{
+    let blocks = pool_blocks(pool.len());
+    if blocks == 0 {
+        return refused(1);
+    }
+    let bytes = 1024 * blocks;
+    if table.len() < bytes {
+        return refused(2);
+    }
+    let room = asked(commands);
+    match room {
+        Asked::Invalid => {
+            wipe(table, bytes);
+            return refused(3);
+        }
+        Asked::Bytes(n) => {
+            if answers.len() < n {
+                wipe(table, bytes);
+                return refused(4);
+            }
+            return work(pool, &mut table[0..bytes], commands, answers, blocks);
+        }
+    }
+}
