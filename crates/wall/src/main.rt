@@ -1,0 +1,68 @@
+// wall: prepares 65,536 bytes with the tariff 3 1 2, 1 4 4, 3 2 and runs standard input as one batch. Prints each answer as lower-case
+// hexadecimal on a line, then `charge` and the charge; or only `refused` and the number.
+use wall_book::wall_book_batch;
+use wall_book::wall_book_prepare;
+use wire::number::read16;
+
+// Prints a byte as two digits.
+fn print_byte(byte: u8) {
+    io::print_hex(1, byte as u64, 2);
+}
+
+// Prints bytes as one line.
+fn print_line(bytes: &[u8]) {
+    let mut i: usize = 0;
+    while i < bytes.len() {
+        print_byte(bytes[i]);
+        i += 1;
+    }
+    io::write_all(1, b"\n");
+}
+
+// Prints answers one by one: each is a tag, a length of two bytes, and so many bytes.
+fn print_answers(answers: &[u8]) {
+    let mut at: usize = 0;
+    while at < answers.len() {
+        if answers.len() - at < 3 {
+            return;
+        }
+        let size = 3 + read16(answers, at + 1) as usize;
+        if answers.len() - at < size {
+            return;
+        }
+        print_line(&answers[at..at + size]);
+        at += size;
+    }
+}
+
+// Prints a word and a number on a line.
+fn print_number(word: &[u8], number: u64) {
+    io::write_all(1, word);
+    io::print_decimal(1, number);
+    io::write_all(1, b"\n");
+}
+
+// Runs a batch and prints what it answers.
+fn run(pool: &mut [u8], table: &mut [u8], commands: &[u8], answers: &mut [u8]) {
+    let mut length: usize = 0;
+    let mut charge: u64 = 0;
+    let refused = wall_book_batch(pool, table, commands, answers, &mut length, &mut charge);
+    if refused == 0 {} else {
+        print_number(b"refused ", refused as u64);
+        return;
+    }
+    if length <= answers.len() {
+        print_answers(&answers[0..length]);
+    }
+    print_number(b"charge ", charge);
+}
+
+fn main() {
+    let mut pool = [0u8; 65536];
+    let mut table = [0u8; 4096];
+    let mut input = [0u8; 32769];
+    let mut answers = [0u8; 65536];
+    wall_book_prepare(&mut pool, 3, 1, 2, 1, 4, 4, 3, 2);
+    let size = io::read_full(0, &mut input);
+    run(&mut pool, &mut table, &input[..size], &mut answers);
+}

@@ -1,0 +1,57 @@
+// The wall book as C firmware calls it: prepare and batch, on lent buffers that do not overlap. Neither asks anything of its caller.
+ghost use Rattle.model.specs.Call.{batchOf, prepareOf};
+ghost use Rattle.prepare.specs.Prepared as Prepare;
+ghost use Rattle.batch.specs.Left.{Leaves};
+ghost use Rattle.wall_book.specs.Entry.{tariffOf, outcome};
+use account::Costs;
+use account::Tariff;
+use batch::batch;
+use prepare::prepare;
+
+// Prepares a pool under a tariff, its numbers in document 01's order. The answer is 0, or the number of the refusal: then the pool is as it was.
+#[no_mangle]
+pub extern "C" fn wall_book_prepare(
+    pool: &mut [u8],
+    log_read: u32,
+    log_edit: u32,
+    log_rewrite: u32,
+    disk_read: u32,
+    disk_edit: u32,
+    disk_rewrite: u32,
+    to_disk: u32,
+    to_log: u32,
+) -> u32
+    ensures { λ r. ⌜ Prepare.Leaves (prepareOf (now (pool .entry)) (tariffOf «log_read» «log_edit» «log_rewrite» «disk_read» «disk_edit» «disk_rewrite» «to_disk» «to_log»)) r (now (pool .exit)) ⌝ }
+{
+    let log = Costs {
+        read: log_read,
+        edit: log_edit,
+        rewrite: log_rewrite,
+        enter: to_log,
+    };
+    let disk = Costs {
+        read: disk_read,
+        edit: disk_edit,
+        rewrite: disk_rewrite,
+        enter: to_disk,
+    };
+    prepare(pool, Tariff { log, disk })
+}
+
+// Runs a batch. The answer is 0, or the number of the refusal: then pool and answers are as they were, and length and charge are 0.
+#[no_mangle]
+pub extern "C" fn wall_book_batch(
+    pool: &mut [u8],
+    table: &mut [u8],
+    commands: &[u8],
+    answers: &mut [u8],
+    length: &mut usize,
+    charge: &mut u64,
+) -> u32
+    ensures { λ r. ⌜ Leaves (batchOf (now (pool .entry)) (now (table .entry)) (now (commands .entry)) (now (answers .entry))) (outcome r (now (length .exit)) (now (charge .exit))) (now (pool .exit)) (now (table .exit)) (now (answers .exit)) ⌝ }
+{
+    let done = batch(pool, table, commands, answers);
+    *length = done.length;
+    *charge = done.charge;
+    done.number
+}
