@@ -51,7 +51,12 @@ pub const BOOK_NAMES: &str = "second, proved";
 pub fn by_name(name: &str) -> Result<Box<dyn Book>, String> {
     match name {
         "second" => Ok(Box::new(SecondBook)),
-        "proved" => Err("this build has no proved book".to_string()),
+        #[cfg(proved_book)]
+        "proved" => Ok(Box::new(crate::proved::ProvedBook)),
+        #[cfg(not(proved_book))]
+        "proved" => {
+            Err("this build has no proved book: make it with `rt staticlib wall_book`, and build again".to_string())
+        }
         _ => Err(format!("no book is called {name:?}; there are: {BOOK_NAMES}")),
     }
 }

@@ -3,13 +3,14 @@
 //! A case is a pool and some calls on it, all from one seed. After every call: the answers are those of an
 //! ordered map and of the reference model, the pool opens again and spells the same, charges, modes and
 //! scores are the reference model's, no state passed has a node on more than three log pages, charges are
-//! within three times the optimum, and a refused call has changed nothing.
+//! within three times the optimum, and a refused call has changed nothing. Where this build has the proved
+//! book, every call is made on it too, and number, length, charge and all bytes must be the same.
 
 use std::collections::BTreeMap;
 
 use crate::account::Account;
 use crate::audit::{Audit, Seen};
-use crate::book::{self, Outcome};
+use crate::book::{self, by_name, Outcome};
 use crate::command::{self, encode, encode_answers, Answer, Command};
 use crate::damage;
 use crate::foreign::{self, flaw::FLAWS, random_tariff, Build, Taste, BRINK_BLOCKS};
@@ -50,6 +51,8 @@ pub struct Tally {
     pub mended_damage: u64,
     pub mended_that_opened: u64,
     pub moved_pages: u64,
+    /// Calls made on the proved book too.
+    pub beside: u64,
     /// Greatest charge over optimum seen, in thousandths, where the optimum is not small.
     pub worst_ratio: u64,
 }
@@ -90,6 +93,9 @@ impl Tally {
         lines.extend(
             [1, 2, 3, 4, 5, 6, 7, 8, 10].map(|number| (format!("calls refused with {number}"), self.refusals[number])),
         );
+        if by_name("proved").is_ok() {
+            lines.push(("calls made on the proved book too".to_string(), self.beside));
+        }
         lines.extend(FLAWS.iter().map(|flaw| {
             (format!("flaw {}: {}", flaw.number, flaw.name), self.flaws.get(flaw.name).copied().unwrap_or(0))
         }));
@@ -277,7 +283,7 @@ impl Desk {
         let numbers = random_tariff(random);
         let mut pool = random.bytes(blocks * BLOCK_BYTES);
         refused_prepares(random, tally, &mut pool, numbers)?;
-        let number = book::prepare(&mut pool, numbers, &mut Unobserved);
+        let number = prepare(&mut pool, numbers, tally)?;
         let tariff = crate::account::Tariff::from_numbers(numbers).filter(|_| number == 0);
         let tariff = tariff.ok_or_else(|| format!("prepare with {numbers:?} was refused with {number}"))?;
         let ledger = Ledger::prepared(node_limit(blocks), tariff);
@@ -410,6 +416,7 @@ impl Desk {
         let found = call.clone();
         let mut audit = Audit::new(&call.pool, modes, self.ledger.limit, &run.lines);
         let outcome = book::batch(&mut call.pool, &mut call.table, &call.batch, &mut call.answers, &mut audit);
+        call.check_beside(found.clone(), outcome, tally)?;
         if outcome.number != 0 {
             return Err(format!("a good batch was refused with {}", outcome.number));
         }
@@ -519,19 +526,32 @@ impl Desk {
     }
 }
 
+/// Prepares a pool, and the same pool on the proved book.
+fn prepare(pool: &mut [u8], tariff: [u32; 8], tally: &mut Tally) -> Result<u8, String> {
+    let mut other = pool.to_vec();
+    let number = book::prepare(pool, tariff, &mut Unobserved);
+    if let Ok(mut proved) = by_name("proved") {
+        if proved.prepare(&mut other, tariff) != number || other != pool {
+            return Err(format!("the proved book prepares otherwise with {tariff:?}"));
+        }
+        tally.beside += 1;
+    }
+    Ok(number)
+}
+
 /// Prepares that questions 1 and 10 refuse.
 fn refused_prepares(random: &mut Random, tally: &mut Tally, pool: &mut Vec<u8>, good: [u32; 8]) -> Result<(), String> {
     let mut bad = good;
     let at = random.below(8);
     bad[at] = if at >= 6 && random.once_in(2) { 0 } else { MAX_TARIFF + 1 + random.next_u32() % 1000 };
     let found = pool.clone();
-    let number = book::prepare(pool, bad, &mut Unobserved);
+    let number = prepare(pool, bad, tally)?;
     if number != 10 || *pool != found {
         return Err(format!("prepare with {bad:?} came to {number}"));
     }
     tally.refusals[10] += 1;
     let mut short = vec![7; random.pick(&[0, 3 * BLOCK_BYTES, 65 * BLOCK_BYTES, 70_000])];
-    let number = book::prepare(&mut short, random.pick(&[good, bad]), &mut Unobserved);
+    let number = prepare(&mut short, random.pick(&[good, bad]), tally)?;
     if number != 1 || short.iter().any(|&byte| byte != 7) {
         return Err(format!("prepare of {} bytes came to {number}", short.len()));
     }
@@ -589,6 +609,7 @@ impl Call {
     fn refused(mut self, number: u8, tally: &mut Tally) -> Result<(), String> {
         let found = self.clone();
         let outcome = book::batch(&mut self.pool, &mut self.table, &self.batch, &mut self.answers, &mut Unobserved);
+        self.check_beside(found.clone(), outcome, tally)?;
         if outcome != (Outcome { number, length: 0, charge: 0 }) {
             return Err(format!("a call to be refused with {number} came to {outcome:?}"));
         }
@@ -601,6 +622,22 @@ impl Call {
             return Err(format!("a call refused with {number} changed the table"));
         }
         tally.refusals[usize::from(number)] += 1;
+        Ok(())
+    }
+
+    /// The proved book, lent the buffers as they were found, leaves just these bytes and this outcome.
+    fn check_beside(&self, mut found: Call, outcome: Outcome, tally: &mut Tally) -> Result<(), String> {
+        let Ok(mut proved) = by_name("proved") else {
+            return Ok(());
+        };
+        let other = proved.batch(&mut found.pool, &mut found.table, &found.batch, &mut found.answers);
+        if other != outcome {
+            return Err(format!("the second book came to {outcome:?}, the proved one to {other:?}"));
+        }
+        if found.pool != self.pool || found.table != self.table || found.answers != self.answers {
+            return Err("the proved book leaves other bytes".to_string());
+        }
+        tally.beside += 1;
         Ok(())
     }
 

@@ -20,6 +20,8 @@ pub mod observe;
 pub mod optimum;
 pub mod page;
 pub mod picture;
+#[cfg(proved_book)]
+pub mod proved;
 pub mod random;
 pub mod reference;
 pub mod refusal;

@@ -6,8 +6,8 @@
 use std::time::Instant;
 
 use crate::account::Tariff;
-use crate::book;
-use crate::command::{encode, Answer, Command};
+use crate::book::{self, by_name, Book};
+use crate::command::{answer_room, encode, Answer, Command};
 use crate::flash::Store;
 use crate::layout::{node_limit, BLOCK_BYTES, LOG_PAGE_ENTRIES, PAGE_BYTES, TABLE_BYTES_PER_BLOCK};
 use crate::meter::{Meter, Totals};
@@ -406,6 +406,21 @@ fn command_time(pool: &[u8], commands: &[Command]) -> Result<f64, String> {
     Ok(all / commands.len() as f64)
 }
 
+/// The shortest time of a whole batch on a pool, in microseconds: the questions, the commands and the closing.
+fn batch_time(book: &mut dyn Book, pool: &[u8], commands: &[Command]) -> f64 {
+    let batch = encode(commands);
+    let mut table = vec![0; TABLE_BYTES_PER_BLOCK * BLOCKS];
+    let mut answers = vec![0; answer_room(commands)];
+    let mut lent = pool.to_vec();
+    let time = |_| {
+        lent.copy_from_slice(pool);
+        let start = Instant::now();
+        std::hint::black_box(book.batch(&mut lent, &mut table, &batch, &mut answers));
+        start.elapsed().as_secs_f64() * 1e6
+    };
+    (0..60).map(time).fold(f64::INFINITY, f64::min)
+}
+
 fn times() -> Result<Vec<Vec<String>>, String> {
     let keys = Stream::SyntheticLab.keys(ITEMS);
     let mut bench = Bench::new(BLOCKS, FLASHCHIP.tariff())?;
@@ -424,11 +439,19 @@ fn times() -> Result<Vec<Vec<String>>, String> {
     let gets: Vec<Command> = (0..BATCH).map(|_| Command::Get { key: random.pick(&keys) }).collect();
     let puts: Vec<Command> = (0..BATCH as u32).map(|value| Command::Put { key: random.pick(&keys), value }).collect();
     let (get, put) = (command_time(&bench.pool, &gets)?, command_time(&bench.pool, &puts)?);
-    Ok(vec![
+    let mut rows = vec![
         header(&["what", "microseconds"], &[]),
         vec![format!("mount, {written} of 2,048 pages written"), format!("{mount_time:.0}")],
         vec!["one pass of the page sums, 2,048 pages".to_string(), format!("{sum_time:.0}")],
         vec!["a get on the mounted pool".to_string(), format!("{get:.3}")],
         vec!["a put of a key that is there, on the mounted pool".to_string(), format!("{put:.3}")],
-    ])
+    ];
+    for name in ["second", "proved"] {
+        let Ok(mut book) = by_name(name) else { continue };
+        for (what, commands) in [("nothing", &[][..]), ("2,000 gets", &gets), ("2,000 puts", &puts)] {
+            let time = batch_time(book.as_mut(), &bench.pool, commands);
+            rows.push(vec![format!("{name} book: a batch of {what}"), format!("{time:.0}")]);
+        }
+    }
+    Ok(rows)
 }

@@ -1,6 +1,6 @@
 //! What the tests share: a pool with its buffers.
 
-use yokehour_host::book::{Book, Outcome, SecondBook};
+use yokehour_host::book::{by_name, Book, Outcome, SecondBook};
 use yokehour_host::command::{encode, split_answers, Command};
 use yokehour_host::layout::BLOCK_BYTES;
 use yokehour_host::page::used;
@@ -18,18 +18,28 @@ pub struct Desk {
 }
 
 impl Desk {
-    /// A prepared pool.
+    /// A prepared pool, the same from the proved book where this build has it.
     pub fn prepared(blocks: usize, tariff: [u32; 8]) -> Desk {
         let mut pool = vec![0xA5; blocks * BLOCK_BYTES];
+        let mut other = pool.clone();
         assert_eq!(SecondBook.prepare(&mut pool, tariff), 0);
+        if let Ok(mut proved) = by_name("proved") {
+            assert_eq!(proved.prepare(&mut other, tariff), 0);
+            assert!(other == pool, "the proved book prepares otherwise");
+        }
         Desk { pool, answers: Vec::new() }
     }
 
-    /// Runs commands as one batch with buffers that are long enough.
+    /// Runs commands as one batch with buffers that are long enough, on the proved book too where this build has it.
     pub fn batch(&mut self, commands: &[Command]) -> Outcome {
         let mut table = vec![0x5A; self.pool.len() / 16];
         self.answers = vec![0; 700_000];
+        let (mut other, mut said) = (self.pool.clone(), self.answers.clone());
         let outcome = SecondBook.batch(&mut self.pool, &mut table, &encode(commands), &mut self.answers);
+        if let Ok(mut proved) = by_name("proved") {
+            assert_eq!(proved.batch(&mut other, &mut table, &encode(commands), &mut said), outcome);
+            assert!(other == self.pool && said == self.answers, "the proved book leaves other bytes");
+        }
         self.answers.truncate(outcome.length);
         outcome
     }

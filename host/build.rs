@@ -1,0 +1,15 @@
+//! Links the proved book where `rt staticlib wall_book` has made its library; without it the package has the second book alone.
+
+use std::path::Path;
+
+fn main() {
+    let folder = Path::new(env!("CARGO_MANIFEST_DIR")).join("../target/staticlib");
+    let library = folder.join("libwall_book.a");
+    println!("cargo:rustc-check-cfg=cfg(proved_book)");
+    println!("cargo:rerun-if-changed={}", library.display());
+    if library.exists() {
+        println!("cargo:rustc-cfg=proved_book");
+        println!("cargo:rustc-link-search=native={}", folder.display());
+        println!("cargo:rustc-link-lib=static=wall_book");
+    }
+}

@@ -1,0 +1,68 @@
+//! The proved book, called as firmware calls it: by the two functions of `include/wall_book.h`.
+
+use crate::book::{Book, Outcome};
+
+extern "C" {
+    fn wall_book_prepare(
+        pool: *mut u8,
+        pool_bytes: usize,
+        log_read: u32,
+        log_edit: u32,
+        log_rewrite: u32,
+        disk_read: u32,
+        disk_edit: u32,
+        disk_rewrite: u32,
+        to_disk: u32,
+        to_log: u32,
+    ) -> u32;
+
+    fn wall_book_batch(
+        pool: *mut u8,
+        pool_bytes: usize,
+        table: *mut u8,
+        table_bytes: usize,
+        commands: *const u8,
+        commands_bytes: usize,
+        answers: *mut u8,
+        answers_bytes: usize,
+        length: *mut usize,
+        charge: *mut u64,
+    ) -> u32;
+}
+
+/// The book that is proved.
+pub struct ProvedBook;
+
+impl Book for ProvedBook {
+    fn prepare(&mut self, pool: &mut [u8], tariff: [u32; 8]) -> u8 {
+        let [a, b, c, d, e, f, g, h] = tariff;
+        // SAFETY: the pointer and the length are those of one slice that is lent for the call.
+        number(unsafe { wall_book_prepare(pool.as_mut_ptr(), pool.len(), a, b, c, d, e, f, g, h) })
+    }
+
+    fn batch(&mut self, pool: &mut [u8], table: &mut [u8], batch: &[u8], answers: &mut [u8]) -> Outcome {
+        let mut length = 0;
+        let mut charge = 0;
+        // SAFETY: each pointer and length are those of one slice, and slices that are lent mutably do not overlap.
+        let refused = unsafe {
+            wall_book_batch(
+                pool.as_mut_ptr(),
+                pool.len(),
+                table.as_mut_ptr(),
+                table.len(),
+                batch.as_ptr(),
+                batch.len(),
+                answers.as_mut_ptr(),
+                answers.len(),
+                &mut length,
+                &mut charge,
+            )
+        };
+        Outcome { number: number(refused), length, charge }
+    }
+}
+
+/// Refusals are 1 to 10; anything else shows as 255.
+fn number(refused: u32) -> u8 {
+    u8::try_from(refused).unwrap_or(u8::MAX)
+}
