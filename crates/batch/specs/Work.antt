@@ -13,17 +13,17 @@ use Rattle.command.specs.declared.Command.{Command}
 use Rattle.model.specs.Mount.{Mounted, refused}
 use Rattle.model.specs.Call.{blocksOf, cleared, mountOf, batchMounted, accept}
 use Rattle.demands.specs.OneCall.{blocks-length}
-use Rattle.rows.specs.declared.Row.{Row}
-use Rattle.blocks.specs.Pages.{pagesOf}
-use Rattle.place.specs.declared.state.State.{State}
-use Rattle.place.specs.World.{World, world}
-use Rattle.checkpoint.specs.Sheets.{checkpoint, Ended}
-use Rattle.split_up.specs.Growing.{Growing}
-use Rattle.mount_model.specs.Opens.{Opens}
-use Rattle.commands.specs.declared.Progress.{Progress}
-use Rattle.commands.specs.Run.{runWorld, RunAs}
-use Rattle.commands.specs.Valid.{commandsIn, commandsIn-is}
-use Rattle.batch_model.specs.Accepted.{accepted}
+use Rattle.flash_rows.specs.declared.Row.{Row}
+use Rattle.flash_blocks.specs.Pages.{pagesOf}
+use Rattle.flash_allocate.specs.declared.state.State.{State}
+use Rattle.flash_allocate.specs.World.{World, world}
+use Rattle.flash_checkpoint.specs.Sheets.{checkpoint, Ended}
+use Rattle.run_split.specs.Growing.{Growing}
+use Rattle.mount_refines.specs.Mount.Opens.{Opens}
+use Rattle.run.specs.declared.Progress.{Progress}
+use Rattle.run.specs.Run.{runWorld, RunAs}
+use Rattle.run.specs.Valid.{commandsIn, commandsIn-is}
+use Rattle.batch_refines.specs.Accepted.{accepted}
 use Rattle.batch.specs.Left.{refusedWith, Leaves, Accepts, Worked}
 
 abbrev pub zeros : ℕ → List ℕ

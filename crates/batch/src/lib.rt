@@ -9,10 +9,10 @@ pub mod answer;
 
 use answer::Outcome;
 use answer::refused;
-use checkpoint::checkpoint;
+use flash_checkpoint::checkpoint;
 use command::Asked;
 use command::batch::asked;
-use commands::run::run_commands;
+use run::run::run_commands;
 use mount::mount;
 use prepare::pool_blocks;
 use wire::bytes::fill;

@@ -11,7 +11,7 @@ use Rattle.account.specs.Range.{Ranged, limit-some, limit-le}
 use Rattle.pairs.specs.Pairs.{Pair}
 use Rattle.command.specs.declared.Command.{Command}
 use Rattle.tree.specs.NodeRequest.{countAfterAll}
-use Rattle.tree_map.specs.Size.{depth-count}
+use Rattle.tree_laws.specs.Size.{depth-count}
 use Rattle.node.specs.Narrow.{Narrow}
 use Rattle.store_laws.specs.Numbers.{last}
 use Rattle.store_laws.specs.Closing.{close-closed}

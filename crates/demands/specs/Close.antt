@@ -15,7 +15,7 @@ use Rattle.account.specs.Tariff.{limit}
 use Rattle.account.specs.Range.{inRange, ranged-inRange}
 use Rattle.pairs.specs.Pairs.{Pair}
 use Rattle.tree.specs.Sound.{sound}
-use Rattle.tree_map.specs.SoundLaws.{spells-sound}
+use Rattle.tree_laws.specs.SoundLaws.{spells-sound}
 use Rattle.store.specs.View.{pages}
 use Rattle.store.specs.Store.{Store, view}
 use Rattle.store_laws.specs.Changes.{Lean}

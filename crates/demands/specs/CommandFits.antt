@@ -15,7 +15,7 @@ use Rattle.tree.specs.Scan.{leavesAfter, scanRequests}
 use Rattle.tree.specs.Spells.{Spells}
 use Rattle.node.specs.Narrow.{Narrow}
 use Rattle.tree.specs.Narrow.{NarrowRequest}
-use Rattle.tree_map.specs.NarrowLaws.{put-narrow, delete-narrow}
+use Rattle.tree_laws.specs.NarrowLaws.{put-narrow, delete-narrow}
 use Rattle.book.specs.Book.{Book}
 use Rattle.book.specs.Command.{requests}
 use Rattle.demands.specs.Commands.{Valid}

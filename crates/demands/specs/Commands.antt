@@ -11,11 +11,11 @@ use Rattle.command.specs.declared.Command.{Command}
 use Rattle.command.specs.declared.Command.the-variants.{Get, Put, Delete, Scan}
 use Rattle.tree.specs.Put.{putRefused}
 use Rattle.tree.specs.Spells.{Spells}
-use Rattle.tree_map.specs.Served.{Served}
-use Rattle.tree_map.specs.GetLaws.{get-answer, get-served}
-use Rattle.tree_map.specs.PutLaws.{put-refused, put-served}
-use Rattle.tree_map.specs.DeleteLaws.{delete-served}
-use Rattle.tree_map.specs.ScanLaws.{scan-answer, scan-served}
+use Rattle.tree_laws.specs.Served.{Served}
+use Rattle.tree_laws.specs.GetLaws.{get-answer, get-served}
+use Rattle.tree_laws.specs.PutLaws.{put-refused, put-served}
+use Rattle.tree_laws.specs.DeleteLaws.{delete-served}
+use Rattle.tree_laws.specs.ScanLaws.{scan-answer, scan-served}
 use Rattle.book.specs.Book.{Book}
 use Rattle.book.specs.Command.{requests, answer, refuses, listed, getReply, putReply, deleteReply}
 use Rattle.book.specs.OrderedMap.{mapAnswer, mapAfter}

@@ -21,7 +21,7 @@ use Rattle.pairs.specs.Pairs.{Pair}
 use Rattle.tree.specs.NodeRequest.{NodeRequest}
 use Rattle.tree.specs.Table.{Table}
 use Rattle.tree.specs.Fit.{Fits}
-use Rattle.tree_map.specs.Requests.{fits-append}
+use Rattle.tree_laws.specs.Requests.{fits-append}
 use Rattle.store.specs.View.{pages}
 use Rattle.store.specs.Store.{view}
 use Rattle.store.specs.Reopen.{Cells, reopened}

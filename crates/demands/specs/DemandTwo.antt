@@ -24,7 +24,7 @@ use Rattle.command.specs.Batch.{commandsOf, roomForAll}
 use Rattle.page.specs.Page.{Score}
 use Rattle.tree.specs.Spells.{Spells, mapOf}
 use Rattle.tree.specs.Sound.{sound}
-use Rattle.tree_map.specs.SoundLaws.{spells-sound, map-unique}
+use Rattle.tree_laws.specs.SoundLaws.{spells-sound, map-unique}
 use Rattle.store.specs.View.{pages}
 use Rattle.store.specs.Pool.{Blocks}
 use Rattle.store.specs.Store.{Store, view}

@@ -23,9 +23,9 @@ use Rattle.page.specs.Page.{Score}
 use Rattle.tree.specs.Table.{Table}
 use Rattle.tree.specs.Spells.{Spells, mapOf}
 use Rattle.tree.specs.Sound.{sound}
-use Rattle.tree_map.specs.SoundLaws.{sound-spells, sound-limit}
-use Rattle.tree_map.specs.Standing.{Proper}
-use Rattle.tree_map.specs.GetLaws.{node-proper}
+use Rattle.tree_laws.specs.SoundLaws.{sound-spells, sound-limit}
+use Rattle.tree_laws.specs.Standing.{Proper}
+use Rattle.tree_laws.specs.GetLaws.{node-proper}
 use Rattle.store.specs.View.{pages}
 use Rattle.store.specs.Pool.{find}
 use Rattle.store.specs.Store.{Store, view, draftOf, nodeIn, nodeOf}

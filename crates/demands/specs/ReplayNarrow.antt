@@ -12,7 +12,7 @@ use Rattle.node.specs.Node.{node}
 use Rattle.node.specs.Change.{Change, put, remove, link}
 use Rattle.node.specs.Replay.{Piece, step, whole, Draft, unlinked, made, broken, ifFits, sameKind, redo, redoPiece, replayFrom, replay}
 use Rattle.node.specs.Narrow.{NarrowPair, Narrow, NarrowChange}
-use Rattle.tree_map.specs.NarrowLaws.{change-narrow}
+use Rattle.tree_laws.specs.NarrowLaws.{change-narrow}
 
 -- A piece of a content.
 abbrev pub NarrowPiece : Piece → Type 0

@@ -16,10 +16,10 @@ use Rattle.tree.specs.Get.{readsTo, getAnswer}
 use Rattle.tree.specs.Delete.{removalFor, deleteRequests}
 use Rattle.tree.specs.Tree.{firstOf, sumOf, EachChild, Tree, rootOf, firstLeaf, Holds, Stands}
 use Rattle.tree.specs.Spells.{Spells}
-use Rattle.tree_map.specs.Size.{size, size-count}
-use Rattle.tree_map.specs.GetLaws.{path-count}
-use Rattle.tree_map.specs.PutLaws.{put-length}
-use Rattle.tree_map.specs.ScanLaws.{scan-length}
+use Rattle.tree_laws.specs.Size.{size, size-count}
+use Rattle.tree_laws.specs.GetLaws.{path-count}
+use Rattle.tree_laws.specs.PutLaws.{put-length}
+use Rattle.tree_laws.specs.ScanLaws.{scan-length}
 use Rattle.book.specs.Book.{Book}
 use Rattle.book.specs.Command.{requests}
 use Rattle.demands.specs.Commands.{Valid}

@@ -11,7 +11,7 @@ use Rattle.command.specs.declared.Command.{Command}
 use Rattle.tree.specs.Table.{Table}
 use Rattle.tree.specs.NodeRequest.{NodeRequest, applyAll, countAfterAll}
 use Rattle.tree.specs.Fit.{Fits}
-use Rattle.tree_map.specs.Requests.{fits-append}
+use Rattle.tree_laws.specs.Requests.{fits-append}
 use Rattle.tree.specs.Spells.{Spells}
 use Rattle.book.specs.Book.{Book}
 use Rattle.book.specs.Book as Book

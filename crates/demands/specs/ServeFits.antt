@@ -12,7 +12,7 @@ use Rattle.node.specs.Node.{Node, Neat}
 use Rattle.node.specs.Change.{change}
 use Rattle.page.specs.Limits.{bound16}
 use Rattle.node.specs.Narrow.{Narrow, NarrowChange}
-use Rattle.tree_map.specs.NarrowLaws.{change-narrow}
+use Rattle.tree_laws.specs.NarrowLaws.{change-narrow}
 use Rattle.store.specs.Run.{Run, writeGroup, writeNode}
 use Rattle.store.specs.Serve.{Work, read, edit, rewrite, switch, work, note, serve, create}
 use Rattle.store_laws.specs.Contents.{neat-fits}

@@ -7,11 +7,11 @@ use lib.ListN.{length, replicate}
 use Rattle.layout.specs.Layout.{blockBytes, fewestBlocks, mostBlocks, tableBytes}
 use Rattle.store.specs.Pool.{Blocks, block}
 use Rattle.store.specs.Reopen.{Cells, blocksIn, reopened}
-use Rattle.place.specs.declared.state.State.{State}
-use Rattle.survey.specs.declared.answer.Survey.{Survey}
-use Rattle.survey.specs.Surveyed.{Surveyed}
-use Rattle.checkpoint_read_model.specs.Pool.{Judged}
-use Rattle.mount_model.specs.Tree.{begun}
+use Rattle.flash_allocate.specs.declared.state.State.{State}
+use Rattle.mount_survey.specs.declared.answer.Survey.{Survey}
+use Rattle.mount_survey.specs.Surveyed.{Surveyed}
+use Rattle.mount_refines.specs.Checkpoint.Pool.{Judged}
+use Rattle.mount_refines.specs.Mount.Tree.{begun}
 
 -- What a mount is asked of: a pool of so many blocks, and a table of its size.
 abbrev pub Sized : ℕ → ℕ → ℕ → Type 0

@@ -12,19 +12,19 @@ use Rattle.account.specs.declared.Tariff.{Tariff}
 use Rattle.store.specs.Reopen.{Cells, reopened}
 use Rattle.model.specs.Mount as Model
 use Rattle.model.specs.Call.{mountOf}
-use Rattle.rows.specs.declared.Row.{Row}
-use Rattle.blocks.specs.Pages.{pagesOf}
-use Rattle.place.specs.declared.state.State.{State}
-use Rattle.survey.specs.declared.answer.Survey.{Survey}
-use Rattle.survey.specs.Surveyed.{Surveyed}
-use Rattle.checkpoint_read.specs.Find.{checkpointIn}
-use Rattle.checkpoint_read.specs.declared.find.Checkpoint.the-variants.{Complete, Incomplete}
-use Rattle.checkpoint_read_model.specs.Pool.{Judged}
-use Rattle.restore.specs.Questions.{Asked}
-use Rattle.mount_model.specs.Refusals.{refused-five, passed-five, refused-six}
-use Rattle.mount_model.specs.Known.{Known}
-use Rattle.mount_model.specs.Tree.{begun}
-use Rattle.mount_model.specs.Opens.{Opens, refused-later, opened-later}
+use Rattle.flash_rows.specs.declared.Row.{Row}
+use Rattle.flash_blocks.specs.Pages.{pagesOf}
+use Rattle.flash_allocate.specs.declared.state.State.{State}
+use Rattle.mount_survey.specs.declared.answer.Survey.{Survey}
+use Rattle.mount_survey.specs.Surveyed.{Surveyed}
+use Rattle.mount_checkpoint.specs.Find.{checkpointIn}
+use Rattle.mount_checkpoint.specs.declared.find.Checkpoint.the-variants.{Complete, Incomplete}
+use Rattle.mount_refines.specs.Checkpoint.Pool.{Judged}
+use Rattle.mount_restore.specs.Questions.{Asked}
+use Rattle.mount_refines.specs.Mount.Refusals.{refused-five, passed-five, refused-six}
+use Rattle.mount_refines.specs.Mount.Known.{Known}
+use Rattle.mount_refines.specs.Mount.Tree.{begun}
+use Rattle.mount_refines.specs.Mount.Opens.{Opens, refused-later, opened-later}
 use Rattle.mount.specs.Begin.{Sized, firstState, survey-begins}
 use Rattle.mount.specs.declared.answer.Mount.{Mount}
 

@@ -3,8 +3,8 @@ ghost use mathlib.Core.Path.{_≡_};
 ghost use Rattle.mount.specs.Begin.{firstState};
 use account::Costs;
 use account::Tariff;
-use place::state::State;
-use survey::answer::Survey;
+use flash_allocate::state::State;
+use mount_survey::answer::Survey;
 
 // The number of the first question that fails, or 0; then the tariff and the state to begin with.
 pub struct Mount {

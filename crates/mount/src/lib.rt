@@ -2,16 +2,16 @@
 pub mod answer;
 
 ghost use lib.ListN.{length};
-ghost use Rattle.rows.specs.Row.{rowsOf};
+ghost use Rattle.flash_rows.specs.Row.{rowsOf};
 ghost use Rattle.mount.specs.Begin.{Sized};
 ghost use Rattle.mount.specs.Mounted.{MountedAs};
 use answer::Mount;
 use answer::first_state;
 use answer::refuse;
-use checkpoint_read::find::Checkpoint;
-use checkpoint_read::find::find_checkpoint;
-use restore::questions::refusal;
-use survey::survey;
+use mount_checkpoint::find::Checkpoint;
+use mount_checkpoint::find::find_checkpoint;
+use mount_restore::questions::refusal;
+use mount_survey::survey;
 
 // Mounts a pool, with a table lent for the rows; of a pool that is refused, what the table holds means nothing.
 pub fn mount(pool: &[u8], table: &mut [u8], blocks: usize) -> Mount

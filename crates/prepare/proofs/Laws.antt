@@ -17,8 +17,8 @@ use Rattle.page.specs.Decode.{scoreOf}
 use Rattle.page.specs.Spelled.{length-entryBytes}
 use Rattle.page_write.specs.Chunks.{chunks}
 use Rattle.page_write.specs.Pages.{entryRecord, entryRecord-bytes, logBody, logImage}
-use Rattle.checkpoint_write.specs.Checkpoint.{scoresIn}
-use Rattle.checkpoint_write.specs.Checkpoint as Writer
+use Rattle.page_checkpoint.specs.Checkpoint.{scoresIn}
+use Rattle.page_checkpoint.specs.Checkpoint as Writer
 use Rattle.model.specs.Call.{poolLength, prepareOf}
 use Rattle.prepare.specs.Prepared.{rootPage, checkpointPage, firstBytes, Leaves, IsPool, prepared-bytes}
 

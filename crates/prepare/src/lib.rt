@@ -7,7 +7,7 @@ ghost use Rattle.page.specs.Image.{image};
 ghost use Rattle.model.specs.Call.{prepareOf};
 ghost use Rattle.prepare.specs.Prepared.{blocksIf, rootPage, checkpointPage, firstBytes, Leaves};
 use account::Tariff;
-use checkpoint_write::checkpoint_image;
+use page_checkpoint::checkpoint_image;
 use page_write::frame::write_page;
 use page_write::log_page::lay_entry;
 use page_write::log_page::log_image;

@@ -2,7 +2,7 @@
 use mathlib.Core.Path.{sym, ap, _∙_, subst}
 use lib.ListN.{length}
 use Rattle.laws.specs.BigEndian.{bytes-getD}
-use Rattle.commands.specs.Valid.{valid-fits}
+use Rattle.run.specs.Valid.{valid-fits}
 use Rattle.batch.specs.declared.answer.Outcome.{Outcome}
 use Rattle.batch.specs.Left.{Worked}
 use Rattle.batch.specs.Work.{zeros, worked-refused, worked-by, grows}

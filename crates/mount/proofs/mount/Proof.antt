@@ -3,7 +3,7 @@ use mathlib.Core.Path.{_≡_, refl, sym, _∙_}
 use lib.ListN.{length}
 use Rattle.laws.specs.BigEndian.{bytes-getD}
 use Rattle.layout.specs.Layout.{tableBytes}
-use Rattle.rows.specs.Row.{rowsOf}
+use Rattle.flash_rows.specs.Row.{rowsOf}
 use Rattle.mount.specs.Begin.{first-asks}
 use Rattle.mount.specs.Mounted.{mounted-five, mounted-six, mounted-by}
 use borrow.Author.Needs.{needs}

@@ -1,0 +1,96 @@
+-- THE COMMANDS OF A BATCH, run by the code, agree with the model's: what is left, the charge, the replies. Assumes nothing.
+use mathlib.Core.Path.{_≡_, refl, sym, ap, ap₂, _∙_, subst}
+use mathlib.Core.List.{List, [], _∷_}
+use Prim.Native.Nat.{ℕ, _+_, _*_, _≤_, _<_}
+use native.Mathlib.Omega.{arith}
+use lib.ListN.{length}
+use Rattle.layout.specs.Layout.{nodeLimit, bound32}
+use Rattle.pairs.specs.Pairs.{Pair}
+use Rattle.account.specs.declared.Tariff.{Tariff}
+use Rattle.command.specs.declared.Command.{Command}
+use Rattle.command.specs.declared.Command.the-variants.{Get, Put, Delete, Scan}
+use Rattle.book.specs.Book.{Book}
+use Rattle.book.specs.Command.{Reply, requests, answer}
+use Rattle.book.specs.OrderedMap.{mapRun}
+use Rattle.store_laws.specs.Numbers.{last}
+use Rattle.model.specs.State.{State, bookOf, charges}
+use Rattle.model.specs.Batch.{done, run, chargeOf, answers}
+use Rattle.demands.specs.Commands.{Valid, ValidAll}
+use Rattle.demands.specs.Run.{Holds, batch-batched}
+use Rattle.demands.specs.CommandFits.{ValueFits, ValuesFit}
+use Rattle.demands.specs.RequestCount.{command-length}
+use Rattle.demands.specs.BatchFits.{mostNumbers}
+use Rattle.flash_allocate.specs.World.{World}
+use Rattle.run.specs.Run.{commandWorld, commandCharge, commandReply, runWorld, runCharge, runReplies}
+use Rattle.run_refines.specs.Commands.Lists.{servedAll, chargedAll, Runs, Ran}
+use Rattle.run_refines.specs.Commands.Commands.{command-runs}
+use Rattle.run_refines.specs.Commands.Lookups.{get-world, get-charge, get-answer, delete-world, delete-charge, delete-answer, scan-world, scan-charge, scan-answer}
+use Rattle.run_refines.specs.Put.Puts.{put-agrees}
+
+-- What one command leaves, by code and model.
+pub record One (blocks : ℕ) (t : Tariff) (c : Command) (w : World) (s : State) : Type 0 where
+  pub runs : Runs blocks (commandWorld t c w) (done (nodeLimit blocks) t c s)
+  pub charge : commandCharge t c w ≡ charges t (requests (nodeLimit blocks) c (bookOf s)) s
+  pub reply : commandReply t c w ≡ answer (nodeLimit blocks) c (bookOf s)
+  pub number : last (done (nodeLimit blocks) t c s .run) ≤ mostNumbers + last (s .run)
+
+module _ {blocks : ℕ} {w : World} {s : State} (k : Runs blocks w s) (ps : List Pair) (h : Holds (nodeLimit blocks) (bookOf s) ps) (t : Tariff)
+    (number : 1 + (mostNumbers + last (s .run)) < bound32) where
+  abbrev limit : ℕ
+  limit = nodeLimit blocks
+
+  few : (c : Command) → Valid c → 4 * length (requests limit c (bookOf s)) ≤ mostNumbers
+  few c valid = omega (arith, command-length limit c (bookOf s) ps (h .spells) (omega (arith, h .most, k .few)) valid, h .most, k .few)
+
+  ran : (c : Command) → Valid c → ValueFits c → Ran blocks t (requests limit c (bookOf s)) w s
+  ran c valid value = command-runs k ps h t c valid value number
+
+  -- the requests served in order
+  in-order : (c : Command) → Valid c → ValueFits c → commandWorld t c w ≡ servedAll t (requests limit c (bookOf s)) w →
+      commandCharge t c w ≡ chargedAll t (requests limit c (bookOf s)) w → commandReply t c w ≡ answer limit c (bookOf s) → One blocks t c w s
+  in-order c valid value e f g =
+      let r = ran c valid value in
+      record {
+        runs = subst (λ (z : World). Runs blocks z (done limit t c s)) (sym e) (r .runs);
+        charge = f ∙ r .charge;
+        reply = g;
+        number = omega (arith, r .number, few c valid);
+      }
+
+  -- ONE COMMAND
+  pub command-agrees : (c : Command) → Valid c → ValueFits c → One blocks t c w s
+  unfolding requests
+  command-agrees (Get key) valid value =
+      in-order (Get key) valid value (get-world k ps h t key) (get-charge k ps h t key) (sym (get-answer k ps h key))
+  command-agrees (Delete key) valid value =
+      in-order (Delete key) valid value (delete-world k ps h t key) (delete-charge k ps h t key) (sym (delete-answer k ps h key))
+  command-agrees (Scan low high most) valid value =
+      in-order (Scan low high most) valid value (scan-world k ps h t low high most) (scan-charge k ps h t low high most) (sym (scan-answer k ps h low high most))
+  command-agrees (Put key v) valid value =
+      let p = put-agrees t s w k ps (h .spells) key v valid value (omega (arith, few (Put key v) valid)) in
+      record { runs = p .runs; charge = p .charge; reply = p .answer; number = omega (arith, ran (Put key v) valid value .number, few (Put key v) valid) }
+
+-- ALL COMMANDS
+pub record RunAgrees (blocks : ℕ) (t : Tariff) (cs : List Command) (w : World) (s : State) : Type 0 where
+  pub runs : Runs blocks (runWorld t cs w) (run (nodeLimit blocks) t cs s)
+  pub charge : runCharge t cs w ≡ chargeOf (nodeLimit blocks) t cs s
+  pub replies : runReplies t cs w ≡ answers (nodeLimit blocks) t cs s
+  pub number : last (run (nodeLimit blocks) t cs s .run) ≤ mostNumbers * length cs + last (s .run)
+
+pub run-agrees : {blocks : ℕ} (t : Tariff) (cs : List Command) {w : World} {s : State} → Runs blocks w s → (ps : List Pair) → Holds (nodeLimit blocks) (bookOf s) ps →
+    ValidAll cs → ValuesFit cs → 1 + (mostNumbers * length cs + last (s .run)) < bound32 → RunAgrees blocks t cs w s
+run-agrees t [] k ps h valid values number = record { runs = k; charge = refl; replies = refl; number = omega arith }
+run-agrees {blocks} t (c ∷ cs) {w} {s} k ps h valid values number =
+    let limit = nodeLimit blocks in
+    let one = command-agrees k ps h t (omega arith) c (valid .0) (values .0) in
+    let said = batch-batched blocks t (omega (arith, k .few)) (c ∷ []) s ps (valid .0, tt) (k .sound) h in
+    let pairs = mapRun limit t (c ∷ []) (bookOf s) ps in
+    let rest =
+    run-agrees t cs (one .runs) pairs (subst (λ (z : Book). Holds limit z pairs) (sym (said .says .is)) (said .holds)) (valid .1) (values .1)
+    (omega (arith, one .number)) in
+    record {
+      runs = rest .runs;
+      charge = ap₂ _+_ (one .charge) (rest .charge);
+      replies = ap₂ {B = List Reply} _∷_ (one .reply) (rest .replies);
+      number = omega (arith, rest .number, one .number);
+    }

@@ -1,0 +1,59 @@
+-- The steps of a compaction put together, and the cases of an allocation. Assumes nothing.
+use mathlib.Core.Path.{_≡_, refl, ap, _∙_}
+use mathlib.Core.List.{List}
+use Prim.Native.Nat.{ℕ, _*_, _≤_, _<_}
+use lib.ListN.{replicate}
+use borrow.Author.Tests.{lt-ltb, le-ltb, le-leb, lt-leb}
+use Rattle.flash_rows.specs.declared.Row.{Row}
+use Rattle.flash_blocks.specs.Pages.{erased}
+use Rattle.flash_blocks.specs.Blank.{blankBlocks, nextBlank}
+use Rattle.flash_live.specs.Live.{liveMap}
+use Rattle.flash_live.specs.Choose.{victim}
+use Rattle.flash_allocate.specs.Compact.{copying, copyBlock, renameRows, compacted, emptied, compactBlock, compact}
+use Rattle.flash_allocate.specs.World.{World, world, used, Good}
+use Rattle.flash_allocate.specs.Allocate.{at, behind, nextBlock, allocate}
+use Rattle.flash_allocate.specs.declared.state.State.{State}
+
+-- Live map, choice, copies, new names, erasure: in this order they are the compaction.
+pub compact-steps : (n blocks to : ℕ) (pages : List (List ℕ)) (rows : List Row) (live : List ℕ) (block : ℕ) →
+    live ≡ liveMap n rows → block ≡ victim blocks pages live →
+    (pages₁ : List (List ℕ)) (places : List ℕ) (fill : ℕ) → copying pages₁ places fill ≡ copyBlock live (32 * block) (32 * to) (copying pages (replicate 32 0) 0) →
+    (rows₂ : List Row) → rows₂ ≡ renameRows n (32 * block) places rows →
+    (pages₃ : List (List ℕ)) → pages₃ ≡ erased block pages₁ → compacted pages₃ rows₂ fill ≡ compact n blocks to pages rows
+unfolding compact compactBlock emptied
+compact-steps n blocks to pages rows live block l b pages₁ places fill c rows₂ r pages₃ e =
+    rw (← l, ← b, e, r) (ap (emptied block n rows) c)
+
+-- Room in the current block.
+pub allocate-room : (w : World) → w .state .fill < 32 → w ≡ allocate w
+unfolding allocate
+allocate-room w h = rw (lt-ltb (w .state .fill) 32 h) refl
+
+-- None: two blank blocks or more, or a compaction.
+module _ (pages : List (List ℕ)) (rows : List Row) (s : State) (to blank : ℕ) (h : 32 ≤ s .fill)
+    (t : to ≡ nextBlank (s .blocks) (s .current) pages) (b : blank ≡ blankBlocks (s .blocks) pages) where
+  pub allocate-next : 2 ≤ blank → (s′ : State) → s′ ≡ at to 0 s → world pages rows s′ ≡ allocate (world pages rows s)
+  unfolding allocate nextBlock
+  allocate-next k s′ e = rw (le-ltb (s .fill) 32 h, ← t, ← b, le-leb 2 blank k, e) refl
+
+  pub allocate-compact : blank < 2 → (pages′ : List (List ℕ)) (rows′ : List Row) (fill : ℕ) →
+      compacted pages′ rows′ fill ≡ compact (used s) (s .blocks) to pages rows → (s′ : State) → s′ ≡ at to fill s →
+      world pages′ rows′ s′ ≡ allocate (world pages rows s)
+  unfolding allocate nextBlock
+  allocate-compact k pages′ rows′ fill c s′ e = rw (le-ltb (s .fill) 32 h, ← t, ← b, lt-leb 2 blank k, e) (ap (behind to s) c)
+
+-- A good state with another current block is good.
+pub good-at : {P T P′ T′ to fill : ℕ} {s s′ : State} → Good P T s → P′ ≡ P → T′ ≡ T → to < s .blocks → fill ≤ 32 → s′ ≡ at to fill s → Good P′ T′ s′
+unfolding at
+good-at g p t i f e =
+    rw e
+    (record {
+      few = g .few;
+      most = g .most;
+      pool = p ∙ g .pool;
+      table = t ∙ g .table;
+      inside = i;
+      full = f;
+      used = g .used;
+      entries = g .entries;
+    })

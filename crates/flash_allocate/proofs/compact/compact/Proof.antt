@@ -1,0 +1,62 @@
+-- `compact::compact` meets its contract: its five calls are the five steps of the definition. Assumes nothing.
+use Rattle.flash_rows.specs.Row.{rowsOf}
+use Rattle.flash_blocks.specs.Pages.{pagesOf}
+use Rattle.flash_allocate.proofs.Laws.{compact-steps}
+use borrow.Author.Needs.{needs}
+use Rattle.flash_allocate.proofs.compact.compact.Statement.{statement}
+use Rattle.flash_allocate.proofs.compact.compact.Tie as tie
+
+live-map-requires : tie.Need-live-map-requires
+live-map-requires c κs = search needs
+
+victim-requires : tie.Need-victim-requires
+victim-requires c κs = search needs
+
+mul-copy-block : tie.Need-mul-copy-block
+mul-copy-block c = search needs
+
+mul-copy-block-2 : tie.Need-mul-copy-block-2
+mul-copy-block-2 c = search needs
+
+copy-block-requires : tie.Need-copy-block-requires
+copy-block-requires c κs = search needs
+
+mul-rename-rows : tie.Need-mul-rename-rows
+mul-rename-rows c = search needs
+
+rename-rows-requires : tie.Need-rename-rows-requires
+rename-rows-requires c κs = search needs
+
+erase-block-requires : tie.Need-erase-block-requires
+erase-block-requires c κs = search needs
+
+same-length : tie.Need-same-length
+same-length c = search needs
+
+same-length-2 : tie.Need-same-length-2
+same-length-2 c = search needs
+
+returns : tie.Need-returns
+returns c = let a = c .before .before .before .before .before .before .before .before .before .before .before .before .before .before .before .before .before .before .before .before .before .before .args in
+    let m = c .before .before .before .before .before .before .before .before .before .before .before .before .before .before .before .before .before .before .live-map in
+    let v = c .before .before .before .before .before .before .before .before .before .before .before .before .before .before .before .victim in
+    let k = c .before .before .before .before .before .before .before .before .before .before .before .copy-block in
+    let r = c .before .before .before .before .before .before .rename-rows in
+    let e = c .before .before .erase-block in
+    (compact-steps (a .used) (a .blocks) (a .to) (pagesOf (a .pool .now)) (rowsOf (a .table .now)) (m .result) (v .result) (m .ensures) (v .ensures .0) (pagesOf (k .last .0)) (k .last .1 .0) (k .result) (k .ensures .0) (rowsOf (r .last .0)) (r .ensures) (pagesOf (e .last .0)) (e .ensures), k .ensures .1)
+
+pub compact-spec : {M : Type 1} → statement M
+compact-spec =
+    tie.close
+    (tie.spec
+    live-map-requires
+    victim-requires
+    mul-copy-block
+    mul-copy-block-2
+    copy-block-requires
+    mul-rename-rows
+    rename-rows-requires
+    erase-block-requires
+    same-length
+    same-length-2
+    returns)

@@ -1,0 +1,39 @@
+-- What the code of a batch works on, one level above the bytes: the pages, the rows, and the state that goes by value.
+use mathlib.Core.Path.{_≡_}
+use mathlib.Core.List.{List}
+use Prim.Native.Nat.{ℕ, _+_, _*_, _≤_, _<_}
+use Rattle.layout.specs.Layout.{fewestBlocks, mostBlocks, blockBytes, tableBytes, pagesInBlock, mostEntries}
+use Rattle.flash_rows.specs.declared.Row.{Row}
+use Rattle.flash_allocate.specs.declared.state.State.{State}
+
+pub record World : Type 0 where
+  pub pages : List (List ℕ)
+  pub rows : List Row
+  pub state : State
+
+abbrev pub world : List (List ℕ) → List Row → State → World
+world pages rows state = record { pages = pages; rows = rows; state = state }
+
+-- The rows in use: one a node, then one for each checkpoint page being written.
+abbrev pub used : State → ℕ
+used s = s .nodes + s .checkpoint
+
+-- The page that is written next, where the current block has room.
+abbrev pub spot : State → ℕ
+spot s = pagesInBlock * s .current + s .fill
+
+-- What every step keeps: a pool and a table of these lengths are those of the state's blocks, and its numbers are in range.
+pub record Good (poolLength tableLength : ℕ) (s : State) : Type 0 where
+  pub few : fewestBlocks ≤ s .blocks
+  pub most : s .blocks ≤ mostBlocks
+  pub pool : poolLength ≡ blockBytes * s .blocks
+  pub table : tableLength ≡ tableBytes (s .blocks)
+  pub inside : s .current < s .blocks
+  pub full : s .fill ≤ pagesInBlock
+  pub used : s .nodes + s .checkpoint ≤ 64 * s .blocks
+  pub entries : s .entries ≤ mostEntries
+
+-- A step's result: the world asked for, still good.
+pub record Made (poolLength tableLength : ℕ) (made right : World) : Type 0 where
+  pub is : made ≡ right
+  pub good : Good poolLength tableLength (made .state)

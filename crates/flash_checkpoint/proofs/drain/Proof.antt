@@ -1,0 +1,29 @@
+-- `drain` meets its contract: nothing to write, or the buffer's page. Assumes nothing.
+use Rattle.flash_rows.specs.Row.{rowsOf}
+use Rattle.flash_blocks.specs.Pages.{pagesOf}
+use Rattle.flash_allocate.specs.World.{world}
+use Rattle.flash_checkpoint.proofs.Laws.{drain-none, drain-some}
+use borrow.Author.Needs.{needs}
+use Rattle.flash_checkpoint.proofs.drain.Statement.{statement}
+use Rattle.flash_checkpoint.proofs.drain.Tie as tie
+
+returns : tie.Need-returns
+returns c = let a = c .before .before .before .before .args in
+    drain-none (world (pagesOf (a .pool .now)) (rowsOf (a .table .now)) (a .state)) (c .if1 .taken) (c .before .before .before .before .pre)
+
+flush-requires : tie.Need-flush-requires
+flush-requires c κs = search needs
+
+same-length : tie.Need-same-length
+same-length c = search needs
+
+same-length-2 : tie.Need-same-length-2
+same-length-2 c = search needs
+
+returns-2 : tie.Need-returns-2
+returns-2 c = let a = c .before .before .before .before .before .before .before .before .before .before .before .args in
+    let y = c .before .before .before .before .flush in
+    drain-some (world (pagesOf (a .pool .now)) (rowsOf (a .table .now)) (a .state)) (world (pagesOf (y .last .0)) (rowsOf (y .last .1 .0)) (y .result)) (c .before .before .before .before .before .before .before .if1 .left) (y .ensures)
+
+pub drain-spec : {M : Type 1} → statement M
+drain-spec = tie.close (tie.spec returns flush-requires same-length same-length-2 returns-2)

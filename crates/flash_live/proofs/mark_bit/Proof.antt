@@ -1,0 +1,15 @@
+-- `live::mark_bit` meets its contract, by the two cases of its test. Assumes nothing.
+use mathlib.Core.Path.{refl}
+use native.Mathlib.Omega.{arith}
+use borrow.Author.Tests.{eq-eqb, ne-eqb}
+use Rattle.flash_live.proofs.mark_bit.Statement.{statement}
+use Rattle.flash_live.proofs.mark_bit.Tie as tie
+
+returns : tie.Need-returns
+returns c = (rw (eq-eqb _ _ (c .if1 .taken)) refl, omega arith)
+
+returns-2 : tie.Need-returns-2
+returns-2 c = (rw (ne-eqb _ _ (c .if1 .left)) refl, omega arith)
+
+pub mark-bit-spec : {M : Type 1} → statement M
+mark-bit-spec = tie.close (tie.spec returns returns-2)

@@ -1,0 +1,65 @@
+-- `claim::claim_entry` meets its contract: id and version read from the buffer, the row loaded, its claim stored. Assumes nothing.
+use Rattle.flash_rows.specs.Row.{rowsOf}
+use Rattle.flash_log.proofs.Laws.{claim-in, claim-out}
+use borrow.Author.Needs.{needs}
+use Rattle.flash_log.proofs.claim.claim_entry.Statement.{statement}
+use Rattle.flash_log.proofs.claim.claim_entry.Tie as tie
+
+mul-read16 : tie.Need-mul-read16
+mul-read16 c = search needs
+
+read16-requires : tie.Need-read16-requires
+read16-requires c κs = search needs
+
+cast-id : tie.Need-cast-id
+cast-id c = search needs
+
+mul-read32 : tie.Need-mul-read32
+mul-read32 c = search needs
+
+add-read32 : tie.Need-add-read32
+add-read32 c = search needs
+
+read32-requires : tie.Need-read32-requires
+read32-requires c κs = search needs
+
+load-requires : tie.Need-load-requires
+load-requires c κs = search needs
+
+claim-requires : tie.Need-claim-requires
+claim-requires c κs = search needs
+
+settle-requires : tie.Need-settle-requires
+settle-requires c κs = search needs
+
+same-length : tie.Need-same-length
+same-length c = search needs
+
+returns : tie.Need-returns
+returns c = let a = c .before .before .before .before .before .before .before .before .before .before .before .before .before .args in
+    let i = c .before .before .before .before .before .before .before .before .before .before .read16 in
+    let v = c .before .before .before .before .before .before .before .before .read32 in
+    let l = c .before .before .before .before .before .load in
+    let x = c .before .before .before .claim in
+    claim-in (a .buffer .now) (a .nodes) (a .page) (a .k) (rowsOf (a .table .now)) (rowsOf (c .before .before .settle .last .0)) (i .result) (v .result) (l .result) (x .result) (i .ensures .is) (v .ensures .is) (c .before .before .before .before .before .before .before .if1 .taken) (l .ensures) (x .ensures) (c .before .before .settle .ensures)
+
+returns-2 : tie.Need-returns-2
+returns-2 c = let a = c .before .before .before .before .before .before .args in
+    claim-out (a .buffer .now) (a .nodes) (a .page) (a .k) (rowsOf (a .table .now)) (c .before .before .before .read16 .result) (c .before .before .before .read16 .ensures .is) (c .if1 .left)
+
+pub claim-entry-spec : {M : Type 1} → statement M
+claim-entry-spec =
+    tie.close
+    (tie.spec
+    mul-read16
+    read16-requires
+    cast-id
+    mul-read32
+    add-read32
+    read32-requires
+    load-requires
+    claim-requires
+    settle-requires
+    same-length
+    returns
+    returns-2)

@@ -1,0 +1,61 @@
+-- `flush::write_buffer` meets its contract: the page, the claims on it, the state behind it. Assumes nothing.
+use Rattle.flash_rows.specs.Row.{rowsOf}
+use Rattle.flash_blocks.specs.Pages.{pagesOf}
+use Rattle.flash_log.proofs.Laws.{buffer-written}
+use borrow.Author.Needs.{needs}
+use Rattle.flash_log.proofs.flush.write_buffer.Statement.{statement}
+use Rattle.flash_log.proofs.flush.write_buffer.Tie as tie
+
+mul-page : tie.Need-mul-page
+mul-page c = search needs
+
+add-page : tie.Need-add-page
+add-page c = search needs
+
+next-number-requires : tie.Need-next-number-requires
+next-number-requires c κs = search needs
+
+put-log-requires : tie.Need-put-log-requires
+put-log-requires c κs = search needs
+
+cast-claim-entries : tie.Need-cast-claim-entries
+cast-claim-entries c = search needs
+
+claim-entries-requires : tie.Need-claim-entries-requires
+claim-entries-requires c κs = search needs
+
+advance-requires : tie.Need-advance-requires
+advance-requires c κs = search needs
+
+empty-requires : tie.Need-empty-requires
+empty-requires c κs = search needs
+
+same-length : tie.Need-same-length
+same-length c = search needs
+
+same-length-2 : tie.Need-same-length-2
+same-length-2 c = search needs
+
+returns : tie.Need-returns
+returns c = let a = c .before .before .before .before .before .before .before .before .before .before .before .before .before .before .before .before .before .before .args in
+    let p = c .before .before .before .before .before .before .before .before .before .before .before .before .before .before .before .before .before .before .pre in
+    let n = c .before .before .before .before .before .before .before .before .before .before .before .before .before .next-number in
+    let w = c .before .before .before .before .before .before .before .before .before .put-log in
+    let k = c .before .before .before .before .claim-entries in
+    buffer-written (pagesOf (a .pool .now)) (pagesOf (w .last .0)) (rowsOf (a .table .now)) (rowsOf (k .last .0)) (a .state) (c .before .advance .result) (c .empty .result) (n .result) (p .0) (w .kept .0) (k .kept .0) (p .1) (n .ensures) (w .ensures) (k .ensures) (c .before .advance .ensures) (c .empty .ensures)
+
+pub write-buffer-spec : {M : Type 1} → statement M
+write-buffer-spec =
+    tie.close
+    (tie.spec
+    mul-page
+    add-page
+    next-number-requires
+    put-log-requires
+    cast-claim-entries
+    claim-entries-requires
+    advance-requires
+    empty-requires
+    same-length
+    same-length-2
+    returns)

@@ -1,0 +1,63 @@
+-- The buffer "written as one page when the next group does not fit" (document 01, "Nodes and tree").
+use mathlib.Core.Path.{_≡_}
+use Prim.Native.Nat.{ℕ, _+_}
+use lib.Dec.{ltb}
+use lib.ListN.{set}
+use Rattle.laws.specs.Tests.{choose}
+use Rattle.layout.specs.Layout.{pagesInBlock, mostEntries}
+use Rattle.flash_allocate.specs.World.{World, world, spot, Good}
+use Rattle.flash_allocate.specs.Allocate.{allocate}
+use Rattle.flash_allocate.specs.declared.state.State.{State}
+use Rattle.page_write.specs.Pages.{logImage}
+use Rattle.flash_log.specs.Entry.{holding}
+use Rattle.flash_log.specs.Claim.{claimEntries}
+
+-- "Each new page takes the next" stamp; a 32-bit number stays the greatest, which no run reaches.
+unfoldable pub nextNumber : ℕ → ℕ
+nextNumber last = choose (ltb last 4294967295) (last + 1) last
+
+-- The state once a page of this sequence number stands behind the pages of the current block.
+unfoldable pub advanced : ℕ → State → State
+advanced number s =
+    record {
+      blocks = s .blocks;
+      current = s .current;
+      fill = s .fill + 1;
+      nodes = s .nodes;
+      checkpoint = s .checkpoint;
+      last = number;
+      entries = s .entries;
+      buffer = s .buffer;
+    }
+
+-- The state with an empty buffer.
+unfoldable pub emptied : State → State
+emptied s = holding 0 (s .buffer) s
+
+-- The buffer as the page written next, and its rows' claims on it.
+unfoldable pub writeBuffer : World → World
+writeBuffer w =
+    world
+    (set (w .pages) (spot (w .state)) (logImage (nextNumber (w .state .last)) (w .state .entries) (w .state .buffer)))
+    (claimEntries (w .state .buffer) (w .state .nodes) (spot (w .state)) (w .state .entries) (w .rows))
+    (emptied (advanced (nextNumber (w .state .last)) (w .state)))
+
+-- A step where the current block has room, as it has after an allocation.
+unfoldable pub ifRoom : (World → World) → World → World
+ifRoom step w = choose (ltb (w .state .fill) pagesInBlock) (step w) w
+
+-- A place for the page, then the page.
+unfoldable pub flush : World → World
+flush w = ifRoom writeBuffer (allocate w)
+
+-- Room for k entries: the buffer is written out where they do not fit.
+unfoldable pub room : ℕ → World → World
+room k w = choose (ltb mostEntries (k + w .state .entries)) (flush w) w
+
+-- What a step's result is, beside the world asked for: still good, with the same blocks, nodes and checkpoint pages.
+pub record Kept (poolLength tableLength : ℕ) (before : State) (made right : World) : Type 0 where
+  pub is : made ≡ right
+  pub good : Good poolLength tableLength (made .state)
+  pub blocks : made .state .blocks ≡ before .blocks
+  pub nodes : made .state .nodes ≡ before .nodes
+  pub checkpoint : made .state .checkpoint ≡ before .checkpoint

@@ -1,0 +1,66 @@
+// The rows of the entries that a log page holds now.
+ghost use mathlib.Core.Path.{_≡_};
+ghost use Prim.Native.Nat.{_+_, _*_, _≤_, _<_};
+ghost use lib.ListN.{length};
+ghost use Rattle.flash_rows.specs.Row.{rowsOf, noRow};
+ghost use Rattle.flash_rows.specs.Step.{settled};
+ghost use Rattle.flash_log.specs.Claim.{claimEntry, claimEntries};
+use account::Mode;
+use flash_rows::Claim;
+use flash_rows::Row;
+use wire::number::read16;
+use wire::number::read32;
+
+// The row of a node that lies nowhere.
+pub fn no_row() -> Row
+    ensures { λ r. ⌜ r ≡ noRow ⌝ }
+{
+    Row {
+        version: 0,
+        score: 0,
+        mode: Mode::Log,
+        pages: 0,
+        first: 0,
+        second: 0,
+        third: 0,
+    }
+}
+
+// Stores what a claim made of a row.
+fn settle(table: &mut [u8], n: usize, claim: Claim)
+    requires { ⌜ 16 * n + 16 ≤ length (now table) ⌝ }
+    ensures { λ _. ⌜ rowsOf (now (table .exit)) ≡ settled claim n (rowsOf (now (table .entry))) ⌝ }
+{
+    match claim {
+        Claim::Same => {}
+        Claim::Noted(row) => {
+            flash_rows::store(table, n, row);
+        }
+    }
+}
+
+// The row of entry k claims the page, where its node exists.
+fn claim_entry(table: &mut [u8], buffer: &[u8; 405], nodes: usize, page: u16, k: usize)
+    requires { ⌜ (k < 27) × (16 * nodes ≤ length (now table)) ⌝ }
+    ensures { λ _. ⌜ rowsOf (now (table .exit)) ≡ claimEntry (now (buffer .entry)) nodes page k (rowsOf (now (table .entry))) ⌝ }
+{
+    let id = read16(buffer, 15 * k) as usize;
+    let version = read32(buffer, 15 * k + 2);
+    if id < nodes {
+        let row = flash_rows::load(table, id);
+        settle(table, id, row.claim(version, page));
+        return;
+    }
+}
+
+// The rows of the first n entries claim the page.
+pub fn claim_entries(table: &mut [u8], buffer: &[u8; 405], n: usize, nodes: usize, page: u16)
+    requires { ⌜ (n ≤ 27) × (16 * nodes ≤ length (now table)) ⌝ }
+    ensures { λ _. ⌜ rowsOf (now (table .exit)) ≡ claimEntries (now (buffer .entry)) nodes page n (rowsOf (now (table .entry))) ⌝ }
+{
+    let mut k: usize = 0;
+    while k < n {
+        claim_entry(table, buffer, nodes, page, k);
+        k += 1;
+    }
+}

@@ -1,0 +1,103 @@
+// One log entry, and the buffer with one entry more.
+ghost use mathlib.Core.Path.{_≡_};
+ghost use Prim.Native.Nat.{_*_, _<_};
+ghost use Rattle.laws.specs.Lay.{lay};
+ghost use Rattle.node.specs.Drafts.{changeOf};
+ghost use Rattle.page.specs.Image.{kindNumber, changeNumber, changeKey, changePointer, entryBytes};
+ghost use Rattle.flash_log.specs.Entry as def;
+ghost use Rattle.flash_log.specs.Entry.{entryOf};
+use node::ChangeValue;
+use node::Kind;
+use flash_allocate::state::State;
+use wire::bytes::lay_bytes;
+
+// 3 for a leaf's link, 4 for a branch's last pointer.
+fn kind_number(kind: Kind) -> u8
+    ensures { λ r. ⌜ r ≡ kindNumber kind ⌝ }
+{
+    match kind {
+        Kind::Leaf => 3,
+        Kind::Branch => 4,
+    }
+}
+
+// The number of a change's kind.
+fn change_number(change: ChangeValue) -> u8
+    ensures { λ r. ⌜ r ≡ changeNumber (changeOf change) ⌝ }
+{
+    match change {
+        ChangeValue::Put { key: _, pointer: _ } => 1,
+        ChangeValue::Remove { key: _ } => 2,
+        ChangeValue::Link { kind, link: _ } => kind_number(kind),
+    }
+}
+
+// The key of a change, 0 where it has none.
+fn change_key(change: ChangeValue) -> u32
+    ensures { λ r. ⌜ r ≡ changeKey (changeOf change) ⌝ }
+{
+    match change {
+        ChangeValue::Put { key, pointer: _ } => key,
+        ChangeValue::Remove { key } => key,
+        ChangeValue::Link { kind: _, link: _ } => 0,
+    }
+}
+
+// The pointer of a change, 0 where it has none.
+fn change_pointer(change: ChangeValue) -> u32
+    ensures { λ r. ⌜ r ≡ changePointer (changeOf change) ⌝ }
+{
+    match change {
+        ChangeValue::Put { key: _, pointer } => pointer,
+        ChangeValue::Remove { key: _ } => 0,
+        ChangeValue::Link { kind: _, link } => link,
+    }
+}
+
+// The fifteen bytes of an entry.
+fn entry_bytes(id: usize, version: u32, change: ChangeValue) -> [u8; 15]
+    ensures { λ r. ⌜ r ≡ entryBytes (entryOf id version (changeOf change)) ⌝ }
+{
+    let number = change_number(change);
+    let key = change_key(change);
+    let pointer = change_pointer(change);
+    [
+        (id / 256 % 256) as u8,
+        (id % 256) as u8,
+        (version / 256 / 256 / 256 % 256) as u8,
+        (version / 256 / 256 % 256) as u8,
+        (version / 256 % 256) as u8,
+        (version % 256) as u8,
+        number,
+        (key / 256 / 256 / 256 % 256) as u8,
+        (key / 256 / 256 % 256) as u8,
+        (key / 256 % 256) as u8,
+        (key % 256) as u8,
+        (pointer / 256 / 256 / 256 % 256) as u8,
+        (pointer / 256 / 256 % 256) as u8,
+        (pointer / 256 % 256) as u8,
+        (pointer % 256) as u8,
+    ]
+}
+
+// Lays an entry behind the first n of the buffer.
+fn lay_entry(buffer: &mut [u8; 405], n: usize, bytes: &[u8; 15])
+    requires { ⌜ n < 27 ⌝ }
+    ensures { λ _. ⌜ now (buffer .exit) ≡ lay (now (buffer .entry)) (15 * n) (now (bytes .entry)) ⌝ }
+{
+    lay_bytes(buffer, 15 * n, bytes);
+}
+
+// The state with one entry more in the buffer, where it has room.
+pub fn append(state: State, id: usize, version: u32, change: ChangeValue) -> State
+    ensures { λ r. ⌜ r ≡ def.append id version (changeOf change) state ⌝ }
+{
+    if state.entries < 27 {
+        let bytes = entry_bytes(id, version, change);
+        let mut s = state;
+        lay_entry(&mut s.buffer, state.entries, &bytes);
+        s.entries = state.entries + 1;
+        return s;
+    }
+    state
+}

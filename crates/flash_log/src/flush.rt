@@ -1,0 +1,98 @@
+// The buffer written as a log page.
+ghost use mathlib.Core.Path.{_≡_};
+ghost use Prim.Native.Nat.{_+_, _*_, _≤_, _<_};
+ghost use lib.ListN.{length, set};
+ghost use Rattle.flash_rows.specs.Row.{rowsOf};
+ghost use Rattle.flash_blocks.specs.Pages.{pagesOf};
+ghost use Rattle.flash_allocate.specs.World.{Good, world};
+ghost use Rattle.page_write.specs.Pages.{logImage};
+ghost use Rattle.flash_log.specs.Flush as def;
+ghost use Rattle.flash_log.specs.Flush.{Kept, nextNumber, advanced, emptied, writeBuffer};
+use super::claim::claim_entries;
+use page_write::frame::write_page;
+use page_write::log_page::log_image;
+use flash_allocate::allocate::allocate;
+use flash_allocate::state::State;
+
+// The sequence number behind another.
+pub fn next_number(last: u32) -> u32
+    ensures { λ r. ⌜ r ≡ nextNumber last ⌝ }
+{
+    if last < 4294967295 {
+        return last + 1;
+    }
+    last
+}
+
+// The state once a page of this sequence number is written.
+pub fn advance(state: State, number: u32) -> State
+    requires { ⌜ state .fill < 32 ⌝ }
+    ensures { λ r. ⌜ r ≡ advanced number state ⌝ }
+{
+    let mut s = state;
+    s.fill = state.fill + 1;
+    s.last = number;
+    s
+}
+
+// The state with an empty buffer.
+fn empty(state: State) -> State
+    ensures { λ r. ⌜ r ≡ emptied state ⌝ }
+{
+    let mut s = state;
+    s.entries = 0;
+    s
+}
+
+// An image written as a page of the pool.
+pub fn put_image(pool: &mut [u8], page: usize, image: [u8; 512])
+    requires { ⌜ 512 * page + 512 ≤ length (now pool) ⌝ }
+    ensures { λ _. ⌜ pagesOf (now (pool .exit)) ≡ set (pagesOf (now (pool .entry))) page image ⌝ }
+{
+    write_page(pool, 512 * page, image);
+}
+
+// The first n entries of the buffer written as a log page.
+fn put_log(pool: &mut [u8], page: usize, number: u32, buffer: &[u8; 405], n: usize)
+    requires { ⌜ (512 * page + 512 ≤ length (now pool)) × (n ≤ 27) ⌝ }
+    ensures { λ _. ⌜ pagesOf (now (pool .exit)) ≡ set (pagesOf (now (pool .entry))) page (logImage number n (now (buffer .entry))) ⌝ }
+{
+    let image = log_image(number, buffer, n);
+    put_image(pool, page, image);
+}
+
+// The buffer as the next page, in a block that has room.
+fn write_buffer(pool: &mut [u8], table: &mut [u8], state: State) -> State
+    requires { ⌜ (Good (length (now pool)) (length (now table)) state) × (state .fill < 32) ⌝ }
+    ensures { λ r. ⌜ Kept (length (now (pool .exit))) (length (now (table .exit))) state (world (pagesOf (now (pool .exit))) (rowsOf (now (table .exit))) r) (writeBuffer (world (pagesOf (now (pool .entry))) (rowsOf (now (table .entry))) state)) ⌝ }
+{
+    let page = 32 * state.current + state.fill;
+    let number = next_number(state.last);
+    let buffer = state.buffer;
+    put_log(pool, page, number, &buffer, state.entries);
+    claim_entries(table, &buffer, state.entries, state.nodes, page as u16);
+    empty(advance(state, number))
+}
+
+// A place, then the buffer as a page there.
+pub fn flush(pool: &mut [u8], table: &mut [u8], state: State) -> State
+    requires { ⌜ Good (length (now pool)) (length (now table)) state ⌝ }
+    ensures { λ r. ⌜ Kept (length (now (pool .exit))) (length (now (table .exit))) state (world (pagesOf (now (pool .exit))) (rowsOf (now (table .exit))) r) (def.flush (world (pagesOf (now (pool .entry))) (rowsOf (now (table .entry))) state)) ⌝ }
+{
+    let s = allocate(pool, table, state);
+    if s.fill < 32 {
+        return write_buffer(pool, table, s);
+    }
+    s
+}
+
+// Room for k entries in the buffer.
+pub fn room(pool: &mut [u8], table: &mut [u8], state: State, k: usize) -> State
+    requires { ⌜ (Good (length (now pool)) (length (now table)) state) × (k ≤ 27) ⌝ }
+    ensures { λ r. ⌜ Kept (length (now (pool .exit))) (length (now (table .exit))) state (world (pagesOf (now (pool .exit))) (rowsOf (now (table .exit))) r) (def.room k (world (pagesOf (now (pool .entry))) (rowsOf (now (table .entry))) state)) ⌝ }
+{
+    if 27 < k + state.entries {
+        return flush(pool, table, state);
+    }
+    state
+}

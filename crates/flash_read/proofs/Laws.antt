@@ -1,0 +1,254 @@
+-- One entry more by cases, a turn of each loop, pages of the pool and none behind its end, and the cases of a row's pages. Assumes nothing.
+use mathlib.Core.Path.{_≡_, refl, sym, ap, ap₂, _∙_}
+use mathlib.Core.Bool.{true, false}
+use mathlib.Core.List.{List, [], _∷_, _++_, append-assoc, append-nil}
+use Prim.Native.Nat.{ℕ, suc, _+_, _-_, _*_, _≤_, _<_}
+use native.Mathlib.Nat.{sub-zero}
+use native.Mathlib.Numerals.{add-one}
+use native.Mathlib.Omega.{arith}
+use lib.ListN.{length, getD, set, take, drop, replicate, getD-replicate, List·getD-eq-default}
+use lib.Seq.{take-suc-set, length-take-le}
+use borrow.Author.Tests.{eq-eqb, ne-eqb, lt-ltb, le-ltb}
+use Rattle.laws.specs.Lay.{part}
+use Rattle.laws.specs.BigEndian.{number, numberAt}
+use Rattle.layout.specs.Layout.{mostEntries, bound32}
+use Rattle.pairs.specs.Pairs.{Pair}
+use Rattle.wire.specs.Field.{payloadAt}
+use Rattle.wire.specs.FieldLaws.{stands-payload}
+use Rattle.flash_blocks.specs.Pages.{pagesOf, pageAt, blankPage}
+use Rattle.flash_blocks.proofs.Laws.{pageAt-part, length-pages}
+use Rattle.account.specs.declared.Mode.{Mode}
+use Rattle.account.specs.declared.Mode.the-variants.{Log, Disk}
+use Rattle.flash_rows.specs.Step.{byMode}
+use Rattle.flash_rows.specs.declared.Row.{Row}
+use Rattle.flash_allocate.specs.declared.state.State.{State}
+use Rattle.node.specs.declared.ChangeValue.{ChangeValue}
+use Rattle.node.specs.declared.DraftValue.{DraftValue}
+use Rattle.node.specs.declared.DraftState.the-variants.{Made}
+use Rattle.node.specs.declared.NodeValue.{NodeValue}
+use Rattle.node.specs.declared.Kind.{Kind}
+use Rattle.node.specs.Node.{node, pairsOf}
+use Rattle.node.specs.Splice.{zip}
+use Rattle.node.specs.Ascends.{ascends, ascends-within}
+use Rattle.node.specs.Replay.{Draft, made, broken, redo}
+use Rattle.node.specs.Value.{pairsIn, nodeOf, Held, Stands}
+use Rattle.node.specs.Drafts.{draftOf, changeOf, Redone}
+use Rattle.page.specs.Decode as decode
+use Rattle.flash_read.specs.Replay.{redoEntry, redoRun, redoNth}
+use Rattle.flash_read.specs.Slots.{sequenceAt, slotAt, redoAt, redoTwo, redoThree}
+use Rattle.flash_read.specs.Whole.{wholeOf, wholeAt}
+use Rattle.flash_read.specs.Content.{redoPages, logContent, contentBy}
+
+-- A draft as it is.
+pub redone-same : (d : DraftValue) → Held (d .node) → Redone d (draftOf d)
+redone-same d h = record { is = refl; held = h }
+
+-- A draft known by an equation.
+pub redone-is : (r : DraftValue) (a b : Draft) → Redone r a → a ≡ b → Redone r b
+redone-is r a b x e = record { is = x .is ∙ e; held = x .held }
+
+-- An entry that is the node's and of the version, of another version, or of another node.
+module _ (id version : ℕ) (b : List ℕ) (d : DraftValue) (own of : ℕ) (i : own ≡ numberAt 2 b 0) (v : of ≡ numberAt 4 b 2) where
+  pub entry-own : own ≡ id → of ≡ version → (change : ChangeValue) (r : DraftValue) →
+      changeOf change ≡ decode.changeOf (getD b 6 0) (numberAt 4 b 7) (numberAt 4 b 11) → Redone r (redo (draftOf d) (changeOf change)) →
+      Redone r (redoEntry id version (decode.entryOf b) (draftOf d))
+  unfolding redoEntry decode.entryOf
+  entry-own e f change r c x = rw (← i, ← v, eq-eqb own id e, eq-eqb of version f, ← c) x
+
+  pub entry-older : own ≡ id → (of ≡ version → ⊥) → Held (d .node) → Redone d (redoEntry id version (decode.entryOf b) (draftOf d))
+  unfolding redoEntry decode.entryOf
+  entry-older e f h = rw (← i, ← v, eq-eqb own id e, ne-eqb of version f) (redone-same d h)
+
+  pub entry-other : (own ≡ id → ⊥) → Held (d .node) → Redone d (redoEntry id version (decode.entryOf b) (draftOf d))
+  unfolding redoEntry decode.entryOf
+  entry-other e h = rw (← i, ne-eqb own id e) (redone-same d h)
+
+-- The loop over a page's entries.
+module _ (id version : ℕ) (page : List ℕ) where
+  pub run-more : (left at : ℕ) (d : Draft) → 0 < left → length (payloadAt page at 0x12) ≡ 15 →
+      redoRun id version (left - 1) page (at + 18) (redoEntry id version (decode.entryOf (payloadAt page at 0x12)) d) ≡ redoRun id version left page at d
+  unfolding redoRun
+  run-more left at d h e =
+      let turn : left ≡ suc (left - 1) = omega arith in
+      sym (ap (λ (k : ℕ). redoRun id version k page at d) turn ∙ rw (eq-eqb (length (payloadAt page at 0x12)) 15 e, redoRun) refl)
+
+  pub run-stop : (left at : ℕ) (d : Draft) → 0 < left → (length (payloadAt page at 0x12) ≡ 15 → ⊥) → redoRun id version left page at d ≡ d
+  unfolding redoRun
+  run-stop left at d h e =
+      let turn : left ≡ suc (left - 1) = omega arith in
+      ap (λ (k : ℕ). redoRun id version k page at d) turn ∙ rw (ne-eqb (length (payloadAt page at 0x12)) 15 e, redoRun) refl
+
+  pub run-done : (left at : ℕ) (d : Draft) → left ≤ 0 → redoRun id version left page at d ≡ d
+  unfolding redoRun
+  run-done left at d h =
+      let over : left ≡ 0 = omega arith in
+      ap (λ (k : ℕ). redoRun id version k page at d) over
+
+-- Entry k of the buffer, lent as a part of it.
+pub nth-part : (id version : ℕ) (buffer : List ℕ) (k n : ℕ) (d : Draft) → n ≡ 15 →
+    redoEntry id version (decode.entryOf (take n (drop (15 * k) buffer))) d ≡ redoNth id version buffer k d
+unfolding redoNth part
+nth-part id version buffer k n d e = ap (λ (m : ℕ). redoEntry id version (decode.entryOf (take m (drop (15 * k) buffer))) d) e
+
+-- No field of a tag stands where another byte does.
+pub payload-none : (s : List ℕ) (at tag : ℕ) → (getD s at 0 ≡ tag → ⊥) → payloadAt s at tag ≡ []
+payload-none s at tag h = go (payloadAt s at tag) refl
+  where
+    go : (p : List ℕ) → payloadAt s at tag ≡ p → payloadAt s at tag ≡ []
+    go [] e = e
+    go (x ∷ p) e = absurd (h (stands-payload s at tag (omega (arith, ap length e)) .tag-is))
+
+pub payload-blank : (at tag : ℕ) → at < 512 → (tag ≡ 255 → ⊥) → payloadAt blankPage at tag ≡ []
+unfolding blankPage
+payload-blank at tag h t = payload-none (replicate 512 255) at tag (λ e. t (sym e ∙ getD-replicate {A = ℕ} 512 at 255 0 h))
+
+-- A page within the pool, lent as a part of it; behind the pool's end every page is blank.
+module _ (pool : List ℕ) (q : ℕ) where
+  page-part : (n : ℕ) → 512 * q + 512 ≤ length pool → n ≡ 512 → take n (drop (512 * q) pool) ≡ pageAt (pagesOf pool) q
+  unfolding part
+  page-part n h e = ap (λ (m : ℕ). take m (drop (512 * q) pool)) e ∙ sym (pageAt-part pool q h)
+
+  page-behind : length pool < 512 * q + 512 → pageAt (pagesOf pool) q ≡ blankPage
+  unfolding pageAt
+  page-behind h = List·getD-eq-default (pagesOf pool) blankPage (omega (arith, length-pages pool))
+
+  pub sequence-in : (n : ℕ) → 512 * q + 512 ≤ length pool → n ≡ 512 → number (payloadAt (take n (drop (512 * q) pool)) 0 0x10) ≡ sequenceAt (pagesOf pool) q
+  unfolding sequenceAt
+  sequence-in n h e = ap (λ (b : List ℕ). number (payloadAt b 0 0x10)) (page-part n h e)
+
+  pub sequence-behind : length pool < 512 * q + 512 → 0 ≡ sequenceAt (pagesOf pool) q
+  unfolding sequenceAt
+  sequence-behind h =
+      sym (ap (λ (b : List ℕ). number (payloadAt b 0 0x10)) (page-behind h) ∙ ap number (payload-blank 0 0x10 (omega arith) (λ e. omega arith)))
+
+  pub redo-in : (n id version : ℕ) (d : Draft) → 512 * q + 512 ≤ length pool → n ≡ 512 →
+      redoRun id version mostEntries (take n (drop (512 * q) pool)) 7 d ≡ redoAt (pagesOf pool) q id version d
+  unfolding redoAt
+  redo-in n id version d h e = ap (λ (b : List ℕ). redoRun id version mostEntries b 7 d) (page-part n h e)
+
+  pub redo-behind : (id version : ℕ) (d : Draft) → length pool < 512 * q + 512 → d ≡ redoAt (pagesOf pool) q id version d
+  unfolding redoAt
+  redo-behind id version d h =
+      sym
+      (ap (λ (b : List ℕ). redoRun id version mostEntries b 7 d) (page-behind h) ∙
+      run-stop id version blankPage 27 7 d (omega arith) (λ e. omega (arith, ap length (payload-blank 7 0x12 (omega arith) (λ z. omega arith)))))
+
+-- The pages of a row, by how many they are.
+module _ (pages : List (List ℕ)) (row : Row) (n : ℕ) (d : Draft) where
+  pub pages-none : row .pages ≡ 0 → d ≡ redoPages pages row n d
+  unfolding redoPages
+  pages-none e = rw (eq-eqb (row .pages) 0 e) refl
+
+  module _ (e₀ : row .pages ≡ 0 → ⊥) where
+    pub pages-one : row .pages ≡ 1 → redoAt pages (row .first) n (row .version) d ≡ redoPages pages row n d
+    unfolding redoPages
+    pages-one e = rw (ne-eqb (row .pages) 0 e₀, eq-eqb (row .pages) 1 e) refl
+
+    module _ (e₁ : row .pages ≡ 1 → ⊥) where
+      pub pages-two : row .pages ≡ 2 → redoTwo pages (slotAt pages (row .first)) (slotAt pages (row .second)) n (row .version) d ≡ redoPages pages row n d
+      unfolding redoPages
+      pages-two e = rw (ne-eqb (row .pages) 0 e₀, ne-eqb (row .pages) 1 e₁, eq-eqb (row .pages) 2 e) refl
+
+      pub pages-three : (row .pages ≡ 2 → ⊥) →
+          redoThree pages (slotAt pages (row .first)) (slotAt pages (row .second)) (slotAt pages (row .third)) n (row .version) d ≡ redoPages pages row n d
+      unfolding redoPages
+      pages-three e = rw (ne-eqb (row .pages) 0 e₀, ne-eqb (row .pages) 1 e₁, ne-eqb (row .pages) 2 e) refl
+
+-- ---- a node page's pairs
+
+zip-snoc : (xs ys : List ℕ) (a b : ℕ) → length xs ≡ length ys → zip (xs ++ (a ∷ [])) (ys ++ (b ∷ [])) ≡ zip xs ys ++ ((a, b) ∷ [])
+zip-snoc [] [] a b e = refl
+zip-snoc [] (y ∷ ys) a b e = absurd (omega arith)
+zip-snoc (x ∷ xs) [] a b e = absurd (omega arith)
+zip-snoc (x ∷ xs) (y ∷ ys) a b e = ap (λ (l : List Pair). (x, y) ∷ l) (zip-snoc xs ys a b (omega arith))
+
+-- The start, a turn and the end of the loop that reads pairs.
+module _ (p : List ℕ) (n : ℕ) where
+  pub pairs-begin : decode.pairsFrom (n - 0) p (7 + 8 * 0) ≡ decode.pairsFrom n p 7
+  pairs-begin = ap (λ (k : ℕ). decode.pairsFrom k p 7) (sub-zero n)
+
+  pub pairs-more : (keys pointers : List ℕ) (i : ℕ) → i < n → n ≤ 24 → length keys ≡ 24 → length pointers ≡ 24 → (k q : ℕ) →
+      k ≡ numberAt 4 p (7 + 8 * i) → q ≡ numberAt 4 p (11 + 8 * i) →
+      zip (take (i + 1) (set keys i k)) (take (i + 1) (set pointers i q)) ++ decode.pairsFrom (n - (i + 1)) p (7 + 8 * (i + 1)) ≡
+      zip (take i keys) (take i pointers) ++ decode.pairsFrom (n - i) p (7 + 8 * i)
+  unfolding decode.pairsFrom
+  pairs-more keys pointers i h l lk lp k q ek eq =
+      let turn : n - i ≡ suc (n - (i + 1)) = omega arith in
+      let behind : 7 + 8 * i + 4 ≡ 11 + 8 * i = omega arith in
+      let next : 7 + 8 * (i + 1) ≡ 7 + 8 * i + 8 = omega arith in
+      let a : List ℕ = take i keys in
+      let b : List ℕ = take i pointers in
+      let la : length a ≡ i = length-take-le i keys (omega arith) in
+      let lb : length b ≡ i = length-take-le i pointers (omega arith) in
+      let tk : take (i + 1) (set keys i k) ≡ a ++ (k ∷ []) = ap (λ (j : ℕ). take j (set keys i k)) (add-one i) ∙ take-suc-set keys i k (omega arith) in
+      let tp : take (i + 1) (set pointers i q) ≡ b ++ (q ∷ []) = ap (λ (j : ℕ). take j (set pointers i q)) (add-one i) ∙ take-suc-set pointers i q (omega arith) in
+      let one : Pair = (numberAt 4 p (7 + 8 * i), numberAt 4 p (7 + 8 * i + 4)) in
+      let pair : (k, q) ≡ one = ap₂ {C = Pair} (λ (x y : ℕ). (x, y)) ek (eq ∙ ap (numberAt 4 p) (sym behind)) in
+      let rest : List Pair = decode.pairsFrom (n - (i + 1)) p (7 + 8 * (i + 1)) in
+      ap₂ (λ (x y : List ℕ). zip x y ++ rest) tk tp ∙
+      ap (λ (l : List Pair). l ++ rest) (zip-snoc a b k q (la ∙ sym lb)) ∙
+      append-assoc (zip a b) ((k, q) ∷ []) rest ∙
+      ap₂ (λ (x : Pair) (j : ℕ). zip a b ++ (x ∷ decode.pairsFrom (n - (i + 1)) p j)) pair next ∙
+      sym (ap (λ (m : ℕ). zip a b ++ decode.pairsFrom m p (7 + 8 * i)) turn)
+
+  pub pairs-done : (keys pointers : List ℕ) (i : ℕ) → i ≤ n → n ≤ i →
+      zip (take i keys) (take i pointers) ++ decode.pairsFrom (n - i) p (7 + 8 * i) ≡ zip (take n keys) (take n pointers)
+  unfolding decode.pairsFrom
+  pairs-done keys pointers i l h =
+      let over : n - i ≡ 0 = omega arith in
+      let same : i ≡ n = omega arith in
+      ap (λ (m : ℕ). zip (take i keys) (take i pointers) ++ decode.pairsFrom m p (7 + 8 * i)) over ∙
+      append-nil (zip (take i keys) (take i pointers)) ∙
+      ap (λ (j : ℕ). zip (take j keys) (take j pointers)) same
+
+-- A payload that spells no node, or one whose keys ascend, or do not.
+module _ (p : List ℕ) where
+  pub whole-short : length p < 7 → broken ≡ wholeOf p
+  unfolding wholeOf
+  whole-short h = rw (lt-ltb (length p) 7 h) refl
+
+  module _ (h : 7 ≤ length p) (n : ℕ) (e : n ≡ decode.pairsIn p) where
+    pub whole-long : 24 < n → broken ≡ wholeOf p
+    unfolding wholeOf
+    whole-long l = rw (le-ltb (length p) 7 h, ← e, lt-ltb 24 n l) refl
+
+    module _ (l : n ≤ 24) (v : NodeValue) (kind : Kind) (link : ℕ) (k : kind ≡ decode.kindOfNumber (getD p 2 0)) (m : link ≡ numberAt 4 p 3)
+        (s : Stands v (node kind (decode.pairsFrom n p 7) link)) where
+      pairs-are : pairsIn v ≡ decode.pairsFrom n p 7
+      pairs-are = ap pairsOf (s .is)
+
+      node-is : nodeOf v ≡ decode.nodeOf p
+      unfolding decode.nodeOf
+      node-is = s .is ∙ rw (k, m, e) refl
+
+      pub whole-made : ascends 0 bound32 (pairsIn v) ≡ true → Redone (record { state = Made; node = v }) (wholeOf p)
+      unfolding wholeOf
+      whole-made a =
+          rw (le-ltb (length p) 7 h, ← e, le-ltb 24 n l, ← pairs-are, a)
+          (record { is = ap made node-is; held = record { sized = s .sized; ascending = ascends-within 0 bound32 (pairsIn v) a } })
+
+      pub whole-loose : ascends 0 bound32 (pairsIn v) ≡ false → broken ≡ wholeOf p
+      unfolding wholeOf
+      whole-loose a = rw (le-ltb (length p) 7 h, ← e, le-ltb 24 n l, ← pairs-are, a) refl
+
+-- A page within the pool, and none behind its end.
+pub whole-in : (pool : List ℕ) (q n : ℕ) → 512 * q + 512 ≤ length pool → n ≡ 512 →
+    wholeOf (payloadAt (take n (drop (512 * q) pool)) 7 0x11) ≡ wholeAt (pagesOf pool) q
+unfolding wholeAt
+whole-in pool q n h e = ap (λ (b : List ℕ). wholeOf (payloadAt b 7 0x11)) (page-part pool q n h e)
+
+pub whole-behind : (pool : List ℕ) (q : ℕ) → length pool < 512 * q + 512 → broken ≡ wholeAt (pagesOf pool) q
+unfolding wholeAt
+whole-behind pool q h =
+    whole-short [] (omega arith) ∙
+    sym (ap (λ (b : List ℕ). wholeOf (payloadAt b 7 0x11)) (page-behind pool q h) ∙ ap wholeOf (payload-blank 7 0x11 (omega arith) (λ e. omega arith)))
+
+-- A node by its mode.
+module _ (pages : List (List ℕ)) (s : State) (row : Row) (n : ℕ) where
+  pub content-log : row .mode ≡ Log → logContent pages s row n ≡ contentBy pages s row n
+  unfolding contentBy
+  content-log e = ap (λ (m : Mode). byMode m (logContent pages s row n) (wholeAt pages (row .first))) (sym e)
+
+  pub content-disk : row .mode ≡ Disk → wholeAt pages (row .first) ≡ contentBy pages s row n
+  unfolding contentBy
+  content-disk e = ap (λ (m : Mode). byMode m (logContent pages s row n) (wholeAt pages (row .first))) (sym e)

@@ -1,0 +1,39 @@
+// A node of the table, by id.
+ghost use Rattle.flash_blocks.specs.Pages.{pagesOf};
+ghost use Rattle.flash_rows.specs.Row.{rowsOf};
+ghost use Rattle.node.specs.Value.{Held, Becomes};
+ghost use Rattle.node.specs.Drafts.{draftOf};
+ghost use Rattle.store.specs.Store.{nodeIn};
+ghost use Rattle.flash_read.specs.NodeTable.{tableOf, Readable};
+use node::DraftState;
+use node::DraftValue;
+use node::Kind;
+use node::NodeValue;
+use super::content::content;
+use node_replay::empty;
+use flash_allocate::state::State;
+
+// The node that a draft has made; a branch without a key, which is in no sound tree, where it has made none.
+pub fn node_in(d: DraftValue) -> NodeValue
+    requires { ⌜ Held (d .node) ⌝ }
+    ensures { λ r. ⌜ Becomes r (nodeIn (draftOf d)) ⌝ }
+{
+    let state = d.state;
+    match state {
+        DraftState::Unlinked => empty(Kind::Branch, 0),
+        DraftState::Made => d.node,
+        DraftState::Broken => empty(Kind::Branch, 0),
+    }
+}
+
+// Node n of the table; behind the count there is none.
+pub fn node_at<'a>(pool: &'a [u8], table: &'a [u8], state: State, n: usize) -> NodeValue
+    requires { ⌜ Readable state (now table) ⌝ }
+    ensures { λ r. ⌜ Becomes r (tableOf (pagesOf (now (pool .entry))) (rowsOf (now (table .entry))) state n) ⌝ }
+{
+    if n < state.nodes {
+        let d = content(pool, table, state, n);
+        return node_in(d);
+    }
+    empty(Kind::Branch, 0)
+}

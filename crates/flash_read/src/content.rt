@@ -1,0 +1,71 @@
+// The content of a node.
+ghost use Prim.Native.Nat.{_+_, _*_, _≤_};
+ghost use lib.ListN.{length};
+ghost use Rattle.flash_rows.specs.Row.{rowsOf};
+ghost use Rattle.flash_blocks.specs.Pages.{pagesOf};
+ghost use Rattle.node.specs.Value.{Held};
+ghost use Rattle.node.specs.Drafts.{draftOf, Redone};
+ghost use Rattle.flash_read.specs.Content as def;
+ghost use Rattle.flash_read.specs.Content.{redoPages, logContent, contentBy};
+use super::replay::redo_buffer;
+use super::slot::redo_one;
+use super::slot::redo_three;
+use super::slot::redo_two;
+use super::slot::slot_at;
+use super::whole::whole_at;
+use account::Mode;
+use node::DraftValue;
+use node_replay::nothing;
+use flash_allocate::state::State;
+use flash_rows::Row;
+
+// The entries of a version on the pages that a row names, by sequence number.
+fn redo_pages(pool: &[u8], row: Row, n: usize, d: DraftValue) -> DraftValue
+    requires { ⌜ Held (d .node) ⌝ }
+    ensures { λ r. ⌜ Redone r (redoPages (pagesOf (now (pool .entry))) row n (draftOf d)) ⌝ }
+{
+    if row.pages == 0 {
+        return d;
+    }
+    let a = slot_at(pool, row.first);
+    if row.pages == 1 {
+        return redo_one(pool, a, n, row.version, d);
+    }
+    let b = slot_at(pool, row.second);
+    if row.pages == 2 {
+        return redo_two(pool, a, b, n, row.version, d);
+    }
+    let c = slot_at(pool, row.third);
+    redo_three(pool, a, b, c, n, row.version, d)
+}
+
+// The content of node n, whose row this is: its entries on pages, then those in the buffer.
+pub fn log_content(pool: &[u8], state: State, row: Row, n: usize) -> DraftValue
+    requires { ⌜ state .entries ≤ 27 ⌝ }
+    ensures { λ r. ⌜ Redone r (logContent (pagesOf (now (pool .entry))) state row n) ⌝ }
+{
+    let d = redo_pages(pool, row, n, nothing());
+    let buffer = state.buffer;
+    redo_buffer(&buffer, state.entries, n, row.version, d)
+}
+
+// The content of node n, whose row this is.
+fn content_by(pool: &[u8], state: State, row: Row, n: usize) -> DraftValue
+    requires { ⌜ state .entries ≤ 27 ⌝ }
+    ensures { λ r. ⌜ Redone r (contentBy (pagesOf (now (pool .entry))) state row n) ⌝ }
+{
+    let mode = row.mode;
+    match mode {
+        Mode::Log => log_content(pool, state, row, n),
+        Mode::Disk => whole_at(pool, row.first),
+    }
+}
+
+// The content of node n.
+pub fn content<'a>(pool: &'a [u8], table: &'a [u8], state: State, n: usize) -> DraftValue
+    requires { ⌜ (state .entries ≤ 27) × (16 * n + 16 ≤ length (now table)) ⌝ }
+    ensures { λ r. ⌜ Redone r (def.content (pagesOf (now (pool .entry))) (rowsOf (now (table .entry))) state n) ⌝ }
+{
+    let row = flash_rows::load(table, n);
+    content_by(pool, state, row, n)
+}

@@ -1,0 +1,4 @@
+pub mod Store
+pub mod Write
+pub mod Read
+pub mod Checkpoint

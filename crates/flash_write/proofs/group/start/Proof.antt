@@ -1,0 +1,25 @@
+-- `group::start` meets its contract: the fresh row stored, the entries of the content in the buffer. Assumes nothing.
+use borrow.Author.Needs.{needs}
+use Rattle.flash_write.proofs.group.start.Statement.{statement}
+use Rattle.flash_write.proofs.group.start.Tie as tie
+
+fresh-requires : tie.Need-fresh-requires
+fresh-requires c κs = search needs
+
+store-requires : tie.Need-store-requires
+store-requires c κs = search needs
+
+number-requires : tie.Need-number-requires
+number-requires c κs = search needs
+
+append-node-requires : tie.Need-append-node-requires
+append-node-requires c κs = search needs
+
+same-length : tie.Need-same-length
+same-length c = search needs
+
+returns : tie.Need-returns
+returns c = record { rows = rw (← c .before .before .before .before .before .fresh .ensures) (c .before .before .before .before .store .ensures); state = rw (← c .before .number .ensures) (c .append-node .ensures) }
+
+pub start-spec : {M : Type 1} → statement M
+start-spec = tie.close (tie.spec fresh-requires store-requires number-requires append-node-requires same-length returns)

@@ -1,0 +1,12 @@
+-- `group::with_nodes` meets its contract: one field is another. Assumes nothing.
+use mathlib.Core.Path.{refl}
+use Rattle.flash_write.specs.Group.{withNodes}
+use Rattle.flash_write.proofs.group.with_nodes.Statement.{statement}
+use Rattle.flash_write.proofs.group.with_nodes.Tie as tie
+
+returns : tie.Need-returns
+unfolding withNodes
+returns c = refl
+
+pub with-nodes-spec : {M : Type 1} → statement M
+with-nodes-spec = tie.close (tie.spec returns)

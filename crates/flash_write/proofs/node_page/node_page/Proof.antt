@@ -1,0 +1,59 @@
+-- `node_page::node_page` meets its contract: an allocation, and the page written where it left room. Assumes nothing.
+use native.Mathlib.Omega.{arith}
+use Rattle.flash_rows.specs.Row.{rowsOf}
+use Rattle.flash_blocks.specs.Pages.{pagesOf}
+use Rattle.node.specs.Value.{nodeOf}
+use Rattle.flash_allocate.specs.World.{world}
+use Rattle.flash_log.proofs.Laws.{allocated, kept-room, kept-stuck}
+use Rattle.flash_write.specs.NodePage.{writeNode, nodePage}
+use borrow.Author.Needs.{needs}
+use Rattle.flash_write.proofs.node_page.node_page.Statement.{statement}
+use Rattle.flash_write.proofs.node_page.node_page.Tie as tie
+
+allocate-requires : tie.Need-allocate-requires
+allocate-requires c κs = search needs
+
+write-node-requires : tie.Need-write-node-requires
+write-node-requires c κs = let a = c .before .before .before .before .before .before .before .before .before .before .before .before .before .args in
+    let p = c .before .before .before .before .before .before .before .before .before .before .before .before .before .pre in
+    let x = c .before .before .before .before .before .before .before .before .allocate in
+    let b = allocated (writeNode (a .n) (nodeOf (a .v))) (world (pagesOf (a .pool .now)) (rowsOf (a .table .now)) (a .state)) (world (pagesOf (x .last .0)) (rowsOf (x .last .1 .0)) (x .result)) (x .ensures) in
+    (x .ensures .good, c .before .before .if1 .taken, omega (arith, b .nodes, p .1), p .2)
+
+same-length : tie.Need-same-length
+same-length c = search needs
+
+same-length-2 : tie.Need-same-length-2
+same-length-2 c = search needs
+
+returns : tie.Need-returns
+unfolding nodePage
+returns c = let a = c .before .before .before .before .before .before .before .before .before .before .before .before .before .before .before .before .before .before .args in
+    let x = c .before .before .before .before .before .before .before .before .before .before .before .before .before .allocate in
+    let y = c .before .before .before .before .write-node in
+    kept-room (writeNode (a .n) (nodeOf (a .v))) (world (pagesOf (a .pool .now)) (rowsOf (a .table .now)) (a .state)) (world (pagesOf (x .last .0)) (rowsOf (x .last .1 .0)) (x .result)) (x .ensures) (world (pagesOf (y .last .0)) (rowsOf (y .last .1 .0)) (y .result)) (c .before .before .before .before .before .before .before .if1 .taken) (y .ensures)
+
+same-length-3 : tie.Need-same-length-3
+same-length-3 c = search needs
+
+same-length-4 : tie.Need-same-length-4
+same-length-4 c = search needs
+
+returns-2 : tie.Need-returns-2
+unfolding nodePage
+returns-2 c = let a = c .before .before .before .before .before .before .before .before .before .before .before .args in
+    let x = c .before .before .before .before .before .before .allocate in
+    kept-stuck (writeNode (a .n) (nodeOf (a .v))) (world (pagesOf (a .pool .now)) (rowsOf (a .table .now)) (a .state)) (world (pagesOf (x .last .0)) (rowsOf (x .last .1 .0)) (x .result)) (x .ensures) (c .if1 .left)
+
+pub node-page-spec : {M : Type 1} → statement M
+node-page-spec =
+    tie.close
+    (tie.spec
+    allocate-requires
+    write-node-requires
+    same-length
+    same-length-2
+    returns
+    same-length-3
+    same-length-4
+    returns-2)

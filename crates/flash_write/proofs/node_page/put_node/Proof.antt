@@ -1,0 +1,51 @@
+-- `node_page::put_node` meets its contract: the image of the node's pairs, written. Assumes nothing.
+use mathlib.Core.Path.{_≡_, ap, _∙_}
+use mathlib.Core.List.{List}
+use Rattle.pairs.specs.Pairs.{Pair}
+use Rattle.node.specs.Node.{node}
+use Rattle.node.specs.Value.{nodeOf}
+use Rattle.page.specs.Page.{page, whole}
+use Rattle.page.specs.Image.{image}
+use Rattle.page_write.specs.Pages.{nodePage}
+use Rattle.flash_write.proofs.Laws.{pairs-first}
+use borrow.Author.Needs.{needs}
+use Rattle.flash_write.proofs.node_page.put_node.Statement.{statement}
+use Rattle.flash_write.proofs.node_page.put_node.Tie as tie
+
+cast-node-image : tie.Need-cast-node-image
+cast-node-image c = search needs
+
+slice-aggregate-node-image : tie.Need-slice-aggregate-node-image
+slice-aggregate-node-image c = search needs
+
+slice-aggregate-node-image-2 : tie.Need-slice-aggregate-node-image-2
+slice-aggregate-node-image-2 c = search needs
+
+node-image-requires : tie.Need-node-image-requires
+node-image-requires c κs = search needs
+
+put-image-requires : tie.Need-put-image-requires
+put-image-requires c κs = search needs
+
+same-length : tie.Need-same-length
+same-length c = search needs
+
+returns : tie.Need-returns
+unfolding nodePage
+returns c = let a = c .before .before .before .before .before .before .before .before .before .before .args in
+    let i : c .before .before .before .before .node-image .result ≡ image (page (a .number) (whole (a .id) (nodeOf (a .v)))) =
+    c .before .before .before .before .node-image .ensures ∙
+    ap (λ (ps : List Pair). image (page (a .number) (whole (a .id) (node (a .v .kind) ps (a .v .link))))) (pairs-first (a .v) (c .before .before .before .before .before .before .before .before .before .before .pre .2)) in
+    rw (← i) (c .before .before .put-image .ensures)
+
+pub put-node-spec : {M : Type 1} → statement M
+put-node-spec =
+    tie.close
+    (tie.spec
+    cast-node-image
+    slice-aggregate-node-image
+    slice-aggregate-node-image-2
+    node-image-requires
+    put-image-requires
+    same-length
+    returns)

@@ -1,0 +1,58 @@
+-- `node_page::write_node` meets its contract: the page, the row, the state behind it. Assumes nothing.
+use Rattle.flash_rows.specs.Row.{rowsOf}
+use Rattle.flash_blocks.specs.Pages.{pagesOf}
+use Rattle.node.specs.Value.{nodeOf}
+use Rattle.flash_write.proofs.Laws.{node-written}
+use borrow.Author.Needs.{needs}
+use Rattle.flash_write.proofs.node_page.write_node.Statement.{statement}
+use Rattle.flash_write.proofs.node_page.write_node.Tie as tie
+
+mul-at : tie.Need-mul-at
+mul-at c = search needs
+
+add-at : tie.Need-add-at
+add-at c = search needs
+
+next-number-requires : tie.Need-next-number-requires
+next-number-requires c κs = search needs
+
+put-node-requires : tie.Need-put-node-requires
+put-node-requires c κs = search needs
+
+cast-disk-row : tie.Need-cast-disk-row
+cast-disk-row c = search needs
+
+disk-row-requires : tie.Need-disk-row-requires
+disk-row-requires c κs = search needs
+
+advance-requires : tie.Need-advance-requires
+advance-requires c κs = search needs
+
+same-length : tie.Need-same-length
+same-length c = search needs
+
+same-length-2 : tie.Need-same-length-2
+same-length-2 c = search needs
+
+returns : tie.Need-returns
+returns c = let a = c .before .before .before .before .before .before .before .before .before .before .before .before .before .before .args in
+    let p = c .before .before .before .before .before .before .before .before .before .before .before .before .before .before .pre in
+    let n = c .before .before .before .before .before .before .before .before .before .next-number in
+    let w = c .before .before .before .before .before .before .before .put-node in
+    let d = c .before .before .before .disk-row in
+    node-written (a .n) (nodeOf (a .v)) (pagesOf (a .pool .now)) (pagesOf (w .last .0)) (rowsOf (a .table .now)) (rowsOf (d .last .0)) (a .state) (c .advance .result) (n .result) (p .0) (w .kept .0) (d .kept .0) (p .1) (n .ensures) (w .ensures) (d .ensures) (c .advance .ensures)
+
+pub write-node-spec : {M : Type 1} → statement M
+write-node-spec =
+    tie.close
+    (tie.spec
+    mul-at
+    add-at
+    next-number-requires
+    put-node-requires
+    cast-disk-row
+    disk-row-requires
+    advance-requires
+    same-length
+    same-length-2
+    returns)

@@ -1,0 +1,103 @@
+// The whole content of a node as a group of entries under a new version.
+ghost use mathlib.Core.Path.{_≡_};
+ghost use Prim.Native.Nat.{_+_, _*_, _≤_, _<_};
+ghost use lib.ListN.{length};
+ghost use Rattle.flash_rows.specs.Row.{rowsOf};
+ghost use Rattle.flash_blocks.specs.Pages.{pagesOf};
+ghost use Rattle.node.specs.Change.{puts, changesOf};
+ghost use Rattle.node.specs.Value.{pairsIn, nodeOf, Sized};
+ghost use Rattle.flash_allocate.specs.World.{Good, world};
+ghost use Rattle.flash_log.specs.Entry.{appendAll};
+ghost use Rattle.flash_log.specs.Flush.{Kept};
+ghost use Rattle.flash_write.specs.Group as def;
+ghost use Rattle.flash_write.specs.Group.{numbered, withNodes, Started, Grown};
+use account::Mode;
+use flash_log::claim::no_row;
+use flash_log::entry::append;
+use flash_log::flush::next_number;
+use flash_log::flush::room;
+use node::ChangeValue;
+use node::NodeValue;
+use flash_allocate::state::State;
+use flash_rows::Row;
+
+// The state with another last sequence number.
+fn number(state: State, last: u32) -> State
+    ensures { λ r. ⌜ r ≡ numbered last state ⌝ }
+{
+    let mut s = state;
+    s.last = last;
+    s
+}
+
+// The state with another number of nodes.
+fn with_nodes(state: State, nodes: usize) -> State
+    ensures { λ r. ⌜ r ≡ withNodes nodes state ⌝ }
+{
+    let mut s = state;
+    s.nodes = nodes;
+    s
+}
+
+// An entry for each pair, ascending.
+fn append_pairs(state: State, id: usize, version: u32, v: NodeValue) -> State
+    requires { ⌜ Sized v ⌝ }
+    ensures { λ r. ⌜ r ≡ appendAll id version (puts (pairsIn v)) state ⌝ }
+{
+    let keys = v.keys;
+    let pointers = v.pointers;
+    let mut s = state;
+    let mut i: usize = 0;
+    while i < v.count {
+        let change = ChangeValue::Put {
+            key: keys[i],
+            pointer: pointers[i],
+        };
+        s = append(s, id, version, change);
+        i += 1;
+    }
+    s
+}
+
+// An entry for each pair, then the link's.
+fn append_node(state: State, id: usize, version: u32, v: NodeValue) -> State
+    requires { ⌜ Sized v ⌝ }
+    ensures { λ r. ⌜ r ≡ appendAll id version (changesOf (nodeOf v)) state ⌝ }
+{
+    let kind = v.kind;
+    let s = append_pairs(state, id, version, v);
+    let change = ChangeValue::Link { kind, link: v.link };
+    append(s, id, version, change)
+}
+
+// A fresh start of a node whose row was this.
+fn start(table: &mut [u8], state: State, n: usize, row: Row, version: u32, v: NodeValue) -> State
+    requires { ⌜ (16 * n + 16 ≤ length (now table)) × (Sized v) ⌝ }
+    ensures { λ r. ⌜ Started (rowsOf (now (table .entry))) state n row version (nodeOf v) (rowsOf (now (table .exit))) r ⌝ }
+{
+    flash_rows::store(table, n, row.fresh(version, Mode::Log));
+    append_node(number(state, version), n, version, v)
+}
+
+// The whole content of a node under a new version. A page that it forces out takes its sequence number before.
+pub fn group(pool: &mut [u8], table: &mut [u8], state: State, n: usize, v: NodeValue) -> State
+    requires { ⌜ (Good (length (now pool)) (length (now table)) state) × (n < state .nodes) × (Sized v) ⌝ }
+    ensures { λ r. ⌜ Kept (length (now (pool .exit))) (length (now (table .exit))) state (world (pagesOf (now (pool .exit))) (rowsOf (now (table .exit))) r) (def.group n (nodeOf v) (world (pagesOf (now (pool .entry))) (rowsOf (now (table .entry))) state)) ⌝ }
+{
+    let s = room(pool, table, state, v.count + 1);
+    let version = next_number(s.last);
+    let row = flash_rows::load(table, n);
+    start(table, s, n, row, version, v)
+}
+
+// A new node, the next one, in log mode with score 0.
+pub fn create(pool: &mut [u8], table: &mut [u8], state: State, v: NodeValue) -> State
+    requires { ⌜ (Good (length (now pool)) (length (now table)) state) × (state .nodes + state .checkpoint < 64 * state .blocks) × (Sized v) ⌝ }
+    ensures { λ r. ⌜ Grown (length (now (pool .exit))) (length (now (table .exit))) state (world (pagesOf (now (pool .exit))) (rowsOf (now (table .exit))) r) (def.create (nodeOf v) (world (pagesOf (now (pool .entry))) (rowsOf (now (table .entry))) state)) ⌝ }
+{
+    let s = room(pool, table, state, v.count + 1);
+    let version = next_number(s.last);
+    let row = no_row();
+    let t = start(table, s, s.nodes, row, version, v);
+    with_nodes(t, s.nodes + 1)
+}

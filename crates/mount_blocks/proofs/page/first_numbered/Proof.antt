@@ -1,0 +1,64 @@
+-- `page::first_numbered` meets its contract. The invariant: the first from here on is the first of all. Assumes nothing.
+use mathlib.Core.Path.{_≡_, refl, _∙_}
+use Prim.Native.Nat.{_-_, _≤_}
+use native.Mathlib.Omega.{arith}
+use borrow.Author.Needs.{needs}
+use Rattle.flash_blocks.specs.Pages.{pagesOf}
+use Rattle.mount_blocks.specs.All.{firstIn, in-more, in-found, in-done}
+use Rattle.mount_blocks.specs.Rules.{numberedAt}
+use Rattle.mount_blocks.proofs.Laws.{numbered-at, other-at}
+use Rattle.mount_blocks.proofs.page.first_numbered.Statement.{statement}
+use Rattle.mount_blocks.proofs.page.first_numbered.Tie as tie
+
+abbrev Inv-loop : tie.InvT-loop
+Inv-loop pool from to number page₀ page = ((from ≤ page) × (page ≤ to)) × (firstIn (numberedAt (pagesOf pool) number) page to ≡ firstIn (numberedAt (pagesOf pool) number) from to)
+
+abbrev μ-loop : tie.MeasureT-loop
+μ-loop pool from to number page₀ page = to - page
+
+loop-holds : tie.Need-loop-holds Inv-loop μ-loop
+loop-holds c = (omega arith, refl)
+
+sequence-on-requires : tie.Need-sequence-on-requires Inv-loop μ-loop
+sequence-on-requires c κs = search needs
+
+returns : tie.Need-returns Inv-loop μ-loop
+returns c = let a = c .before .before .before .before .before .args in
+    let l = c .before .before .before .loop in
+    let s = c .before .sequence-on in
+    let ps = pagesOf (a .pool .now) in
+    in-found (numberedAt ps (a .number)) (a .to) (l .page) (c .before .before .loop-test .taken) (numbered-at ps (l .page) (a .number) (s .result) (s .ensures) (c .if1 .taken)) ∙ l .inv .1
+
+add-page : tie.Need-add-page Inv-loop μ-loop
+add-page c = search needs
+
+loop-less : tie.Need-loop-less Inv-loop μ-loop
+loop-less c = search needs
+
+loop-again : tie.Need-loop-again Inv-loop μ-loop
+loop-again c = let a = c .before .before .before .before .before .args in
+    let l = c .before .before .before .loop in
+    let s = c .before .sequence-on in
+    let ps = pagesOf (a .pool .now) in (
+      omega arith,
+      in-more (numberedAt ps (a .number)) (a .to) (l .page) (c .before .before .loop-test .taken) (other-at ps (l .page) (a .number) (s .result) (s .ensures) (c .if1 .left)) ∙ l .inv .1,
+    )
+
+returns-2 : tie.Need-returns-2 Inv-loop μ-loop
+returns-2 c = let a = c .before .before .before .args in
+    let l = c .before .loop in
+    in-done (numberedAt (pagesOf (a .pool .now)) (a .number)) (a .to) (l .page) (c .loop-test .left) ∙ l .inv .1
+
+pub first-numbered-spec : {M : Type 1} → statement M
+first-numbered-spec =
+    tie.close
+    (tie.spec
+    Inv-loop
+    μ-loop
+    loop-holds
+    sequence-on-requires
+    returns
+    add-page
+    loop-less
+    loop-again
+    returns-2)

@@ -1,0 +1,63 @@
+// The first page of a stretch that is blank, is written, or has a number.
+ghost use mathlib.Core.Path.{_≡_};
+ghost use Prim.Native.Nat.{_+_, _*_, _≤_};
+ghost use lib.ListN.{length};
+ghost use Rattle.flash_blocks.specs.Pages.{pagesOf};
+ghost use Rattle.mount_blocks.specs.All.{firstIn};
+ghost use Rattle.mount_blocks.specs.Rules.{sequenceOn, blankAt, writtenAt, numberedAt};
+use flash_blocks::page::is_blank;
+use wire::number::read32;
+
+// The sequence number in a page's header.
+pub fn sequence_on(pool: &[u8], page: usize) -> u32
+    requires { ⌜ 512 * page + 512 ≤ length (now pool) ⌝ }
+    ensures { λ r. ⌜ r ≡ sequenceOn (pagesOf (now (pool .entry))) page ⌝ }
+{
+    read32(pool, 512 * page + 3)
+}
+
+// The first blank page from one on and before another, or that other.
+pub fn first_blank(pool: &[u8], from: usize, to: usize) -> usize
+    requires { ⌜ (from ≤ to) × (512 * to ≤ length (now pool)) ⌝ }
+    ensures { λ r. ⌜ (r ≡ firstIn (blankAt (pagesOf (now (pool .entry)))) from to) × (from ≤ r) × (r ≤ to) ⌝ }
+{
+    let mut page = from;
+    while page < to {
+        if is_blank(pool, page) {
+            return page;
+        }
+        page += 1;
+    }
+    page
+}
+
+// The first written page.
+pub fn first_written(pool: &[u8], from: usize, to: usize) -> usize
+    requires { ⌜ (from ≤ to) × (512 * to ≤ length (now pool)) ⌝ }
+    ensures { λ r. ⌜ r ≡ firstIn (writtenAt (pagesOf (now (pool .entry)))) from to ⌝ }
+{
+    let mut page = from;
+    while page < to {
+        if is_blank(pool, page) {
+            page += 1;
+        } else {
+            return page;
+        }
+    }
+    page
+}
+
+// The first page with a sequence number.
+pub fn first_numbered(pool: &[u8], from: usize, to: usize, number: u32) -> usize
+    requires { ⌜ (from ≤ to) × (512 * to ≤ length (now pool)) ⌝ }
+    ensures { λ r. ⌜ r ≡ firstIn (numberedAt (pagesOf (now (pool .entry))) number) from to ⌝ }
+{
+    let mut page = from;
+    while page < to {
+        if sequence_on(pool, page) == number {
+            return page;
+        }
+        page += 1;
+    }
+    page
+}

@@ -1,0 +1,82 @@
+// The scores of a complete checkpoint in the rows of the work table.
+ghost use mathlib.Core.Path.{_≡_};
+ghost use Prim.Native.Nat.{_+_, _*_, _≤_, _<_};
+ghost use lib.ListN.{length};
+ghost use Rattle.layout.specs.Layout.{blockBytes};
+ghost use Rattle.flash_rows.specs.Row.{rowsOf};
+ghost use Rattle.flash_blocks.specs.Pages.{pagesOf};
+ghost use Rattle.mount_checkpoint.specs.EveryFrom.{everyFrom};
+ghost use Rattle.mount_checkpoint.specs.Scores.{scoreTaken, takePage, takePages, isBelow};
+use page_read::seal::sequence;
+use page_read::value::score_at;
+use mount_checkpoint_pages::part::page_in;
+use mount_checkpoint_pages::sheet::scores_of;
+
+// The score of a node in its row.
+fn take_score(table: &mut [u8], nodes: usize, id: usize, score: u32)
+    requires { ⌜ 16 * nodes ≤ length (now table) ⌝ }
+    ensures { λ _. ⌜ rowsOf (now (table .exit)) ≡ scoreTaken nodes id score (rowsOf (now (table .entry))) ⌝ }
+{
+    if id < nodes {
+        let row = flash_rows::load(table, id);
+        flash_rows::store(table, id, row.scored(score));
+    }
+}
+
+// The scores on a page, where its number is not below the first.
+fn take_page(page: &[u8], table: &mut [u8], since: u32, nodes: usize)
+    requires { ⌜ 16 * nodes ≤ length (now table) ⌝ }
+    ensures { λ _. ⌜ rowsOf (now (table .exit)) ≡ takePage since nodes (now (page .entry)) (rowsOf (now (table .entry))) ⌝ }
+{
+    if sequence(page) < since {
+        return;
+    }
+    let s = scores_of(page);
+    let from = s.from;
+    let n = s.count;
+    let mut i: usize = 0;
+    while i < n {
+        let v = score_at(page, from, i);
+        take_score(table, nodes, v.id as usize, v.score);
+        i += 1;
+    }
+}
+
+// The scores of all pages from a number on, each in its node's row.
+pub fn take_scores(pool: &[u8], table: &mut [u8], blocks: usize, since: u32, nodes: usize)
+    requires { ⌜ (blockBytes * blocks ≤ length (now pool)) × (16 * nodes ≤ length (now table)) ⌝ }
+    ensures { λ _. ⌜ rowsOf (now (table .exit)) ≡ takePages (pagesOf (now (pool .entry))) (32 * blocks) since nodes (rowsOf (now (table .entry))) ⌝ }
+{
+    let pages = 32 * blocks;
+    let mut q: usize = 0;
+    while q < pages {
+        take_page(page_in(pool, q), table, since, nodes);
+        q += 1;
+    }
+}
+
+// Whether the score of a row is below a limit.
+fn is_below(table: &[u8], n: usize, limit: u64) -> bool
+    requires { ⌜ 16 * n + 16 ≤ length (now table) ⌝ }
+    ensures { λ r. ⌜ r ≡ isBelow limit (rowsOf (now (table .entry))) n ⌝ }
+{
+    let row = flash_rows::load(table, n);
+    let score = row.score as u64;
+    score < limit
+}
+
+// Whether the scores of all nodes are below a limit.
+pub fn scores_below(table: &[u8], nodes: usize, limit: u64) -> bool
+    requires { ⌜ 16 * nodes ≤ length (now table) ⌝ }
+    ensures { λ r. ⌜ r ≡ everyFrom (isBelow limit (rowsOf (now (table .entry)))) nodes 0 ⌝ }
+{
+    let mut n: usize = 0;
+    while n < nodes {
+        if is_below(table, n, limit) {
+            n += 1;
+        } else {
+            return false;
+        }
+    }
+    true
+}

@@ -1,0 +1,60 @@
+-- `totals::add_page` meets its contract: a page below the first number adds nothing. Assumes nothing.
+use mathlib.Core.Path.{sym, _∙_}
+use borrow.Author.Needs.{needs}
+use Rattle.mount_checkpoint_pages.proofs.Laws.{add-below, add-fit, add-misfit}
+use Rattle.mount_checkpoint_pages.proofs.totals.add_page.Statement.{statement}
+use Rattle.mount_checkpoint_pages.proofs.totals.add_page.Tie as tie
+
+sequence-requires : tie.Need-sequence-requires
+sequence-requires c κs = search needs
+
+returns : tie.Need-returns
+returns c = let a = c .before .before .before .args in
+    add-below (a .since) (a .newest) (a .page .now) (a .t) (c .before .sequence .result) (c .before .sequence .ensures) (c .if1 .taken)
+
+sheet-of-requires : tie.Need-sheet-of-requires
+sheet-of-requires c κs = search needs
+
+add-scores : tie.Need-add-scores
+add-scores c = search needs
+
+add-nodes : tie.Need-add-nodes
+add-nodes c = search needs
+
+fits-requires : tie.Need-fits-requires
+fits-requires c κs = search needs
+
+returns-2 : tie.Need-returns-2
+returns-2 c = let a = c .before .before .before .before .before .before .before .before .before .before .args in
+    add-fit (a .since) (a .newest) (a .page .now) (a .t) (c .before .before .before .before .before .before .before .before .sequence .result)
+    (c .before .before .before .before .before .before .before .before .sequence .ensures)
+    (c .before .before .before .before .before .before .before .if1 .left)
+    (c .before .before .before .before .before .before .sheet-of .result)
+    (c .before .before .before .before .before .before .sheet-of .ensures) (sym (c .if2 .taken) ∙ c .before .fits2 .ensures)
+
+add-t11 : tie.Need-add-t11
+add-t11 c = search needs
+
+returns-3 : tie.Need-returns-3
+returns-3 c = let a = c .before .before .before .before .before .before .before .before .before .before .before .args in
+    add-misfit (a .since) (a .newest) (a .page .now) (a .t)
+    (c .before .before .before .before .before .before .before .before .before .sequence .result)
+    (c .before .before .before .before .before .before .before .before .before .sequence .ensures)
+    (c .before .before .before .before .before .before .before .before .if1 .left)
+    (c .before .before .before .before .before .before .before .sheet-of .result)
+    (c .before .before .before .before .before .before .before .sheet-of .ensures)
+    (sym (c .before .if2 .left) ∙ c .before .before .fits2 .ensures)
+
+pub add-page-spec : {M : Type 1} → statement M
+add-page-spec =
+    tie.close
+    (tie.spec
+    sequence-requires
+    returns
+    sheet-of-requires
+    add-scores
+    add-nodes
+    fits-requires
+    returns-2
+    add-t11
+    returns-3)

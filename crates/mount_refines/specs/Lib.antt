@@ -1,0 +1,3 @@
+pub mod Checkpoint
+pub mod Rows
+pub mod Mount

@@ -1,0 +1,93 @@
+-- The ways out of questions 7 and 8, one law for each, from the answers of the tests. Assumes nothing.
+use mathlib.Core.Path.{_≡_, refl, sym, ap, _∙_}
+use mathlib.Core.Bool.{Bool, true, false, true≢false}
+use mathlib.Core.List.{List}
+use Prim.Native.Nat.{ℕ, _*_, _≤_, _<_}
+use native.Mathlib.Omega.{arith}
+use borrow.Author.Tests.{le-leb, lt-leb}
+use lib.ListN.{length, replicate}
+use Rattle.layout.specs.Layout.{nodeLimit, tableBytes, lastSequence}
+use Rattle.account.specs.declared.Tariff.{Tariff}
+use Rattle.account.specs.Tariff.{limit}
+use Rattle.account.specs.Range.{inRange}
+use Rattle.tree.specs.Sound.{sound}
+use Rattle.flash_rows.specs.Row.{rowsOf}
+use Rattle.flash_rows.specs.declared.Row.{Row}
+use Rattle.flash_allocate.specs.declared.state.State.{State}
+use Rattle.mount_rows.specs.Fill.{filled, withinThree, Filled}
+use Rattle.mount_checkpoint.specs.EveryFrom.{everyFrom}
+use Rattle.mount_checkpoint.specs.Scores.{takePages, isBelow}
+use Rattle.flash_read.specs.NodeTable.{tableOf}
+use Rattle.mount_restore.specs.Table.{emptyRows, scoredRows, restoredRows, Restored}
+use Rattle.mount_restore.specs.Questions.{rowsPass, rowsFor, treePasses, refusalOf, Judged, Asked}
+
+-- The rows: an empty table, the scores, the pages.
+pub rows-restored : (blocks nodes since : ℕ) (pages : List (List ℕ)) (table zeros scored : List ℕ) (after : List Row) (answer : Bool) →
+    length table ≡ tableBytes blocks → zeros ≡ replicate (length table) 0 →
+    rowsOf scored ≡ takePages pages (32 * blocks) since nodes (rowsOf zeros) → Filled blocks nodes pages (rowsOf scored) after answer →
+    Restored blocks nodes since pages after answer
+unfolding restoredRows scoredRows emptyRows
+rows-restored blocks nodes since pages table zeros scored after answer size z s f =
+    let e : zeros ≡ replicate (tableBytes blocks) 0 = z ∙ ap (λ (n : ℕ). replicate n 0) size in
+    record {
+      rows =
+          f .rows ∙
+          ap (filled blocks nodes pages) (s ∙ ap (λ (x : List ℕ). takePages pages (32 * blocks) since nodes (rowsOf x)) e);
+      three = f .three;
+    }
+
+-- Restored rows.
+module _ (t : Tariff) (s : State) (pages : List (List ℕ)) (rows : List Row) where
+  pub out-of-range : inRange t ≡ false → false ≡ rowsPass t s pages rows
+  unfolding rowsPass
+  out-of-range e = rw e refl
+
+  module _ (ranged : inRange t ≡ true) (most : ℕ) (is : most ≡ limit t) where
+    pub score-too-great : everyFrom (isBelow most rows) (s .nodes) 0 ≡ false → false ≡ rowsPass t s pages rows
+    unfolding rowsPass
+    score-too-great e = rw (ranged, ap (λ (m : ℕ). everyFrom (isBelow m rows) (s .nodes) 0) (sym is) ∙ e) refl
+
+    pub tree-decides : everyFrom (isBelow most rows) (s .nodes) 0 ≡ true →
+        sound (nodeLimit (s .blocks)) (s .nodes) (tableOf pages rows s) ≡ rowsPass t s pages rows
+    unfolding rowsPass
+    tree-decides e = rw (ranged, ap (λ (m : ℕ). everyFrom (isBelow m rows) (s .nodes) 0) (sym is) ∙ e) refl
+
+-- Question 7.
+module _ (t : Tariff) (s : State) (since : ℕ) (pages : List (List ℕ)) (after : List Row) where
+  refuses : false ≡ treePasses t s since pages → Judged t s since pages after false
+  refuses e = record { is = e; rows = λ no. absurd (true≢false (sym no)) }
+
+  pub too-many : nodeLimit (s .blocks) < s .nodes → Judged t s since pages after false
+  unfolding treePasses
+  too-many l = refuses (rw (lt-leb (s .nodes) (nodeLimit (s .blocks)) l) refl)
+
+  module _ (few : s .nodes ≤ nodeLimit (s .blocks)) (three : Bool) (r : Restored (s .blocks) (s .nodes) since pages after three) where
+    three-is : three ≡ withinThree (s .nodes) (rowsFor s since pages)
+    three-is = r .three ∙ ap (withinThree (s .nodes)) (r .rows)
+
+    pub too-scattered : three ≡ false → Judged t s since pages after false
+    unfolding treePasses
+    too-scattered e = refuses (rw (le-leb (s .nodes) (nodeLimit (s .blocks)) few, sym three-is ∙ e) refl)
+
+    pub rows-decide : three ≡ true → (answer : Bool) → answer ≡ rowsPass t s pages after → Judged t s since pages after answer
+    unfolding treePasses
+    rows-decide e answer is =
+        record {
+          is = is ∙ ap (rowsPass t s pages) (r .rows) ∙ rw (le-leb (s .nodes) (nodeLimit (s .blocks)) few, sym three-is ∙ e) refl;
+          rows = λ yes. r .rows;
+        }
+
+-- Questions 7 and 8.
+module _ (t : Tariff) (s : State) (since : ℕ) (pages : List (List ℕ)) (after : List Row) (answer : Bool) (j : Judged t s since pages after answer) where
+  pub refused-seven : answer ≡ false → Asked t s since pages after 7
+  unfolding refusalOf
+  refused-seven e = record { is = rw (sym (j .is) ∙ e) refl; rows = λ z. absurd (omega arith) }
+
+  module _ (yes : answer ≡ true) where
+    pub refused-eight : lastSequence < s .last → Asked t s since pages after 8
+    unfolding refusalOf
+    refused-eight l = record { is = rw (sym (j .is) ∙ yes, lt-leb (s .last) lastSequence l) refl; rows = λ z. absurd (omega arith) }
+
+    pub not-refused : s .last ≤ lastSequence → Asked t s since pages after 0
+    unfolding refusalOf
+    not-refused l = record { is = rw (sym (j .is) ∙ yes, le-leb (s .last) lastSequence l) refl; rows = λ z. j .rows yes }

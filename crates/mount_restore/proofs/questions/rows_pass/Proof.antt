@@ -1,0 +1,58 @@
+-- `questions::rows_pass` meets its contract: the tariff, the scores, the tree. Assumes nothing.
+use mathlib.Core.Path.{sym, _∙_}
+use Rattle.flash_blocks.specs.Pages.{pagesOf}
+use Rattle.flash_rows.specs.Row.{rowsOf}
+use Rattle.mount_restore.proofs.Laws.{out-of-range, score-too-great, tree-decides}
+use borrow.Author.Needs.{needs}
+use Rattle.mount_restore.proofs.questions.rows_pass.Statement.{statement}
+use Rattle.mount_restore.proofs.questions.rows_pass.Tie as tie
+
+in-range-requires : tie.Need-in-range-requires
+in-range-requires c κs = search needs
+
+returns : tie.Need-returns
+returns c =
+    let a = c .before .before .before .before .args in
+    out-of-range (a .tariff) (a .state) (pagesOf (a .pool .now)) (rowsOf (a .table .now)) (sym (c .before .in-range .ensures) ∙ c .if1 .left)
+
+limit-requires : tie.Need-limit-requires
+limit-requires c κs = search needs
+
+scores-below-requires : tie.Need-scores-below-requires
+scores-below-requires c κs = search needs
+
+returns-2 : tie.Need-returns-2
+returns-2 c =
+    let a = c .before .before .before .before .before .before .before .args in
+    score-too-great (a .tariff) (a .state) (pagesOf (a .pool .now)) (rowsOf (a .table .now)) (sym (c .before .before .before .before .in-range .ensures) ∙ c .before .before .before .if1 .taken)
+    (c .before .before .limit .result) (c .before .before .limit .ensures) (sym (c .before .scores-below .ensures) ∙ c .if2 .left)
+
+sub-is-sound : tie.Need-sub-is-sound
+sub-is-sound c = search needs
+
+mul-is-sound : tie.Need-mul-is-sound
+mul-is-sound c = search needs
+
+is-sound-requires : tie.Need-is-sound-requires
+is-sound-requires c κs = search needs
+
+returns-3 : tie.Need-returns-3
+returns-3 c =
+    let a = c .before .before .before .before .before .before .before .before .before .args in
+    c .is-sound .ensures ∙
+    tree-decides (a .tariff) (a .state) (pagesOf (a .pool .now)) (rowsOf (a .table .now)) (sym (c .before .before .before .before .before .before .in-range .ensures) ∙ c .before .before .before .before .before .if1 .taken)
+    (c .before .before .before .before .limit .result) (c .before .before .before .before .limit .ensures) (sym (c .before .before .before .scores-below .ensures) ∙ c .before .before .if2 .taken)
+
+pub rows-pass-spec : {M : Type 1} → statement M
+rows-pass-spec =
+    tie.close
+    (tie.spec
+    in-range-requires
+    returns
+    limit-requires
+    scores-below-requires
+    returns-2
+    sub-is-sound
+    mul-is-sound
+    is-sound-requires
+    returns-3)

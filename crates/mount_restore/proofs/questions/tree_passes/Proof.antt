@@ -1,0 +1,57 @@
+-- `questions::tree_passes` meets its contract: too many nodes, a node on too many pages, or as the rows pass. Assumes nothing.
+use Rattle.flash_blocks.specs.Pages.{pagesOf}
+use Rattle.flash_rows.specs.Row.{rowsOf}
+use Rattle.mount_restore.proofs.Laws.{too-many, too-scattered, rows-decide}
+use borrow.Author.Needs.{needs}
+use Rattle.mount_restore.proofs.questions.tree_passes.Statement.{statement}
+use Rattle.mount_restore.proofs.questions.tree_passes.Tie as tie
+
+sub-if1 : tie.Need-sub-if1
+sub-if1 c = search needs
+
+mul-if1 : tie.Need-mul-if1
+mul-if1 c = search needs
+
+returns : tie.Need-returns
+returns c =
+    let a = c .before .before .before .before .before .args in
+    too-many (a .tariff) (a .state) (a .since) (pagesOf (a .pool .now)) (rowsOf (a .table .now)) (c .if1 .taken)
+
+restore-rows-requires : tie.Need-restore-rows-requires
+restore-rows-requires c κs = search needs
+
+same-length : tie.Need-same-length
+same-length c = search needs
+
+returns-2 : tie.Need-returns-2
+returns-2 c =
+    let a = c .before .before .before .before .before .before .before .before .before .before .args in
+    let r = c .before .before .before .restore-rows in
+    too-scattered (a .tariff) (a .state) (a .since) (pagesOf (a .pool .now)) (rowsOf (r .last .1 .0)) (c .before .before .before .before .before .if1 .left) (r .result) (r .ensures) (c .if2 .left)
+
+rows-pass-requires : tie.Need-rows-pass-requires
+rows-pass-requires c κs = search needs
+
+same-length-2 : tie.Need-same-length-2
+same-length-2 c = search needs
+
+returns-3 : tie.Need-returns-3
+returns-3 c =
+    let a = c .before .before .before .before .before .before .before .before .before .before .before .before .args in
+    let r = c .before .before .before .before .before .restore-rows in
+    rows-decide (a .tariff) (a .state) (a .since) (pagesOf (a .pool .now)) (rowsOf (r .last .1 .0)) (c .before .before .before .before .before .before .before .if1 .left) (r .result) (r .ensures) (c .before .before .if2 .taken)
+    (c .rows-pass .result) (c .rows-pass .ensures)
+
+pub tree-passes-spec : {M : Type 1} → statement M
+tree-passes-spec =
+    tie.close
+    (tie.spec
+    sub-if1
+    mul-if1
+    returns
+    restore-rows-requires
+    same-length
+    returns-2
+    rows-pass-requires
+    same-length-2
+    returns-3)

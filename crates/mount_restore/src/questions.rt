@@ -1,0 +1,55 @@
+// Is the tree sound, and are sequence numbers left?
+ghost use mathlib.Core.Path.{_≡_};
+ghost use Prim.Native.Nat.{_*_, _≤_};
+ghost use lib.ListN.{length};
+ghost use Rattle.layout.specs.Layout.{blockBytes, fewestBlocks, mostBlocks, nodeLimit, tableBytes};
+ghost use Rattle.flash_rows.specs.Row.{rowsOf};
+ghost use Rattle.flash_blocks.specs.Pages.{pagesOf};
+ghost use Rattle.mount_restore.specs.Questions.{rowsPass, Judged, Asked};
+use super::table::restore_rows;
+use account::Tariff;
+use mount_checkpoint::scores::scores_below;
+use flash_allocate::state::State;
+use mount_tree::is_sound;
+
+// Whether restored rows pass: the tariff in range, the scores below its limit, the tree sound.
+fn rows_pass<'a>(pool: &'a [u8], table: &'a [u8], state: State, tariff: Tariff) -> bool
+    requires { ⌜ (fewestBlocks ≤ state .blocks) × (state .blocks ≤ mostBlocks) × (length (now table) ≡ tableBytes (state .blocks)) × (state .nodes ≤ nodeLimit (state .blocks)) × (state .entries ≡ 0) ⌝ }
+    ensures { λ r. ⌜ r ≡ rowsPass tariff state (pagesOf (now (pool .entry))) (rowsOf (now (table .entry))) ⌝ }
+{
+    if tariff.in_range() {} else {
+        return false;
+    }
+    if scores_below(table, state.nodes, tariff.limit()) {} else {
+        return false;
+    }
+    is_sound(pool, table, state, 10 * (state.blocks - 2))
+}
+
+// Question 7. A count above the limit has no rows to restore.
+fn tree_passes(pool: &[u8], table: &mut [u8], state: State, tariff: Tariff, since: u32) -> bool
+    requires { ⌜ (fewestBlocks ≤ state .blocks) × (state .blocks ≤ mostBlocks) × (length (now pool) ≡ blockBytes * state .blocks) × (length (now table) ≡ tableBytes (state .blocks)) × (state .entries ≡ 0) ⌝ }
+    ensures { λ r. ⌜ Judged tariff state since (pagesOf (now (pool .entry))) (rowsOf (now (table .exit))) r ⌝ }
+{
+    if 10 * (state.blocks - 2) < state.nodes {
+        return false;
+    }
+    if restore_rows(pool, table, state.blocks, state.nodes, since) {} else {
+        return false;
+    }
+    rows_pass(pool, table, state, tariff)
+}
+
+// Questions 7 and 8 of a state to begin with: the number of the one that fails, or 0.
+pub fn refusal(pool: &[u8], table: &mut [u8], state: State, tariff: Tariff, since: u32) -> u32
+    requires { ⌜ (fewestBlocks ≤ state .blocks) × (state .blocks ≤ mostBlocks) × (length (now pool) ≡ blockBytes * state .blocks) × (length (now table) ≡ tableBytes (state .blocks)) × (state .entries ≡ 0) ⌝ }
+    ensures { λ r. ⌜ Asked tariff state since (pagesOf (now (pool .entry))) (rowsOf (now (table .exit))) r ⌝ }
+{
+    if tree_passes(pool, table, state, tariff, since) {} else {
+        return 7;
+    }
+    if state.last <= 4000000000 {
+        return 0;
+    }
+    8
+}

@@ -1,0 +1,84 @@
+-- `walk::enter_branch` meets its contract: each test is one case. Assumes nothing.
+use native.Mathlib.Omega.{arith}
+use borrow.Author.Needs.{needs}
+use Rattle.mount_tree.specs.Nodes.{no-branch, branch-out, inside, branch-keyless, branch-keyed}
+use Rattle.mount_tree.proofs.walk.enter_branch.Statement.{statement}
+use Rattle.mount_tree.proofs.walk.enter_branch.Tie as tie
+
+same-kind-requires : tie.Need-same-kind-requires
+same-kind-requires c κs = search needs
+
+failed-requires : tie.Need-failed-requires
+failed-requires c κs = search needs
+
+returns : tie.Need-returns
+returns c =
+    let entry = c .before .before .before in
+    let a = entry .args in
+    let kind = c .before .before .same-kind in
+    no-branch (a .v) (a .id) (a .nodes) (a .low) (a .high) (a .w) (entry .pre) (kind .result) (kind .ensures) (c .failed .result)
+    (c .before .if1 .taken) (c .failed .ensures)
+
+in-order-requires : tie.Need-in-order-requires
+in-order-requires c κs = search needs
+
+failed-requires-2 : tie.Need-failed-requires-2
+failed-requires-2 c κs = search needs
+
+returns-2 : tie.Need-returns-2
+returns-2 c =
+    let entry = c .before .before .before .before .before .before .before in
+    let a = entry .args in
+    let kind = c .before .before .before .before .before .before .same-kind in
+    let order = c .before .before .before .before .in-order in
+    branch-keyless (a .v) (a .id) (a .nodes) (a .low) (a .high) (a .w) (entry .pre) (kind .result) (kind .ensures) (c .failed2 .result)
+    (order .result) (order .ensures) (c .before .before .before .if2 .taken) (c .before .before .before .before .before .if1 .left)
+    (c .before .if3 .taken) (c .failed2 .ensures)
+
+marked-requires : tie.Need-marked-requires
+marked-requires c κs =
+    let entry = c .before .before .before .before .before .before in
+    let a = entry .args in
+    let kind = c .before .before .before .before .before .same-kind in
+    let order = c .before .before .before .in-order in
+    let reached =
+    inside (a .v) (a .id) (a .nodes) (a .low) (a .high) (a .w) (entry .pre) (kind .result) (kind .ensures) (a .w)
+    (order .result) (order .ensures) (c .before .before .if2 .taken) in
+    (entry .pre .kept, omega (arith, entry .pre .few))
+
+returns-3 : tie.Need-returns-3
+returns-3 c =
+    let entry = c .before .before .before .before .before .before .before in
+    let a = entry .args in
+    let kind = c .before .before .before .before .before .before .same-kind in
+    let order = c .before .before .before .before .in-order in
+    branch-keyed (a .v) (a .id) (a .nodes) (a .low) (a .high) (a .w) (entry .pre) (kind .result) (kind .ensures) (c .marked .result)
+    (order .result) (order .ensures) (c .before .before .before .if2 .taken) (c .before .before .before .before .before .if1 .left)
+    (c .before .if3 .left) (c .marked .ensures)
+
+failed-requires-3 : tie.Need-failed-requires-3
+failed-requires-3 c κs = search needs
+
+returns-4 : tie.Need-returns-4
+returns-4 c =
+    let entry = c .before .before .before .before .before in
+    let a = entry .args in
+    let kind = c .before .before .before .before .same-kind in
+    let order = c .before .before .in-order in
+    branch-out (a .v) (a .id) (a .nodes) (a .low) (a .high) (a .w) (entry .pre) (kind .result) (kind .ensures) (c .failed3 .result)
+    (order .result) (order .ensures) (c .before .before .before .if1 .left) (c .before .if2 .left) (c .failed3 .ensures)
+
+pub enter-branch-spec : {M : Type 1} → statement M
+enter-branch-spec =
+    tie.close
+    (tie.spec
+    same-kind-requires
+    failed-requires
+    returns
+    in-order-requires
+    failed-requires-2
+    returns-2
+    marked-requires
+    returns-3
+    failed-requires-3
+    returns-4)

@@ -1,4 +1,0 @@
-pub mod Replay
-pub mod Slots
-pub mod Whole
-pub mod Content

@@ -1,5 +1,0 @@
-// A node's content read back from the pages that its row names, and from the buffer.
-pub mod content;
-pub mod replay;
-pub mod slot;
-pub mod whole;

@@ -1,2 +1,0 @@
-pub mod NodeTable
-pub mod Kinds

@@ -1,0 +1,72 @@
+-- `checkpoint_write::lay_checkpoint` meets its contract. Field 10, the tariff, the scores, the count and the sums
+-- laid one behind another; there is room for each. Assumes nothing.
+use mathlib.Core.Path.{_≡_, refl, _∙_}
+use Prim.Native.Nat.{_+_, _*_}
+use native.Mathlib.Omega.{arith}
+use borrow.Author.Needs.{needs}
+use Rattle.laws.specs.Lay.{lay}
+use Rattle.laws.specs.BigEndian.{bytes-getD}
+use Rattle.page_write.specs.Laid.{summed-laid}
+use Rattle.page_checkpoint.specs.Checkpoint.{checkpointPage}
+use Rattle.page_write.specs.Pages.{bodyOf}
+use Rattle.page_checkpoint.specs.Checkpoint.{checkpoint-laid, length-checkpointBody, scores-room, count-room}
+use Rattle.page_checkpoint.proofs.lay_checkpoint.Statement.{statement}
+use Rattle.page_checkpoint.proofs.lay_checkpoint.Tie as tie
+
+lay-sequence-requires : tie.Need-lay-sequence-requires
+lay-sequence-requires c κs = search needs
+
+lay-opening-requires : tie.Need-lay-opening-requires
+lay-opening-requires c κs = search needs
+
+lay-run-requires : tie.Need-lay-run-requires
+lay-run-requires c κs = let a = c .before .before .before .before .before .before .before .before .before .before .before .args in
+    omega (arith, scores-room (a .first) (a .tariff) (a .n) (c .before .before .before .before .before .before .before .before .before .before .before .pre .1 .0), c .before .before .before .lay-opening .ensures .behind, c .before .before .before .lay-opening .kept .0, c .before .before .before .before .before .before .before .lay-sequence .kept .0, c .before .before .before .before .before .before .before .before .before .before .before .pre)
+
+mul-lay-closing : tie.Need-mul-lay-closing
+mul-lay-closing c = search needs
+
+add-lay-closing : tie.Need-add-lay-closing
+add-lay-closing c = let a = c .before .before .before .before .before .before .before .before .before .before .before .before .before .before .before .args in
+    omega (arith, scores-room (a .first) (a .tariff) (a .n) (c .before .before .before .before .before .before .before .before .before .before .before .before .before .before .before .pre .1 .0), c .before .before .before .before .before .before .before .lay-opening .ensures .behind)
+
+lay-closing-requires : tie.Need-lay-closing-requires
+lay-closing-requires c κs = let a = c .before .before .before .before .before .before .before .before .before .before .before .before .before .before .before .args in
+    omega (arith, scores-room (a .first) (a .tariff) (a .n) (c .before .before .before .before .before .before .before .before .before .before .before .before .before .before .before .pre .1 .0), c .before .before .before .before .before .before .before .lay-opening .ensures .behind, c .before .before .before .lay-run .kept .0, c .before .before .before .before .before .before .before .lay-opening .kept .0, c .before .before .before .before .before .before .before .before .before .before .before .lay-sequence .kept .0, c .before .before .before .before .before .before .before .before .before .before .before .before .before .before .before .pre)
+
+lay-sums-requires : tie.Need-lay-sums-requires
+lay-sums-requires c κs = let a = c .before .before .before .before .before .before .before .before .before .before .before .before .before .before .before .before .before .before .before .args in
+    omega (arith, scores-room (a .first) (a .tariff) (a .n) (c .before .before .before .before .before .before .before .before .before .before .before .before .before .before .before .before .before .before .before .pre .1 .0), count-room (a .last) (a .count), c .before .before .before .lay-closing .ensures .behind, c .before .before .before .before .before .before .before .before .before .before .before .lay-opening .ensures .behind, c .before .before .before .lay-closing .kept .0, c .before .before .before .before .before .before .before .lay-run .kept .0, c .before .before .before .before .before .before .before .before .before .before .before .lay-opening .kept .0, c .before .before .before .before .before .before .before .before .before .before .before .before .before .before .before .lay-sequence .kept .0, c .before .before .before .before .before .before .before .before .before .before .before .before .before .before .before .before .before .before .before .pre)
+
+same-length : tie.Need-same-length
+same-length c = search needs
+
+returns : tie.Need-returns
+returns c = let a = c .before .before .before .before .before .before .before .before .before .before .before .before .before .before .before .before .before .before .before .before .before .before .args in
+    let b = bytes-getD (a .records .now) (λ i. c .before .before .before .before .before .before .before .before .before .before .before .before .before .before .before .before .before .before .before .before .shared-slice-known .given i .fits) in
+    let at = c .before .before .before .before .before .before .before .before .before .before .before .before .before .before .lay-opening .result in
+    let r = scores-room (a .first) (a .tariff) (a .n) (c .before .before .before .before .before .before .before .before .before .before .before .before .before .before .before .before .before .before .before .before .before .before .pre .1 .0) in
+    let page = checkpointPage (a .sequence) (a .first) (a .tariff) (a .n) (a .records .now) (a .last) (a .count) in
+    let e : c .before .before .before .before .before .before .lay-closing .last .0 ≡ lay (a .p .now) 0 (bodyOf page) =
+    c .before .before .before .before .before .before .lay-closing .ensures .is ∙
+    rw (c .before .before .before .before .before .before .before .before .before .before .lay-run .ensures, c .before .before .before .before .before .before .before .before .before .before .before .before .before .before .lay-opening .ensures .is, c .before .before .before .before .before .before .before .before .before .before .before .before .before .before .before .before .before .before .lay-sequence .ensures)
+    (checkpoint-laid (a .p .now) (a .sequence) (a .first) (a .tariff) (a .n) (a .records .now) (a .last) (a .count) at (at + 9 * a .n) b
+    (c .before .before .before .before .before .before .before .before .before .before .before .before .before .before .before .before .before .before .before .before .before .before .pre .1 .1 .0) (omega (arith, c .before .before .before .before .before .before .before .before .before .before .before .before .before .before .before .before .before .before .before .before .before .before .pre .0)) (c .before .before .before .before .before .before .before .before .before .before .before .before .before .before .lay-opening .ensures .behind) refl (omega (arith, c .before .before .before .before .before .before .before .before .before .before .before .before .before .before .before .before .before .before .before .before .before .before .pre .0, c .before .before .before .before .before .before .before .before .before .before .before .before .before .before .lay-opening .ensures .behind))) in
+    c .before .before .lay-sums .ensures ∙
+    rw e (summed-laid (a .p .now) (bodyOf page) (c .before .before .before .before .before .before .lay-closing .result)
+    (length-checkpointBody (a .sequence) (a .first) (a .tariff) (a .n) (a .records .now) (a .last) (a .count) at (c .before .before .before .before .before .before .lay-closing .result) b
+    (c .before .before .before .before .before .before .before .before .before .before .before .before .before .before .before .before .before .before .before .before .before .before .pre .1 .1 .0) (c .before .before .before .before .before .before .before .before .before .before .before .before .before .before .lay-opening .ensures .behind) (c .before .before .before .before .before .before .lay-closing .ensures .behind)))
+
+pub lay-checkpoint-spec : {M : Type 1} → statement M
+lay-checkpoint-spec =
+    tie.close
+    (tie.spec
+    lay-sequence-requires
+    lay-opening-requires
+    lay-run-requires
+    mul-lay-closing
+    add-lay-closing
+    lay-closing-requires
+    lay-sums-requires
+    same-length
+    returns)

@@ -1,1 +1,0 @@
-// A put that the code carries out agrees with the model's. There is no code here.

@@ -1,1 +1,0 @@
-// The theorems stand in specs/; there is no code here.

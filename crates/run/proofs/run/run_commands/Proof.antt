@@ -1,0 +1,114 @@
+-- `run::run_commands` meets its contract: the commands left, from here, give the whole. Assumes nothing.
+use mathlib.Core.Path.{_≡_, refl, sym, _∙_}
+use Prim.Native.Nat.{_-_}
+use native.Mathlib.Omega.{arith}
+use borrow.Author.Needs.{needs}
+use lib.ListN.{length}
+use Rattle.command.specs.declared.Step.the-variants.{Next}
+use Rattle.command.specs.Command.{commandAt, Onward}
+use Rattle.command.specs.CommandLaws.{commandAt-onward}
+use Rattle.flash_rows.specs.Row.{rowsOf}
+use Rattle.flash_blocks.specs.Pages.{pagesOf}
+use Rattle.flash_allocate.specs.World.{world}
+use Rattle.run.specs.Valid.{command-range}
+use Rattle.run.specs.Running.{Running, running-start, running-room, running-next, running-valid, running-end}
+use Rattle.run.proofs.run.run_commands.Statement.{statement}
+use Rattle.run.proofs.run.run_commands.Tie as tie
+
+abbrev Inv-loop : tie.InvT-loop
+Inv-loop pool₀ table₀ batch answers₀ tariff s₀ charge₀ place₀ at₀ pool table answers s charge place at =
+    (length pool ≡ length pool₀) × (length table ≡ length table₀) × (length answers ≡ length answers₀) ×
+    Running (length pool) (length table) tariff batch answers₀ at (world (pagesOf pool₀) (rowsOf table₀) s₀) (world (pagesOf pool) (rowsOf table) s) answers charge place
+
+abbrev μ-loop : tie.MeasureT-loop
+μ-loop pool₀ table₀ batch answers₀ tariff s₀ charge₀ place₀ at₀ pool table answers s charge place at = length batch - at
+
+-- the command found, and that it goes on
+step-is : (k : tie.After-known-told Inv-loop μ-loop) →
+    commandAt (k .before .before .before .before .before .before .before .before .before .before .args .batch .now) (k .before .before .before .before .before .loop .at) ≡ Next (k .before .step .given .0 .0) (k .before .step .given .0 .1 .0)
+step-is k = sym (k .before .before .before .command-at .ensures) ∙ k .before .step .given .1
+
+onward : (k : tie.After-known-told Inv-loop μ-loop) →
+    Onward (k .before .before .before .before .before .before .before .before .before .before .args .batch .now) (k .before .before .before .before .before .loop .at) (Next (k .before .step .given .0 .0) (k .before .step .given .0 .1 .0))
+onward k = rw (step-is k) at (commandAt-onward (k .before .before .before .before .before .before .before .before .before .before .args .batch .now) (k .before .before .before .before .before .loop .at))
+
+loop-holds : tie.Need-loop-holds Inv-loop μ-loop
+loop-holds c = let a = c .before .before .before .before .args in
+    (refl, refl, refl, running-start _ _ (a .tariff) (a .batch .now) (a .answers .now) (world (pagesOf (a .pool .now)) (rowsOf (a .table .now)) (a .state)) (c .before .before .before .before .pre .0) (c .before .before .before .before .pre .2))
+
+command-at-requires : tie.Need-command-at-requires Inv-loop μ-loop
+command-at-requires c κs = search needs
+
+enum-known-step : tie.Need-enum-known-step Inv-loop μ-loop
+enum-known-step c = search needs
+
+run-command-requires : tie.Need-run-command-requires Inv-loop μ-loop
+run-command-requires c κs = let l = c .before .before .before .before .before .before .before .before .loop in
+    (l .inv .3 .growing, c .before .before .before .before .before .before .before .before .before .before .before .before .before .pre .1, command-range (c .before .before .before .before .before .before .before .before .before .before .before .before .before .args .batch .now) (l .at) _ _ (step-is (c .before .before .before)), omega (arith, running-room (l .inv .3) (c .before .before .before .before .before .before .before .loop-test .taken) _ _ (step-is (c .before .before .before)), l .inv .2))
+
+add-charge : tie.Need-add-charge Inv-loop μ-loop
+add-charge c = omega (arith, c .before .before .before .before .before .before .before .before .before .before .before .before .before .before .before .before .before .loop .inv .3 .most, c .before .before .before .before .before .before .before .before .run-command .ensures .most, c .before .before .before .before .before .before .before .before .before .before .before .before .before .before .before .before .before .before .before .before .before .before .pre .2 .short, c .before .before .before .before .before .before .before .before .before .before .before .before .before .before .before .before .loop-test .taken)
+
+loop-less : tie.Need-loop-less Inv-loop μ-loop
+loop-less c = let further = onward (c .before .before .before .before .before .before .before .before .before .before .before .before) in
+    omega (arith, further .0, further .1, c .before .before .before .before .before .before .before .before .before .before .before .before .before .before .before .before .loop-test .taken)
+
+loop-again : tie.Need-loop-again Inv-loop μ-loop
+loop-again c = let l = c .before .before .before .before .before .before .before .before .before .before .before .before .before .before .before .before .before .loop in
+    let x = c .before .before .before .before .before .before .before .before .run-command in
+    let further = onward (c .before .before .before .before .before .before .before .before .before .before .before .before) in (
+      x .kept .0 ∙ l .inv .0,
+      x .kept .1 .0 ∙ l .inv .1,
+      x .kept .1 .1 .0 ∙ l .inv .2,
+      running-next (l .inv .3) (c .before .before .before .before .before .before .before .before .before .before .before .before .before .before .before .before .loop-test .taken) _ _ (step-is (c .before .before .before .before .before .before .before .before .before .before .before .before)) (length (x .last .0)) (length (x .last .1 .0)) (pagesOf (x .last .0)) (rowsOf (x .last .1 .0)) (x .last .1 .1 .0) (x .result) (further .0) (further .1) (x .ensures),
+    )
+
+enum-told : tie.Need-enum-told Inv-loop μ-loop
+enum-told c = search needs
+
+same-length : tie.Need-same-length Inv-loop μ-loop
+same-length c = c .before .before .before .before .loop .inv .0
+
+same-length-2 : tie.Need-same-length-2 Inv-loop μ-loop
+same-length-2 c = c .before .before .before .before .loop .inv .1
+
+same-length-3 : tie.Need-same-length-3 Inv-loop μ-loop
+same-length-3 c = c .before .before .before .before .loop .inv .2
+
+returns : tie.Need-returns Inv-loop μ-loop
+returns c = absurd (running-valid (c .before .before .before .before .loop .inv .3) (c .before .before .before .loop-test .taken) (sym (c .before .before .command-at .ensures) ∙ c .enum-told .given .1))
+
+same-length-4 : tie.Need-same-length-4 Inv-loop μ-loop
+same-length-4 c = c .before .loop .inv .0
+
+same-length-5 : tie.Need-same-length-5 Inv-loop μ-loop
+same-length-5 c = c .before .loop .inv .1
+
+same-length-6 : tie.Need-same-length-6 Inv-loop μ-loop
+same-length-6 c = c .before .loop .inv .2
+
+returns-2 : tie.Need-returns-2 Inv-loop μ-loop
+returns-2 c = running-end (c .before .loop .inv .3) (c .loop-test .left)
+
+pub run-commands-spec : {M : Type 1} → statement M
+run-commands-spec =
+    tie.close
+    (tie.spec
+    Inv-loop
+    μ-loop
+    loop-holds
+    command-at-requires
+    enum-known-step
+    run-command-requires
+    add-charge
+    loop-less
+    loop-again
+    enum-told
+    same-length
+    same-length-2
+    same-length-3
+    returns
+    same-length-4
+    same-length-5
+    same-length-6
+    returns-2)

@@ -1,0 +1,60 @@
+-- No reply is longer than the room that question 4 asks for its command. Assumes nothing.
+use mathlib.Core.Bool.{Bool, true, false}
+use mathlib.Core.List.{List, [], _++_}
+use Prim.Native.Nat.{ℕ, zero, suc, _-_, _≤_}
+use native.Mathlib.Omega.{arith}
+use lib.Dec.{ltb}
+use lib.ListN.{length, length-append}
+use Rattle.account.specs.declared.Tariff.{Tariff}
+use Rattle.pairs.specs.Pairs.{Pair}
+use Rattle.pairs.specs.Ranges.{length-range}
+use Rattle.node.specs.Node.{pairsOf, linkOf}
+use Rattle.tree.specs.Table.{Table}
+use Rattle.tree.specs.Scan.{stopsIn, taken, pairsFrom}
+use Rattle.command.specs.declared.Answer.the-variants.{Got, Removed}
+use Rattle.command.specs.declared.Command.{Command}
+use Rattle.command.specs.declared.Command.the-variants.{Get, Put, Delete, Scan}
+use Rattle.command.specs.Answer.{valueOr}
+use Rattle.command.specs.AnswerLaws.{length-answerBytes, length-scanBytes}
+use Rattle.command.specs.Batch.{roomFor}
+use Rattle.book.specs.Command.{replyBytes}
+use Rattle.flash_allocate.specs.World.{World}
+use Rattle.run_path.specs.Path.{tableIn, leafAt}
+use Rattle.run_lookup.specs.Value.{valueIn}
+use Rattle.run_scan.specs.Scan.{scanPairs}
+use Rattle.run_put.specs.Put.{put}
+use Rattle.run.specs.Run.{commandReply}
+
+-- A scan finds at most as many pairs as it asks for.
+pairs-few : (fuel : ℕ) (table : Table) (low high most id : ℕ) → length (pairsFrom fuel table low high most id) ≤ most
+unfolding pairsFrom
+pairs-few zero table low high most id = length-range low high most (pairsOf (table id))
+pairs-few (suc fuel) table low high most id =
+    go (stopsIn high most (table id) got) (pairs-few fuel table low high (most - length got) (linkOf (table id)))
+  where
+    got : List Pair
+    got = taken low high most (table id)
+
+    more : List Pair
+    more = pairsFrom fuel table low high (most - length got) (linkOf (table id))
+
+    go : (b : Bool) → length more ≤ most - length got → length {A = Pair} (elim b [ true ↦ got | false ↦ got ++ more ]) ≤ most
+    go true l = length-range low high most (pairsOf (table id))
+    go false l = omega (arith, l, length-append got more, length-range low high most (pairsOf (table id)))
+
+scan-few : (low high most : ℕ) (w : World) → length (scanPairs low high most w) ≤ most
+unfolding scanPairs
+scan-few low high most w = go (ltb high low)
+  where
+    found : List Pair
+    found = pairsFrom (w .state .nodes) (tableIn w) low high most (leafAt low w)
+
+    go : (b : Bool) → length {A = Pair} (elim b [ true ↦ [] | false ↦ found ]) ≤ most
+    go true = omega arith
+    go false = pairs-few (w .state .nodes) (tableIn w) low high most (leafAt low w)
+
+pub reply-room : (t : Tariff) (c : Command) (w : World) → length (replyBytes (commandReply t c w)) ≤ roomFor c
+reply-room t (Get k) w = length-answerBytes (valueOr Got (valueIn k w))
+reply-room t (Put k v) w = length-answerBytes (put t k v w .answer)
+reply-room t (Delete k) w = length-answerBytes (valueOr Removed (valueIn k w))
+reply-room t (Scan low high most) w = omega (arith, length-scanBytes (scanPairs low high most w), scan-few low high most w)

@@ -1,0 +1,91 @@
+-- `delete::delete` meets its contract: the way read, then the leaf at its end edited where the key was there. Assumes nothing.
+use Rattle.flash_rows.specs.Row.{rowsOf}
+use Rattle.flash_blocks.specs.Pages.{pagesOf}
+use Rattle.flash_allocate.specs.World.{world}
+use mathlib.Core.Path.{ap, _∙_}
+use native.Mathlib.Omega.{arith}
+use Rattle.run_lookup.specs.Value.{valueOf}
+use Rattle.run_lookup.specs.Finding.{value-in, way-read}
+use Rattle.run_lookup.specs.Removal.{deleted-none, deleted-one}
+use borrow.Author.Needs.{needs}
+use Rattle.run_lookup.proofs.delete.delete.Statement.{statement}
+use Rattle.run_lookup.proofs.delete.delete.Tie as tie
+
+path-to-requires : tie.Need-path-to-requires
+path-to-requires c κs = search needs
+
+sub-last : tie.Need-sub-last
+sub-last c = search needs
+
+value-at-requires : tie.Need-value-at-requires
+value-at-requires c κs = search needs
+
+serve-reads-requires : tie.Need-serve-reads-requires
+serve-reads-requires c κs = search needs
+
+enum-known-value : tie.Need-enum-known-value
+enum-known-value c = search needs
+
+mul-serve-edit : tie.Need-mul-serve-edit
+mul-serve-edit c = search needs
+
+array-read-serve-edit : tie.Need-array-read-serve-edit
+array-read-serve-edit c = search needs
+
+serve-edit-requires : tie.Need-serve-edit-requires
+serve-edit-requires c κs = (c .before .before .before .before .before .before .before .before .before .before .serve-reads .ensures .kept .good, c .before .before .before .before .before .before .before .before .before .before .before .before .before .before .before .before .before .before .before .before .before .before .pre .1)
+
+add-t37 : tie.Need-add-t37
+add-t37 c = omega (arith, c .before .before .before .before .before .before .before .before .before .before .before .before .before .before .before .before .before .before .serve-reads .ensures .most, c .before .before .before .before .before .before .before .serve-edit .ensures .most, c .before .before .before .before .before .before .before .before .before .before .before .before .before .before .before .before .before .before .before .before .before .before .before .before .before .path-to .ensures .few)
+
+enum-told : tie.Need-enum-told
+enum-told c = search needs
+
+same-length : tie.Need-same-length
+same-length c = search needs
+
+same-length-2 : tie.Need-same-length-2
+same-length-2 c = search needs
+
+returns : tie.Need-returns
+returns c = let a = c .before .before .before .before .before .before .before .before .before .before .before .before .before .before .before .before .before .before .before .before .before .before .before .before .before .before .before .before .before .before .args in
+    let w = world (pagesOf (a .pool .now)) (rowsOf (a .table .now)) (a .state) in
+    let way = c .before .before .before .before .before .before .before .before .before .before .before .before .before .before .before .before .before .before .before .before .before .before .before .before .before .path-to .ensures in
+    let value = c .before .before .before .before .before .before .before .before .before .before .before .before .before .before .before .before .before .before .before .before .before .value-at in
+    deleted-one (way .few) (way-read w way (c .before .before .before .before .before .before .before .before .before .before .before .before .before .before .before .before .before .before .serve-reads .ensures)) _ _ (way .end)
+    (value-in w way (valueOf (value .result)) (value .ensures) ∙ ap valueOf (c .before .before .before .before .before .before .before .before .before .before .before .value .given .1)) (c .before .before .before .before .before .before .before .serve-edit .ensures)
+
+same-length-3 : tie.Need-same-length-3
+same-length-3 c = search needs
+
+same-length-4 : tie.Need-same-length-4
+same-length-4 c = search needs
+
+returns-2 : tie.Need-returns-2
+returns-2 c = let a = c .before .before .before .before .before .before .before .before .before .before .before .before .before .before .before .before .before .before .before .args in
+    let w = world (pagesOf (a .pool .now)) (rowsOf (a .table .now)) (a .state) in
+    let way = c .before .before .before .before .before .before .before .before .before .before .before .before .before .before .path-to .ensures in
+    let value = c .before .before .before .before .before .before .before .before .before .before .value-at in
+    deleted-none (way .few) (way-read w way (c .before .before .before .before .before .before .before .serve-reads .ensures))
+    (value-in w way (valueOf (value .result)) (value .ensures) ∙ ap valueOf (c .enum-told .given .1))
+
+pub delete-spec : {M : Type 1} → statement M
+delete-spec =
+    tie.close
+    (tie.spec
+    path-to-requires
+    sub-last
+    value-at-requires
+    serve-reads-requires
+    enum-known-value
+    mul-serve-edit
+    array-read-serve-edit
+    serve-edit-requires
+    add-t37
+    enum-told
+    same-length
+    same-length-2
+    returns
+    same-length-3
+    same-length-4
+    returns-2)

@@ -1,0 +1,42 @@
+-- STRIP (document 01, command 03; "strip of a present route" is one edit, and of an absent one the reads alone). Assumes nothing.
+use mathlib.Core.Path.{_≡_}
+use mathlib.Core.List.{List}
+use mathlib.Core.Option.{Option, none, some}
+use Prim.Native.Nat.{ℕ, _+_, _*_, _≤_}
+use Rattle.account.specs.declared.Tariff.{Tariff}
+use Rattle.account.specs.Fair.{mostCharge}
+use Rattle.node.specs.Change.{remove}
+use Rattle.store.specs.Serve.{edit}
+use Rattle.command.specs.declared.Answer.the-variants.{Removed}
+use Rattle.command.specs.Answer.{valueOr}
+use Rattle.flash_rows.specs.declared.Row.{Row}
+use Rattle.flash_allocate.specs.World.{World, world}
+use Rattle.flash_log.specs.Flush.{Kept}
+use Rattle.run_serve.specs.Serve.{serve, charge}
+use Rattle.run_path.specs.Path.{wayTo, leafAt}
+use Rattle.run_path.specs.Reads.{readAll, readCharges}
+use Rattle.run_lookup.specs.declared.Done.{Done}
+use Rattle.run_lookup.specs.Value.{valueIn}
+
+-- The edit of a leaf for a key with this value there, and its charge.
+abbrev pub removal : Tariff → Option ℕ → ℕ → ℕ → World → World
+removal t none leaf k w = w
+removal t (some old) leaf k w = serve t leaf (edit (remove k)) w
+
+abbrev pub removalCharge : Tariff → Option ℕ → ℕ → ℕ → World → ℕ
+removalCharge t none leaf k w = 0
+removalCharge t (some old) leaf k w = charge t leaf (edit (remove k)) w
+
+-- All reads, then the edit: of the leaf, and with the value, of before the reads.
+unfoldable pub delete : Tariff → ℕ → World → World
+delete t k w = removal t (valueIn k w) (leafAt k w) k (readAll t (wayTo k w) w)
+
+unfoldable pub deleteCharge : Tariff → ℕ → World → ℕ
+deleteCharge t k w = readCharges t (wayTo k w) w + removalCharge t (valueIn k w) (leafAt k w) k (readAll t (wayTo k w) w)
+
+-- What the code of a delete leaves: this world and this charge, and "answer 83 with the word removed", or 80.
+pub record DeletedAs (poolLength tableLength : ℕ) (pages : List (List ℕ)) (rows : List Row) (r : Done) (t : Tariff) (k : ℕ) (w : World) : Type 0 where
+  pub kept : Kept poolLength tableLength (w .state) (world pages rows (r .state)) (delete t k w)
+  pub charge : r .charge ≡ deleteCharge t k w
+  pub most : r .charge ≤ mostCharge * 10
+  pub answer : r .answer ≡ valueOr Removed (valueIn k w)

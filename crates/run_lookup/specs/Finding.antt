@@ -1,0 +1,61 @@
+-- What the way and the search in its leaf find is what the definitions say. Assumes nothing.
+use mathlib.Core.Path.{_≡_, sym, ap, _∙_, subst}
+use mathlib.Core.List.{List}
+use mathlib.Core.Option.{Option, none, some}
+use Prim.Native.Nat.{ℕ}
+use native.Mathlib.Omega.{arith}
+use lib.ListN.{take}
+use Rattle.layout.specs.Layout.{bound32}
+use Rattle.account.specs.declared.Tariff.{Tariff}
+use Rattle.pairs.specs.Pairs.{lookup}
+use Rattle.node.specs.declared.NodeValue.{NodeValue}
+use Rattle.node.specs.declared.Found.the-variants.{At, Above}
+use Rattle.node.specs.Node.{pairsOf}
+use Rattle.node.specs.Search.{pointerAt, lookup-present, lookup-absent}
+use Rattle.node.specs.Found.{found, at-present, at-place, above-absent}
+use Rattle.node.specs.Value.{pairsIn, Held}
+use Rattle.tree.specs.Get.{getAnswer}
+use Rattle.command.specs.declared.Answer.{Answer}
+use Rattle.command.specs.declared.Answer.the-variants.{Got}
+use Rattle.command.specs.Answer.{valueOr}
+use Rattle.flash_rows.specs.declared.Row.{Row}
+use Rattle.flash_allocate.specs.World.{World}
+use Rattle.run_serve.specs.declared.request.Charged.{Charged}
+use Rattle.run_path.specs.declared.path.Path.{Path}
+use Rattle.run_path.specs.Path.{tableIn, wayTo, PathTo}
+use Rattle.run_path.specs.Reads.{ReadAs}
+use Rattle.run_lookup.specs.declared.value.Value.{Value}
+use Rattle.run_lookup.specs.Value.{valueOf, valueIn}
+use Rattle.run_lookup.specs.Get.{GotAs}
+
+-- The search in a node: the key is at a place, or it is not there.
+module _ (v : NodeValue) (h : Held v) (k i : ℕ) where
+  pub value-there : (p : ℕ) → found k (pairsIn v) ≡ At i → p ≡ pointerAt (pairsIn v) (v .link) i → some p ≡ lookup k (pairsIn v)
+  value-there p e f =
+      ap some (f ∙ ap (λ (j : ℕ). pointerAt (pairsIn v) (v .link) j) (at-place k (pairsIn v) i e)) ∙
+      sym (lookup-present k (v .link) (pairsIn v) (at-present k (pairsIn v) i e))
+
+  pub value-missing : found k (pairsIn v) ≡ Above i → none ≡ lookup k (pairsIn v)
+  value-missing e = sym (lookup-absent k 0 bound32 (pairsIn v) (h .ascending) (above-absent k (pairsIn v) i e))
+
+-- A way found in a world.
+module _ {k : ℕ} (w : World) {way : Path} (found : PathTo (tableIn w) k way) where
+  pub value-in : (o : Option ℕ) → o ≡ lookup k (pairsIn (way .leaf)) → valueIn k w ≡ o
+  unfolding getAnswer
+  value-in o e = sym (e ∙ ap (λ n. lookup k (pairsOf n)) (found .leaf .is))
+
+  module _ {P T : ℕ} {pages : List (List ℕ)} {rows : List Row} {c : Charged} {t : Tariff} where
+    pub way-read : ReadAs P T pages rows c t (way .length) (take (way .length) (way .ids)) w → ReadAs P T pages rows c t (way .length) (wayTo k w) w
+    way-read r = subst (λ (ns : List ℕ). ReadAs P T pages rows c t (way .length) ns w) (found .ids) r
+
+    -- a get: the way read, and the value in its leaf
+    pub got-as : ReadAs P T pages rows c t (way .length) (take (way .length) (way .ids)) w → (v : Value) → valueOf v ≡ lookup k (pairsIn (way .leaf)) →
+        (a : Answer) → a ≡ valueOr Got (valueOf v) → GotAs P T pages rows (record { state = c .state; charge = c .charge; answer = a }) t k w
+    got-as r v e a f =
+        let reads = way-read r in
+        record {
+          kept = reads .kept;
+          charge = reads .charge;
+          most = omega (arith, reads .most, found .few);
+          answer = f ∙ ap (valueOr Got) (sym (value-in (valueOf v) e));
+        }

@@ -1,0 +1,54 @@
+// Delete (document 01: strip).
+ghost use Prim.Native.Nat.{_≤_};
+ghost use lib.ListN.{length};
+ghost use Rattle.layout.specs.Layout.{nodeLimit, mostBlocks};
+ghost use Rattle.account.specs.Range.{Ranged};
+ghost use Rattle.flash_rows.specs.Row.{rowsOf};
+ghost use Rattle.flash_blocks.specs.Pages.{pagesOf};
+ghost use Rattle.flash_allocate.specs.World.{Good, world};
+ghost use Rattle.run_lookup.specs.Delete.{DeletedAs};
+use super::Done;
+use super::value::Value;
+use super::value::value_at;
+use account::Tariff;
+use command::Answer;
+use node::ChangeValue;
+use flash_allocate::state::State;
+use run_serve::request::serve_edit;
+use run_path::path::path_to;
+use run_path::reads::serve_reads;
+
+// The reads to the leaf, then one edit of it where the key is there.
+pub fn delete(pool: &mut [u8], table: &mut [u8], state: State, tariff: Tariff, key: u32) -> Done
+    requires { ⌜ (Good (length (now pool)) (length (now table)) state) × (Ranged tariff) × (state .nodes ≤ nodeLimit mostBlocks) ⌝ }
+    ensures { λ r. ⌜ DeletedAs (length (now (pool .exit))) (length (now (table .exit))) (pagesOf (now (pool .exit))) (rowsOf (now (table .exit))) r tariff key (world (pagesOf (now (pool .entry))) (rowsOf (now (table .entry))) state) ⌝ }
+{
+    let way = path_to(pool, table, state, key);
+    let leaf = way.leaf;
+    let ids = way.ids;
+    let last = way.length - 1;
+    let value = value_at(leaf, key);
+    let read = serve_reads(pool, table, state, tariff, ids, way.length);
+    let s = read.state;
+    match value {
+        Value::There(old) => {
+            let removal = ChangeValue::Remove { key };
+            let edit = serve_edit(pool, table, s, tariff, ids[last], removal);
+            let t = edit.state;
+            let answer = Answer::Removed(old);
+            Done {
+                state: t,
+                charge: read.charge + edit.charge,
+                answer,
+            }
+        }
+        Value::Missing => {
+            let answer = Answer::Absent;
+            Done {
+                state: s,
+                charge: read.charge,
+                answer,
+            }
+        }
+    }
+}

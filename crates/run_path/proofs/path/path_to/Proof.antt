@@ -1,0 +1,99 @@
+-- `path::path_to` meets its contract: what is left of the way gives the whole. Assumes nothing.
+use mathlib.Core.Path.{sym, subst}
+use Prim.Native.Nat.{ℕ, _+_, _-_}
+use native.Mathlib.Omega.{arith}
+use borrow.Author.Needs.{needs}
+use lib.ListN.{set}
+use Rattle.flash_blocks.specs.Pages.{pagesOf}
+use Rattle.flash_rows.specs.Row.{rowsOf}
+use Rattle.node.specs.Value.{pairsIn}
+use Rattle.flash_read.specs.NodeTable.{tableOf}
+use Rattle.flash_read.specs.Kinds.{is-leaf, is-branch}
+use Rattle.run_path.specs.Steps.{Down, down-start, down-more, down-leaf, down-last}
+use Rattle.run_path.proofs.path.path_to.Statement.{statement}
+use Rattle.run_path.proofs.path.path_to.Tie as tie
+
+abbrev Inv-loop : tie.InvT-loop
+Inv-loop pool table state key ids₀ id₀ i₀ ids id i = Down (tableOf (pagesOf pool) (rowsOf table) state) key ids id i
+
+abbrev μ-loop : tie.MeasureT-loop
+μ-loop pool table state key ids₀ id₀ i₀ ids id i = 8 - i
+
+loop-holds : tie.Need-loop-holds Inv-loop μ-loop
+loop-holds c = down-start _ _ _ (search needs)
+
+mul-ids : tie.Need-mul-ids Inv-loop μ-loop
+mul-ids c = search needs
+
+array-write-ids : tie.Need-array-write-ids Inv-loop μ-loop
+array-write-ids c = let d = c .before .loop .inv in omega (arith, d .long, d .steps)
+
+node-at-requires : tie.Need-node-at-requires Inv-loop μ-loop
+node-at-requires c κs = search needs
+
+same-kind-requires : tie.Need-same-kind-requires Inv-loop μ-loop
+same-kind-requires c κs = search needs
+
+add-t18 : tie.Need-add-t18 Inv-loop μ-loop
+add-t18 c = omega arith
+
+returns : tie.Need-returns Inv-loop μ-loop
+returns c = let a = c .before .before .before .before .before .before .before .args in
+    let nodes = tableOf (pagesOf (a .pool .now)) (rowsOf (a .table .now)) (a .state) in
+    let turn = c .before .before .before .before .loop in
+    let read = c .before .before .node-at in
+    down-leaf (turn .inv) (pairsIn (read .result)) (read .result .link)
+    (is-leaf (read .result) (nodes (turn .id)) (read .ensures .is) (c .before .same-kind .result) (c .before .same-kind .ensures) (c .if1 .taken)) (read .result) (read .ensures)
+
+child-requires : tie.Need-child-requires Inv-loop μ-loop
+child-requires c κs = c .before .before .node-at .ensures .held
+
+cast-id : tie.Need-cast-id Inv-loop μ-loop
+cast-id c = search needs
+
+add-i : tie.Need-add-i Inv-loop μ-loop
+add-i c = omega arith
+
+loop-less : tie.Need-loop-less Inv-loop μ-loop
+loop-less c = omega arith
+
+loop-again : tie.Need-loop-again Inv-loop μ-loop
+loop-again c = let a = c .before .before .before .before .before .before .before .before .args in
+    let nodes = tableOf (pagesOf (a .pool .now)) (rowsOf (a .table .now)) (a .state) in
+    let turn = c .before .before .before .before .before .loop in
+    let read = c .before .before .before .node-at in
+    let kind = c .before .before .same-kind in
+    subst (λ (next : ℕ). Down nodes (a .key) (set (turn .ids) (turn .i) (turn .id)) next (turn .i + 1)) (sym (c .child .ensures))
+    (down-more (turn .inv) (c .before .before .before .before .loop-test .taken) (pairsIn (read .result)) (read .result .link)
+    (is-branch (read .result) (nodes (turn .id)) (read .ensures .is) (kind .result) (kind .ensures) (c .before .if1 .left)))
+
+array-write-ids-2 : tie.Need-array-write-ids-2 Inv-loop μ-loop
+array-write-ids-2 c = let d = c .before .loop .inv in omega (arith, d .long)
+
+node-at-requires-2 : tie.Need-node-at-requires-2 Inv-loop μ-loop
+node-at-requires-2 c κs = search needs
+
+returns-2 : tie.Need-returns-2 Inv-loop μ-loop
+returns-2 c = down-last (c .before .before .loop .inv) (c .before .loop-test .left) (c .node-at2 .result) (c .node-at2 .ensures)
+
+pub path-to-spec : {M : Type 1} → statement M
+path-to-spec =
+    tie.close
+    (tie.spec
+    Inv-loop
+    μ-loop
+    loop-holds
+    mul-ids
+    array-write-ids
+    node-at-requires
+    same-kind-requires
+    add-t18
+    returns
+    child-requires
+    cast-id
+    add-i
+    loop-less
+    loop-again
+    array-write-ids-2
+    node-at-requires-2
+    returns-2)

@@ -1,0 +1,33 @@
+-- The way from the root to the leaf of a key, by value (document 01, "Nodes and tree": every command reads "the nodes from root to leaf").
+use mathlib.Core.Path.{_≡_}
+use mathlib.Core.List.{List}
+use Prim.Native.Nat.{ℕ, _-_, _≤_}
+use lib.ListN.{getD, take}
+use Rattle.node.specs.Value.{Becomes}
+use Rattle.tree.specs.Table.{Table, path, leafFor}
+use Rattle.flash_allocate.specs.World.{World}
+use Rattle.flash_read.specs.NodeTable.{tableOf}
+use Rattle.run_path.specs.declared.path.Path.{Path}
+
+-- The nodes as a world has them.
+abbrev pub tableIn : World → Table
+tableIn w = tableOf (w .pages) (w .rows) (w .state)
+
+-- A sound tree has at most 9 levels, so a way has at most 9 nodes: 8 steps down.
+abbrev pub mostSteps : ℕ
+mostSteps = 8
+
+-- The way to a key in a world, and the leaf at its end.
+abbrev pub wayTo : ℕ → World → List ℕ
+wayTo k w = path mostSteps (tableIn w) k 0
+
+abbrev pub leafAt : ℕ → World → ℕ
+leafAt k w = leafFor mostSteps (tableIn w) k 0
+
+-- What the code of a way down finds in a table: the ids from the root on, and the leaf with its id.
+pub record PathTo (table : Table) (k : ℕ) (r : Path) : Type 0 where
+  pub ids : take (r .length) (r .ids) ≡ path mostSteps table k 0
+  pub some : 1 ≤ r .length
+  pub few : r .length ≤ 9
+  pub end : getD (r .ids) (r .length - 1) 0 ≡ leafFor mostSteps table k 0
+  pub leaf : Becomes (r .leaf) (table (leafFor mostSteps table k 0))

@@ -1,0 +1,108 @@
+-- Reads a node at a time: what is left of them from here gives the whole. Assumes nothing.
+use mathlib.Core.Path.{_≡_, refl, sym, ap, _∙_, subst}
+use mathlib.Core.List.{List, [], _∷_, _++_}
+use Prim.Native.Nat.{ℕ, _+_, _-_, _*_, _≤_, _<_}
+use native.Mathlib.Nat.{sub-zero}
+use native.Mathlib.Numerals.{add-one}
+use native.Mathlib.Omega.{arith}
+use lib.ListN.{length, getD, take, drop, drop-of-length-le}
+use lib.Seq.{drop-cons, length-take-le}
+use Rattle.account.specs.declared.Tariff.{Tariff}
+use Rattle.account.specs.Fair.{mostCharge}
+use Rattle.flash_rows.specs.declared.Row.{Row}
+use Rattle.store.specs.Serve.{read}
+use Rattle.flash_allocate.specs.World.{World, world, Good}
+use Rattle.run_serve.specs.Serve.{serve, charge, ServedAs}
+use Rattle.run_serve.specs.declared.request.Charged.{Charged}
+use Rattle.run_path.specs.Reads.{readAll, readCharges, ReadAs}
+
+-- After i reads of these nodes.
+pub record Reading (poolLength tableLength : ℕ) (t : Tariff) (ns : List ℕ) (i : ℕ) (start now : World) (paid : ℕ) : Type 0 where
+  pub good : Good poolLength tableLength (now .state)
+  pub blocks : now .state .blocks ≡ start .state .blocks
+  pub nodes : now .state .nodes ≡ start .state .nodes
+  pub checkpoint : now .state .checkpoint ≡ start .state .checkpoint
+  pub rest : readAll t (drop i ns) now ≡ readAll t ns start
+  pub charges : paid + readCharges t (drop i ns) now ≡ readCharges t ns start
+  pub most : paid ≤ mostCharge * i
+
+pub reading-start : (poolLength tableLength : ℕ) (t : Tariff) (ns : List ℕ) (w : World) → Good poolLength tableLength (w .state) →
+    Reading poolLength tableLength t ns 0 w w 0
+reading-start p q t ns w g =
+    record { good = g; blocks = refl; nodes = refl; checkpoint = refl; rest = refl; charges = omega arith; most = omega arith }
+
+module _ {p q : ℕ} {t : Tariff} {ns : List ℕ} {i : ℕ} {start now : World} {paid : ℕ} (r : Reading p q t ns i start now paid) where
+  -- one read more
+  pub reading-next : (p′ q′ : ℕ) (pages : List (List ℕ)) (rows : List Row) (c : Charged) (n : ℕ) → i < length ns → n ≡ getD ns i 0 →
+      ServedAs p′ q′ pages rows c t n read now → Reading p′ q′ t ns (i + 1) start (world pages rows (c .state)) (paid + c .charge)
+  reading-next p′ q′ pages rows c n l e s =
+      let next : drop i ns ≡ n ∷ drop (i + 1) ns = rw (add-one, e) (drop-cons ns i 0 l) in
+      record {
+        good = s .kept .good;
+        blocks = s .kept .blocks ∙ r .blocks;
+        nodes = s .kept .nodes ∙ r .nodes;
+        checkpoint = s .kept .checkpoint ∙ r .checkpoint;
+        rest = ap (readAll t (drop (i + 1) ns)) (s .kept .is) ∙ sym (ap (λ (xs : List ℕ). readAll t xs now) next) ∙ r .rest;
+        charges =
+            omega (
+              arith,
+              s .charge,
+              ap (readCharges t (drop (i + 1) ns)) (s .kept .is),
+              ap (λ (xs : List ℕ). readCharges t xs now) next,
+              r .charges,
+            );
+        most = omega (arith, s .most, r .most);
+      }
+
+  -- none left
+  pub reading-end : (pages : List (List ℕ)) (rows : List Row) (c : Charged) → now ≡ world pages rows (c .state) → paid ≡ c .charge → i ≡ length ns →
+      (requests : ℕ) → i ≡ requests → ReadAs p q pages rows c t requests ns start
+  reading-end pages rows c e f l requests m =
+      let none : drop i ns ≡ [] = drop-of-length-le ns {i = i} (omega arith) in
+      record {
+        kept =
+            record {
+              is = sym e ∙ sym (ap (λ (xs : List ℕ). readAll t xs now) none) ∙ r .rest;
+              good = ap-good e (r .good);
+              blocks = ap (λ (w : World). w .state .blocks) (sym e) ∙ r .blocks;
+              nodes = ap (λ (w : World). w .state .nodes) (sym e) ∙ r .nodes;
+              checkpoint = ap (λ (w : World). w .state .checkpoint) (sym e) ∙ r .checkpoint;
+            };
+        charge = omega (arith, ap (λ (xs : List ℕ). readCharges t xs now) none, r .charges, f);
+        most = omega (arith, r .most, f, m);
+      }
+    where
+      ap-good : now ≡ world pages rows (c .state) → Good p q (now .state) → Good p q (c .state)
+      ap-good e g = subst (λ (w : World). Good p q (w .state)) e g
+
+-- Reads of the first n nodes of a list, where that part of it is lent.
+pub reads-part : {p q : ℕ} {pages : List (List ℕ)} {rows : List Row} {c : Charged} {t : Tariff} {w : World} (n : ℕ) (ns : List ℕ) → n ≤ length ns →
+    ReadAs p q pages rows c t (length (take (n - 0) ns)) (take (n - 0) ns) w → ReadAs p q pages rows c t n (take n ns) w
+reads-part n ns l r = rw (sub-zero, length-take-le n ns l) at r
+
+-- Reads of some nodes, then of others, are the reads of both lists in one.
+pub readAll-append : (t : Tariff) (ms ns : List ℕ) (w : World) → readAll t (ms ++ ns) w ≡ readAll t ns (readAll t ms w)
+readAll-append t [] ns w = refl
+readAll-append t (m ∷ ms) ns w = readAll-append t ms ns (serve t m read w)
+
+pub readCharges-append : (t : Tariff) (ms ns : List ℕ) (w : World) →
+    readCharges t (ms ++ ns) w ≡ readCharges t ms w + readCharges t ns (readAll t ms w)
+readCharges-append t [] ns w = omega arith
+readCharges-append t (m ∷ ms) ns w = omega (arith, readCharges-append t ms ns (serve t m read w))
+
+module _ {p q p′ q′ m n : ℕ} {pages pages′ : List (List ℕ)} {rows rows′ : List Row} {c c′ : Charged} {t : Tariff} {ms ns : List ℕ} {w : World} where
+  pub reads-then : ReadAs p q pages rows c t m ms w → ReadAs p′ q′ pages′ rows′ c′ t n ns (world pages rows (c .state)) →
+      ReadAs p′ q′ pages′ rows′ (record { state = c′ .state; charge = c .charge + c′ .charge }) t (m + n) (ms ++ ns) w
+  reads-then a b =
+      record {
+        kept =
+            record {
+              is = b .kept .is ∙ ap (readAll t ns) (a .kept .is) ∙ sym (readAll-append t ms ns w);
+              good = b .kept .good;
+              blocks = b .kept .blocks ∙ a .kept .blocks;
+              nodes = b .kept .nodes ∙ a .kept .nodes;
+              checkpoint = b .kept .checkpoint ∙ a .kept .checkpoint;
+            };
+        charge = omega (arith, a .charge, b .charge, ap (readCharges t ns) (a .kept .is), readCharges-append t ms ns w);
+        most = omega (arith, a .most, b .most);
+      }

@@ -1,0 +1,114 @@
+-- A way down a step at a time: what is left of it from a node gives the whole. Assumes nothing.
+use mathlib.Core.Path.{_≡_, refl, sym, ap, _∙_, subst}
+use mathlib.Core.Bool.{Bool, true, false}
+use mathlib.Core.List.{List, [], _∷_, _++_, append-assoc}
+use Prim.Native.Nat.{ℕ, zero, suc, _+_, _-_, _≤_, _<_}
+use native.Mathlib.Numerals.{add-one}
+use native.Mathlib.Omega.{arith}
+use borrow.Author.Tests.{ltb-true, ltb-false}
+use lib.Dec.{ltb}
+use lib.ListN.{length, take, set, length-set}
+use lib.Seq.{getD-set-same, take-suc-set}
+use Rattle.pairs.specs.Pairs.{Pair}
+use Rattle.node.specs.declared.Kind.the-variants.{Leaf, Branch}
+use Rattle.node.specs.declared.NodeValue.{NodeValue}
+use Rattle.node.specs.Node.{node}
+use Rattle.node.specs.Search.{place, childPlace, pointerAt, place-first, place-below}
+use Rattle.node.specs.Value.{Becomes}
+use Rattle.tree.specs.Table.{Table, slot, path, leafFor}
+use Rattle.run_path.specs.Path.{mostSteps, PathTo}
+
+-- The place that a key leads to is that of the first key above it, as the code searches it.
+pub slot-place : (k : ℕ) (ks : List Pair) → slot k ks ≡ childPlace k ks
+unfolding slot place
+slot-place k [] = refl
+slot-place k (p ∷ ks) = go (ltb k (p .0)) refl (slot-place k ks)
+  where
+    go : (t : Bool) → ltb k (p .0) ≡ t → slot k ks ≡ childPlace k ks → slot k (p ∷ ks) ≡ childPlace k (p ∷ ks)
+    go true e r = rw (e, slot) (sym (place-first (suc k) p ks (omega (arith, ltb-true k (p .0) e))))
+    go false e r = rw (e, slot) (ap suc r ∙ sym (place-below (suc k) p ks (omega (arith, ltb-false k (p .0) e))))
+
+module _ (table : Table) (k id : ℕ) where
+  -- at a leaf
+  module _ (ps : List Pair) (next : ℕ) (e : table id ≡ node Leaf ps next) where
+    pub path-leaf : (fuel : ℕ) → path fuel table k id ≡ id ∷ []
+    unfolding path
+    path-leaf zero = refl
+    path-leaf (suc fuel) = rw (e, path) refl
+
+    pub leaf-here : (fuel : ℕ) → leafFor fuel table k id ≡ id
+    unfolding leafFor
+    leaf-here zero = refl
+    leaf-here (suc fuel) = rw (e, leafFor) refl
+
+  -- at a branch
+  module _ (ks : List Pair) (last : ℕ) (e : table id ≡ node Branch ks last) where
+    abbrev next : ℕ
+    next = pointerAt ks last (childPlace k ks)
+
+    pub path-branch : (fuel : ℕ) → path (suc fuel) table k id ≡ id ∷ path fuel table k next
+    unfolding path
+    path-branch fuel = rw (e, path) (ap (λ (j : ℕ). id ∷ path fuel table k (pointerAt ks last j)) (slot-place k ks))
+
+    pub leaf-below : (fuel : ℕ) → leafFor (suc fuel) table k id ≡ leafFor fuel table k next
+    unfolding leafFor
+    leaf-below fuel = rw (e, leafFor) (ap (λ (j : ℕ). leafFor fuel table k (pointerAt ks last j)) (slot-place k ks))
+
+-- After i steps: the ids so far, and the node that the way has come to.
+pub record Down (table : Table) (k : ℕ) (ids : List ℕ) (id i : ℕ) : Type 0 where
+  pub steps : i ≤ mostSteps
+  pub long : length ids ≡ 9
+  pub way : take i ids ++ path (mostSteps - i) table k id ≡ path mostSteps table k 0
+  pub leaf : leafFor (mostSteps - i) table k id ≡ leafFor mostSteps table k 0
+
+pub down-start : (table : Table) (k : ℕ) (ids : List ℕ) → length ids ≡ 9 → Down table k ids 0 0
+down-start table k ids l = record { steps = omega arith; long = l; way = refl; leaf = refl }
+
+module _ {table : Table} {k : ℕ} {ids : List ℕ} {id i : ℕ} (d : Down table k ids id i) where
+  noted : take (i + 1) (set ids i id) ≡ take i ids ++ (id ∷ [])
+  noted = rw (add-one i) (take-suc-set ids i id (omega (arith, d .steps, d .long)))
+
+  -- one step more, from a branch
+  pub down-more : i < mostSteps → (ks : List Pair) (last : ℕ) → table id ≡ node Branch ks last →
+      Down table k (set ids i id) (pointerAt ks last (childPlace k ks)) (i + 1)
+  down-more l ks last e =
+      let f : mostSteps - i ≡ suc (mostSteps - (i + 1)) = omega arith in
+      let next : ℕ = pointerAt ks last (childPlace k ks) in
+      record {
+        steps = omega arith;
+        long = length-set ids i id ∙ d .long;
+        way =
+            ap (λ (xs : List ℕ). xs ++ path (mostSteps - (i + 1)) table k next) noted ∙
+            append-assoc (take i ids) (id ∷ []) (path (mostSteps - (i + 1)) table k next) ∙
+            ap (λ (xs : List ℕ). take i ids ++ xs)
+            (sym (ap (λ (n : ℕ). path n table k id) f ∙ path-branch table k id ks last e (mostSteps - (i + 1)))) ∙
+            d .way;
+        leaf = sym (ap (λ (n : ℕ). leafFor n table k id) f ∙ leaf-below table k id ks last e (mostSteps - (i + 1))) ∙ d .leaf;
+      }
+
+  -- the end of the way: a leaf, or no step left
+  pub down-end : path (mostSteps - i) table k id ≡ id ∷ [] → leafFor (mostSteps - i) table k id ≡ id → (v : NodeValue) → Becomes v (table id) →
+      PathTo table k (record { ids = set ids i id; length = i + 1; leaf = v })
+  down-end e f v b =
+      let here : leafFor mostSteps table k 0 ≡ id = sym (d .leaf) ∙ f in
+      let last : i + 1 - 1 ≡ i = omega arith in
+      record {
+        ids = noted ∙ ap (λ (xs : List ℕ). take i ids ++ xs) (sym e) ∙ d .way;
+        some = omega arith;
+        few = omega (arith, d .steps);
+        end = rw last (getD-set-same ids i id 0 (omega (arith, d .steps, d .long))) ∙ sym here;
+        leaf = rw here b;
+      }
+
+  pub down-leaf : (ps : List Pair) (next : ℕ) → table id ≡ node Leaf ps next → (v : NodeValue) → Becomes v (table id) →
+      PathTo table k (record { ids = set ids i id; length = i + 1; leaf = v })
+  down-leaf ps next e v b = down-end (path-leaf table k id ps next e (mostSteps - i)) (leaf-here table k id ps next e (mostSteps - i)) v b
+
+  pub down-last : mostSteps ≤ i → (v : NodeValue) → Becomes v (table id) → PathTo table k (record { ids = set ids 8 id; length = 9; leaf = v })
+  unfolding path leafFor
+  down-last l v b =
+      let none : mostSteps - i ≡ 0 = omega arith in
+      let here : i ≡ 8 = omega (arith, d .steps) in
+      let nine : i + 1 ≡ 9 = omega arith in
+      subst (λ (n : ℕ). PathTo table k (record { ids = set ids 8 id; length = n; leaf = v })) nine
+      (subst (λ (n : ℕ). PathTo table k (record { ids = set ids n id; length = i + 1; leaf = v })) here (down-end (ap (λ (n : ℕ). path n table k id) none) (ap (λ (n : ℕ). leafFor n table k id) none) v b))

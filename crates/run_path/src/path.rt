@@ -1,0 +1,49 @@
+// The way from the root to the leaf of a key.
+ghost use Rattle.flash_rows.specs.Row.{rowsOf};
+ghost use Rattle.flash_blocks.specs.Pages.{pagesOf};
+ghost use Rattle.flash_read.specs.NodeTable.{tableOf, Readable};
+ghost use Rattle.run_path.specs.Path.{PathTo};
+use node::Kind;
+use node::NodeValue;
+use node::search::child;
+use node_replay::same_kind;
+use flash_read::by_id::node_at;
+use flash_allocate::state::State;
+
+// The nodes of the way, from the root on, and the leaf at its end.
+pub struct Path {
+    pub ids: [usize; 9],
+    pub length: usize,
+    pub leaf: NodeValue,
+}
+
+// At most 9 nodes are read: a sound tree has no more levels.
+pub fn path_to<'a>(pool: &'a [u8], table: &'a [u8], state: State, key: u32) -> Path
+    requires { ⌜ Readable state (now table) ⌝ }
+    ensures { λ r. ⌜ PathTo (tableOf (pagesOf (now (pool .entry))) (rowsOf (now (table .entry))) state) key r ⌝ }
+{
+    let mut ids = [0usize; 9];
+    let mut id: usize = 0;
+    let mut i: usize = 0;
+    while i < 8 {
+        ids[i] = id;
+        let v = node_at(pool, table, state, id);
+        let kind = v.kind;
+        if same_kind(kind, Kind::Leaf) {
+            return Path {
+                ids,
+                length: i + 1,
+                leaf: v,
+            };
+        }
+        id = child(v, key) as usize;
+        i += 1;
+    }
+    ids[8] = id;
+    let leaf = node_at(pool, table, state, id);
+    Path {
+        ids,
+        length: 9,
+        leaf,
+    }
+}

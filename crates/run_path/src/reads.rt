@@ -1,0 +1,51 @@
+// Nodes read, one after another.
+ghost use Prim.Native.Nat.{_≤_};
+ghost use lib.ListN.{length, take};
+ghost use Rattle.layout.specs.Layout.{nodeLimit, mostBlocks};
+ghost use Rattle.account.specs.Range.{Ranged};
+ghost use Rattle.flash_rows.specs.Row.{rowsOf};
+ghost use Rattle.flash_blocks.specs.Pages.{pagesOf};
+ghost use Rattle.flash_allocate.specs.World.{Good, world};
+ghost use Rattle.run_path.specs.Reads.{ReadAs};
+use account::Tariff;
+use flash_allocate::state::State;
+use run_serve::request::Charged;
+use run_serve::request::serve_read;
+
+// Reads of these nodes, in order.
+pub fn read_nodes(
+    pool: &mut [u8],
+    table: &mut [u8],
+    state: State,
+    tariff: Tariff,
+    ids: &[usize],
+) -> Charged
+    requires { ⌜ (Good (length (now pool)) (length (now table)) state) × (Ranged tariff) × (length (now ids) ≤ nodeLimit mostBlocks) ⌝ }
+    ensures { λ r. ⌜ ReadAs (length (now (pool .exit))) (length (now (table .exit))) (pagesOf (now (pool .exit))) (rowsOf (now (table .exit))) r tariff (length (now (ids .entry))) (now (ids .entry)) (world (pagesOf (now (pool .entry))) (rowsOf (now (table .entry))) state) ⌝ }
+{
+    let mut s = state;
+    let mut charge: u64 = 0;
+    let mut i: usize = 0;
+    while i < ids.len() {
+        let read = serve_read(pool, table, s, tariff, ids[i]);
+        s = read.state;
+        charge += read.charge;
+        i += 1;
+    }
+    Charged { state: s, charge }
+}
+
+// Reads of the first n nodes of a way.
+pub fn serve_reads(
+    pool: &mut [u8],
+    table: &mut [u8],
+    state: State,
+    tariff: Tariff,
+    ids: [usize; 9],
+    n: usize,
+) -> Charged
+    requires { ⌜ (Good (length (now pool)) (length (now table)) state) × (Ranged tariff) × (n ≤ 9) ⌝ }
+    ensures { λ r. ⌜ ReadAs (length (now (pool .exit))) (length (now (table .exit))) (pagesOf (now (pool .exit))) (rowsOf (now (table .exit))) r tariff n (take n ids) (world (pagesOf (now (pool .entry))) (rowsOf (now (table .entry))) state) ⌝ }
+{
+    read_nodes(pool, table, state, tariff, &ids[0..n])
+}

@@ -1,0 +1,162 @@
+-- The steps of a put put together. Assumes nothing.
+use mathlib.Core.Path.{_≡_, refl, sym, ap, ap₂, _∙_}
+use mathlib.Core.List.{List}
+use mathlib.Core.Option.{some}
+use Prim.Native.Nat.{ℕ, _+_, _-_, _≤_, _<_}
+use native.Mathlib.Omega.{arith}
+use borrow.Author.Tests.{lt-ltb, le-ltb}
+use lib.ListN.{length, take}
+use Rattle.layout.specs.Layout.{nodeLimit, mostKeys, bound32}
+use Rattle.account.specs.declared.Tariff.{Tariff}
+use Rattle.command.specs.declared.Answer.{Answer}
+use Rattle.command.specs.declared.Answer.the-variants.{Absent, Replaced, Refused}
+use Rattle.command.specs.Answer.{valueOr}
+use Rattle.pairs.specs.Pairs.{lookup}
+use Rattle.node.specs.declared.Found.the-variants.{At, Above}
+use Rattle.node.specs.declared.NodeValue.{NodeValue}
+use Rattle.node.specs.Node.{pairsOf}
+use Rattle.node.specs.Change as Change
+use Rattle.node.specs.Search.{pointerAt, lookup-present, lookup-absent}
+use Rattle.node.specs.Found.{found, at-present, at-place, above-absent}
+use Rattle.node.specs.Value.{pairsIn, Held}
+use Rattle.tree.specs.Table.{Table, path, leafFor}
+use Rattle.tree.specs.Put.{idsNeeded}
+use Rattle.tree_laws.specs.IdsNeeded.{sizeAt}
+use Rattle.flash_rows.specs.declared.Row.{Row}
+use Rattle.store.specs.Serve.{edit}
+use Rattle.flash_allocate.specs.declared.state.State.{State}
+use Rattle.flash_allocate.specs.World.{World, world}
+use Rattle.run_serve.specs.declared.request.Charged.{Charged}
+use Rattle.run_serve.specs.Serve.{serve, charge, ServedAs}
+use Rattle.run_path.specs.declared.path.Path.{Path}
+use Rattle.run_path.specs.Path.{mostSteps, PathTo}
+use Rattle.run_path.specs.Reads.{ReadAs}
+use Rattle.run_split.specs.declared.fit.Fitting.{Fitting}
+use Rattle.run_split.specs.declared.fit.Fitting.the-variants.{Room, Full}
+use Rattle.run_split.specs.Fit.{fitOf, full-above}
+use Rattle.run_split.specs.Growing.{Growing, growing-kept}
+use Rattle.run_split.specs.Climb.{climb, ClimbedAs}
+use Rattle.run_put.specs.declared.put.Done.{Done}
+use Rattle.run_put.specs.Put.{requests, lastOf, editLeaf, splitWay, Doing, answering, putNew, tableAt, putIn, put, RequestsAs, DoneAs}
+
+-- The old value, by what the search found.
+module _ (v : NodeValue) (h : Held v) (key : ℕ) where
+  pub old-there : (i old : ℕ) → found key (pairsIn v) ≡ At i → old ≡ pointerAt (pairsIn v) (v .link) i → Replaced old ≡ valueOr Replaced (lookup key (pairsIn v))
+  old-there i old e f =
+      let there : lookup key (pairsIn v) ≡ some old =
+      lookup-present key (v .link) (pairsIn v) (at-present key (pairsIn v) i e) ∙
+      ap (λ (j : ℕ). some (pointerAt (pairsIn v) (v .link) j)) (sym (at-place key (pairsIn v) i e)) ∙
+      ap some (sym f) in
+      rw there refl
+
+  pub old-none : (i : ℕ) → found key (pairsIn v) ≡ Above i → Absent ≡ valueOr Replaced (lookup key (pairsIn v))
+  old-none i e = rw (lookup-absent key 0 bound32 (pairsIn v) (h .ascending) (above-absent key (pairsIn v) i e)) refl
+
+requests-is : {a b : World} {m n : ℕ} → a ≡ b → m ≡ n → requests a m ≡ requests b n
+requests-is {b = b} {m = m} e f = ap (λ (z : World). requests z m) e ∙ ap (λ (z : ℕ). requests b z) f
+
+-- The reads, then the edit or the splits.
+module _ {P₀ T₀ P₁ T₁ : ℕ} (t : Tariff) (key value n : ℕ) (way : List ℕ) (w : World) (g : Growing P₀ T₀ (w .state)) (few : n ≤ 9)
+    (pages₁ : List (List ℕ)) (rows₁ : List Row) (one : Charged) (r : ReadAs P₁ T₁ pages₁ rows₁ one t n way w) (pages : List (List ℕ)) (rows : List Row) (two : Charged) where
+  pub then-edit : {P T : ℕ} (leaf : ℕ) → ServedAs P T pages rows two t leaf (edit (Change.put key value)) (world pages₁ rows₁ (one .state)) →
+      RequestsAs P T pages rows (record { state = two .state; charge = one .charge + two .charge }) (w .state) (editLeaf t way leaf key value w)
+  unfolding editLeaf
+  then-edit leaf s =
+      record {
+        is =
+            requests-is (s .kept .is ∙ ap (serve t leaf (edit (Change.put key value))) (r .kept .is))
+            (ap₂ _+_ (r .charge) (s .charge ∙ ap (charge t leaf (edit (Change.put key value))) (r .kept .is)));
+        growing = growing-kept (growing-kept g (r .kept)) (s .kept);
+        blocks = s .kept .blocks ∙ r .kept .blocks;
+        most = omega (arith, r .most, s .most);
+      }
+
+  pub then-split : {P T : ℕ} → ClimbedAs P T pages rows two t key value way (world pages₁ rows₁ (one .state)) →
+      RequestsAs P T pages rows (record { state = two .state; charge = one .charge + two .charge }) (w .state) (splitWay t way key value w)
+  unfolding splitWay
+  then-split s =
+      record {
+        is =
+            requests-is (s .is ∙ ap (λ (z : World). climb t key value way z .now) (r .kept .is))
+            (ap₂ _+_ (r .charge) (s .charge ∙ ap (λ (z : World). climb t key value way z .charge) (r .kept .is)));
+        growing = s .growing;
+        blocks = s .blocks ∙ r .kept .blocks;
+        most = omega (arith, r .most, s .most);
+      }
+
+-- A new key: refused, or put with the splits.
+module _ (t : Tariff) (way : List ℕ) (needed counted key value : ℕ) (w : World) (e : needed ≡ counted) where
+  pub new-refused : {P T : ℕ} → nodeLimit (w .state .blocks) < w .state .nodes + needed → Growing P T (w .state) →
+      DoneAs P T (w .pages) (w .rows) (record { state = w .state; charge = 0; answer = Refused 9 }) (w .state) (putNew t way counted key value w)
+  unfolding putNew
+  new-refused l g =
+      record {
+        is = rw (← e, lt-ltb (nodeLimit (w .state .blocks)) (w .state .nodes + needed) l) refl;
+        growing = g;
+        blocks = refl;
+        most = omega arith;
+      }
+
+  pub new-split : {P T : ℕ} (pages : List (List ℕ)) (rows : List Row) (r : Charged) → w .state .nodes + needed ≤ nodeLimit (w .state .blocks) →
+      RequestsAs P T pages rows r (w .state) (splitWay t way key value w) →
+      DoneAs P T pages rows (record { state = r .state; charge = r .charge; answer = Absent }) (w .state) (putNew t way counted key value w)
+  unfolding putNew
+  new-split pages rows r l k =
+      record {
+        is = ap (answering Absent) (k .is) ∙ rw (← e, le-ltb (nodeLimit (w .state .blocks)) (w .state .nodes + needed) l) refl;
+        growing = k .growing;
+        blocks = k .blocks;
+        most = k .most;
+      }
+
+pub done-is : {P T : ℕ} {pages : List (List ℕ)} {rows : List Row} {r : Done} {s : State} {a b : Doing} → DoneAs P T pages rows r s a → a ≡ b → DoneAs P T pages rows r s b
+done-is k e = record { is = k .is ∙ e; growing = k .growing; blocks = k .blocks; most = k .most }
+
+-- The put, by what its leaf says.
+module _ (t : Tariff) (key value : ℕ) (w : World) (p : Path) (to : PathTo (tableAt w) key p) (f : Fitting) (e : f ≡ fitOf key (pairsIn (p .leaf))) where
+  abbrev table : Table
+  table = tableAt w
+
+  abbrev leaf : ℕ
+  leaf = leafFor mostSteps table key 0
+
+  abbrev way : List ℕ
+  way = path mostSteps table key 0
+
+  pairs-are : pairsIn (p .leaf) ≡ pairsOf (table leaf)
+  pairs-are = ap pairsOf (to .leaf .is)
+
+  fit-is : fitOf key (pairsOf (table leaf)) ≡ f
+  fit-is = ap (fitOf key) (sym pairs-are) ∙ sym e
+
+  -- it fits
+  pub put-edit : {P T : ℕ} (pages : List (List ℕ)) (rows : List Row) (answer : Answer) (r : Charged) → f ≡ Room →
+      answer ≡ valueOr Replaced (lookup key (pairsIn (p .leaf))) →
+      RequestsAs P T pages rows r (w .state) (editLeaf t (take (p .length) (p .ids)) (lastOf (p .length) (p .ids)) key value w) →
+      DoneAs P T pages rows (record { state = r .state; charge = r .charge; answer = answer }) (w .state) (put t key value w)
+  unfolding putIn
+  put-edit pages rows answer r room said k =
+      record {
+        is =
+            ap (answering answer) (k .is ∙ ap₂ (λ (ids : List ℕ) (id : ℕ). editLeaf t ids id key value w) (to .ids) (to .end)) ∙
+            ap (λ (a : Answer). answering a (editLeaf t way leaf key value w)) (said ∙ ap (λ (ps : _). valueOr Replaced (lookup key ps)) pairs-are) ∙
+            rw (fit-is ∙ room) refl;
+        growing = k .growing;
+        blocks = k .blocks;
+        most = k .most;
+      }
+
+  -- it does not
+  module _ (at : ℕ) (full : f ≡ Full at) where
+    pub leaf-full : mostKeys ≤ sizeAt table (lastOf (p .length) (p .ids))
+    leaf-full =
+        omega (
+          arith,
+          full-above key (pairsIn (p .leaf)) at (sym e ∙ full) .1,
+          ap length pairs-are,
+          ap (sizeAt table) (to .end),
+        )
+
+    pub put-new : putNew t (take (p .length) (p .ids)) (idsNeeded table (take (p .length) (p .ids))) key value w ≡ put t key value w
+    unfolding putIn
+    put-new = ap (λ (ids : List ℕ). putNew t ids (idsNeeded table ids) key value w) (to .ids) ∙ rw (fit-is ∙ full) refl

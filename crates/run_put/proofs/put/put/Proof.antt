@@ -1,0 +1,64 @@
+-- `put::put` meets its contract: by whether the pair fits its leaf, one edit, or what a new key does. Assumes nothing.
+use Rattle.flash_rows.specs.Row.{rowsOf}
+use Rattle.flash_blocks.specs.Pages.{pagesOf}
+use Rattle.flash_allocate.specs.World.{world}
+use Rattle.run_split.specs.Growing.{readable}
+use Rattle.run_put.proofs.Laws.{done-is, leaf-full, put-edit, put-new}
+use borrow.Author.Needs.{needs}
+use Rattle.run_put.proofs.put.put.Statement.{statement}
+use Rattle.run_put.proofs.put.put.Tie as tie
+
+path-to-requires : tie.Need-path-to-requires
+path-to-requires c κs = readable (c .before .before .before .before .pre .0)
+
+fit-requires : tie.Need-fit-requires
+fit-requires c κs = c .before .before .path-to .ensures .leaf .held
+
+enum-told : tie.Need-enum-told
+enum-told c = search needs
+
+old-value-requires : tie.Need-old-value-requires
+old-value-requires c κs = c .before .before .before .before .before .path-to .ensures .leaf .held
+
+edit-leaf-requires : tie.Need-edit-leaf-requires
+edit-leaf-requires c κs = (c .before .before .before .before .before .before .before .before .before .before .before .before .before .pre .0, c .before .before .before .before .before .before .before .before .before .before .before .before .before .pre .1, c .before .before .before .before .before .before .before .before .path-to .ensures .some, c .before .before .before .before .before .before .before .before .path-to .ensures .few)
+
+same-length : tie.Need-same-length
+same-length c = search needs
+
+same-length-2 : tie.Need-same-length-2
+same-length-2 c = search needs
+
+returns : tie.Need-returns
+returns c =
+    let a = c .before .before .before .before .before .before .before .before .before .before .before .before .before .before .before .before .before .before .before .args in
+    let p = c .before .before .before .before .before .before .before .before .before .before .before .before .before .before .path-to in
+    let f = c .before .before .before .before .before .before .before .before .before .before .before .fit in
+    let x = c .before .before .before .before .before .edit-leaf in
+    put-edit (a .tariff) (a .key) (a .value) (world (pagesOf (a .pool .now)) (rowsOf (a .table .now)) (a .state)) (p .result) (p .ensures) (f .result) (f .ensures) (pagesOf (x .last .0)) (rowsOf (x .last .1 .0)) (c .before .before .before .before .before .before .before .before .old-value .result) (x .result) (c .before .before .before .before .before .before .before .before .before .enum-told .given .1) (c .before .before .before .before .before .before .before .before .old-value .ensures) (x .ensures)
+
+enum-told-2 : tie.Need-enum-told-2
+enum-told-2 c = search needs
+
+put-new-requires : tie.Need-put-new-requires
+put-new-requires c κs =
+    let a = c .before .before .before .before .before .before .before .before .before .before .before .before .args in
+    let p = c .before .before .before .before .before .before .before .path-to in
+    let f = c .before .before .before .before .fit in
+    (c .before .before .before .before .before .before .before .before .before .before .before .before .pre .0, c .before .before .before .before .before .before .before .before .before .before .before .before .pre .1, p .ensures .some, p .ensures .few, leaf-full (a .tariff) (a .key) (a .value) (world (pagesOf (a .pool .now)) (rowsOf (a .table .now)) (a .state)) (p .result) (p .ensures) (f .result) (f .ensures) _ (c .before .before .enum-told2 .given .1))
+
+same-length-3 : tie.Need-same-length-3
+same-length-3 c = search needs
+
+same-length-4 : tie.Need-same-length-4
+same-length-4 c = search needs
+
+returns-2 : tie.Need-returns-2
+returns-2 c =
+    let a = c .before .before .before .before .before .before .before .before .before .before .before .before .before .before .before .before .before .args in
+    let p = c .before .before .before .before .before .before .before .before .before .before .before .before .path-to in
+    let f = c .before .before .before .before .before .before .before .before .before .fit in
+    done-is (c .before .before .before .before .put-new .ensures) (put-new (a .tariff) (a .key) (a .value) (world (pagesOf (a .pool .now)) (rowsOf (a .table .now)) (a .state)) (p .result) (p .ensures) (f .result) (f .ensures) _ (c .before .before .before .before .before .before .before .enum-told2 .given .1))
+
+pub put-spec : {M : Type 1} → statement M
+put-spec = tie.close (tie.spec path-to-requires fit-requires enum-told old-value-requires edit-leaf-requires same-length same-length-2 returns enum-told-2 put-new-requires same-length-3 same-length-4 returns-2)

@@ -1,0 +1,106 @@
+-- THE COMMAND PUT over pages, rows and state (document 01, "Nodes and tree", and question 9). The table of the moment decides; then come
+-- "the nodes from root to leaf" read, and one edit, or the splits.
+use mathlib.Core.Path.{_≡_}
+use mathlib.Core.List.{List}
+use Prim.Native.Nat.{ℕ, _+_, _-_, _*_, _≤_}
+use lib.Dec.{ltb}
+use lib.ListN.{getD}
+use Rattle.laws.specs.Tests.{choose}
+use Rattle.layout.specs.Layout.{nodeLimit}
+use Rattle.account.specs.declared.Tariff.{Tariff}
+use Rattle.account.specs.Fair.{mostCharge}
+use Rattle.command.specs.declared.Answer.{Answer}
+use Rattle.command.specs.declared.Answer.the-variants.{Absent, Replaced, Refused}
+use Rattle.command.specs.Answer.{valueOr}
+use Rattle.pairs.specs.Pairs.{lookup}
+use Rattle.node.specs.Node.{pairsOf}
+use Rattle.node.specs.Change as Change
+use Rattle.tree.specs.Table.{Table, path, leafFor}
+use Rattle.tree.specs.Put.{idsNeeded}
+use Rattle.book.specs.Command.{noIds}
+use Rattle.flash_rows.specs.declared.Row.{Row}
+use Rattle.store.specs.Serve.{edit}
+use Rattle.flash_allocate.specs.declared.state.State.{State}
+use Rattle.flash_allocate.specs.World.{World, world}
+use Rattle.flash_read.specs.NodeTable.{tableOf}
+use Rattle.run_serve.specs.declared.request.Charged.{Charged}
+use Rattle.run_serve.specs.Serve.{serve, charge}
+use Rattle.run_path.specs.Path.{mostSteps}
+use Rattle.run_path.specs.Reads.{readAll, readCharges}
+use Rattle.run_split.specs.Fit.{byFit, fitOf}
+use Rattle.run_split.specs.Growing.{Growing}
+use Rattle.run_split.specs.Climb.{climb}
+use Rattle.run_put.specs.declared.put.Done.{Done}
+
+-- Requests that were served: the world after them, and what they were charged.
+pub record Requests : Type 0 where
+  pub now : World
+  pub charge : ℕ
+
+abbrev pub requests : World → ℕ → Requests
+requests now charge = record { now = now; charge = charge }
+
+-- The last of the first n.
+abbrev pub lastOf : ℕ → List ℕ → ℕ
+lastOf n ids = getD ids (n - 1) 0
+
+-- "Hang .. of a present route, and a hang that fits, are one edit."
+unfoldable pub editLeaf : Tariff → List ℕ → ℕ → ℕ → ℕ → World → Requests
+editLeaf t way leaf key value w =
+    let read = readAll t way w in
+    let work = edit (Change.put key value) in
+    requests (serve t leaf work read) (readCharges t way w + charge t leaf work read)
+
+unfoldable pub splitWay : Tariff → List ℕ → ℕ → ℕ → World → Requests
+splitWay t way key value w =
+    let read = readAll t way w in
+    requests (climb t key value way read .now) (readCharges t way w + climb t key value way read .charge)
+
+-- A command that is done: the world after it, what was charged, and its answer.
+pub record Doing : Type 0 where
+  pub now : World
+  pub charge : ℕ
+  pub answer : Answer
+
+abbrev pub doing : World → ℕ → Answer → Doing
+doing now charge answer = record { now = now; charge = charge; answer = answer }
+
+abbrev pub answering : Answer → Requests → Doing
+answering answer r = doing (r .now) (r .charge) answer
+
+-- "Then it changes nothing, serves no node request and charges nothing."
+abbrev pub refused : World → Doing
+refused w = doing w 0 (Refused noIds)
+
+-- A new key for a full leaf: "are enough node ids unused? (9)"
+unfoldable pub putNew : Tariff → List ℕ → ℕ → ℕ → ℕ → World → Doing
+putNew t way needed key value w =
+    choose (ltb (nodeLimit (w .state .blocks)) (w .state .nodes + needed)) (refused w) (answering Absent (splitWay t way key value w))
+
+abbrev pub tableAt : World → Table
+tableAt w = tableOf (w .pages) (w .rows) (w .state)
+
+unfoldable pub putIn : Table → Tariff → ℕ → ℕ → World → Doing
+putIn table t key value w =
+    let way = path mostSteps table key 0 in
+    let leaf = leafFor mostSteps table key 0 in
+    byFit (fitOf key (pairsOf (table leaf)))
+    (answering (valueOr Replaced (lookup key (pairsOf (table leaf)))) (editLeaf t way leaf key value w))
+    (putNew t way (idsNeeded table way) key value w)
+
+abbrev pub put : Tariff → ℕ → ℕ → World → Doing
+put t key value w = putIn (tableAt w) t key value w
+
+-- What the code of the requests leaves.
+pub record RequestsAs (poolLength tableLength : ℕ) (pages : List (List ℕ)) (rows : List Row) (r : Charged) (before : State) (right : Requests) : Type 0 where
+  pub is : requests (world pages rows (r .state)) (r .charge) ≡ right
+  pub growing : Growing poolLength tableLength (r .state)
+  pub blocks : r .state .blocks ≡ before .blocks
+  pub most : r .charge ≤ mostCharge * 27
+
+-- What the code of a command leaves: the world, the charge and the answer of the definition.
+pub record DoneAs (poolLength tableLength : ℕ) (pages : List (List ℕ)) (rows : List Row) (r : Done) (before : State) (right : Doing) : Type 0 where
+  pub is : doing (world pages rows (r .state)) (r .charge) (r .answer) ≡ right
+  pub growing : Growing poolLength tableLength (r .state)
+  pub blocks : r .state .blocks ≡ before .blocks
+  pub most : r .charge ≤ mostCharge * 27

@@ -1,0 +1,36 @@
+// Question 9: "Are enough node ids unused?"
+ghost use mathlib.Core.Path.{_≡_};
+ghost use Prim.Native.Nat.{_-_, _≤_};
+ghost use lib.ListN.{getD, take};
+ghost use Rattle.layout.specs.Layout.{mostKeys};
+ghost use Rattle.flash_rows.specs.Row.{rowsOf};
+ghost use Rattle.flash_blocks.specs.Pages.{pagesOf};
+ghost use Rattle.tree.specs.Put.{idsNeeded};
+ghost use Rattle.tree_laws.specs.IdsNeeded.{sizeAt};
+ghost use Rattle.flash_read.specs.NodeTable.{tableOf, Readable};
+use flash_read::by_id::node_at;
+use flash_allocate::state::State;
+
+// The ids that a new key needs whose way of n nodes ends in a full leaf: "one id for each full node counted from that leaf upwards
+// without a gap, and one more if the root is among them".
+pub fn ids_needed<'a>(
+    pool: &'a [u8],
+    table: &'a [u8],
+    state: State,
+    ids: [usize; 9],
+    n: usize,
+) -> usize
+    requires { ⌜ (Readable state (now table)) × (1 ≤ n) × (n ≤ 9) × (mostKeys ≤ sizeAt (tableOf (pagesOf (now pool)) (rowsOf (now table)) state) (getD ids (n - 1) 0)) ⌝ }
+    ensures { λ r. ⌜ (r ≡ idsNeeded (tableOf (pagesOf (now (pool .entry))) (rowsOf (now (table .entry))) state) (take n ids)) × (r ≤ 10) ⌝ }
+{
+    let mut i = n - 1;
+    while 0 < i {
+        let above = i - 1;
+        let v = node_at(pool, table, state, ids[above]);
+        if v.count < 24 {
+            return n - i;
+        }
+        i = above;
+    }
+    n + 1
+}

@@ -1,0 +1,175 @@
+// The command put.
+ghost use mathlib.Core.Path.{_≡_};
+ghost use Prim.Native.Nat.{_≤_};
+ghost use lib.ListN.{length, take};
+ghost use Rattle.layout.specs.Layout.{mostKeys};
+ghost use Rattle.account.specs.Range.{Ranged};
+ghost use Rattle.command.specs.Answer.{valueOr};
+ghost use Rattle.pairs.specs.Pairs.{lookup};
+ghost use Rattle.flash_rows.specs.Row.{rowsOf};
+ghost use Rattle.flash_blocks.specs.Pages.{pagesOf};
+ghost use Rattle.node.specs.Value.{pairsIn, Held};
+ghost use Rattle.tree.specs.Put.{idsNeeded};
+ghost use Rattle.tree_laws.specs.IdsNeeded.{sizeAt};
+ghost use Rattle.flash_allocate.specs.World.{world};
+ghost use Rattle.flash_read.specs.NodeTable.{tableOf};
+ghost use Rattle.run_split.specs.Growing.{Growing};
+ghost use Rattle.run_put.specs.Put as def;
+ghost use Rattle.run_put.specs.Put.{RequestsAs, DoneAs};
+use super::ids::ids_needed;
+use account::Tariff;
+use command::Answer;
+use node::ChangeValue;
+use node::Found;
+use node::NodeValue;
+use node::search::find;
+use node::search::pointer;
+use flash_allocate::state::State;
+use run_serve::request::Charged;
+use run_serve::request::serve_edit;
+use run_split::climb::climb;
+use run_split::fit::Fitting;
+use run_split::fit::fit;
+use run_path::path::path_to;
+use run_path::reads::serve_reads;
+
+// A put that is done: the state after it, what was charged, and its answer.
+pub struct Done {
+    pub state: State,
+    pub charge: u64,
+    pub answer: Answer,
+}
+
+// The value that a put replaces, where there is one.
+fn old_value(v: NodeValue, key: u32) -> Answer
+    requires { ⌜ Held v ⌝ }
+    ensures { λ r. ⌜ r ≡ valueOr Answer.Replaced (lookup key (pairsIn v)) ⌝ }
+{
+    let found = find(v, key);
+    match found {
+        Found::At(i) => {
+            let old = pointer(v, i);
+            Answer::Replaced(old)
+        }
+        Found::Above(_) => Answer::Absent,
+    }
+}
+
+// The reads of the way, then one edit of its leaf.
+fn edit_leaf(
+    pool: &mut [u8],
+    table: &mut [u8],
+    state: State,
+    tariff: Tariff,
+    ids: [usize; 9],
+    n: usize,
+    key: u32,
+    value: u32,
+) -> Charged
+    requires { ⌜ (Growing (length (now pool)) (length (now table)) state) × (Ranged tariff) × (1 ≤ n) × (n ≤ 9) ⌝ }
+    ensures { λ r. ⌜ RequestsAs (length (now (pool .exit))) (length (now (table .exit))) (pagesOf (now (pool .exit))) (rowsOf (now (table .exit))) r state (def.editLeaf tariff (take n ids) (def.lastOf n ids) key value (world (pagesOf (now (pool .entry))) (rowsOf (now (table .entry))) state)) ⌝ }
+{
+    let reads = serve_reads(pool, table, state, tariff, ids, n);
+    let s = reads.state;
+    let edit = ChangeValue::Put {
+        key,
+        pointer: value,
+    };
+    let edited = serve_edit(pool, table, s, tariff, ids[n - 1], edit);
+    let t = edited.state;
+    Charged {
+        state: t,
+        charge: reads.charge + edited.charge,
+    }
+}
+
+// The reads of the way, then the splits.
+fn split_way(
+    pool: &mut [u8],
+    table: &mut [u8],
+    state: State,
+    tariff: Tariff,
+    ids: [usize; 9],
+    n: usize,
+    key: u32,
+    value: u32,
+) -> Charged
+    requires { ⌜ (Growing (length (now pool)) (length (now table)) state) × (Ranged tariff) × (1 ≤ n) × (n ≤ 9) ⌝ }
+    ensures { λ r. ⌜ RequestsAs (length (now (pool .exit))) (length (now (table .exit))) (pagesOf (now (pool .exit))) (rowsOf (now (table .exit))) r state (def.splitWay tariff (take n ids) key value (world (pagesOf (now (pool .entry))) (rowsOf (now (table .entry))) state)) ⌝ }
+{
+    let reads = serve_reads(pool, table, state, tariff, ids, n);
+    let s = reads.state;
+    let split = climb(pool, table, s, tariff, ids, n, key, value);
+    let t = split.state;
+    Charged {
+        state: t,
+        charge: reads.charge + split.charge,
+    }
+}
+
+// A new key for a full leaf, at the end of a way of n nodes: refused, or put with the splits.
+fn put_new(
+    pool: &mut [u8],
+    table: &mut [u8],
+    state: State,
+    tariff: Tariff,
+    ids: [usize; 9],
+    n: usize,
+    key: u32,
+    value: u32,
+) -> Done
+    requires { ⌜ (Growing (length (now pool)) (length (now table)) state) × (Ranged tariff) × (1 ≤ n) × (n ≤ 9) × (mostKeys ≤ sizeAt (tableOf (pagesOf (now pool)) (rowsOf (now table)) state) (def.lastOf n ids)) ⌝ }
+    ensures { λ r. ⌜ DoneAs (length (now (pool .exit))) (length (now (table .exit))) (pagesOf (now (pool .exit))) (rowsOf (now (table .exit))) r state (def.putNew tariff (take n ids) (idsNeeded (tableOf (pagesOf (now (pool .entry))) (rowsOf (now (table .entry))) state) (take n ids)) key value (world (pagesOf (now (pool .entry))) (rowsOf (now (table .entry))) state)) ⌝ }
+{
+    let needed = ids_needed(pool, table, state, ids, n);
+    if 10 * (state.blocks - 2) < state.nodes + needed {
+        let answer = Answer::Refused(9);
+        return Done {
+            state,
+            charge: 0,
+            answer,
+        };
+    }
+    let split = split_way(pool, table, state, tariff, ids, n, key, value);
+    let s = split.state;
+    let answer = Answer::Absent;
+    Done {
+        state: s,
+        charge: split.charge,
+        answer,
+    }
+}
+
+// A value put at a key.
+pub fn put(
+    pool: &mut [u8],
+    table: &mut [u8],
+    state: State,
+    tariff: Tariff,
+    key: u32,
+    value: u32,
+) -> Done
+    requires { ⌜ (Growing (length (now pool)) (length (now table)) state) × (Ranged tariff) ⌝ }
+    ensures { λ r. ⌜ DoneAs (length (now (pool .exit))) (length (now (table .exit))) (pagesOf (now (pool .exit))) (rowsOf (now (table .exit))) r state (def.put tariff key value (world (pagesOf (now (pool .entry))) (rowsOf (now (table .entry))) state)) ⌝ }
+{
+    let path = path_to(pool, table, state, key);
+    let leaf = path.leaf;
+    let ids = path.ids;
+    let n = path.length;
+    let found = fit(leaf, key);
+    match found {
+        Fitting::Room => {
+            let answer = old_value(leaf, key);
+            let edited = edit_leaf(pool, table, state, tariff, ids, n, key, value);
+            let s = edited.state;
+            return Done {
+                state: s,
+                charge: edited.charge,
+                answer,
+            };
+        }
+        Fitting::Full(_) => {
+            return put_new(pool, table, state, tariff, ids, n, key, value);
+        }
+    }
+}

@@ -1,0 +1,71 @@
+-- A COMMAND'S NODE REQUESTS, served by the code one after another, agree with the model's command; and the ways down that the code walks
+-- are the model's. Assumes nothing.
+use mathlib.Core.Path.{_≡_, refl, ap, _∙_}
+use mathlib.Core.Bool.{true}
+use mathlib.Core.List.{List, [], _∷_, map}
+use Prim.Native.Nat.{ℕ, _+_, _<_}
+use native.Mathlib.Omega.{arith}
+use Rattle.layout.specs.Layout.{nodeLimit, bound32}
+use Rattle.pairs.specs.Pairs.{Pair}
+use Rattle.account.specs.declared.Tariff.{Tariff}
+use Rattle.command.specs.declared.Command.{Command}
+use Rattle.tree.specs.NodeRequest.{read, countAfterAll}
+use Rattle.tree.specs.Table.{path, leafFor}
+use Rattle.tree.specs.Sound.{sound}
+use Rattle.tree_laws.specs.SoundLaws.{spells-sound}
+use Rattle.tree_laws.specs.Levels.{path-any, leafFor-any}
+use Rattle.book.specs.Command.{requests}
+use Rattle.store.specs.Serve as Store
+use Rattle.store_laws.specs.Numbers.{last}
+use Rattle.model.specs.State.{State, bookOf}
+use Rattle.demands.specs.Commands.{Valid, does}
+use Rattle.demands.specs.Run.{Holds}
+use Rattle.demands.specs.NodesNarrow.{book-narrow}
+use Rattle.demands.specs.CommandFits.{ValueFits, command-narrow}
+use Rattle.demands.specs.RequestCount.{command-length}
+use Rattle.demands.specs.BatchFits.{mostNumbers}
+use Rattle.flash_allocate.specs.World.{World}
+use Rattle.run_serve.specs.Serve.{serve, charge}
+use Rattle.flash_read.specs.NodeTable.{tableOf}
+use Rattle.run_path.specs.Path.{mostSteps}
+use Rattle.run_path.specs.Reads.{readAll, readCharges}
+use Rattle.run_refines.specs.Commands.Lists.{servedAll, chargedAll, Runs, Ran, list-runs}
+use Rattle.run_refines.specs.Commands.Tables.{table-agrees}
+
+-- Reads are node requests like others.
+pub reads-served : (t : Tariff) (ns : List ℕ) (w : World) → readAll t ns w ≡ servedAll t (map read ns) w
+reads-served t [] w = refl
+reads-served t (n ∷ ns) w = reads-served t ns (serve t n Store.read w)
+
+pub reads-charged : (t : Tariff) (ns : List ℕ) (w : World) → readCharges t ns w ≡ chargedAll t (map read ns) w
+reads-charged t [] w = refl
+reads-charged t (n ∷ ns) w = ap (λ (k : ℕ). charge t n Store.read w + k) (reads-charged t ns (serve t n Store.read w))
+
+module _ {blocks : ℕ} {w : World} {s : State} (k : Runs blocks w s) (ps : List Pair) (h : Holds (nodeLimit blocks) (bookOf s) ps) where
+  abbrev limit : ℕ
+  limit = nodeLimit blocks
+
+  is-sound : sound limit (bookOf s .count) (bookOf s .table) ≡ true
+  is-sound = spells-sound limit (bookOf s .count) (bookOf s .table) ps (h .spells) (h .most)
+
+  -- THE WAY DOWN that the code walks is the model's.
+  pub way-is : (key : ℕ) → path mostSteps (tableOf (w .pages) (w .rows) (w .state)) key 0 ≡ path (bookOf s .count) (bookOf s .table) key 0
+  way-is key =
+      ap (λ table. path mostSteps table key 0) (table-agrees k) ∙
+      path-any limit (bookOf s .count) (bookOf s .table) is-sound (omega (arith, k .few)) key mostSteps (omega arith)
+
+  pub leaf-is : (key : ℕ) → leafFor mostSteps (tableOf (w .pages) (w .rows) (w .state)) key 0 ≡ leafFor (bookOf s .count) (bookOf s .table) key 0
+  leaf-is key =
+      ap (λ table. leafFor mostSteps table key 0) (table-agrees k) ∙
+      leafFor-any limit (bookOf s .count) (bookOf s .table) is-sound (omega (arith, k .few)) key mostSteps (omega arith)
+
+  -- THE REQUESTS OF A COMMAND
+  pub command-runs : (t : Tariff) (c : Command) → Valid c → ValueFits c → 1 + (mostNumbers + last (s .run)) < bound32 → Ran blocks t (requests limit c (bookOf s)) w s
+  command-runs t c valid value number =
+      let b = bookOf s in
+      let rs = requests limit c b in
+      let d = does limit (omega (arith, k .few)) b ps (h .spells) (h .most) c valid in
+      let l = command-length limit c b ps (h .spells) (omega (arith, h .most, k .few)) valid in
+      list-runs t rs (countAfterAll rs (b .count)) k (d .served .fits)
+      (command-narrow limit b ps (h .spells) (omega (arith, h .most, k .few)) (book-narrow s (k .fits .now)) c valid value)
+      (omega (arith, l, h .most, k .few))

@@ -1,0 +1,3 @@
+pub mod Requests
+pub mod Commands
+pub mod Put

@@ -1,0 +1,155 @@
+-- `gather::gather` meets its contract. Over leaves: what is left of the scan from this leaf gives the whole. Over keys: what is left of the leaf from
+-- this key gives what the leaf gives. Each way out is one of the reasons to stop. Assumes nothing.
+use mathlib.Core.Logic.{⊎-elim}
+use Prim.Native.Nat.{_-_}
+use native.Mathlib.Omega.{arith}
+use borrow.Author.Needs.{needs}
+use Rattle.flash_blocks.specs.Pages.{pagesOf}
+use Rattle.flash_rows.specs.Row.{rowsOf}
+use Rattle.tree.specs.Table.{leafFor}
+use Rattle.flash_read.specs.NodeTable.{tableOf}
+use Rattle.run_path.specs.Path.{mostSteps}
+use Rattle.run_scan.specs.InLeaf.{Taking, taking-start, taking-skip, taking-more}
+use Rattle.run_scan.specs.Along.{Along, along-start}
+use Rattle.run_scan.specs.Gathering.{gathered-high, gathered-last, gathered-end, gathered-out, gathering-next}
+use Rattle.run_scan.proofs.gather.gather.Statement.{statement}
+use Rattle.run_scan.proofs.gather.gather.Tie as tie
+
+abbrev Inv-loop : tie.InvT-loop
+Inv-loop pool table state low high most keys₀ values₀ count₀ leaves visited leaf leaf-keys leaf-values i₀ keys values count i = Taking low high most leaf keys₀ values₀ count₀ keys values count i
+
+abbrev μ-loop : tie.MeasureT-loop
+μ-loop pool table state low high most keys₀ values₀ count₀ leaves visited leaf leaf-keys leaf-values i₀ keys values count i = leaf .count - i
+
+abbrev Inv-leaves : tie.InvT-leaves
+Inv-leaves pool table state low high most keys₀ values₀ count₀ leaves₀ visited₀ leaf₀ keys values count leaves visited leaf = let nodes = tableOf (pagesOf pool) (rowsOf table) state in
+    Along (leafFor mostSteps nodes low 0) nodes (state .nodes) low high most keys values count leaves visited leaf
+
+abbrev μ-leaves : tie.MeasureT-leaves
+μ-leaves pool table state low high most keys₀ values₀ count₀ leaves₀ visited₀ leaf₀ keys values count leaves visited leaf = state .nodes - visited
+
+leaves-holds : tie.Need-leaves-holds Inv-loop μ-loop Inv-leaves μ-leaves
+leaves-holds c = let entry = c .before .before .before in
+    along-start _ _ _ _ _ _ _ _ _ _ (entry .pre .1 .leaf) (search needs) (search needs) (search needs) (entry .pre .3)
+
+loop-holds : tie.Need-loop-holds Inv-loop μ-loop Inv-leaves μ-leaves
+loop-holds c = let a = c .before .before .leaves .inv in
+    taking-start _ _ _ _ _ _ _ (a .keyRoom) (a .valueRoom) (a .wanted)
+
+mul-key : tie.Need-mul-key Inv-loop μ-loop Inv-leaves μ-leaves
+mul-key c = let s = c .before .before .before .before .before .leaves .inv .here .held .sized in omega (arith, s .size, c .if1 .taken)
+
+array-read-key : tie.Need-array-read-key Inv-loop μ-loop Inv-leaves μ-leaves
+array-read-key c = let s = c .before .before .before .before .before .leaves .inv .here .held .sized in omega (arith, s .size, s .keyRoom, c .if1 .taken)
+
+mul-keys : tie.Need-mul-keys Inv-loop μ-loop Inv-leaves μ-leaves
+mul-keys c = let t = c .before .before .before .before .loop .inv in omega (arith, t .wanted, c .before .before .before .before .before .before .before .before .before .before .before .pre .4)
+
+array-write-keys : tie.Need-array-write-keys Inv-loop μ-loop Inv-leaves μ-leaves
+array-write-keys c = let t = c .before .before .before .before .loop .inv in omega (arith, t .wanted, t .keyRoom, c .before .before .before .before .before .before .before .before .before .before .before .pre .4)
+
+mul-values : tie.Need-mul-values Inv-loop μ-loop Inv-leaves μ-leaves
+mul-values c = let s = c .before .before .before .before .before .before .before .leaves .inv .here .held .sized in omega (arith, s .size, c .before .before .if1 .taken)
+
+array-read-values : tie.Need-array-read-values Inv-loop μ-loop Inv-leaves μ-leaves
+array-read-values c = let s = c .before .before .before .before .before .before .before .leaves .inv .here .held .sized in omega (arith, s .size, s .pointerRoom, c .before .before .if1 .taken)
+
+mul-values-2 : tie.Need-mul-values-2 Inv-loop μ-loop Inv-leaves μ-leaves
+mul-values-2 c = let t = c .before .before .before .before .loop .inv in omega (arith, t .wanted, c .before .before .before .before .before .before .before .before .before .before .before .pre .4)
+
+array-write-values : tie.Need-array-write-values Inv-loop μ-loop Inv-leaves μ-leaves
+array-write-values c = let t = c .before .before .before .before .loop .inv in omega (arith, t .wanted, t .valueRoom, c .before .before .before .before .before .before .before .before .before .before .before .pre .4)
+
+add-count : tie.Need-add-count Inv-loop μ-loop Inv-leaves μ-leaves
+add-count c = let t = c .before .before .before .before .loop .inv in omega (arith, t .wanted, c .before .before .before .before .before .before .before .before .before .before .before .pre .4)
+
+add-i : tie.Need-add-i Inv-loop μ-loop Inv-leaves μ-leaves
+add-i c = let s = c .before .before .before .before .before .before .before .leaves .inv .here .held .sized in omega (arith, s .size, c .before .before .if1 .taken)
+
+loop-less : tie.Need-loop-less Inv-loop μ-loop Inv-leaves μ-leaves
+loop-less c = omega (arith, c .before .before .if1 .taken)
+
+loop-again : tie.Need-loop-again Inv-loop μ-loop Inv-leaves μ-leaves
+loop-again c = let p = c .before .before .before .before .before .before .before .before .before .before .before .pre in
+    let s = c .before .before .before .before .before .before .before .leaves .inv .here .held .sized in
+    let t = c .before .before .before .before .loop .inv in
+    ⊎-elim
+    (λ w. rw (w .2, w .3, w .4) (taking-more (p .4) s t (c .before .before .if1 .taken) (w .0 .taken) (c .before .if2 .left) (w .1 .left)))
+    (λ w. rw (w .1, w .2, w .3) (taking-skip (p .4) s t (c .before .before .if1 .taken) (p .2) (w .0 .left)))
+    (c .if3 .came)
+
+cast-leaves : tie.Need-cast-leaves Inv-loop μ-loop Inv-leaves μ-leaves
+cast-leaves c = search needs
+
+mul-leaves : tie.Need-mul-leaves Inv-loop μ-loop Inv-leaves μ-leaves
+mul-leaves c = let a = c .before .before .before .before .before .before .before .before .leaves .inv in omega (arith, a .links, c .before .before .before .before .before .before .before .before .before .before .before .before .pre .0 .nodes)
+
+array-write-leaves : tie.Need-array-write-leaves Inv-loop μ-loop Inv-leaves μ-leaves
+array-write-leaves c = let a = c .before .before .before .before .before .before .before .before .leaves .inv in omega (arith, a .links, a .room, c .if6 .left, c .before .before .before .before .before .before .before .before .before .before .before .before .pre .0 .nodes)
+
+add-visited : tie.Need-add-visited Inv-loop μ-loop Inv-leaves μ-leaves
+add-visited c = let a = c .before .before .before .before .before .before .before .before .leaves .inv in omega (arith, a .links, c .before .before .before .before .before .before .before .before .before .before .before .before .pre .0 .nodes)
+
+cast-node-at : tie.Need-cast-node-at Inv-loop μ-loop Inv-leaves μ-leaves
+cast-node-at c = search needs
+
+node-at-requires : tie.Need-node-at-requires Inv-loop μ-loop Inv-leaves μ-leaves
+node-at-requires c κs = c .before .before .before .before .before .before .before .before .before .before .before .before .pre .0
+
+leaves-less : tie.Need-leaves-less Inv-loop μ-loop Inv-leaves μ-leaves
+leaves-less c = let a = c .before .before .before .before .before .before .before .before .before .leaves .inv in omega (arith, a .links, c .before .if6 .left)
+
+leaves-again : tie.Need-leaves-again Inv-loop μ-loop Inv-leaves μ-leaves
+leaves-again c = let p = c .before .before .before .before .before .before .before .before .before .before .before .before .before .pre in
+    gathering-next (p .2) (p .4) (c .before .before .before .before .before .before .before .before .before .leaves .inv) (c .before .before .before .before .before .before .loop .inv) (c .before .before .before .before .if1 .left) (p .0 .nodes) (c .before .before .before .if5 .left) (c .before .if6 .left) (c .node-at .result) (c .node-at .ensures)
+
+returns : tie.Need-returns Inv-loop μ-loop Inv-leaves μ-leaves
+returns c = let p = c .before .before .before .before .before .before .before .before .before .before .pre in
+    gathered-high (p .2) (p .4) (c .before .before .before .before .before .before .leaves .inv) (c .before .before .before .loop .inv) (c .before .if1 .taken) (c .if2 .taken)
+
+returns-2 : tie.Need-returns-2 Inv-loop μ-loop Inv-leaves μ-leaves
+returns-2 c = let p = c .before .before .before .before .before .before .before .before .before .before .before .before .pre in
+    gathered-last (p .2) (p .4) (c .before .before .before .before .before .before .before .before .leaves .inv) (c .before .before .before .before .before .loop .inv) (c .before .before .before .if1 .taken) (c .before .if3 .taken) (c .before .before .if2 .left) (c .if4 .taken)
+
+returns-3 : tie.Need-returns-3 Inv-loop μ-loop Inv-leaves μ-leaves
+returns-3 c = let p = c .before .before .before .before .before .before .before .before .before .before .pre in
+    gathered-end (p .2) (p .4) (c .before .before .before .before .before .before .leaves .inv) (c .before .before .before .loop .inv) (c .before .if1 .left) (c .if5 .taken)
+
+returns-4 : tie.Need-returns-4 Inv-loop μ-loop Inv-leaves μ-leaves
+returns-4 c = let p = c .before .before .before .before .before .before .before .before .before .before .before .before .pre in
+    gathered-out (p .2) (p .4) (c .before .before .before .before .before .before .before .before .leaves .inv) (c .before .before .before .before .before .loop .inv) (c .before .before .before .if1 .left) (c .if6 .taken)
+
+pub gather-spec : {M : Type 1} → statement M
+gather-spec =
+    tie.close
+    (tie.spec
+    Inv-loop
+    μ-loop
+    Inv-leaves
+    μ-leaves
+    leaves-holds
+    loop-holds
+    mul-key
+    array-read-key
+    mul-keys
+    array-write-keys
+    mul-values
+    array-read-values
+    mul-values-2
+    array-write-values
+    add-count
+    add-i
+    loop-less
+    loop-again
+    cast-leaves
+    mul-leaves
+    array-write-leaves
+    add-visited
+    cast-node-at
+    node-at-requires
+    leaves-less
+    leaves-again
+    returns
+    returns-2
+    returns-3
+    returns-4)

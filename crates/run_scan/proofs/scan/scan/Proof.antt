@@ -1,0 +1,79 @@
+-- `scan::scan` meets its contract: the pairs and the leaves gathered, then the way and the leaves read. Assumes nothing.
+use Prim.Native.Nat.{_≤_}
+use native.Mathlib.Nat.{sub-zero}
+use native.Mathlib.Omega.{arith}
+use lib.ListN.{length}
+use lib.Seq.{length-take-le}
+use Rattle.flash_rows.specs.Row.{rowsOf}
+use Rattle.flash_blocks.specs.Pages.{pagesOf}
+use Rattle.flash_allocate.specs.World.{world}
+use Rattle.run_path.specs.Reading.{reads-part}
+use Rattle.run_scan.specs.Pairs.{listed-none}
+use Rattle.run_scan.specs.Scan.{scanned-none, scanned}
+use borrow.Author.Needs.{needs}
+use Rattle.run_scan.proofs.scan.scan.Statement.{statement}
+use Rattle.run_scan.proofs.scan.scan.Tie as tie
+
+returns : tie.Need-returns
+returns c = let entry = c .before .before .before in
+    let a = entry .args in
+    scanned-none (a .tariff) (a .low) (a .high) (a .most) (world (pagesOf (a .pool .now)) (rowsOf (a .table .now)) (a .state)) _ (c .if1 .taken) (entry .pre .0) (listed-none _ _) (record { size = omega arith; keyRoom = search needs; valueRoom = search needs }) (omega arith)
+
+path-to-requires : tie.Need-path-to-requires
+path-to-requires c κs = search needs
+
+gather-requires : tie.Need-gather-requires
+gather-requires c κs = search needs
+
+serve-reads-requires : tie.Need-serve-reads-requires
+serve-reads-requires c κs = search needs
+
+sub-read-nodes : tie.Need-sub-read-nodes
+sub-read-nodes c = search needs
+
+part-read-nodes-start : tie.Need-part-read-nodes-start
+part-read-nodes-start c = search needs
+
+part-read-nodes-end : tie.Need-part-read-nodes-end
+part-read-nodes-end c = let found = c .before .before .before .before .before .before .before .before .before .before .before .before .before .gather .ensures in omega (arith, found .few, found .room, c .before .before .before .before .before .before .before .before .before .before .before .before .before .before .before .before .before .before .before .before .before .before .pre .2)
+
+read-nodes-requires : tie.Need-read-nodes-requires
+read-nodes-requires c κs = let entry = c .before .before .before .before .before .before .before .before .before .before .before .before .before .before .before .before .before .before .before .before .before .before .before in
+    let found = c .before .before .before .before .before .before .before .before .before .before .before .before .before .before .gather in
+    let few : found .result .visited ≤ length (found .result .leaves) = omega (arith, found .ensures .few, found .ensures .room, entry .pre .2) in
+    (c .before .before .before .before .before .before .before .before .before .before .serve-reads .ensures .kept .good, entry .pre .1, rw (sub-zero, length-take-le (found .result .visited) (found .result .leaves) few) (omega (arith, few, found .ensures .room)))
+
+add-t43 : tie.Need-add-t43
+add-t43 c = let found = c .before .before .before .before .before .before .before .before .before .before .before .before .before .before .before .before .before .before .before .before .before .before .before .gather in
+    let few : found .result .visited ≤ length (found .result .leaves) = omega (arith, found .ensures .few, found .ensures .room, c .before .before .before .before .before .before .before .before .before .before .before .before .before .before .before .before .before .before .before .before .before .before .before .before .before .before .before .before .before .before .before .before .pre .2) in
+    omega (arith, c .before .before .before .before .before .before .before .before .before .before .before .before .before .before .before .before .before .before .before .serve-reads .ensures .most, c .before .before .before .before .before .before .before .before .before .before .before .before .before .before .before .before .before .before .before .before .before .before .before .before .before .before .path-to .ensures .few, reads-part _ _ few (c .before .before .before .before .before .before .before .before .read-nodes .ensures) .most, found .ensures .room)
+
+same-length : tie.Need-same-length
+same-length c = search needs
+
+same-length-2 : tie.Need-same-length-2
+same-length-2 c = search needs
+
+returns-2 : tie.Need-returns-2
+returns-2 c = let entry = c .before .before .before .before .before .before .before .before .before .before .before .before .before .before .before .before .before .before .before .before .before .before .before .before .before .before .before .before .before .before .before .before in
+    let a = entry .args in
+    let found = c .before .before .before .before .before .before .before .before .before .before .before .before .before .before .before .before .before .before .before .before .before .before .before .gather in
+    let few : found .result .visited ≤ length (found .result .leaves) = omega (arith, found .ensures .few, found .ensures .room, entry .pre .2) in
+    scanned (a .tariff) (a .low) (a .high) (a .most) (world (pagesOf (a .pool .now)) (rowsOf (a .table .now)) (a .state)) (c .before .before .before .before .before .before .before .before .before .before .before .before .before .before .before .before .before .before .before .before .before .before .before .before .before .before .before .before .before .if1 .left) (entry .pre .2) (c .before .before .before .before .before .before .before .before .before .before .before .before .before .before .before .before .before .before .before .before .before .before .before .before .before .before .path-to .ensures) (found .ensures) (c .before .before .before .before .before .before .before .before .before .before .before .before .before .before .before .before .before .before .before .serve-reads .ensures) (reads-part (found .result .visited) (found .result .leaves) few (c .before .before .before .before .before .before .before .before .read-nodes .ensures))
+
+pub scan-spec : {M : Type 1} → statement M
+scan-spec =
+    tie.close
+    (tie.spec
+    returns
+    path-to-requires
+    gather-requires
+    serve-reads-requires
+    sub-read-nodes
+    part-read-nodes-start
+    part-read-nodes-end
+    read-nodes-requires
+    add-t43
+    same-length
+    same-length-2
+    returns-2)

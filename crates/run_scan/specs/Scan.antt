@@ -1,0 +1,102 @@
+-- SWEEP (document 01, command 04): "reads the nodes from root to leaf, a sweep then leaf after leaf by links". Assumes nothing.
+use mathlib.Core.Path.{_≡_, refl, sym, ap, ap₂, _∙_}
+use mathlib.Core.Bool.{true, false}
+use mathlib.Core.List.{List, [], _++_}
+use Prim.Native.Nat.{ℕ, _+_, _*_, _≤_, _<_}
+use native.Mathlib.Omega.{arith}
+use borrow.Author.Tests.{lt-ltb, le-ltb}
+use lib.Dec.{ltb}
+use lib.ListN.{length, take}
+use Rattle.account.specs.declared.Tariff.{Tariff}
+use Rattle.account.specs.Fair.{mostCharge}
+use Rattle.layout.specs.Layout.{nodeLimit, mostBlocks}
+use Rattle.pairs.specs.Pairs.{Pair}
+use Rattle.tree.specs.Scan.{pairsFrom, leavesAfter}
+use Rattle.flash_rows.specs.declared.Row.{Row}
+use Rattle.flash_allocate.specs.World.{World, world, Good}
+use Rattle.flash_log.specs.Flush.{Kept}
+use Rattle.run_serve.specs.declared.request.Charged.{Charged}
+use Rattle.run_path.specs.declared.path.Path.{Path}
+use Rattle.run_path.specs.Path.{tableIn, wayTo, leafAt, PathTo}
+use Rattle.run_path.specs.Reads.{readAll, readCharges, ReadAs}
+use Rattle.run_path.specs.Reading.{reads-then}
+use Rattle.run_scan.specs.declared.Pairs.{Pairs}
+use Rattle.run_scan.specs.declared.gather.Gathered.{Gathered}
+use Rattle.run_scan.specs.declared.scan.Scanned.{Scanned}
+use Rattle.run_scan.specs.Pairs.{pairsOf, Sized}
+use Rattle.run_scan.specs.Gathered.{GatheredAs}
+
+-- The nodes that a scan reads: those to the leaf of the low key, then the leaves behind it; "low above high: no node read".
+unfoldable pub scanReads : ℕ → ℕ → ℕ → World → List ℕ
+scanReads low high most w =
+    elim (ltb high low) [
+      | true ↦ []
+      | false ↦ wayTo low w ++ leavesAfter (w .state .nodes) (tableIn w) low high most (leafAt low w)
+    ]
+
+-- The pairs that it finds; "low above high: an empty list".
+unfoldable pub scanPairs : ℕ → ℕ → ℕ → World → List Pair
+scanPairs low high most w =
+    elim (ltb high low) [
+      | true ↦ []
+      | false ↦ pairsFrom (w .state .nodes) (tableIn w) low high most (leafAt low w)
+    ]
+
+-- What the code of a scan leaves: these nodes read, what that is charged, and these pairs.
+pub record ScannedAs (poolLength tableLength : ℕ) (pages : List (List ℕ)) (rows : List Row) (r : Scanned) (t : Tariff) (low high wanted : ℕ) (w : World) : Type 0 where
+  pub kept : Kept poolLength tableLength (w .state) (world pages rows (r .state)) (readAll t (scanReads low high wanted w) w)
+  pub charge : r .charge ≡ readCharges t (scanReads low high wanted w) w
+  pub most : r .charge ≤ mostCharge * (9 + nodeLimit mostBlocks)
+  pub pairs : pairsOf (r .pairs) ≡ scanPairs low high wanted w
+  pub sized : Sized (r .pairs)
+  pub count : r .pairs .count ≤ wanted
+
+module _ (t : Tariff) (low high most : ℕ) (w : World) where
+  -- low above high
+  pub scanned-none : {P T : ℕ} (p : Pairs) → high < low → Good P T (w .state) → pairsOf p ≡ [] → Sized p → p .count ≤ most →
+      ScannedAs P T (w .pages) (w .rows) (record { state = w .state; charge = 0; pairs = p }) t low high most w
+  unfolding scanReads scanPairs
+  scanned-none p l g e s f =
+      let none : scanReads low high most w ≡ [] = rw (lt-ltb high low l, scanReads) refl in
+      record {
+        kept =
+            record {
+              is = sym (ap (λ (ns : List ℕ). readAll t ns w) none);
+              good = g;
+              blocks = refl;
+              nodes = refl;
+              checkpoint = refl;
+            };
+        charge = sym (ap (λ (ns : List ℕ). readCharges t ns w) none);
+        most = omega arith;
+        pairs = e ∙ sym (rw (lt-ltb high low l, scanPairs) refl);
+        sized = s;
+        count = f;
+      }
+
+  -- the way read, then the leaves behind it
+  module _ {P T P′ T′ : ℕ} {pages pages′ : List (List ℕ)} {rows rows′ : List Row} {c d : Charged} {way : Path} {g : Gathered} where
+    pub scanned : low ≤ high → w .state .nodes ≤ nodeLimit mostBlocks → PathTo (tableIn w) low way → GatheredAs (tableIn w) (w .state .nodes) low high most g →
+        ReadAs P T pages rows c t (way .length) (take (way .length) (way .ids)) w →
+        ReadAs P′ T′ pages′ rows′ d t (g .visited) (take (g .visited) (g .leaves)) (world pages rows (c .state)) →
+        ScannedAs P′ T′ pages′ rows′ (record { state = d .state; charge = c .charge + d .charge; pairs = g .pairs }) t low high most w
+    unfolding scanReads scanPairs
+    scanned l limit found gathered down along =
+        let all = reads-then down along in
+        let read : take (way .length) (way .ids) ++ take (g .visited) (g .leaves) ≡ scanReads low high most w =
+        ap₂ (λ (ms ns : List ℕ). ms ++ ns) (found .ids) (gathered .leaves) ∙ sym (rw (le-ltb high low l, scanReads) refl) in
+        record {
+          kept =
+              record {
+                is = all .kept .is ∙ ap (λ (ns : List ℕ). readAll t ns w) read;
+                good = all .kept .good;
+                blocks = all .kept .blocks;
+                nodes = all .kept .nodes;
+                checkpoint = all .kept .checkpoint;
+              };
+          charge = all .charge ∙ ap (λ (ns : List ℕ). readCharges t ns w) read;
+          most = omega (arith, all .most, found .few, gathered .few);
+          pairs = gathered .pairs ∙ sym (rw (le-ltb high low l, scanPairs) refl);
+          sized = gathered .sized;
+          count = gathered .wanted;
+        }

@@ -1,0 +1,79 @@
+// The pairs of a scan gathered, leaf after leaf, and the leaves that it goes to by links.
+ghost use Prim.Native.Nat.{_≤_};
+ghost use Rattle.flash_rows.specs.Row.{rowsOf};
+ghost use Rattle.flash_blocks.specs.Pages.{pagesOf};
+ghost use Rattle.flash_read.specs.NodeTable.{tableOf, Readable};
+ghost use Rattle.run_path.specs.Path.{PathTo};
+ghost use Rattle.run_scan.specs.Gathered.{GatheredAs};
+use super::Pairs;
+use flash_read::by_id::node_at;
+use flash_allocate::state::State;
+use run_path::path::Path;
+
+// The pairs, and the ids of the leaves behind the first, in order.
+pub struct Gathered {
+    pub pairs: Pairs,
+    pub leaves: [usize; 620],
+    pub visited: usize,
+}
+
+// From the leaf at the end of a way on; as many links are followed as there are nodes at most.
+pub fn gather<'a>(
+    pool: &'a [u8],
+    table: &'a [u8],
+    state: State,
+    way: Path,
+    low: u32,
+    high: u32,
+    most: usize,
+) -> Gathered
+    requires { ⌜ (Readable state (now table)) × (PathTo (tableOf (pagesOf (now pool)) (rowsOf (now table)) state) low way) × (low ≤ high) × (1 ≤ most) × (most ≤ 32) ⌝ }
+    ensures { λ r. ⌜ GatheredAs (tableOf (pagesOf (now (pool .entry))) (rowsOf (now (table .entry))) state) (state .nodes) low high most r ⌝ }
+{
+    let mut keys = [0u32; 32];
+    let mut values = [0u32; 32];
+    let mut count: usize = 0;
+    let mut leaves = [0usize; 620];
+    let mut visited: usize = 0;
+    let mut leaf = way.leaf;
+    'leaves: loop {
+        let leaf_keys = leaf.keys;
+        let leaf_values = leaf.pointers;
+        let mut i: usize = 0;
+        while i < leaf.count {
+            let key = leaf_keys[i];
+            if high < key {
+                break 'leaves;
+            }
+            if low <= key {
+                keys[count] = key;
+                values[count] = leaf_values[i];
+                count += 1;
+                if count == most {
+                    break 'leaves;
+                }
+            }
+            i += 1;
+        }
+        let next = leaf.link;
+        if next == 4294967295 {
+            break;
+        }
+        if visited == state.nodes {
+            break;
+        }
+        leaves[visited] = next as usize;
+        visited += 1;
+        leaf = node_at(pool, table, state, next as usize);
+    }
+    let pairs = Pairs {
+        keys,
+        values,
+        count,
+    };
+    Gathered {
+        pairs,
+        leaves,
+        visited,
+    }
+}

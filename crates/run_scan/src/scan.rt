@@ -1,0 +1,65 @@
+// Scan (document 01: sweep).
+ghost use Prim.Native.Nat.{_≤_};
+ghost use lib.ListN.{length};
+ghost use Rattle.layout.specs.Layout.{nodeLimit, mostBlocks};
+ghost use Rattle.account.specs.Range.{Ranged};
+ghost use Rattle.flash_rows.specs.Row.{rowsOf};
+ghost use Rattle.flash_blocks.specs.Pages.{pagesOf};
+ghost use Rattle.flash_allocate.specs.World.{Good, world};
+ghost use Rattle.run_scan.specs.Scan.{ScannedAs};
+use super::Pairs;
+use super::gather::gather;
+use account::Tariff;
+use flash_allocate::state::State;
+use run_path::path::path_to;
+use run_path::reads::read_nodes;
+use run_path::reads::serve_reads;
+
+// A scan that was served: the state after it, what its reads were charged, and the pairs found.
+pub struct Scanned {
+    pub state: State,
+    pub charge: u64,
+    pub pairs: Pairs,
+}
+
+// The first `most` pairs from low to high: found in the nodes as they are, which then are read as requests.
+pub fn scan(
+    pool: &mut [u8],
+    table: &mut [u8],
+    state: State,
+    tariff: Tariff,
+    low: u32,
+    high: u32,
+    most: u32,
+) -> Scanned
+    requires { ⌜ (Good (length (now pool)) (length (now table)) state) × (Ranged tariff) × (state .nodes ≤ nodeLimit mostBlocks) × (1 ≤ most) × (most ≤ 32) ⌝ }
+    ensures { λ r. ⌜ ScannedAs (length (now (pool .exit))) (length (now (table .exit))) (pagesOf (now (pool .exit))) (rowsOf (now (table .exit))) r tariff low high most (world (pagesOf (now (pool .entry))) (rowsOf (now (table .entry))) state) ⌝ }
+{
+    if high < low {
+        let pairs = Pairs {
+            keys: [0u32; 32],
+            values: [0u32; 32],
+            count: 0,
+        };
+        return Scanned {
+            state,
+            charge: 0,
+            pairs,
+        };
+    }
+    let way = path_to(pool, table, state, low);
+    let found = gather(pool, table, state, way, low, high, most as usize);
+    let ids = way.ids;
+    let down = serve_reads(pool, table, state, tariff, ids, way.length);
+    let s = down.state;
+    let leaves = found.leaves;
+    let visited = found.visited;
+    let along = read_nodes(pool, table, s, tariff, &leaves[0..visited]);
+    let after = along.state;
+    let pairs = found.pairs;
+    Scanned {
+        state: after,
+        charge: down.charge + along.charge,
+        pairs,
+    }
+}

@@ -1,0 +1,133 @@
+-- Results said otherwise, and the steps of a request put together. Assumes nothing.
+use mathlib.Core.Path.{_≡_, refl, sym, ap, ap₂, _∙_, subst}
+use mathlib.Core.Bool.{true, false}
+use mathlib.Core.List.{List}
+use Prim.Native.Nat.{ℕ, _≤_, _<_}
+use native.Mathlib.Omega.{arith}
+use borrow.Author.Tests.{lt-ltb, le-ltb}
+use lib.ListN.{getD}
+use Rattle.account.specs.declared.Mode.{Mode}
+use Rattle.account.specs.declared.Request.{Request}
+use Rattle.account.specs.declared.Tariff.{Tariff}
+use Rattle.account.specs.declared.Account.{Account}
+use Rattle.account.specs.declared.Served.{Served}
+use Rattle.account.specs.Serve.{serveOf}
+use Rattle.account.specs.Fair.{Fair}
+use Rattle.node.specs.declared.DraftState.{DraftState}
+use Rattle.node.specs.declared.DraftValue.{DraftValue}
+use Rattle.node.specs.declared.NodeValue.{NodeValue}
+use Rattle.node.specs.Node.{Node}
+use Rattle.node.specs.Value.{Becomes}
+use Rattle.node.specs.Drafts.{draftAs, draftOf}
+use Rattle.store.specs.Store.{nodeIn}
+use Rattle.store.specs.Serve.{Work}
+use Rattle.flash_rows.specs.Row.{noRow}
+use Rattle.flash_rows.specs.declared.Row.{Row}
+use Rattle.flash_allocate.specs.declared.state.State.{State}
+use Rattle.flash_allocate.specs.World.{World, world, Good}
+use Rattle.flash_log.specs.Flush.{Kept}
+use Rattle.run_serve.specs.declared.settle.Settled.{Settled}
+use Rattle.run_serve.specs.Content.{contentOf, contentAfter}
+use Rattle.run_serve.specs.Write.{writeWhole, write}
+use Rattle.run_serve.specs.Settle.{accountIn, servedAt, sameMode, switch, rescored, settleBy, settle, SettledAs}
+use Rattle.run_serve.specs.Serve.{requestOf, serveThere, serve, charge, ServedAs}
+
+-- A result that stands for what is said in another way.
+pub becomes-is : {v : NodeValue} {x y : Node} → Becomes v x → x ≡ y → Becomes v y
+becomes-is b e = record { is = b .is ∙ e; held = b .held }
+
+pub kept-is : {P T : ℕ} {s : State} {made a b : World} → Kept P T s made a → a ≡ b → Kept P T s made b
+kept-is k e = record { is = k .is ∙ e; good = k .good; blocks = k .blocks; nodes = k .nodes; checkpoint = k .checkpoint }
+
+pub kept-mode : {P T : ℕ} {s : State} {made : World} (by : Mode → World) {m m′ : Mode} → m ≡ m′ → Kept P T s made (by m′) → Kept P T s made (by m)
+kept-mode by e k = kept-is k (ap by (sym e))
+
+-- Nothing done, and two steps one after the other.
+pub kept-same : {P T : ℕ} (w : World) → Good P T (w .state) → Kept P T (w .state) w w
+kept-same w g = record { is = refl; good = g; blocks = refl; nodes = refl; checkpoint = refl }
+
+kept-then : {P T P′ T′ : ℕ} {s : State} {a b right : World} (step : World → World) → Kept P T s a right → Kept P′ T′ (a .state) b (step a) →
+    Kept P′ T′ s b (step right)
+kept-then step k l =
+    record {
+      is = l .is ∙ ap step (k .is);
+      good = l .good;
+      blocks = l .blocks ∙ k .blocks;
+      nodes = l .nodes ∙ k .nodes;
+      checkpoint = l .checkpoint ∙ k .checkpoint;
+    }
+
+-- The node of a draft, by the state that it is in.
+pub node-as : (d : DraftValue) (s : DraftState) → d .state ≡ s → nodeIn (draftAs s (d .node)) ≡ nodeIn (draftOf d)
+node-as d s e = ap (λ (z : DraftState). nodeIn (draftAs z (d .node))) (sym e)
+
+-- A switch: none between equal modes, else the content that the node has.
+module _ {P T : ℕ} (from to : Mode) (n : ℕ) (w : World) where
+  pub switch-none : sameMode from to ≡ true → Good P T (w .state) → Kept P T (w .state) w (switch from to n w)
+  unfolding switch
+  switch-none e g = kept-is (kept-same w g) (rw e refl)
+
+  pub switch-whole : (x : Node) (w₁ : World) → sameMode from to ≡ false → x ≡ contentOf n w → Kept P T (w .state) w₁ (writeWhole to n x w) →
+      Kept P T (w .state) w₁ (switch from to n w)
+  unfolding switch
+  switch-whole x w₁ e f k = kept-is k (ap (λ (y : Node). writeWhole to n y w) f ∙ rw e refl)
+
+-- The row loaded, its account served, the switch, and the score in the row that the switch leaves.
+module _ {P T T′ : ℕ} (t : Tariff) (q : Request) (n : ℕ) (w w₁ : World) (row : Row) (account : Account) (served : Served) (rows₂ : List Row)
+    (r : row ≡ getD (w .rows) n noRow) (a : account ≡ accountIn row) (f : Fair t account q served)
+    (k : Kept P T (w .state) w₁ (switch (row .mode) (served .account .mode) n w)) (e : rows₂ ≡ rescored n (served .account .score) (w₁ .rows)) (l : T′ ≡ T) where
+  is-served : served ≡ servedAt t q n w
+  is-served = f .is ∙ ap (λ (z : Account). serveOf t z q) (a ∙ ap accountIn r)
+
+  is-settled : world (w₁ .pages) rows₂ (w₁ .state) ≡ settle t q n w
+  unfolding settleBy
+  is-settled =
+      ap (λ (rows : List Row). world (w₁ .pages) rows (w₁ .state)) e ∙
+      ap (λ (z : World). world (z .pages) (rescored n (served .account .score) (z .rows)) (z .state)) (k .is) ∙
+      ap₂ (λ (m : Mode) (z : Served). settleBy m (z .account) n w) (ap (λ (z : Row). z .mode) r) is-served
+
+  pub settled : SettledAs P T′ (w₁ .pages) rows₂ (record { state = w₁ .state; mode = served .account .mode; charge = served .charge }) t q n w
+  settled =
+      record {
+        kept =
+            record {
+              is = is-settled;
+              good = subst (λ (z : ℕ). Good P z (w₁ .state)) (sym l) (k .good);
+              blocks = k .blocks;
+              nodes = k .nodes;
+              checkpoint = k .checkpoint;
+            };
+        mode = ap (λ (z : Served). z .account .mode) is-served;
+        charge = ap (λ (z : Served). z .charge) is-served;
+        most = f .most;
+      }
+
+-- A request of a node that is there: the account settled, then the own change with the content that the request leaves.
+module _ {P T P′ T′ : ℕ} (t : Tariff) (n : ℕ) (work : Work) (w : World) (there : n < w .state .nodes) (pages₁ : List (List ℕ)) (rows₁ : List Row) (r : Settled)
+    (s : SettledAs P T pages₁ rows₁ r t (requestOf work) n w) (x : Node) (e : x ≡ contentAfter work n w) where
+  pub served-there : (pages₂ : List (List ℕ)) (rows₂ : List Row) (s₂ : State) →
+      Kept P′ T′ (r .state) (world pages₂ rows₂ s₂) (write (r .mode) n work x (world pages₁ rows₁ (r .state))) →
+      ServedAs P′ T′ pages₂ rows₂ (record { state = s₂; charge = r .charge }) t n work w
+  unfolding serve serveThere charge
+  served-there pages₂ rows₂ s₂ k =
+      record {
+        kept = kept-is (kept-then (write (r .mode) n work x) (s .kept) k) own;
+        charge = s .charge ∙ rw (lt-ltb n (w .state .nodes) there) refl;
+        most = s .most;
+      }
+    where
+      own : write (r .mode) n work x (settle t (requestOf work) n w) ≡ serve t n work w
+      own =
+          ap₂ (λ (m : Mode) (y : Node). write m n work y (settle t (requestOf work) n w)) (s .mode) e ∙
+          rw (lt-ltb n (w .state .nodes) there) refl
+
+-- A request of a node that is not there.
+pub served-nowhere : {P T : ℕ} (t : Tariff) (n : ℕ) (work : Work) (w : World) → w .state .nodes ≤ n → Good P T (w .state) →
+    ServedAs P T (w .pages) (w .rows) (record { state = w .state; charge = 0 }) t n work w
+unfolding serve charge
+served-nowhere t n work w h g =
+    record {
+      kept = kept-is (kept-same w g) (rw (le-ltb n (w .state .nodes) h) refl);
+      charge = rw (le-ltb n (w .state .nodes) h) refl;
+      most = omega arith;
+    }

@@ -1,0 +1,34 @@
+-- `request::serve_read` meets its contract: the account settled, and no change. Assumes nothing.
+use mathlib.Core.Path.{refl}
+use Rattle.flash_rows.specs.Row.{rowsOf}
+use Rattle.flash_blocks.specs.Pages.{pagesOf}
+use Rattle.store.specs.Serve.{read}
+use Rattle.flash_allocate.specs.World.{world}
+use Rattle.run_serve.specs.Content.{contentOf}
+use Rattle.run_serve.proofs.Laws.{kept-same, served-there, served-nowhere}
+use borrow.Author.Needs.{needs}
+use Rattle.run_serve.proofs.request.serve_read.Statement.{statement}
+use Rattle.run_serve.proofs.request.serve_read.Tie as tie
+
+settle-requires : tie.Need-settle-requires
+settle-requires c κs = search needs
+
+same-length : tie.Need-same-length
+same-length c = search needs
+
+same-length-2 : tie.Need-same-length-2
+same-length-2 c = search needs
+
+returns : tie.Need-returns
+returns c = let a = c .before .before .before .before .before .before .before .before .before .before .before .before .args in
+    let x = c .before .before .before .before .before .settle in
+    let w = world (pagesOf (a .pool .now)) (rowsOf (a .table .now)) (a .state) in
+    let w₁ = world (pagesOf (x .last .0)) (rowsOf (x .last .1 .0)) (x .result .state) in
+    served-there (a .tariff) (a .n) read w (c .before .before .before .before .before .before .before .before .if1 .taken) (w₁ .pages) (w₁ .rows) (x .result) (x .ensures) (contentOf (a .n) w) refl (w₁ .pages) (w₁ .rows) (w₁ .state) (kept-same w₁ (x .ensures .kept .good))
+
+returns-2 : tie.Need-returns-2
+returns-2 c = let a = c .before .before .before .before .args in
+    served-nowhere (a .tariff) (a .n) read (world (pagesOf (a .pool .now)) (rowsOf (a .table .now)) (a .state)) (c .if1 .left) (c .before .before .before .before .pre .0)
+
+pub serve-read-spec : {M : Type 1} → statement M
+serve-read-spec = tie.close (tie.spec settle-requires same-length same-length-2 returns returns-2)

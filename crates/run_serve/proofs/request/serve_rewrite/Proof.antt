@@ -1,0 +1,38 @@
+-- `request::serve_rewrite` meets its contract: the account settled, then the content in the mode that serves. Assumes nothing.
+use mathlib.Core.Path.{refl}
+use Rattle.flash_rows.specs.Row.{rowsOf}
+use Rattle.flash_blocks.specs.Pages.{pagesOf}
+use Rattle.node.specs.Value.{nodeOf}
+use Rattle.store.specs.Serve.{rewrite}
+use Rattle.flash_allocate.specs.World.{world}
+use Rattle.run_serve.proofs.Laws.{served-there, served-nowhere}
+use borrow.Author.Needs.{needs}
+use Rattle.run_serve.proofs.request.serve_rewrite.Statement.{statement}
+use Rattle.run_serve.proofs.request.serve_rewrite.Tie as tie
+
+settle-requires : tie.Need-settle-requires
+settle-requires c κs = search needs
+
+write-whole-requires : tie.Need-write-whole-requires
+write-whole-requires c κs = search needs
+
+same-length : tie.Need-same-length
+same-length c = search needs
+
+same-length-2 : tie.Need-same-length-2
+same-length-2 c = search needs
+
+returns : tie.Need-returns
+returns c = let a = c .before .before .before .before .before .before .before .before .before .before .before .before .before .before .before .before .before .before .before .args in
+    let x = c .before .before .before .before .before .before .before .before .before .before .before .before .settle in
+    let y = c .before .before .before .before .write-whole in
+    served-there (a .tariff) (a .n) (rewrite (nodeOf (a .v))) (world (pagesOf (a .pool .now)) (rowsOf (a .table .now)) (a .state)) (c .before .before .before .before .before .before .before .before .before .before .before .before .before .before .before .if1 .taken) (pagesOf (x .last .0)) (rowsOf (x .last .1 .0)) (x .result) (x .ensures) (nodeOf (a .v)) refl (pagesOf (y .last .0)) (rowsOf (y .last .1 .0)) (y .result) (y .ensures)
+
+returns-2 : tie.Need-returns-2
+returns-2 c = let a = c .before .before .before .before .args in
+    served-nowhere (a .tariff) (a .n) (rewrite (nodeOf (a .v))) (world (pagesOf (a .pool .now)) (rowsOf (a .table .now)) (a .state)) (c .if1 .left) (c .before .before .before .before .pre .0)
+
+pub serve-rewrite-spec : {M : Type 1} → statement M
+serve-rewrite-spec =
+    tie.close
+    (tie.spec settle-requires write-whole-requires same-length same-length-2 returns returns-2)

@@ -1,0 +1,58 @@
+-- `write::write_whole` meets its contract: each mode is one case. Assumes nothing.
+use Rattle.account.specs.declared.Mode.{Mode}
+use Rattle.flash_rows.specs.Row.{rowsOf}
+use Rattle.flash_blocks.specs.Pages.{pagesOf}
+use Rattle.node.specs.Value.{nodeOf}
+use Rattle.flash_allocate.specs.World.{world}
+use Rattle.run_serve.specs.Write.{writeWhole}
+use Rattle.run_serve.proofs.Laws.{kept-mode}
+use borrow.Author.Needs.{needs}
+use Rattle.run_serve.proofs.write.write_whole.Statement.{statement}
+use Rattle.run_serve.proofs.write.write_whole.Tie as tie
+
+enum-told : tie.Need-enum-told
+enum-told c = search needs
+
+group-requires : tie.Need-group-requires
+group-requires c κs = search needs
+
+same-length : tie.Need-same-length
+same-length c = search needs
+
+same-length-2 : tie.Need-same-length-2
+same-length-2 c = search needs
+
+returns : tie.Need-returns
+returns c = let a = c .before .before .before .before .before .before .before .before .before .before .before .args in
+    kept-mode (λ (m : Mode). writeWhole m (a .n) (nodeOf (a .v)) (world (pagesOf (a .pool .now)) (rowsOf (a .table .now)) (a .state))) (c .before .before .before .before .before .before .before .enum-told .given .1) (c .before .before .before .before .group .ensures)
+
+enum-told-2 : tie.Need-enum-told-2
+enum-told-2 c = search needs
+
+node-page-requires : tie.Need-node-page-requires
+node-page-requires c κs = search needs
+
+same-length-3 : tie.Need-same-length-3
+same-length-3 c = search needs
+
+same-length-4 : tie.Need-same-length-4
+same-length-4 c = search needs
+
+returns-2 : tie.Need-returns-2
+returns-2 c = let a = c .before .before .before .before .before .before .before .before .before .before .before .args in
+    kept-mode (λ (m : Mode). writeWhole m (a .n) (nodeOf (a .v)) (world (pagesOf (a .pool .now)) (rowsOf (a .table .now)) (a .state))) (c .before .before .before .before .before .before .before .enum-told2 .given .1) (c .before .before .before .before .node-page .ensures)
+
+pub write-whole-spec : {M : Type 1} → statement M
+write-whole-spec =
+    tie.close
+    (tie.spec
+    enum-told
+    group-requires
+    same-length
+    same-length-2
+    returns
+    enum-told-2
+    node-page-requires
+    same-length-3
+    same-length-4
+    returns-2)

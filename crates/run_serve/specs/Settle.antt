@@ -1,0 +1,64 @@
+-- The account of a request settled (document 01, "Account": "switch first, charge switch and t, score 0; else charge h, score s").
+use mathlib.Core.Path.{_≡_}
+use mathlib.Core.Bool.{Bool, true, false}
+use mathlib.Core.List.{List}
+use Prim.Native.Nat.{ℕ, _≤_}
+use lib.ListN.{getD, set}
+use Rattle.laws.specs.Tests.{choose}
+use Rattle.account.specs.declared.Mode.{Mode}
+use Rattle.account.specs.declared.Mode.the-variants.{Log, Disk}
+use Rattle.account.specs.declared.Request.{Request}
+use Rattle.account.specs.declared.Tariff.{Tariff}
+use Rattle.account.specs.declared.Account.{Account}
+use Rattle.account.specs.declared.Served.{Served}
+use Rattle.account.specs.Serve.{serveOf}
+use Rattle.account.specs.Fair.{mostCharge}
+use Rattle.flash_rows.specs.Row.{noRow}
+use Rattle.flash_rows.specs.Step.{scored}
+use Rattle.flash_rows.specs.declared.Row.{Row}
+use Rattle.flash_allocate.specs.World.{World, world}
+use Rattle.flash_log.specs.Flush.{Kept}
+use Rattle.run_serve.specs.declared.settle.Settled.{Settled}
+use Rattle.run_serve.specs.Content.{contentOf}
+use Rattle.run_serve.specs.Write.{writeWhole}
+
+-- The account that a row keeps, and that of node n.
+abbrev pub accountIn : Row → Account
+accountIn row = record { mode = row .mode; score = row .score }
+
+abbrev pub accountAt : ℕ → World → Account
+accountAt n w = accountIn (getD (w .rows) n noRow)
+
+-- What the account of node n makes of a request: the account after it, and the charge.
+abbrev pub servedAt : Tariff → Request → ℕ → World → Served
+servedAt t q n w = serveOf t (accountAt n w) q
+
+abbrev pub sameMode : Mode → Mode → Bool
+sameMode Log Log = true
+sameMode Log Disk = false
+sameMode Disk Log = false
+sameMode Disk Disk = true
+
+-- "A request that switches writes the content for the switch": the content that the node has, in the mode that serves.
+unfoldable pub switch : Mode → Mode → ℕ → World → World
+switch from to n w = choose (sameMode from to) w (writeWhole to n (contentOf n w) w)
+
+-- The rows with another score of node n.
+unfoldable pub rescored : ℕ → ℕ → List Row → List Row
+rescored n score rows = set rows n (scored score (getD rows n noRow))
+
+-- The switch from a mode as the account after the request says, then its score. The row is the one that the switch leaves.
+unfoldable pub settleBy : Mode → Account → ℕ → World → World
+settleBy from after n w =
+    let switched = switch from (after .mode) n w in
+    world (switched .pages) (rescored n (after .score) (switched .rows)) (switched .state)
+
+abbrev pub settle : Tariff → Request → ℕ → World → World
+settle t q n w = settleBy (accountAt n w .mode) (servedAt t q n w .account) n w
+
+-- What the code of it leaves: this world, and the mode and the charge that the account says.
+pub record SettledAs (poolLength tableLength : ℕ) (pages : List (List ℕ)) (rows : List Row) (r : Settled) (t : Tariff) (q : Request) (n : ℕ) (w : World) : Type 0 where
+  pub kept : Kept poolLength tableLength (w .state) (world pages rows (r .state)) (settle t q n w)
+  pub mode : r .mode ≡ servedAt t q n w .account .mode
+  pub charge : r .charge ≡ servedAt t q n w .charge
+  pub most : r .charge ≤ mostCharge

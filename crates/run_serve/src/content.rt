@@ -1,0 +1,40 @@
+// The content of a node as a request finds it, and as an edit leaves it.
+ghost use Prim.Native.Nat.{_+_, _*_, _≤_};
+ghost use lib.ListN.{length};
+ghost use Rattle.flash_rows.specs.Row.{rowsOf};
+ghost use Rattle.flash_blocks.specs.Pages.{pagesOf};
+ghost use Rattle.node.specs.Value.{Becomes};
+ghost use Rattle.node.specs.Drafts.{changeOf};
+ghost use Rattle.flash_allocate.specs.World.{world};
+ghost use Rattle.run_serve.specs.Content.{contentOf, editedOf};
+use node::ChangeValue;
+use node::NodeValue;
+use flash_read::content::content;
+use node_replay::redo;
+use flash_read::by_id::node_in;
+use flash_allocate::state::State;
+
+// The content of node n.
+pub fn current<'a>(pool: &'a [u8], table: &'a [u8], state: State, n: usize) -> NodeValue
+    requires { ⌜ (state .entries ≤ 27) × (16 * n + 16 ≤ length (now table)) ⌝ }
+    ensures { λ r. ⌜ Becomes r (contentOf n (world (pagesOf (now (pool .entry))) (rowsOf (now (table .entry))) state)) ⌝ }
+{
+    let d = content(pool, table, state, n);
+    node_in(d)
+}
+
+// The content of node n with one change more.
+pub fn edited<'a>(
+    pool: &'a [u8],
+    table: &'a [u8],
+    state: State,
+    n: usize,
+    change: ChangeValue,
+) -> NodeValue
+    requires { ⌜ (state .entries ≤ 27) × (16 * n + 16 ≤ length (now table)) ⌝ }
+    ensures { λ r. ⌜ Becomes r (editedOf (changeOf change) n (world (pagesOf (now (pool .entry))) (rowsOf (now (table .entry))) state)) ⌝ }
+{
+    let d = content(pool, table, state, n);
+    let e = redo(d, change);
+    node_in(e)
+}

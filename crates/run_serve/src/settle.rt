@@ -1,0 +1,101 @@
+// The account of a request settled: what it costs, the switch where it makes one, the score after it.
+ghost use mathlib.Core.Path.{_≡_};
+ghost use Prim.Native.Nat.{_+_, _*_, _≤_, _<_};
+ghost use lib.ListN.{length};
+ghost use Rattle.account.specs.Range.{Ranged};
+ghost use Rattle.flash_rows.specs.Row.{rowsOf};
+ghost use Rattle.flash_blocks.specs.Pages.{pagesOf};
+ghost use Rattle.flash_allocate.specs.World.{Good, world};
+ghost use Rattle.flash_log.specs.Flush.{Kept};
+ghost use Rattle.run_serve.specs.Settle as def;
+ghost use Rattle.run_serve.specs.Settle.{accountIn, sameMode, rescored, SettledAs};
+use super::content::current;
+use super::write::write_whole;
+use account::Account;
+use account::Mode;
+use account::Request;
+use account::Tariff;
+use flash_allocate::state::State;
+use flash_rows::Row;
+
+// A request whose account is settled: the state, the mode that serves it, and what it is charged.
+pub struct Settled {
+    pub state: State,
+    pub mode: Mode,
+    pub charge: u64,
+}
+
+// The account that a row keeps.
+fn account_in(row: Row) -> Account
+    ensures { λ r. ⌜ r ≡ accountIn row ⌝ }
+{
+    let mode = row.mode;
+    Account {
+        mode,
+        score: row.score,
+    }
+}
+
+// Whether two modes are the same.
+fn same_mode(a: Mode, b: Mode) -> bool
+    ensures { λ r. ⌜ r ≡ sameMode a b ⌝ }
+{
+    match a {
+        Mode::Log => match b {
+            Mode::Log => true,
+            Mode::Disk => false,
+        },
+        Mode::Disk => match b {
+            Mode::Log => false,
+            Mode::Disk => true,
+        },
+    }
+}
+
+// The score of node n, in its row as it is now.
+fn rescore(table: &mut [u8], n: usize, score: u32)
+    requires { ⌜ 16 * n + 16 ≤ length (now table) ⌝ }
+    ensures { λ _. ⌜ rowsOf (now (table .exit)) ≡ rescored n score (rowsOf (now (table .entry))) ⌝ }
+{
+    let row = flash_rows::load(table, n);
+    flash_rows::store(table, n, row.scored(score));
+}
+
+// A switch where the modes differ: the content that the node has, whole in the other mode.
+fn switch(pool: &mut [u8], table: &mut [u8], state: State, n: usize, from: Mode, to: Mode) -> State
+    requires { ⌜ (Good (length (now pool)) (length (now table)) state) × (n < state .nodes) ⌝ }
+    ensures { λ r. ⌜ Kept (length (now (pool .exit))) (length (now (table .exit))) state (world (pagesOf (now (pool .exit))) (rowsOf (now (table .exit))) r) (def.switch from to n (world (pagesOf (now (pool .entry))) (rowsOf (now (table .entry))) state)) ⌝ }
+{
+    if same_mode(from, to) {
+        return state;
+    }
+    let old = current(pool, table, state, n);
+    write_whole(pool, table, state, n, to, old)
+}
+
+// The account of node n serves a request: the switch that it asks for is made, and its score stored.
+pub fn settle(
+    pool: &mut [u8],
+    table: &mut [u8],
+    state: State,
+    tariff: Tariff,
+    n: usize,
+    request: Request,
+) -> Settled
+    requires { ⌜ (Good (length (now pool)) (length (now table)) state) × (n < state .nodes) × (Ranged tariff) ⌝ }
+    ensures { λ r. ⌜ SettledAs (length (now (pool .exit))) (length (now (table .exit))) (pagesOf (now (pool .exit))) (rowsOf (now (table .exit))) r tariff request n (world (pagesOf (now (pool .entry))) (rowsOf (now (table .entry))) state) ⌝ }
+{
+    let row = flash_rows::load(table, n);
+    let account = account_in(row);
+    let served = account.serve(tariff, request);
+    let after = served.account;
+    let from = row.mode;
+    let to = after.mode;
+    let s = switch(pool, table, state, n, from, to);
+    rescore(table, n, after.score);
+    Settled {
+        state: s,
+        mode: to,
+        charge: served.charge,
+    }
+}

@@ -1,0 +1,62 @@
+// What a request writes of its node, by the mode that the node is in then.
+ghost use Prim.Native.Nat.{_<_};
+ghost use lib.ListN.{length};
+ghost use Rattle.flash_rows.specs.Row.{rowsOf};
+ghost use Rattle.flash_blocks.specs.Pages.{pagesOf};
+ghost use Rattle.node.specs.Value.{nodeOf, Sized};
+ghost use Rattle.node.specs.Drafts.{changeOf};
+ghost use Rattle.flash_allocate.specs.World.{Good, world};
+ghost use Rattle.flash_log.specs.Flush.{Kept};
+ghost use Rattle.run_serve.specs.Write.{writeWhole, writeEdit};
+use account::Mode;
+use node::ChangeValue;
+use node::NodeValue;
+use flash_write::edit::edit;
+use flash_write::group::group;
+use flash_write::node_page::node_page;
+use flash_allocate::state::State;
+
+// The whole content: a group of entries in log mode, a page in disk mode.
+pub fn write_whole(
+    pool: &mut [u8],
+    table: &mut [u8],
+    state: State,
+    n: usize,
+    mode: Mode,
+    v: NodeValue,
+) -> State
+    requires { ⌜ (Good (length (now pool)) (length (now table)) state) × (n < state .nodes) × (Sized v) ⌝ }
+    ensures { λ r. ⌜ Kept (length (now (pool .exit))) (length (now (table .exit))) state (world (pagesOf (now (pool .exit))) (rowsOf (now (table .exit))) r) (writeWhole mode n (nodeOf v) (world (pagesOf (now (pool .entry))) (rowsOf (now (table .entry))) state)) ⌝ }
+{
+    match mode {
+        Mode::Log => {
+            return group(pool, table, state, n, v);
+        }
+        Mode::Disk => {
+            return node_page(pool, table, state, n, v);
+        }
+    }
+}
+
+// An edit: an entry in log mode, a page with the edited content in disk mode.
+pub fn write_edit(
+    pool: &mut [u8],
+    table: &mut [u8],
+    state: State,
+    n: usize,
+    mode: Mode,
+    change: ChangeValue,
+    edited: NodeValue,
+) -> State
+    requires { ⌜ (Good (length (now pool)) (length (now table)) state) × (n < state .nodes) × (Sized edited) ⌝ }
+    ensures { λ r. ⌜ Kept (length (now (pool .exit))) (length (now (table .exit))) state (world (pagesOf (now (pool .exit))) (rowsOf (now (table .exit))) r) (writeEdit mode n (changeOf change) (nodeOf edited) (world (pagesOf (now (pool .entry))) (rowsOf (now (table .entry))) state)) ⌝ }
+{
+    match mode {
+        Mode::Log => {
+            return edit(pool, table, state, n, change, edited);
+        }
+        Mode::Disk => {
+            return node_page(pool, table, state, n, edited);
+        }
+    }
+}

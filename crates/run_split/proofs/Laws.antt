@@ -1,0 +1,233 @@
+-- The steps of a node's turn put together. Assumes nothing.
+use mathlib.Core.Path.{_≡_, refl, sym, ap, ap₂, _∙_}
+use mathlib.Core.Bool.{Bool, true, false}
+use mathlib.Core.Logic.{_⊎_, inl, inr}
+use mathlib.Core.List.{List, [], _∷_}
+use Prim.Native.Nat.{ℕ, _+_, _≤_, _<_}
+use native.Mathlib.Omega.{arith}
+use borrow.Author.Tests.{lt-ltb, le-ltb}
+use lib.ListN.{length}
+use Rattle.laws.specs.Order.{le-or}
+use Rattle.layout.specs.Layout.{nodeLimit, mostKeys}
+use Rattle.account.specs.declared.Tariff.{Tariff}
+use Rattle.pairs.specs.Pairs.{insert}
+use Rattle.node.specs.declared.Kind.the-variants.{Branch}
+use Rattle.node.specs.declared.NodeValue.{NodeValue}
+use Rattle.node.specs.Node.{Node, node, pairsOf}
+use Rattle.node.specs.Change.{Change, put, link, change}
+use Rattle.node.specs.Halves.{lowerHalf, middleKey, upperHalf}
+use Rattle.node.specs.Search.{childPlace, keyAt}
+use Rattle.node.specs.Repoint.{repoint}
+use Rattle.node.specs.Value.{pairsIn, nodeOf, Sized, Held, Becomes, length-pairsIn}
+use Rattle.node_split.specs.Split.{Splits}
+use Rattle.flash_rows.specs.declared.Row.{Row}
+use Rattle.store.specs.Store.{noNode}
+use Rattle.store.specs.Serve.{edit, rewrite}
+use Rattle.flash_allocate.specs.declared.state.State.{State}
+use Rattle.flash_allocate.specs.World.{World, world}
+use Rattle.flash_write.specs.Group.{create, Grown}
+use Rattle.flash_read.specs.NodeTable.{tableOf-out}
+use Rattle.run_serve.specs.declared.request.Charged.{Charged}
+use Rattle.run_serve.specs.Serve.{serve, charge, ServedAs}
+use Rattle.run_split.specs.declared.Pending.{Pending}
+use Rattle.run_split.specs.declared.Pending.the-variants.{Nothing, Halves}
+use Rattle.run_split.specs.declared.Taken.{Taken}
+use Rattle.run_split.specs.declared.fit.Fitting.{Fitting}
+use Rattle.run_split.specs.declared.fit.Fitting.the-variants.{Room, Full}
+use Rattle.run_split.specs.Fit.{fitOf, full-splits}
+use Rattle.run_split.specs.Growing.{Growing, growing-kept, Grew}
+use Rattle.run_split.specs.Taking.{Taking, taking-is, TakenAs}
+use Rattle.run_split.specs.Split.{grow, splitBelow, splitRoot, split}
+use Rattle.run_split.specs.Take.{nodeAt, takeEdit, takeEdits, takePair, renaming, takeHalves, take}
+
+-- A turn's result said otherwise.
+pub taken-is : {P T : ℕ} {pages : List (List ℕ)} {rows : List Row} {r : Taken} {s : State} {a b : Taking} → TakenAs P T pages rows r s a → a ≡ b →
+    TakenAs P T pages rows r s b
+taken-is k e = record { is = k .is ∙ e; growing = k .growing; blocks = k .blocks; most = k .most }
+
+-- A node more, or none where the limit is reached.
+module _ {P T P₀ T₀ : ℕ} (x : Node) (w : World) (g : Growing P₀ T₀ (w .state)) where
+  pub grow-made : (made : World) → w .state .nodes < nodeLimit (w .state .blocks) → Grown P T (w .state) made (create x w) → Grew P T (w .state) made (grow x w)
+  unfolding grow
+  grow-made made l k =
+      record {
+        is = k .is ∙ rw (lt-ltb (w .state .nodes) (nodeLimit (w .state .blocks)) l) refl;
+        growing = record { good = k .good; limited = omega (arith, k .nodes, k .blocks, l); noSheet = k .checkpoint ∙ g .noSheet };
+        blocks = k .blocks;
+      }
+
+pub grow-none : {P T : ℕ} (x : Node) (w : World) → Growing P T (w .state) → nodeLimit (w .state .blocks) ≤ w .state .nodes → Grew P T (w .state) w (grow x w)
+unfolding grow
+grow-none x w g l = record { is = rw (le-ltb (w .state .nodes) (nodeLimit (w .state .blocks)) l) refl; growing = g; blocks = refl }
+
+-- The splits.
+module _ (t : Tariff) (whole : Node) (w : World) where
+  pub below-split : {P T P₁ T₁ : ℕ} (id : ℕ) (low high : Node) (middle : ℕ) →
+      low ≡ lowerHalf whole (w .state .nodes) → high ≡ upperHalf whole → middle ≡ middleKey whole →
+      (pages₁ : List (List ℕ)) (rows₁ : List Row) (r : Charged) → ServedAs P₁ T₁ pages₁ rows₁ r t id (rewrite low) w →
+      (pages₂ : List (List ℕ)) (rows₂ : List Row) (s₂ : State) → Grew P T (r .state) (world pages₂ rows₂ s₂) (grow high (world pages₁ rows₁ (r .state))) →
+      TakenAs P T pages₂ rows₂ (record { state = s₂; charge = r .charge; pending = Halves middle id (w .state .nodes) }) (w .state) (splitBelow t id whole w)
+  unfolding splitBelow
+  below-split id low high middle e f m pages₁ rows₁ r s pages₂ rows₂ s₂ k =
+      record {
+        is =
+            taking-is (k .is ∙ ap₂ grow f (s .kept .is ∙ ap (λ (x : Node). serve t id (rewrite x) w) e))
+            (s .charge ∙ ap (λ (x : Node). charge t id (rewrite x) w) e) (ap (λ (z : ℕ). Halves z id (w .state .nodes)) m);
+        growing = k .growing;
+        blocks = k .blocks ∙ s .kept .blocks;
+        most = omega (arith, s .most);
+      }
+
+  pub root-split : {P T P₁ T₁ P₂ T₂ : ℕ} (low high : Node) (middle : ℕ) (top : Node) →
+      low ≡ lowerHalf whole (w .state .nodes + 1) → high ≡ upperHalf whole → middle ≡ middleKey whole →
+      top ≡ node Branch ((middle, w .state .nodes) ∷ []) (w .state .nodes + 1) →
+      (w₁ : World) → Grew P₁ T₁ (w .state) w₁ (grow low w) →
+      (w₂ : World) → Grew P₂ T₂ (w₁ .state) w₂ (grow high w₁) →
+      (pages : List (List ℕ)) (rows : List Row) (r : Charged) → ServedAs P T pages rows r t 0 (rewrite top) w₂ →
+      TakenAs P T pages rows (record { state = r .state; charge = r .charge; pending = Nothing }) (w .state) (splitRoot t whole w)
+  unfolding splitRoot
+  root-split low high middle top e f m g w₁ k w₂ l pages rows r s =
+      record {
+        is =
+            taking-is (s .kept .is ∙ ap₂ (λ (x : Node) (z : World). serve t 0 (rewrite x) z) top-is grown-is)
+            (s .charge ∙ ap₂ (λ (x : Node) (z : World). charge t 0 (rewrite x) z) top-is grown-is) refl;
+        growing = growing-kept (l .growing) (s .kept);
+        blocks = s .kept .blocks ∙ l .blocks ∙ k .blocks;
+        most = omega (arith, s .most);
+      }
+    where
+      grown-is : w₂ ≡ grow (upperHalf whole) (grow (lowerHalf whole (w .state .nodes + 1)) w)
+      grown-is = l .is ∙ ap₂ grow f (k .is ∙ ap (λ (x : Node). grow x w) e)
+
+      top-is : top ≡ node Branch ((middleKey whole, w .state .nodes) ∷ []) (w .state .nodes + 1)
+      top-is = g ∙ ap (λ (z : ℕ). node Branch ((z, w .state .nodes) ∷ []) (w .state .nodes + 1)) m
+
+  pub split-as-root : (root : Bool) (id : ℕ) → root ≡ true → splitRoot t whole w ≡ split t root id whole w
+  unfolding split
+  split-as-root root id e = rw e refl
+
+  pub split-as-below : (root : Bool) (id : ℕ) → root ≡ false → splitBelow t id whole w ≡ split t root id whole w
+  unfolding split
+  split-as-below root id e = rw e refl
+
+-- The edits.
+module _ {P₀ T₀ : ℕ} (t : Tariff) (id : ℕ) (w : World) (g : Growing P₀ T₀ (w .state)) where
+  pub one-edit : {P T : ℕ} (c : Change) (pages : List (List ℕ)) (rows : List Row) (r : Charged) → ServedAs P T pages rows r t id (edit c) w →
+      TakenAs P T pages rows (record { state = r .state; charge = r .charge; pending = Nothing }) (w .state) (takeEdit t id c w)
+  unfolding takeEdit
+  one-edit c pages rows r s =
+      record { is = taking-is (s .kept .is) (s .charge) refl; growing = growing-kept g (s .kept); blocks = s .kept .blocks; most = omega (arith, s .most) }
+
+  pub two-edits : {P T P₁ T₁ : ℕ} (first second : Change) (pages₁ : List (List ℕ)) (rows₁ : List Row) (one : Charged) →
+      ServedAs P₁ T₁ pages₁ rows₁ one t id (edit first) w →
+      (pages : List (List ℕ)) (rows : List Row) (two : Charged) → ServedAs P T pages rows two t id (edit second) (world pages₁ rows₁ (one .state)) →
+      TakenAs P T pages rows (record { state = two .state; charge = one .charge + two .charge; pending = Nothing }) (w .state) (takeEdits t id first second w)
+  unfolding takeEdits
+  two-edits first second pages₁ rows₁ one s pages rows two s′ =
+      record {
+        is =
+            taking-is (s′ .kept .is ∙ ap (λ (z : World). serve t id (edit second) z) (s .kept .is))
+            (ap₂ _+_ (s .charge) (s′ .charge ∙ ap (λ (z : World). charge t id (edit second) z) (s .kept .is))) refl;
+        growing = growing-kept (growing-kept g (s .kept)) (s′ .kept);
+        blocks = s′ .kept .blocks ∙ s .kept .blocks;
+        most = omega (arith, s .most, s′ .most);
+      }
+
+-- A node that is full is there.
+there : (n id : ℕ) → (n ≤ id → ⊥) → id < n
+there n id h = go (le-or n id)
+  where
+    go : (n ≤ id) ⊎ (id < n) → id < n
+    go (inl l) = absurd (h l)
+    go (inr l) = l
+
+full-none : (v : NodeValue) (at key : ℕ) → Splits v at key → pairsIn v ≡ [] → ⊥
+full-none v at key s e = omega (arith, ap length e, length-pairsIn v (s .held .sized), s .full)
+
+-- A pair for a node, read as it is now.
+module _ (t : Tariff) (root : Bool) (id key value : ℕ) (w : World) (v : NodeValue) (is : nodeOf v ≡ nodeAt id w) (f : Fitting) (e : f ≡ fitOf key (pairsIn v)) where
+  fit-is : fitOf key (pairsOf (nodeAt id w)) ≡ f
+  fit-is = ap (λ (n : Node). fitOf key (pairsOf n)) (sym is) ∙ sym e
+
+  pub pair-fits : f ≡ Room → takeEdit t id (put key value) w ≡ takePair t root id key value w
+  unfolding takePair
+  pair-fits r = rw (fit-is ∙ r) refl
+
+  module _ (at : ℕ) (r : f ≡ Full at) where
+    pub pair-splits : split t root id (change (put key value) (nodeOf v)) w ≡ takePair t root id key value w
+    unfolding takePair
+    pair-splits = rw (fit-is ∙ r) (ap (λ (n : Node). split t root id (change (put key value) n) w) is)
+
+    pub pair-full : Held v → Splits v at key
+    pair-full h = full-splits v h key at (sym e ∙ r)
+
+    pub pair-there : Held v → id < w .state .nodes
+    pair-there h =
+        there (w .state .nodes) id
+        (λ l. full-none v at key (pair-full h) (ap pairsOf (is ∙ tableOf-out (w .pages) (w .rows) (w .state) id l)))
+
+none-renamed : (wanted right : ℕ) → pairsOf (change (renaming wanted right noNode) noNode) ≡ []
+unfolding repoint
+none-renamed wanted right = rw (le-ltb (childPlace wanted []) 0 (omega arith), repoint) refl
+
+-- The halves of a child for a node, read as it is now, its pointer renamed.
+module _ (t : Tariff) (root : Bool) (id wanted middle left right : ℕ) (w : World) (v : NodeValue) (is : nodeOf v ≡ nodeAt id w) (child : ℕ) (c : child ≡ childPlace wanted (pairsIn v))
+    (u : NodeValue) (renamed : nodeOf u ≡ change (repoint child right (nodeOf v)) (nodeOf v)) (f : Fitting) (e : f ≡ fitOf middle (pairsIn u)) where
+  abbrev renamedIn : Node → Node
+  renamedIn n = change (renaming wanted right n) n
+
+  renamed-is : nodeOf u ≡ renamedIn (nodeAt id w)
+  renamed-is = renamed ∙ ap (λ (i : ℕ). change (repoint i right (nodeOf v)) (nodeOf v)) c ∙ ap renamedIn is
+
+  halves-fit : fitOf middle (pairsOf (renamedIn (nodeAt id w))) ≡ f
+  halves-fit = ap (λ (n : Node). fitOf middle (pairsOf n)) (sym renamed-is) ∙ sym e
+
+  pub halves-fits : f ≡ Room → (second : Change) → second ≡ repoint child right (nodeOf v) →
+      takeEdits t id (put middle left) second w ≡ takeHalves t root id wanted middle left right w
+  unfolding takeHalves
+  halves-fits r second s =
+      let same : second ≡ renaming wanted right (nodeAt id w) = s ∙ ap (λ (i : ℕ). repoint i right (nodeOf v)) c ∙ ap (renaming wanted right) is in
+      rw (halves-fit ∙ r) (ap (λ (d : Change). takeEdits t id (put middle left) d w) same)
+
+  module _ (at : ℕ) (r : f ≡ Full at) where
+    pub halves-split : split t root id (change (put middle left) (nodeOf u)) w ≡ takeHalves t root id wanted middle left right w
+    unfolding takeHalves
+    halves-split = rw (halves-fit ∙ r) (ap (λ (n : Node). split t root id (change (put middle left) n) w) renamed-is)
+
+    pub halves-full : Held u → Splits u at middle
+    halves-full h = full-splits u h middle at (sym e ∙ r)
+
+    pub halves-there : Held u → id < w .state .nodes
+    halves-there h =
+        there (w .state .nodes) id
+        (λ l.
+        full-none u at middle (halves-full h)
+        (ap pairsOf (renamed-is ∙ ap renamedIn (tableOf-out (w .pages) (w .rows) (w .state) id l)) ∙ none-renamed wanted right))
+
+-- What is pending, known.
+pub take-nothing : {P T : ℕ} (t : Tariff) (wanted : ℕ) (root : Bool) (id : ℕ) (p : Pending) (w : World) → p ≡ Nothing → Growing P T (w .state) →
+    TakenAs P T (w .pages) (w .rows) (record { state = w .state; charge = 0; pending = p }) (w .state) (take t wanted root id p w)
+take-nothing t wanted root id p w e g = rw e (record { is = refl; growing = g; blocks = refl; most = omega arith })
+
+pub take-known : (t : Tariff) (wanted : ℕ) (root : Bool) (id : ℕ) (p q : Pending) (w : World) → p ≡ q → take t wanted root id q w ≡ take t wanted root id p w
+take-known t wanted root id p q w e = ap (λ (z : Pending). take t wanted root id z w) (sym e)
+
+-- One pair in an empty branch.
+pub put-room : (v : NodeValue) (k p to : ℕ) → nodeOf v ≡ node Branch [] to → length (insert k p (pairsIn v)) ≤ mostKeys
+unfolding insert
+put-room v k p to e = rw (ap pairsOf e) (omega arith)
+
+pub one-pair : (v r : NodeValue) (k p to : ℕ) → nodeOf v ≡ node Branch [] to → Becomes r (change (put k p) (nodeOf v)) → Becomes r (node Branch ((k, p) ∷ []) to)
+unfolding insert
+one-pair v r k p to e b = record { is = b .is ∙ ap (change (put k p)) e; held = b .held }
+
+-- The edit that renames a pointer, by its place.
+module _ (v : NodeValue) (s : Sized v) (at to : ℕ) where
+  pub rename-key : (k : ℕ) → at < v .count → k ≡ keyAt (pairsIn v) at → put k to ≡ repoint at to (nodeOf v)
+  unfolding repoint
+  rename-key k l e =
+      rw (lt-ltb at (length (pairsIn v)) (omega (arith, length-pairsIn v s)), repoint) (ap (λ (z : ℕ). put z to) e)
+
+  pub rename-link : v .count ≤ at → link (v .kind) to ≡ repoint at to (nodeOf v)
+  unfolding repoint
+  rename-link l = rw (le-ltb at (length (pairsIn v)) (omega (arith, length-pairsIn v s)), repoint) refl

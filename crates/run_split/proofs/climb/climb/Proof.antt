@@ -1,0 +1,80 @@
+-- `climb::climb` meets its contract: the nodes done so far are those behind a place of the way. Assumes nothing.
+use mathlib.Core.Path.{_≡_, refl, sym, _∙_}
+use mathlib.Core.List.{List}
+use Prim.Native.Nat.{ℕ, _-_, _≤_}
+use native.Mathlib.Omega.{arith}
+use lib.ListN.{length, getD, take, length-take}
+use lib.Seq.{getD-take, length-take-le}
+use Rattle.flash_rows.specs.Row.{rowsOf}
+use Rattle.flash_blocks.specs.Pages.{pagesOf}
+use Rattle.flash_allocate.specs.World.{world}
+use Rattle.run_split.specs.Climbing.{Climbing, climbing-start, climbing-next, climbing-end}
+use borrow.Author.Needs.{needs}
+use Rattle.run_split.proofs.climb.climb.Statement.{statement}
+use Rattle.run_split.proofs.climb.climb.Tie as tie
+
+few : (ids : List ℕ) (n : ℕ) → length ids ≡ 9 → n ≤ 9 → n ≤ length ids
+few ids n e l = omega arith
+
+abbrev Inv-loop : tie.InvT-loop
+Inv-loop pool₀ table₀ tariff n key value ids s₀ charge₀ pending₀ i₀ pool table s charge pending i =
+    (length ids ≡ 9) × (length pool ≡ length pool₀) × (length table ≡ length table₀) ×
+    Climbing (length pool) (length table) tariff key value (take n ids) i (world (pagesOf pool₀) (rowsOf table₀) s₀) (world (pagesOf pool) (rowsOf table) s) charge pending
+
+abbrev μ-loop : tie.MeasureT-loop
+μ-loop pool₀ table₀ tariff n key value ids s₀ charge₀ pending₀ i₀ pool table s charge pending i = i
+
+loop-holds : tie.Need-loop-holds Inv-loop μ-loop
+loop-holds c =
+    let a = c .before .before .args in
+    (search needs, refl, refl, climbing-start (a .tariff) (a .key) (a .value) (take (a .n) (a .t5)) (world (pagesOf (a .pool .now)) (rowsOf (a .table .now)) (a .state)) (c .before .before .pre .0) (a .n) (sym (length-take-le (a .n) (a .t5) (few (a .t5) (a .n) (search needs) (c .before .before .pre .3)))) (c .before .before .pre .2) (c .before .before .pre .3))
+
+sub-i : tie.Need-sub-i Inv-loop μ-loop
+sub-i c = omega arith
+
+mul-take : tie.Need-mul-take Inv-loop μ-loop
+mul-take c = search needs
+
+array-read-take : tie.Need-array-read-take Inv-loop μ-loop
+array-read-take c = let l = c .before .before .before .loop in omega (arith, l .inv .0, l .inv .3 .inside, length-take (c .before .before .before .before .before .before .args .n) (c .before .before .before .before .before .before .args .t5))
+
+take-requires : tie.Need-take-requires Inv-loop μ-loop
+take-requires c κs = (c .before .before .before .loop .inv .3 .growing, c .before .before .before .before .before .before .pre .1)
+
+add-charge : tie.Need-add-charge Inv-loop μ-loop
+add-charge c = omega (arith, c .before .before .before .before .before .before .before .before .before .before .loop .inv .3 .most, c .before .before .before .before .before .before .take .ensures .most)
+
+loop-less : tie.Need-loop-less Inv-loop μ-loop
+loop-less c = omega arith
+
+loop-again : tie.Need-loop-again Inv-loop μ-loop
+loop-again c =
+    let a = c .before .before .before .before .before .before .before .before .before .before .before .before .before .args in
+    let l = c .before .before .before .before .before .before .before .before .before .before .loop in
+    let x = c .before .before .before .before .before .before .take in (
+      l .inv .0,
+      x .kept .0 ∙ l .inv .1,
+      x .kept .1 .0 ∙ l .inv .2,
+      climbing-next (l .inv .3) (pagesOf (x .last .0)) (rowsOf (x .last .1 .0)) (x .result) (c .before .before .before .before .before .before .before .before .before .loop-test .taken) (getD (a .t5) (l .i - 1) 0) (sym (getD-take (a .n) (a .t5) (l .i - 1) 0 (omega (arith, l .inv .3 .inside, l .inv .3 .some, length-take (a .n) (a .t5))))) (x .ensures),
+    )
+
+take-requires-2 : tie.Need-take-requires-2 Inv-loop μ-loop
+take-requires-2 c κs = (c .before .before .before .loop .inv .3 .growing, c .before .before .before .before .before .before .pre .1)
+
+add-t30 : tie.Need-add-t30 Inv-loop μ-loop
+add-t30 c = omega (arith, c .before .before .before .before .before .before .before .before .before .before .loop .inv .3 .most, c .before .before .before .before .before .before .take2 .ensures .most)
+
+same-length : tie.Need-same-length Inv-loop μ-loop
+same-length c = let l = c .before .before .before .before .before .before .before .before .before .before .loop in omega (arith, l .inv .1, c .before .before .before .before .before .before .take2 .kept .0)
+
+same-length-2 : tie.Need-same-length-2 Inv-loop μ-loop
+same-length-2 c = let l = c .before .before .before .before .before .before .before .before .before .before .loop in omega (arith, l .inv .2, c .before .before .before .before .before .before .take2 .kept .1 .0)
+
+returns : tie.Need-returns Inv-loop μ-loop
+returns c =
+    let l = c .before .before .before .before .before .before .before .before .before .before .loop in
+    let x = c .before .before .before .before .before .before .take2 in
+    climbing-end (l .inv .3) (pagesOf (x .last .0)) (rowsOf (x .last .1 .0)) (x .result) (c .before .before .before .before .before .before .before .before .before .loop-test .left) (x .ensures)
+
+pub climb-spec : {M : Type 1} → statement M
+climb-spec = tie.close (tie.spec Inv-loop μ-loop loop-holds sub-i mul-take array-read-take take-requires add-charge loop-less loop-again take-requires-2 add-t30 same-length same-length-2 returns)

@@ -1,0 +1,38 @@
+-- `split::grow` meets its contract: a create below the limit, else nothing. Assumes nothing.
+use Rattle.flash_rows.specs.Row.{rowsOf}
+use Rattle.flash_blocks.specs.Pages.{pagesOf}
+use Rattle.node.specs.Value.{nodeOf}
+use Rattle.flash_allocate.specs.World.{world}
+use Rattle.run_split.proofs.Laws.{grow-made, grow-none}
+use borrow.Author.Needs.{needs}
+use Rattle.run_split.proofs.split.grow.Statement.{statement}
+use Rattle.run_split.proofs.split.grow.Tie as tie
+
+sub-if1 : tie.Need-sub-if1
+sub-if1 c = search needs
+
+mul-if1 : tie.Need-mul-if1
+mul-if1 c = search needs
+
+create-requires : tie.Need-create-requires
+create-requires c κs = search needs
+
+same-length : tie.Need-same-length
+same-length c = search needs
+
+same-length-2 : tie.Need-same-length-2
+same-length-2 c = search needs
+
+returns : tie.Need-returns
+returns c =
+    let a = c .before .before .before .before .before .before .before .before .before .before .before .before .args in
+    let y = c .before .before .before .before .create in
+    grow-made (nodeOf (a .v)) (world (pagesOf (a .pool .now)) (rowsOf (a .table .now)) (a .state)) (c .before .before .before .before .before .before .before .before .before .before .before .before .pre .0) (world (pagesOf (y .last .0)) (rowsOf (y .last .1 .0)) (y .result)) (c .before .before .before .before .before .before .before .if1 .taken) (y .ensures)
+
+returns-2 : tie.Need-returns-2
+returns-2 c =
+    let a = c .before .before .before .before .before .args in
+    grow-none (nodeOf (a .v)) (world (pagesOf (a .pool .now)) (rowsOf (a .table .now)) (a .state)) (c .before .before .before .before .before .pre .0) (c .if1 .left)
+
+pub grow-spec : {M : Type 1} → statement M
+grow-spec = tie.close (tie.spec sub-if1 mul-if1 create-requires same-length same-length-2 returns returns-2)

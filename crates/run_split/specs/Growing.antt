@@ -1,0 +1,36 @@
+-- What a batch keeps while nodes are made: no more than the limit, so that each can be read. Assumes nothing.
+use mathlib.Core.Path.{_≡_, _∙_}
+use mathlib.Core.List.{List}
+use Prim.Native.Nat.{ℕ, _≤_}
+use native.Mathlib.Omega.{arith}
+use lib.ListN.{length}
+use Rattle.layout.specs.Layout.{nodeLimit}
+use Rattle.flash_allocate.specs.declared.state.State.{State}
+use Rattle.flash_allocate.specs.World.{World, Good}
+use Rattle.flash_log.specs.Flush.{Kept}
+use Rattle.flash_read.specs.NodeTable.{Readable}
+
+-- Numbers in range, no more nodes than the limit, and no checkpoint begun.
+pub record Growing (poolLength tableLength : ℕ) (s : State) : Type 0 where
+  pub good : Good poolLength tableLength s
+  pub limited : s .nodes ≤ nodeLimit (s .blocks)
+  pub noSheet : s .checkpoint ≡ 0
+
+-- A step's result: the world asked for, with the same blocks.
+pub record Grew (poolLength tableLength : ℕ) (before : State) (made right : World) : Type 0 where
+  pub is : made ≡ right
+  pub growing : Growing poolLength tableLength (made .state)
+  pub blocks : made .state .blocks ≡ before .blocks
+
+-- Requests of nodes that are there keep it.
+pub growing-kept : {P T P₀ T₀ : ℕ} {s : State} {made right : World} → Growing P₀ T₀ s → Kept P T s made right → Growing P T (made .state)
+growing-kept g k =
+    record { good = k .good; limited = omega (arith, g .limited, k .nodes, k .blocks); noSheet = k .checkpoint ∙ g .noSheet }
+
+pub readable : {P : ℕ} {s : State} {table : List ℕ} → Growing P (length table) s → Readable s table
+readable g =
+    record {
+      entries = g .good .entries;
+      nodes = omega (arith, g .limited, g .good .most);
+      rows = omega (arith, g .limited, g .good .most, g .good .table);
+    }

@@ -1,0 +1,137 @@
+// A full node with a pair more, split.
+ghost use mathlib.Core.List.{[], _∷_};
+ghost use Prim.Native.Nat.{_<_};
+ghost use lib.ListN.{length};
+ghost use Rattle.account.specs.Range.{Ranged};
+ghost use Rattle.flash_rows.specs.Row.{rowsOf};
+ghost use Rattle.flash_blocks.specs.Pages.{pagesOf};
+ghost use Rattle.node.specs.declared.Kind.the-variants.{Branch};
+ghost use Rattle.node.specs.Node.{node};
+ghost use Rattle.node.specs.Change.{change, put};
+ghost use Rattle.node.specs.Value.{nodeOf, Sized, Becomes};
+ghost use Rattle.node_split.specs.Split.{Splits};
+ghost use Rattle.flash_allocate.specs.World.{world};
+ghost use Rattle.run_split.specs.Growing.{Growing, Grew};
+ghost use Rattle.run_split.specs.Taking.{TakenAs};
+ghost use Rattle.run_split.specs.Split as def;
+use super::Pending;
+use super::Taken;
+use account::Tariff;
+use node::Kind;
+use node::NodeValue;
+use node::edit::put;
+use node_replay::empty;
+use node_split::lower;
+use node_split::middle;
+use node_split::upper;
+use flash_write::group::create;
+use flash_allocate::state::State;
+use run_serve::request::serve_rewrite;
+
+// A node more, where the limit leaves an id for it.
+fn grow(pool: &mut [u8], table: &mut [u8], state: State, v: NodeValue) -> State
+    requires { ⌜ (Growing (length (now pool)) (length (now table)) state) × (Sized v) ⌝ }
+    ensures { λ r. ⌜ Grew (length (now (pool .exit))) (length (now (table .exit))) state (world (pagesOf (now (pool .exit))) (rowsOf (now (table .exit))) r) (def.grow (nodeOf v) (world (pagesOf (now (pool .entry))) (rowsOf (now (table .entry))) state)) ⌝ }
+{
+    if state.nodes < 10 * (state.blocks - 2) {
+        return create(pool, table, state, v);
+    }
+    state
+}
+
+// A root above two nodes.
+fn root_above(middle: u32, left: u32, right: u32) -> NodeValue
+    ensures { λ r. ⌜ Becomes r (node Branch ((middle, left) ∷ []) right) ⌝ }
+{
+    let v = empty(Kind::Branch, right);
+    put(v, middle, left)
+}
+
+// The lower half stays in the node, the upper goes to the next id.
+fn split_below(
+    pool: &mut [u8],
+    table: &mut [u8],
+    state: State,
+    tariff: Tariff,
+    id: usize,
+    v: NodeValue,
+    at: usize,
+    key: u32,
+    pointer: u32,
+) -> Taken
+    requires { ⌜ (Growing (length (now pool)) (length (now table)) state) × (Ranged tariff) × (id < state .nodes) × (Splits v at key) ⌝ }
+    ensures { λ r. ⌜ TakenAs (length (now (pool .exit))) (length (now (table .exit))) (pagesOf (now (pool .exit))) (rowsOf (now (table .exit))) r state (def.splitBelow tariff id (change (put key pointer) (nodeOf v)) (world (pagesOf (now (pool .entry))) (rowsOf (now (table .entry))) state)) ⌝ }
+{
+    let next = state.nodes as u32;
+    let left = id as u32;
+    let low = lower(v, at, key, pointer, next);
+    let high = upper(v, at, key, pointer);
+    let between = middle(v, at, key, pointer);
+    let rewritten = serve_rewrite(pool, table, state, tariff, id, low);
+    let s = rewritten.state;
+    let grown = grow(pool, table, s, high);
+    let pending = Pending::Halves {
+        middle: between,
+        left,
+        right: next,
+    };
+    Taken {
+        state: grown,
+        charge: rewritten.charge,
+        pending,
+    }
+}
+
+// "A splitting root makes two nodes, lower id lower half, then is rewritten above them."
+fn split_root(
+    pool: &mut [u8],
+    table: &mut [u8],
+    state: State,
+    tariff: Tariff,
+    v: NodeValue,
+    at: usize,
+    key: u32,
+    pointer: u32,
+) -> Taken
+    requires { ⌜ (Growing (length (now pool)) (length (now table)) state) × (Ranged tariff) × (Splits v at key) ⌝ }
+    ensures { λ r. ⌜ TakenAs (length (now (pool .exit))) (length (now (table .exit))) (pagesOf (now (pool .exit))) (rowsOf (now (table .exit))) r state (def.splitRoot tariff (change (put key pointer) (nodeOf v)) (world (pagesOf (now (pool .entry))) (rowsOf (now (table .entry))) state)) ⌝ }
+{
+    let left = state.nodes as u32;
+    let right = left + 1;
+    let low = lower(v, at, key, pointer, right);
+    let high = upper(v, at, key, pointer);
+    let between = middle(v, at, key, pointer);
+    let s = grow(pool, table, state, low);
+    let grown = grow(pool, table, s, high);
+    let top = root_above(between, left, right);
+    let rewritten = serve_rewrite(pool, table, grown, tariff, 0, top);
+    let t = rewritten.state;
+    let pending = Pending::Nothing;
+    Taken {
+        state: t,
+        charge: rewritten.charge,
+        pending,
+    }
+}
+
+// The root, or a node below it, split.
+pub fn split(
+    pool: &mut [u8],
+    table: &mut [u8],
+    state: State,
+    tariff: Tariff,
+    root: bool,
+    id: usize,
+    v: NodeValue,
+    at: usize,
+    key: u32,
+    pointer: u32,
+) -> Taken
+    requires { ⌜ (Growing (length (now pool)) (length (now table)) state) × (Ranged tariff) × (id < state .nodes) × (Splits v at key) ⌝ }
+    ensures { λ r. ⌜ TakenAs (length (now (pool .exit))) (length (now (table .exit))) (pagesOf (now (pool .exit))) (rowsOf (now (table .exit))) r state (def.split tariff root id (change (put key pointer) (nodeOf v)) (world (pagesOf (now (pool .entry))) (rowsOf (now (table .entry))) state)) ⌝ }
+{
+    if root {
+        return split_root(pool, table, state, tariff, v, at, key, pointer);
+    }
+    split_below(pool, table, state, tariff, id, v, at, key, pointer)
+}

@@ -1,1 +1,0 @@
-// That a node request which the code serves agrees with the model's; theorems stand in specs/, and there is no code here.

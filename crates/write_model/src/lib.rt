@@ -1,1 +1,0 @@
-// That what the code writes for a request follows the store; theorems stand in specs/, and there is no code here.
