@@ -17,7 +17,7 @@ use Rattle.flash_rows.specs.declared.Row.{Row}
 use Rattle.flash_blocks.specs.Pages.{pagesOf}
 use Rattle.flash_allocate.specs.declared.state.State.{State}
 use Rattle.flash_allocate.specs.World.{World, world}
-use Rattle.flash_checkpoint.specs.Sheets.{checkpoint, Ended}
+use Rattle.flash_checkpoint.specs.CheckpointPages.{checkpoint, Ended}
 use Rattle.run_split.specs.Growing.{Growing}
 use Rattle.mount_refines.specs.Mount.Opens.{Opens}
 use Rattle.run.specs.declared.Progress.{Progress}
@@ -114,4 +114,4 @@ worked-by {pool} {table} {batch} {answers} a table′ zero bytes {tableLength} {
 pub grows : {pool : List ℕ} {tableLength blocks : ℕ} {rows : List Row} {t : Tariff} {st : State} → Opens pool tableLength blocks rows t st → Growing (length pool) tableLength st
 grows {pool} {tableLength} {blocks} {rows} {t} {st} o =
     let here : st .blocks ≡ blocks = sym (o .runs .agrees .mirrors .pages .size) ∙ o .runs .sound .good .invariant .rules .size in
-    record { good = o .good; limited = omega (arith, here, o .runs .agrees .nodes, o .runs .sound .good .invariant .nodes); noSheet = o .noSheet }
+    record { good = o .good; limited = omega (arith, here, o .runs .agrees .nodes, o .runs .sound .good .invariant .nodes); noCheckpointPage = o .noCheckpointPage }

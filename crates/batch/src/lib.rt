@@ -9,12 +9,12 @@ pub mod answer;
 
 use answer::Outcome;
 use answer::refused;
-use flash_checkpoint::checkpoint;
 use command::Asked;
 use command::batch::asked;
-use run::run::run_commands;
+use flash_checkpoint::checkpoint;
 use mount::mount;
 use prepare::pool_blocks;
+use run::run::run_commands;
 use wire::bytes::fill;
 
 // The first bytes of the table zero.

@@ -28,7 +28,7 @@ use Rattle.flash_rows.specs.declared.Row.{Row}
 use Rattle.flash_blocks.specs.Pages.{pagesOf}
 use Rattle.flash_allocate.specs.declared.state.State.{State}
 use Rattle.flash_allocate.specs.World.{World, world}
-use Rattle.flash_checkpoint.specs.Sheets.{checkpoint}
+use Rattle.flash_checkpoint.specs.CheckpointPages.{checkpoint}
 use Rattle.mount_refines.specs.Mount.Opens.{Opens}
 use Rattle.run.specs.Run.{runWorld, runCharge, runReplies}
 use Rattle.batch_refines.specs.Run.{RunAgrees, run-agrees}

@@ -13,7 +13,7 @@ use Rattle.model.specs.Batch.{closed}
 use Rattle.model.specs.Bytes.{bytesOf}
 use Rattle.flash_blocks.specs.Pages.{pagesOf}
 use Rattle.flash_allocate.specs.World.{World}
-use Rattle.flash_checkpoint.specs.Sheets.{checkpoint}
+use Rattle.flash_checkpoint.specs.CheckpointPages.{checkpoint}
 use Rattle.flash_refines.specs.Store.Mirror.{PagesAre}
 use Rattle.flash_refines.specs.Store.Follows.{Writable}
 use Rattle.flash_refines.specs.Checkpoint.Closing.{checkpoint-follows}

@@ -8,7 +8,7 @@ use Rattle.command.specs.declared.Command.{Command}
 use Rattle.command.specs.declared.Command.the-variants.{Get, Put, Delete, Scan}
 use Rattle.pairs.specs.Pairs.{Pair}
 use Rattle.command.specs.declared.Answer.{Answer}
-use Rattle.command.specs.declared.Answer.the-variants.{Got, Replaced, Removed, Refused}
+use Rattle.command.specs.declared.Answer.the-variants.{Got, Replaced, Deleted, Refused}
 use Rattle.command.specs.Answer.{answerBytes, scanBytes, valueOr}
 use Rattle.tree.specs.NodeRequest.{NodeRequest}
 use Rattle.tree.specs.Get.{getRequests, getAnswer}
@@ -51,7 +51,7 @@ putReply true old = short (Refused noIds)
 putReply false old = short (valueOr Replaced old)
 
 abbrev pub deleteReply : Option ℕ → Reply
-deleteReply old = short (valueOr Removed old)
+deleteReply old = short (valueOr Deleted old)
 
 -- Whether a command is a put that is refused.
 unfoldable pub refuses : ℕ → Command → Book → Bool

@@ -6,7 +6,7 @@ use Rattle.laws.specs.BigEndian.{bigEndian}
 use Rattle.pairs.specs.Pairs.{Pair}
 use Rattle.wire.specs.Field.{field}
 use Rattle.command.specs.declared.Answer.{Answer}
-use Rattle.command.specs.declared.Answer.the-variants.{Absent, Got, Replaced, Removed, Refused}
+use Rattle.command.specs.declared.Answer.the-variants.{Absent, Got, Replaced, Deleted, Refused}
 
 -- 80, length 0: no such route, for a hang newly hung. 81 with the card word, 82 with the old word, 83 with the word removed.
 -- 8F, length 1: refused, with the number.
@@ -14,14 +14,14 @@ abbrev pub answerTag : Answer → ℕ
 answerTag Absent = 0x80
 answerTag (Got v) = 0x81
 answerTag (Replaced v) = 0x82
-answerTag (Removed v) = 0x83
+answerTag (Deleted v) = 0x83
 answerTag (Refused n) = 0x8F
 
 abbrev pub answerValues : Answer → List ℕ
 answerValues Absent = []
 answerValues (Got v) = bigEndian 4 v
 answerValues (Replaced v) = bigEndian 4 v
-answerValues (Removed v) = bigEndian 4 v
+answerValues (Deleted v) = bigEndian 4 v
 answerValues (Refused n) = n ∷ []
 
 unfoldable pub answerBytes : Answer → List ℕ

@@ -11,7 +11,7 @@ use Rattle.pairs.specs.Pairs.{Pair}
 use Rattle.wire.specs.Field.{field, head}
 use Rattle.wire.specs.FieldLaws.{length-field}
 use Rattle.command.specs.declared.Answer.{Answer}
-use Rattle.command.specs.declared.Answer.the-variants.{Absent, Got, Replaced, Removed, Refused}
+use Rattle.command.specs.declared.Answer.the-variants.{Absent, Got, Replaced, Deleted, Refused}
 use Rattle.command.specs.Answer.{answerBytes, pairBytes, pairsBytes, scanTag, scanBytes}
 
 pub length-pairBytes : (p : Pair) → length (pairBytes p) ≡ 8
@@ -34,7 +34,7 @@ unfolding answerBytes
 length-answerBytes Absent = omega (arith, length-field 0x80 [])
 length-answerBytes (Got v) = omega (arith, length-field 0x81 (bigEndian 4 v), length-bigEndian 4 v)
 length-answerBytes (Replaced v) = omega (arith, length-field 0x82 (bigEndian 4 v), length-bigEndian 4 v)
-length-answerBytes (Removed v) = omega (arith, length-field 0x83 (bigEndian 4 v), length-bigEndian 4 v)
+length-answerBytes (Deleted v) = omega (arith, length-field 0x83 (bigEndian 4 v), length-bigEndian 4 v)
 length-answerBytes (Refused n) = omega (arith, length-field 0x8F (n ∷ []))
 
 -- A scan's answer takes 3 + 8 bytes a pair.

@@ -8,7 +8,7 @@ use Rattle.laws.specs.BigEndian.{numberAt}
 use Rattle.wire.specs.Tag.{lengthOf, find, rows, isNodeBytes}
 use Rattle.wire.specs.Field.{field, fieldAt}
 use Rattle.command.specs.declared.Command.the-variants.{Get, Put, Delete}
-use Rattle.command.specs.declared.Answer.the-variants.{Absent, Got, Replaced, Removed, Refused}
+use Rattle.command.specs.declared.Answer.the-variants.{Absent, Got, Replaced, Deleted, Refused}
 use Rattle.command.specs.declared.Asked.the-variants.{Bytes, Invalid}
 use Rattle.command.specs.Command.{inRange, commandOf, commandAt}
 use Rattle.command.specs.Batch.{run, commandsFrom, commandsOf, askedOf}
@@ -50,7 +50,7 @@ worked-room = refl
 
 -- The answers of the worked output, a refusal with 9, and the sweep 9 to 3.
 pub worked-answers :
-    map answerBytes (Absent ∷ Got 100 ∷ Replaced 100 ∷ Removed 100 ∷ Refused 9 ∷ []) ≡
+    map answerBytes (Absent ∷ Got 100 ∷ Replaced 100 ∷ Deleted 100 ∷ Refused 9 ∷ []) ≡
     (0x80 ∷ 0 ∷ 0 ∷ []) ∷
     (0x81 ∷ 0 ∷ 4 ∷ 0 ∷ 0 ∷ 0 ∷ 100 ∷ []) ∷
     (0x82 ∷ 0 ∷ 4 ∷ 0 ∷ 0 ∷ 0 ∷ 100 ∷ []) ∷

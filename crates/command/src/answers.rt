@@ -49,7 +49,7 @@ pub fn lay_answer(buffer: &mut [u8], at: usize, answer: Answer) -> usize
         Answer::Absent => lay_absent(buffer, at),
         Answer::Got(value) => lay_value(buffer, at, 129, value),
         Answer::Replaced(value) => lay_value(buffer, at, 130, value),
-        Answer::Removed(value) => lay_value(buffer, at, 131, value),
+        Answer::Deleted(value) => lay_value(buffer, at, 131, value),
         Answer::Refused(number) => lay_refused(buffer, at, number),
     }
 }

@@ -27,6 +27,6 @@ pub enum Answer {
     Absent,
     Got(u32),
     Replaced(u32),
-    Removed(u32),
+    Deleted(u32),
     Refused(u8),
 }

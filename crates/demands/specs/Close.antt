@@ -21,7 +21,7 @@ use Rattle.store.specs.Store.{Store, view}
 use Rattle.store_laws.specs.Changes.{Lean}
 use Rattle.store_laws.specs.Keeps.{Keeps}
 use Rattle.store.specs.Checkpoint.{scoresFrom, close, checkpointOf, tariffIn, scoresIn, countIn, complete}
-use Rattle.store_laws.specs.SheetLaws.{scoresIn-sheets}
+use Rattle.store_laws.specs.CheckpointPageLaws.{scoresIn-checkpoint-pages}
 use Rattle.store.specs.Reopen.{Cells, poolOf, reopened, pagesPass}
 use Rattle.store_laws.specs.Closing.{Closed, close-closed}
 use Rattle.book.specs.Book.{Book}
@@ -119,7 +119,7 @@ module _ {blocks : ℕ} {t : Tariff} {s : State} {b : Book} {ps : List Pair} (fe
       (and-both (threePages (countIn (checkpointOf st)) st) _
       (three-all (countIn (checkpointOf st)) st (closed t s .run .nodes) (shut .keeps .good .invariant .lean) (omega (arith, shut .count, shut .keeps .nodes)))
       (and-both (inRange t) (scoresBelow (limit t) (scoresIn (checkpointOf st))) (ranged-inRange t (r .ranged))
-      (rw (shut .checkpoint, scoresIn-sheets t (scoresFrom 0 (b .count) (s .score)))
+      (rw (shut .checkpoint, scoresIn-checkpoint-pages t (scoresFrom 0 (b .count) (s .score)))
       (scores-all (limit t) 0 (b .count) (s .score) (λ n l. rw (score-of n (omega arith)) (r .scored n (omega arith)))))))
 
   -- THE POOL LEFT BEHIND passes every question but the eighth.

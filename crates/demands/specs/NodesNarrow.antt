@@ -9,7 +9,7 @@ use lib.Dec.{eqb, ltb}
 use Rattle.laws.specs.Every.{Every, none, both, every-append, every-map, every-weaken, every-consIf}
 use Rattle.laws.specs.Tests.{choose}
 use Rattle.pairs.specs.Pairs.{Pair}
-use Rattle.node.specs.declared.Kind.{Kind}
+use Rattle.node.specs.declared.Shape.{Shape}
 use Rattle.node.specs.Node.{node}
 use Rattle.node.specs.Change.{Change, put, remove, link}
 use Rattle.node.specs.Replay.{Piece, Draft, unlinked, made, broken, replay}
@@ -28,12 +28,12 @@ use Rattle.demands.specs.ReplayNarrow.{NarrowPiece, NarrowDraft, replay-
 pub change-fits : (c : Change) → NarrowChange c → NarrowChange c
 change-fits (put k p) n = n
 change-fits (remove k) n = n
-change-fits (link kind p) n = n
+change-fits (link shape p) n = n
 
 pub fits-change : (c : Change) → NarrowChange c → NarrowChange c
 fits-change (put k p) f = f
 fits-change (remove k) f = f
-fits-change (link kind p) f = f
+fits-change (link shape p) f = f
 
 -- An item of a page.
 abbrev NarrowItem : Item → Type 0
@@ -42,12 +42,12 @@ NarrowItem i = NarrowPiece (i .piece)
 entries-narrow : {s : ℕ} {es : List Entry} → Every (EntryFits s) es → Every NarrowItem (map entryItem es)
 entries-narrow e = every-map entryItem (every-weaken (λ x f. fits-change (x .change) (f .change)) e)
 
-whole-narrow : (kind : Kind) (ps : List Pair) (l : ℕ) → NodeFits ps l → Narrow (node kind ps l)
-whole-narrow kind ps l f = record { pairs = f .numbers; last = f .link }
+whole-narrow : (shape : Shape) (ps : List Pair) (l : ℕ) → NodeFits ps l → Narrow (node shape ps l)
+whole-narrow shape ps l f = record { pairs = f .numbers; last = f .link }
 
 items-narrow : (p : Page) → PageFits p → Every NarrowItem (itemsOf p)
 items-narrow (page s (log es)) f = entries-narrow (f .content .entries)
-items-narrow (page s (whole n (node kind ps l))) f = both (whole-narrow kind ps l (f .content .node)) none
+items-narrow (page s (whole n (node shape ps l))) f = both (whole-narrow shape ps l (f .content .node)) none
 items-narrow (page s (checkpoint t scores count)) f = none
 
 -- The page of a number, where there is one.

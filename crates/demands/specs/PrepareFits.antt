@@ -9,7 +9,7 @@ use Rattle.laws.specs.Every.{Every, none, both}
 use Rattle.layout.specs.Layout.{noLeaf, pagesInBlock}
 use Rattle.account.specs.declared.Tariff.{Tariff}
 use Rattle.account.specs.Range.{Ranged}
-use Rattle.node.specs.declared.Kind.the-variants.{Leaf}
+use Rattle.node.specs.declared.Shape.the-variants.{Leaf}
 use Rattle.node.specs.Change.{link}
 use Rattle.page.specs.Page.{page, log, checkpoint}
 use Rattle.page.specs.Limits.{PageFits}

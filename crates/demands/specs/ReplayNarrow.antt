@@ -7,10 +7,10 @@ use lib.ListN.{length}
 use Rattle.laws.specs.Every.{Every, none, both}
 use Rattle.layout.specs.Layout.{mostKeys}
 use Rattle.pairs.specs.Pairs.{Pair, insert}
-use Rattle.node.specs.declared.Kind.the-variants.{Leaf}
+use Rattle.node.specs.declared.Shape.the-variants.{Leaf}
 use Rattle.node.specs.Node.{node}
 use Rattle.node.specs.Change.{Change, put, remove, link}
-use Rattle.node.specs.Replay.{Piece, step, whole, Draft, unlinked, made, broken, ifFits, sameKind, redo, redoPiece, replayFrom, replay}
+use Rattle.node.specs.Replay.{Piece, step, whole, Draft, unlinked, made, broken, ifFits, sameShape, redo, redoPiece, replayFrom, replay}
 use Rattle.node.specs.Narrow.{NarrowPair, Narrow, NarrowChange}
 use Rattle.tree_laws.specs.NarrowLaws.{change-narrow}
 
@@ -42,13 +42,13 @@ redo-narrow broken c d n = tt
 redo-narrow (unlinked ps) (put k p) d n =
     ifFits-narrow (insert k p ps) (unlinked (insert k p ps)) (change-narrow (put k p) (node Leaf ps 0) n (unlinked-node ps d) .pairs)
 redo-narrow (unlinked ps) (remove k) d n = change-narrow (remove k) (node Leaf ps 0) n (unlinked-node ps d) .pairs
-redo-narrow (unlinked ps) (link kind l) d n = record { pairs = d; last = n }
-redo-narrow (made (node kind ps l)) (put k p) d n =
-    ifFits-narrow (insert k p ps) (made (node kind (insert k p ps) l)) (change-narrow (put k p) (node kind ps l) n d)
-redo-narrow (made (node kind ps l)) (remove k) d n = change-narrow (remove k) (node kind ps l) n d
-redo-narrow (made (node kind ps l)) (link kind′ l′) d n = go (sameKind kind kind′)
+redo-narrow (unlinked ps) (link shape l) d n = record { pairs = d; last = n }
+redo-narrow (made (node shape ps l)) (put k p) d n =
+    ifFits-narrow (insert k p ps) (made (node shape (insert k p ps) l)) (change-narrow (put k p) (node shape ps l) n d)
+redo-narrow (made (node shape ps l)) (remove k) d n = change-narrow (remove k) (node shape ps l) n d
+redo-narrow (made (node shape ps l)) (link kind′ l′) d n = go (sameShape shape kind′)
   where
-    go : (t : Bool) → NarrowDraft (elim t [ true ↦ made (node kind ps l′) | false ↦ broken ])
+    go : (t : Bool) → NarrowDraft (elim t [ true ↦ made (node shape ps l′) | false ↦ broken ])
     go true = record { pairs = d .pairs; last = n }
     go false = tt
 

@@ -13,7 +13,7 @@ use Rattle.command.specs.declared.Command.the-variants.{Get, Put, Delete, Scan}
 use Rattle.tree.specs.Table.{Table, path, leafFor}
 use Rattle.tree.specs.NodeRequest.{read}
 use Rattle.tree.specs.Get.{readsTo, getAnswer}
-use Rattle.tree.specs.Delete.{removalFor, deleteRequests}
+use Rattle.tree.specs.Delete.{deletionFor, deleteRequests}
 use Rattle.tree.specs.Tree.{firstOf, sumOf, EachChild, Tree, rootOf, firstLeaf, Holds, Stands}
 use Rattle.tree.specs.Spells.{Spells}
 use Rattle.tree_laws.specs.Size.{size, size-count}
@@ -75,19 +75,19 @@ module _ (table : Table) (count : ℕ) (pairs : List Pair) (s : Spells table cou
   reads-length : (k : ℕ) → k < bound32 → length (readsTo count table k) ≤ count
   reads-length k small = omega (arith, length-map (path count table k 0) read, path-count table count pairs s k small)
 
-  removal-length : (o : Option ℕ) (leaf k : ℕ) → length (removalFor o leaf k) ≤ 1
-  removal-length none leaf k = omega arith
-  removal-length (some old) leaf k = omega arith
+  deletion-length : (o : Option ℕ) (leaf k : ℕ) → length (deletionFor o leaf k) ≤ 1
+  deletion-length none leaf k = omega arith
+  deletion-length (some old) leaf k = omega arith
 
   delete-length : (k : ℕ) → k < bound32 → length (deleteRequests count table k) ≤ 1 + count
   unfolding deleteRequests
   delete-length k small =
-      let rest = removalFor (getAnswer count table k) (leafFor count table k 0) k in
+      let rest = deletionFor (getAnswer count table k) (leafFor count table k 0) k in
       omega (
         arith,
         length-append (readsTo count table k) rest,
         reads-length k small,
-        removal-length (getAnswer count table k) (leafFor count table k 0) k,
+        deletion-length (getAnswer count table k) (leafFor count table k 0) k,
       )
 
 -- ANY COMMAND

@@ -11,7 +11,7 @@ use Rattle.flash_live.specs.Live.{liveMap}
 use Rattle.flash_live.specs.Choose.{victim}
 use Rattle.flash_allocate.specs.Compact.{copying, copyBlock, renameRows, compacted, emptied, compactBlock, compact}
 use Rattle.flash_allocate.specs.World.{World, world, used, Good}
-use Rattle.flash_allocate.specs.Allocate.{at, behind, nextBlock, allocate}
+use Rattle.flash_allocate.specs.Allocate.{inBlock, behind, nextBlock, allocate}
 use Rattle.flash_allocate.specs.declared.state.State.{State}
 
 -- Live map, choice, copies, new names, erasure: in this order they are the compaction.
@@ -32,20 +32,20 @@ allocate-room w h = rw (lt-ltb (w .state .fill) 32 h) refl
 -- None: two blank blocks or more, or a compaction.
 module _ (pages : List (List ℕ)) (rows : List Row) (s : State) (to blank : ℕ) (h : 32 ≤ s .fill)
     (t : to ≡ nextBlank (s .blocks) (s .current) pages) (b : blank ≡ blankBlocks (s .blocks) pages) where
-  pub allocate-next : 2 ≤ blank → (s′ : State) → s′ ≡ at to 0 s → world pages rows s′ ≡ allocate (world pages rows s)
+  pub allocate-next : 2 ≤ blank → (s′ : State) → s′ ≡ inBlock to 0 s → world pages rows s′ ≡ allocate (world pages rows s)
   unfolding allocate nextBlock
   allocate-next k s′ e = rw (le-ltb (s .fill) 32 h, ← t, ← b, le-leb 2 blank k, e) refl
 
   pub allocate-compact : blank < 2 → (pages′ : List (List ℕ)) (rows′ : List Row) (fill : ℕ) →
-      compacted pages′ rows′ fill ≡ compact (used s) (s .blocks) to pages rows → (s′ : State) → s′ ≡ at to fill s →
+      compacted pages′ rows′ fill ≡ compact (used s) (s .blocks) to pages rows → (s′ : State) → s′ ≡ inBlock to fill s →
       world pages′ rows′ s′ ≡ allocate (world pages rows s)
   unfolding allocate nextBlock
   allocate-compact k pages′ rows′ fill c s′ e = rw (le-ltb (s .fill) 32 h, ← t, ← b, lt-leb 2 blank k, e) (ap (behind to s) c)
 
 -- A good state with another current block is good.
-pub good-at : {P T P′ T′ to fill : ℕ} {s s′ : State} → Good P T s → P′ ≡ P → T′ ≡ T → to < s .blocks → fill ≤ 32 → s′ ≡ at to fill s → Good P′ T′ s′
-unfolding at
-good-at g p t i f e =
+pub good-in-block : {P T P′ T′ to fill : ℕ} {s s′ : State} → Good P T s → P′ ≡ P → T′ ≡ T → to < s .blocks → fill ≤ 32 → s′ ≡ inBlock to fill s → Good P′ T′ s′
+unfolding inBlock
+good-in-block g p t i f e =
     rw e
     (record {
       few = g .few;

@@ -10,8 +10,8 @@ use Rattle.flash_allocate.specs.World.{World, world, used}
 use Rattle.flash_allocate.specs.declared.state.State.{State}
 
 -- The state with another current block, filled so far.
-unfoldable pub at : ℕ → ℕ → State → State
-at current fill s =
+unfoldable pub inBlock : ℕ → ℕ → State → State
+inBlock current fill s =
     record {
       blocks = s .blocks;
       current = current;
@@ -25,13 +25,13 @@ at current fill s =
 
 -- Going on behind the copies of a compaction.
 abbrev pub behind : ℕ → State → Compacted → World
-behind to s c = world (c .pages) (c .rows) (at to (c .fill) s)
+behind to s c = world (c .pages) (c .rows) (inBlock to (c .fill) s)
 
 -- A block to go on in, `to` being the next blank one.
 unfoldable pub nextBlock : World → ℕ → World
 nextBlock w to =
     choose (leb 2 (blankBlocks (w .state .blocks) (w .pages)))
-    (world (w .pages) (w .rows) (at to 0 (w .state)))
+    (world (w .pages) (w .rows) (inBlock to 0 (w .state)))
     (behind to (w .state) (compact (used (w .state)) (w .state .blocks) to (w .pages) (w .rows)))
 
 -- The world with a current block that has room for a page.

@@ -19,7 +19,7 @@ pub fn allocate(pool: &mut [u8], table: &mut [u8], state: State) -> State
     }
     let to = next_blank(pool, state.blocks, state.current);
     if 2 <= count_blank(pool, state.blocks) {
-        return state.at(to, 0);
+        return state.in_block(to, 0);
     }
     let fill = compact(
         pool,
@@ -28,5 +28,5 @@ pub fn allocate(pool: &mut [u8], table: &mut [u8], state: State) -> State
         state.blocks,
         to,
     );
-    state.at(to, fill)
+    state.in_block(to, fill)
 }

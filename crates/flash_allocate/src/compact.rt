@@ -57,8 +57,8 @@ fn rename_rows(table: &mut [u8], used: usize, base: usize, places: &[u16; 32])
 {
     let mut n: usize = 0;
     while n < used {
-        let r = flash_rows::load(table, n);
-        flash_rows::store(table, n, r.moved(base, places));
+        let r = flash_rows::read_row(table, n);
+        flash_rows::write_row(table, n, r.moved(base, places));
         n += 1;
     }
 }

@@ -17,8 +17,8 @@ pub struct State {
 
 impl State {
     // The state with another current block, filled so far.
-    pub fn at(self, current: usize, fill: usize) -> State
-        ensures { λ r. ⌜ r ≡ def.at current fill self ⌝ }
+    pub fn in_block(self, current: usize, fill: usize) -> State
+        ensures { λ r. ⌜ r ≡ def.inBlock current fill self ⌝ }
     {
         let mut s = self;
         s.current = current;

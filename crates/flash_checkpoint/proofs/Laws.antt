@@ -1,4 +1,4 @@
--- The records of scores one behind another, the image of a sheet, and the steps of a checkpoint put together. Assumes nothing.
+-- The records of scores one behind another, the image of a checkpoint page, and the steps of a checkpoint put together. Assumes nothing.
 use mathlib.Core.Path.{_≡_, refl, sym, ap, ap₂, _∙_}
 use mathlib.Core.Bool.{Bool}
 use mathlib.Core.List.{List, [], _∷_, _++_, map, append-assoc}
@@ -23,14 +23,14 @@ use Rattle.page.specs.Decode as decode
 use Rattle.page.specs.Spelled.{scoreBytes-of}
 use Rattle.page.specs.ReadBack.{map-back}
 use Rattle.page_write.specs.Chunks.{chunks}
-use Rattle.page_checkpoint.specs.Checkpoint.{onlyIf, scoresIn, checkpointPage}
+use Rattle.page_checkpoint.specs.Checkpoint.{onlyIf, scoresIn, recordsPage}
 use Rattle.flash_allocate.specs.World.{World, world, spot, used, Good, Made}
 use Rattle.flash_allocate.specs.Allocate.{allocate}
 use Rattle.flash_allocate.specs.declared.state.State.{State}
-use Rattle.flash_log.specs.Flush.{nextNumber, ifRoom, flush, Kept}
+use Rattle.flash_log.specs.Flush.{nextSequence, ifRoom, flush, Kept}
 use Rattle.flash_log.proofs.Laws.{Beside, room-yes, room-no, allocated}
 use Rattle.flash_checkpoint.specs.Scores.{scoreOf, scoresOf, scoresBytes}
-use Rattle.flash_checkpoint.specs.Sheets.{sheetStart, sheetSize, SheetSize, sheetCount, sheetImage, sheetRow, closedBy, writeSheet, sheet, sheets, drain, checkpoint, Closing, Sheeted, Ended}
+use Rattle.flash_checkpoint.specs.CheckpointPages.{scoresBefore, scoresOfPage, ScoresOfPage, pageCount, checkpointImage, checkpointRow, pageCounted, writeCheckpointPage, checkpointPage, checkpointPages, drain, checkpoint, Closing, CheckpointPageWritten, Ended}
 
 -- ---- scores
 
@@ -100,22 +100,22 @@ chunks-records ss n e base =
 
 -- The image made from records is the page of these scores.
 image-records : (number : ℕ) (first last : Bool) (t : Tariff) (ss : List Score) (n : ℕ) → length ss ≡ n → (base : List ℕ) (count : ℕ) →
-    image (checkpointPage number first t n (lay base 0 (scoresBytes ss)) last count) ≡ image (page number (p.checkpoint (onlyIf first t) ss (onlyIf last count)))
-unfolding checkpointPage scoresIn image contentBytes
+    image (recordsPage number first t n (lay base 0 (scoresBytes ss)) last count) ≡ image (page number (p.checkpoint (onlyIf first t) ss (onlyIf last count)))
+unfolding recordsPage scoresIn image contentBytes
 image-records number first last t ss n e base count =
     ap (λ (ps : List (List ℕ)). sealed pageBytes (numbered number (fieldIf 0x13 tariffBytes (onlyIf first t) ++ (fields 0x14 ps ++ fieldIf 0x15 countBytes (onlyIf last count)))))
     (ap (λ (ps : List (List ℕ)). map scoreBytes (map decode.scoreOf ps)) (chunks-records ss n e base) ∙
     map-back decode.scoreOf scoreBytes (λ b f. scoreBytes-of b (f .1) (f .0)) (map scoreBytes ss) (every-score ss))
 
--- ---- sheets
+-- ---- checkpoint pages
 
 pub most-scores : (k r : ℕ) → (k ≡ 0 → r ≤ 50) → r ≤ 54 → r ≤ mostScores (eqb k 0)
 most-scores zero r f h = f refl
 most-scores (suc k) r f h = rw (ne-eqb (suc k) 0 (λ e. omega arith)) h
 
-module _ (k nodes start : ℕ) (e : start ≡ sheetStart k) (h : sheetStart k ≤ nodes) where
-  pub size-full : 54 * k + 50 ≤ nodes → SheetSize k nodes (54 * k + 50 - start)
-  unfolding sheetSize
+module _ (k nodes start : ℕ) (e : start ≡ scoresBefore k) (h : scoresBefore k ≤ nodes) where
+  pub size-full : 54 * k + 50 ≤ nodes → ScoresOfPage k nodes (54 * k + 50 - start)
+  unfolding scoresOfPage
   size-full l =
       record {
         is = rw (le-leb (54 * k + 50) nodes l, e) refl;
@@ -124,8 +124,8 @@ module _ (k nodes start : ℕ) (e : start ≡ sheetStart k) (h : sheetStart k �
         first = most-scores k _ (λ z. omega arith) (omega arith);
       }
 
-  pub size-rest : nodes < 54 * k + 50 → SheetSize k nodes (nodes - start)
-  unfolding sheetSize
+  pub size-rest : nodes < 54 * k + 50 → ScoresOfPage k nodes (nodes - start)
+  unfolding scoresOfPage
   size-rest l =
       record {
         is = rw (lt-leb (54 * k + 50) nodes l, e) refl;
@@ -134,27 +134,27 @@ module _ (k nodes start : ℕ) (e : start ≡ sheetStart k) (h : sheetStart k �
         first = most-scores k _ (λ z. omega arith) (omega arith);
       }
 
-pub sheet-put : (number : ℕ) (t : Tariff) (k nodes : ℕ) (rows : List Row) (from n count : ℕ) (records bytes : List ℕ) (pages pages′ : List (List ℕ)) (at : ℕ) →
-    from ≡ sheetStart k → n ≡ sheetSize k nodes → count ≡ sheetCount nodes → records ≡ lay (replicate 324 0) 0 (scoresBytes (scoresOf rows from n)) →
-    bytes ≡ image (checkpointPage number (eqb k 0) t n records (eqb (k + 1) count) nodes) → pages′ ≡ set pages at bytes →
-    pages′ ≡ set pages at (sheetImage number t k nodes rows)
-unfolding sheetImage
-sheet-put number t k nodes rows from n count records bytes pages pages′ at f s c r b e =
+pub checkpoint-page-put : (number : ℕ) (t : Tariff) (k nodes : ℕ) (rows : List Row) (from n count : ℕ) (records bytes : List ℕ) (pages pages′ : List (List ℕ)) (at : ℕ) →
+    from ≡ scoresBefore k → n ≡ scoresOfPage k nodes → count ≡ pageCount nodes → records ≡ lay (replicate 324 0) 0 (scoresBytes (scoresOf rows from n)) →
+    bytes ≡ image (recordsPage number (eqb k 0) t n records (eqb (k + 1) count) nodes) → pages′ ≡ set pages at bytes →
+    pages′ ≡ set pages at (checkpointImage number t k nodes rows)
+unfolding checkpointImage
+checkpoint-page-put number t k nodes rows from n count records bytes pages pages′ at f s c r b e =
     e ∙
     ap (set pages at)
     (b ∙
-    ap (λ (l : List ℕ). image (checkpointPage number (eqb k 0) t n l (eqb (k + 1) count) nodes)) r ∙
+    ap (λ (l : List ℕ). image (recordsPage number (eqb k 0) t n l (eqb (k + 1) count) nodes)) r ∙
     image-records number (eqb k 0) (eqb (k + 1) count) t (scoresOf rows from n) n (length-scoresOf rows from n) (replicate 324 0) nodes ∙
     ap₂ (λ (i m : ℕ). image (page number (p.checkpoint (onlyIf (eqb k 0) t) (scoresOf rows i m) (onlyIf (eqb (k + 1) count) nodes)))) f s ∙
-    ap (λ (m : ℕ). image (page number (p.checkpoint (onlyIf (eqb k 0) t) (scoresOf rows (sheetStart k) (sheetSize k nodes)) (onlyIf (eqb (k + 1) m) nodes)))) c)
+    ap (λ (m : ℕ). image (page number (p.checkpoint (onlyIf (eqb k 0) t) (scoresOf rows (scoresBefore k) (scoresOfPage k nodes)) (onlyIf (eqb (k + 1) m) nodes)))) c)
 
--- The page, the row and the state of a sheet put together.
-pub sheet-written : {P T P′ T′ : ℕ} (t : Tariff) (k : ℕ) (pages pages′ : List (List ℕ)) (rows rows′ : List Row) (s s₁ : State) (number : ℕ) →
-    Good P T s → Closing k s → P′ ≡ P → T′ ≡ T → s .fill < 32 → number ≡ nextNumber (s .last) →
-    pages′ ≡ set pages (spot s) (sheetImage number t k (s .nodes) rows) → rows′ ≡ set rows (used s) (sheetRow number (spot s)) → s₁ ≡ closedBy number s →
-    Sheeted P′ T′ s (world pages′ rows′ s₁) (writeSheet t k (world pages rows s))
-unfolding writeSheet closedBy
-sheet-written t k pages pages′ rows rows′ s s₁ number g w pl tl h e f r a =
+-- The page, the row and the state of a checkpoint page put together.
+pub checkpoint-page-written : {P T P′ T′ : ℕ} (t : Tariff) (k : ℕ) (pages pages′ : List (List ℕ)) (rows rows′ : List Row) (s s₁ : State) (number : ℕ) →
+    Good P T s → Closing k s → P′ ≡ P → T′ ≡ T → s .fill < 32 → number ≡ nextSequence (s .last) →
+    pages′ ≡ set pages (spot s) (checkpointImage number t k (s .nodes) rows) → rows′ ≡ set rows (used s) (checkpointRow number (spot s)) → s₁ ≡ pageCounted number s →
+    CheckpointPageWritten P′ T′ s (world pages′ rows′ s₁) (writeCheckpointPage t k (world pages rows s))
+unfolding writeCheckpointPage pageCounted
+checkpoint-page-written t k pages pages′ rows rows′ s s₁ number g w pl tl h e f r a =
     rw a
     (record {
       is = rw (f, r, e) refl;
@@ -174,7 +174,7 @@ sheet-written t k pages pages′ rows rows′ s s₁ number g w pl tl h e f r a 
       checkpoint = omega arith;
     })
 
--- A state that no step of the log buffer changed where a sheet looks.
+-- A state that no step of the log buffer changed where a checkpoint page looks.
 pub closing-beside : (k : ℕ) (s s′ : State) → Beside s s′ → Closing k s → Closing k s′
 closing-beside k s s′ b w =
     record {
@@ -183,26 +183,26 @@ closing-beside k s s′ b w =
       before = rw (b .checkpoint) (w .before);
     }
 
--- An allocation and a sheet where it left room.
+-- An allocation and a checkpoint page where it left room.
 module _ {P T : ℕ} (t : Tariff) (k : ℕ) (w w₁ : World) (m : Made P T w₁ (allocate w)) where
-  pub sheeted-room : {P′ T′ : ℕ} (w₂ : World) → w₁ .state .fill < 32 → Sheeted P′ T′ (w₁ .state) w₂ (writeSheet t k w₁) → Sheeted P′ T′ (w .state) w₂ (sheet t k w)
-  unfolding sheet
-  sheeted-room w₂ h x =
-      let b = allocated (writeSheet t k) w w₁ m in
+  pub checkpoint-page-room : {P′ T′ : ℕ} (w₂ : World) → w₁ .state .fill < 32 → CheckpointPageWritten P′ T′ (w₁ .state) w₂ (writeCheckpointPage t k w₁) → CheckpointPageWritten P′ T′ (w .state) w₂ (checkpointPage t k w)
+  unfolding checkpointPage
+  checkpoint-page-room w₂ h x =
+      let b = allocated (writeCheckpointPage t k) w w₁ m in
       record {
-        is = x .is ∙ room-yes (writeSheet t k) w₁ h ∙ ap (ifRoom (writeSheet t k)) (m .is);
+        is = x .is ∙ room-yes (writeCheckpointPage t k) w₁ h ∙ ap (ifRoom (writeCheckpointPage t k)) (m .is);
         good = x .good;
         blocks = x .blocks ∙ b .blocks;
         nodes = x .nodes ∙ b .nodes;
         checkpoint = omega (arith, x .checkpoint, b .checkpoint);
       }
 
-  pub sheeted-stuck : 32 ≤ w₁ .state .fill → Sheeted P T (w .state) w₁ (sheet t k w)
-  unfolding sheet
-  sheeted-stuck h =
-      let b = allocated (writeSheet t k) w w₁ m in
+  pub checkpoint-page-stuck : 32 ≤ w₁ .state .fill → CheckpointPageWritten P T (w .state) w₁ (checkpointPage t k w)
+  unfolding checkpointPage
+  checkpoint-page-stuck h =
+      let b = allocated (writeCheckpointPage t k) w w₁ m in
       record {
-        is = room-no (writeSheet t k) w₁ h ∙ ap (ifRoom (writeSheet t k)) (m .is);
+        is = room-no (writeCheckpointPage t k) w₁ h ∙ ap (ifRoom (writeCheckpointPage t k)) (m .is);
         good = m .good;
         blocks = b .blocks;
         nodes = b .nodes;
@@ -219,7 +219,7 @@ module _ {P T : ℕ} (w : World) where
   unfolding drain
   drain-some w₁ h x = rw (ne-eqb (w .state .entries) 0 h) x
 
--- What holds between two sheets.
+-- What holds between two checkpoint pages.
 pub record Between (P T P₀ T₀ : ℕ) (s₀ s : State) (k count : ℕ) : Type 0 where
   pub within : k ≤ count
   pub good : Good P T s
@@ -233,7 +233,7 @@ pub between-begin : {P T : ℕ} (s : State) (count : ℕ) → Good P T s → s .
 between-begin s count g h =
     record { within = omega arith; good = g; blocks = refl; nodes = refl; written = omega arith; pool = refl; table = refl }
 
-pub between-closing : {P T P₀ T₀ : ℕ} (s₀ s : State) (k count : ℕ) → Between P T P₀ T₀ s₀ s k count → count ≡ sheetCount (s₀ .nodes) →
+pub between-closing : {P T P₀ T₀ : ℕ} (s₀ s : State) (k count : ℕ) → Between P T P₀ T₀ s₀ s k count → count ≡ pageCount (s₀ .nodes) →
     s₀ .nodes ≤ nodeLimit (s₀ .blocks) → k < count → Closing k s
 between-closing s₀ s k count b e l h =
     record {
@@ -243,7 +243,7 @@ between-closing s₀ s k count b e l h =
     }
 
 pub between-more : {P T P₀ T₀ P′ T′ : ℕ} (s₀ s : State) (k count : ℕ) (made right : World) → Between P T P₀ T₀ s₀ s k count → k < count → P′ ≡ P → T′ ≡ T →
-    Sheeted P′ T′ s made right → Between P′ T′ P₀ T₀ s₀ (made .state) (k + 1) count
+    CheckpointPageWritten P′ T′ s made right → Between P′ T′ P₀ T₀ s₀ (made .state) (k + 1) count
 between-more s₀ s k count made right b h p t x =
     record {
       within = omega arith;
@@ -255,12 +255,12 @@ between-more s₀ s k count made right b h p t x =
       table = t ∙ b .table;
     }
 
--- The buffer drained, then the sheets.
-pub checkpoint-made : {P T P′ T′ : ℕ} (t : Tariff) (w w₁ w₂ : World) → Kept P T (w .state) w₁ (drain w) → Ended P′ T′ (w₁ .state) w₂ (sheets t w₁) → Ended P′ T′ (w .state) w₂ (checkpoint t w)
+-- The buffer drained, then the checkpoint pages.
+pub checkpoint-made : {P T P′ T′ : ℕ} (t : Tariff) (w w₁ w₂ : World) → Kept P T (w .state) w₁ (drain w) → Ended P′ T′ (w₁ .state) w₂ (checkpointPages t w₁) → Ended P′ T′ (w .state) w₂ (checkpoint t w)
 unfolding checkpoint
 checkpoint-made t w w₁ w₂ d m =
     record {
-      is = m .is ∙ ap (sheets t) (d .is);
+      is = m .is ∙ ap (checkpointPages t) (d .is);
       good = m .good;
       blocks = m .blocks ∙ d .blocks;
       nodes = m .nodes ∙ d .nodes;

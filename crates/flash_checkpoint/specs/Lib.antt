@@ -1,2 +1,2 @@
 pub mod Scores
-pub mod Sheets
+pub mod CheckpointPages

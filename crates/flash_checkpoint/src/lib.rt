@@ -10,24 +10,24 @@ ghost use Rattle.page.specs.Image.{scoreBytes};
 ghost use Rattle.flash_allocate.specs.World.{Good, world};
 ghost use Rattle.flash_log.specs.Flush.{Kept};
 ghost use Rattle.flash_checkpoint.specs.Scores.{scoreOf, scoresOf, scoresBytes};
-ghost use Rattle.flash_checkpoint.specs.Sheets as def;
-ghost use Rattle.flash_checkpoint.specs.Sheets.{sheetStart, SheetSize, sheetCount, sheetImage, sheetRow, closedBy, writeSheet, Sheeted, Closing, Ended};
+ghost use Rattle.flash_checkpoint.specs.CheckpointPages as def;
+ghost use Rattle.flash_checkpoint.specs.CheckpointPages.{scoresBefore, ScoresOfPage, pageCount, checkpointImage, checkpointRow, pageCounted, writeCheckpointPage, CheckpointPageWritten, Closing, Ended};
 use account::Mode;
 use account::Tariff;
-use page_checkpoint::checkpoint_image;
-use flash_log::claim::no_row;
-use flash_log::flush::flush;
-use flash_log::flush::next_number;
-use flash_log::flush::put_image;
 use flash_allocate::allocate::allocate;
 use flash_allocate::state::State;
+use flash_log::claim::no_row;
+use flash_log::flush::flush;
+use flash_log::flush::next_sequence;
+use flash_log::flush::put_image;
+use page_checkpoint::checkpoint_image;
 use wire::number::write16;
 use wire::number::write32;
 
-// The node whose score is the first of sheet k: 50 scores stand on the first, 54 on each other.
-fn sheet_start(k: usize) -> usize
+// The node whose score is the first of checkpoint page k: 50 scores stand on the first, 54 on each other.
+fn scores_before(k: usize) -> usize
     requires { ⌜ k ≤ 128 ⌝ }
-    ensures { λ r. ⌜ r ≡ sheetStart k ⌝ }
+    ensures { λ r. ⌜ r ≡ scoresBefore k ⌝ }
 {
     if k == 0 {
         return 0;
@@ -35,12 +35,12 @@ fn sheet_start(k: usize) -> usize
     54 * k - 4
 }
 
-// How many scores stand on sheet k.
-fn sheet_size(k: usize, nodes: usize) -> usize
-    requires { ⌜ (k ≤ 128) × (sheetStart k ≤ nodes) ⌝ }
-    ensures { λ r. ⌜ SheetSize k nodes r ⌝ }
+// How many scores stand on checkpoint page k.
+fn scores_on(k: usize, nodes: usize) -> usize
+    requires { ⌜ (k ≤ 128) × (scoresBefore k ≤ nodes) ⌝ }
+    ensures { λ r. ⌜ ScoresOfPage k nodes r ⌝ }
 {
-    let start = sheet_start(k);
+    let start = scores_before(k);
     let end = 54 * k + 50;
     if end <= nodes {
         return end - start;
@@ -48,10 +48,10 @@ fn sheet_size(k: usize, nodes: usize) -> usize
     nodes - start
 }
 
-// How many sheets hold the scores of so many nodes.
-fn sheet_count(nodes: usize) -> usize
+// How many checkpoint pages hold the scores of so many nodes.
+fn page_count(nodes: usize) -> usize
     requires { ⌜ nodes ≤ 4096 ⌝ }
-    ensures { λ r. ⌜ r ≡ sheetCount nodes ⌝ }
+    ensures { λ r. ⌜ r ≡ pageCount nodes ⌝ }
 {
     (nodes + 57) / 54
 }
@@ -73,15 +73,15 @@ fn score_records(table: &[u8], from: usize, n: usize) -> [u8; 324]
     let mut records = [0u8; 324];
     let mut i: usize = 0;
     while i < n {
-        let row = flash_rows::load(table, from + i);
+        let row = flash_rows::read_row(table, from + i);
         lay_score(&mut records, 6 * i, from + i, row.score);
         i += 1;
     }
     records
 }
 
-// Sheet k written as a page of the pool.
-fn put_sheet(
+// Checkpoint page k written as a page of the pool.
+fn put_checkpoint_page(
     pool: &mut [u8],
     table: &[u8],
     at: usize,
@@ -90,30 +90,30 @@ fn put_sheet(
     k: usize,
     nodes: usize,
 )
-    requires { ⌜ (512 * at + 512 ≤ length (now pool)) × (16 * nodes ≤ length (now table)) × (nodes ≤ 4096) × (k < sheetCount nodes) ⌝ }
-    ensures { λ _. ⌜ pagesOf (now (pool .exit)) ≡ set (pagesOf (now (pool .entry))) at (sheetImage number tariff k nodes (rowsOf (now (table .entry)))) ⌝ }
+    requires { ⌜ (512 * at + 512 ≤ length (now pool)) × (16 * nodes ≤ length (now table)) × (nodes ≤ 4096) × (k < pageCount nodes) ⌝ }
+    ensures { λ _. ⌜ pagesOf (now (pool .exit)) ≡ set (pagesOf (now (pool .entry))) at (checkpointImage number tariff k nodes (rowsOf (now (table .entry)))) ⌝ }
 {
-    let from = sheet_start(k);
-    let n = sheet_size(k, nodes);
+    let from = scores_before(k);
+    let n = scores_on(k, nodes);
     let records = score_records(table, from, n);
-    let last = k + 1 == sheet_count(nodes);
+    let last = k + 1 == page_count(nodes);
     let image = checkpoint_image(number, k == 0, tariff, &records, n, last, nodes as u32);
     put_image(pool, at, image);
 }
 
 // The row of a checkpoint page, behind the nodes' rows.
-fn store_sheet(table: &mut [u8], n: usize, number: u32, at: u16)
+fn store_checkpoint_page(table: &mut [u8], n: usize, number: u32, at: u16)
     requires { ⌜ 16 * n + 16 ≤ length (now table) ⌝ }
-    ensures { λ _. ⌜ rowsOf (now (table .exit)) ≡ set (rowsOf (now (table .entry))) n (sheetRow number at) ⌝ }
+    ensures { λ _. ⌜ rowsOf (now (table .exit)) ≡ set (rowsOf (now (table .entry))) n (checkpointRow number at) ⌝ }
 {
     let row = no_row().fresh(number, Mode::Disk);
-    flash_rows::store(table, n, row.note(at));
+    flash_rows::write_row(table, n, row.note(at));
 }
 
 // The state once a checkpoint page of this sequence number is written.
-fn close_page(state: State, number: u32) -> State
+fn count_page(state: State, number: u32) -> State
     requires { ⌜ (state .fill < 32) × (state .checkpoint < 4096) ⌝ }
-    ensures { λ r. ⌜ r ≡ closedBy number state ⌝ }
+    ensures { λ r. ⌜ r ≡ pageCounted number state ⌝ }
 {
     let mut s = state;
     s.fill = state.fill + 1;
@@ -122,26 +122,38 @@ fn close_page(state: State, number: u32) -> State
     s
 }
 
-// Sheet k as the next page, in a block that has room.
-fn write_sheet(pool: &mut [u8], table: &mut [u8], state: State, tariff: Tariff, k: usize) -> State
+// Checkpoint page k as the next page, in a block that has room.
+fn write_checkpoint_page(
+    pool: &mut [u8],
+    table: &mut [u8],
+    state: State,
+    tariff: Tariff,
+    k: usize,
+) -> State
     requires { ⌜ (Good (length (now pool)) (length (now table)) state) × (Closing k state) × (state .fill < 32) ⌝ }
-    ensures { λ r. ⌜ Sheeted (length (now (pool .exit))) (length (now (table .exit))) state (world (pagesOf (now (pool .exit))) (rowsOf (now (table .exit))) r) (writeSheet tariff k (world (pagesOf (now (pool .entry))) (rowsOf (now (table .entry))) state)) ⌝ }
+    ensures { λ r. ⌜ CheckpointPageWritten (length (now (pool .exit))) (length (now (table .exit))) state (world (pagesOf (now (pool .exit))) (rowsOf (now (table .exit))) r) (writeCheckpointPage tariff k (world (pagesOf (now (pool .entry))) (rowsOf (now (table .entry))) state)) ⌝ }
 {
     let at = 32 * state.current + state.fill;
-    let number = next_number(state.last);
-    put_sheet(pool, table, at, number, tariff, k, state.nodes);
-    store_sheet(table, state.nodes + state.checkpoint, number, at as u16);
-    close_page(state, number)
+    let number = next_sequence(state.last);
+    put_checkpoint_page(pool, table, at, number, tariff, k, state.nodes);
+    store_checkpoint_page(table, state.nodes + state.checkpoint, number, at as u16);
+    count_page(state, number)
 }
 
-// A place, then sheet k there.
-fn sheet(pool: &mut [u8], table: &mut [u8], state: State, tariff: Tariff, k: usize) -> State
+// A place, then checkpoint page k there.
+fn checkpoint_page(
+    pool: &mut [u8],
+    table: &mut [u8],
+    state: State,
+    tariff: Tariff,
+    k: usize,
+) -> State
     requires { ⌜ (Good (length (now pool)) (length (now table)) state) × (Closing k state) ⌝ }
-    ensures { λ r. ⌜ Sheeted (length (now (pool .exit))) (length (now (table .exit))) state (world (pagesOf (now (pool .exit))) (rowsOf (now (table .exit))) r) (def.sheet tariff k (world (pagesOf (now (pool .entry))) (rowsOf (now (table .entry))) state)) ⌝ }
+    ensures { λ r. ⌜ CheckpointPageWritten (length (now (pool .exit))) (length (now (table .exit))) state (world (pagesOf (now (pool .exit))) (rowsOf (now (table .exit))) r) (def.checkpointPage tariff k (world (pagesOf (now (pool .entry))) (rowsOf (now (table .entry))) state)) ⌝ }
 {
     let s = allocate(pool, table, state);
     if s.fill < 32 {
-        return write_sheet(pool, table, s, tariff, k);
+        return write_checkpoint_page(pool, table, s, tariff, k);
     }
     s
 }
@@ -157,16 +169,16 @@ fn drain(pool: &mut [u8], table: &mut [u8], state: State) -> State
     flush(pool, table, state)
 }
 
-// All sheets, one after another.
-fn sheets(pool: &mut [u8], table: &mut [u8], state: State, tariff: Tariff) -> State
+// All checkpoint pages, one after another.
+fn checkpoint_pages(pool: &mut [u8], table: &mut [u8], state: State, tariff: Tariff) -> State
     requires { ⌜ (Good (length (now pool)) (length (now table)) state) × (state .nodes ≤ nodeLimit (state .blocks)) × (state .checkpoint ≡ 0) ⌝ }
-    ensures { λ r. ⌜ Ended (length (now (pool .exit))) (length (now (table .exit))) state (world (pagesOf (now (pool .exit))) (rowsOf (now (table .exit))) r) (def.sheets tariff (world (pagesOf (now (pool .entry))) (rowsOf (now (table .entry))) state)) ⌝ }
+    ensures { λ r. ⌜ Ended (length (now (pool .exit))) (length (now (table .exit))) state (world (pagesOf (now (pool .exit))) (rowsOf (now (table .exit))) r) (def.checkpointPages tariff (world (pagesOf (now (pool .entry))) (rowsOf (now (table .entry))) state)) ⌝ }
 {
-    let count = sheet_count(state.nodes);
+    let count = page_count(state.nodes);
     let mut s = state;
     let mut k: usize = 0;
     while k < count {
-        s = sheet(pool, table, s, tariff, k);
+        s = checkpoint_page(pool, table, s, tariff, k);
         k += 1;
     }
     s
@@ -178,5 +190,5 @@ pub fn checkpoint(pool: &mut [u8], table: &mut [u8], state: State, tariff: Tarif
     ensures { λ r. ⌜ Ended (length (now (pool .exit))) (length (now (table .exit))) state (world (pagesOf (now (pool .exit))) (rowsOf (now (table .exit))) r) (def.checkpoint tariff (world (pagesOf (now (pool .entry))) (rowsOf (now (table .entry))) state)) ⌝ }
 {
     let s = drain(pool, table, state);
-    sheets(pool, table, s, tariff)
+    checkpoint_pages(pool, table, s, tariff)
 }

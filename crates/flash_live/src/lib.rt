@@ -46,7 +46,7 @@ pub fn live_map(table: &[u8], used: usize) -> [u8; 2048]
     let mut live = [0u8; 2048];
     let mut n: usize = 0;
     while n < used {
-        mark_row(&mut live, flash_rows::load(table, n));
+        mark_row(&mut live, flash_rows::read_row(table, n));
         n += 1;
     }
     live

@@ -18,12 +18,12 @@ use Rattle.node.specs.Change.{Change}
 use Rattle.page.specs.Image.{entryBytes}
 use Rattle.flash_allocate.specs.World.{World, world, spot, used, Good, Made}
 use Rattle.flash_allocate.specs.Compact.{compact}
-use Rattle.flash_allocate.specs.Allocate.{at, behind, nextBlock, allocate}
+use Rattle.flash_allocate.specs.Allocate.{inBlock, behind, nextBlock, allocate}
 use Rattle.flash_allocate.specs.declared.state.State.{State}
 use Rattle.page_write.specs.Pages.{logImage}
 use Rattle.flash_log.specs.Entry.{entryOf, holding, entered, append}
 use Rattle.flash_log.specs.Claim.{idAt, versionAt, claimRow, claimEntry, claimEntries}
-use Rattle.flash_log.specs.Flush.{nextNumber, advanced, emptied, writeBuffer, ifRoom, flush, room, Kept}
+use Rattle.flash_log.specs.Flush.{nextSequence, advanced, emptied, writeBuffer, ifRoom, flush, room, Kept}
 
 -- An entry more, where the buffer has room.
 pub append-in : (id version : ℕ) (c : Change) (s : State) (bytes buffer : List ℕ) → s .entries < 27 →
@@ -83,7 +83,7 @@ beside-append id version c s = go (ltb (s .entries) 27)
     go false = record { blocks = refl; nodes = refl; checkpoint = refl }
 
 pub beside-allocate : (w : World) → Beside (w .state) (allocate w .state)
-unfolding allocate nextBlock at
+unfolding allocate nextBlock inBlock
 beside-allocate w = go (ltb (w .state .fill) 32) (leb 2 (blankBlocks (w .state .blocks) (w .pages)))
   where
     to : ℕ
@@ -93,7 +93,7 @@ beside-allocate w = go (ltb (w .state .fill) 32) (leb 2 (blankBlocks (w .state .
         Beside (w .state)
         (choose a w
         (choose b
-        (world (w .pages) (w .rows) (at to 0 (w .state)))
+        (world (w .pages) (w .rows) (inBlock to 0 (w .state)))
         (behind to (w .state) (compact (used (w .state)) (w .state .blocks) to (w .pages) (w .rows)))) .state)
     go true b = record { blocks = refl; nodes = refl; checkpoint = refl }
     go false true = record { blocks = refl; nodes = refl; checkpoint = refl }
@@ -160,7 +160,7 @@ good-advanced number s g p t h =
 
 -- The page, the claims and the state of a flush put together.
 pub buffer-written : {P T P′ T′ : ℕ} (pages pages′ : List (List ℕ)) (rows rows′ : List Row) (s s₁ s₂ : State) (number : ℕ) →
-    Good P T s → P′ ≡ P → T′ ≡ T → s .fill < 32 → number ≡ nextNumber (s .last) →
+    Good P T s → P′ ≡ P → T′ ≡ T → s .fill < 32 → number ≡ nextSequence (s .last) →
     pages′ ≡ set pages (spot s) (logImage number (s .entries) (s .buffer)) → rows′ ≡ claimEntries (s .buffer) (s .nodes) (spot s) (s .entries) rows →
     s₁ ≡ advanced number s → s₂ ≡ emptied s₁ → Kept P′ T′ s (world pages′ rows′ s₂) (writeBuffer (world pages rows s))
 unfolding writeBuffer advanced emptied

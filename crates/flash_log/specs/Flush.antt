@@ -13,8 +13,8 @@ use Rattle.flash_log.specs.Entry.{holding}
 use Rattle.flash_log.specs.Claim.{claimEntries}
 
 -- "Each new page takes the next" stamp; a 32-bit number stays the greatest, which no run reaches.
-unfoldable pub nextNumber : ℕ → ℕ
-nextNumber last = choose (ltb last 4294967295) (last + 1) last
+unfoldable pub nextSequence : ℕ → ℕ
+nextSequence last = choose (ltb last 4294967295) (last + 1) last
 
 -- The state once a page of this sequence number stands behind the pages of the current block.
 unfoldable pub advanced : ℕ → State → State
@@ -38,9 +38,9 @@ emptied s = holding 0 (s .buffer) s
 unfoldable pub writeBuffer : World → World
 writeBuffer w =
     world
-    (set (w .pages) (spot (w .state)) (logImage (nextNumber (w .state .last)) (w .state .entries) (w .state .buffer)))
+    (set (w .pages) (spot (w .state)) (logImage (nextSequence (w .state .last)) (w .state .entries) (w .state .buffer)))
     (claimEntries (w .state .buffer) (w .state .nodes) (spot (w .state)) (w .state .entries) (w .rows))
-    (emptied (advanced (nextNumber (w .state .last)) (w .state)))
+    (emptied (advanced (nextSequence (w .state .last)) (w .state)))
 
 -- A step where the current block has room, as it has after an allocation.
 unfoldable pub ifRoom : (World → World) → World → World

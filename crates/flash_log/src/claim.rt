@@ -27,14 +27,14 @@ pub fn no_row() -> Row
 }
 
 // Stores what a claim made of a row.
-fn settle(table: &mut [u8], n: usize, claim: Claim)
+fn store_claim(table: &mut [u8], n: usize, claim: Claim)
     requires { ⌜ 16 * n + 16 ≤ length (now table) ⌝ }
     ensures { λ _. ⌜ rowsOf (now (table .exit)) ≡ settled claim n (rowsOf (now (table .entry))) ⌝ }
 {
     match claim {
         Claim::Same => {}
         Claim::Noted(row) => {
-            flash_rows::store(table, n, row);
+            flash_rows::write_row(table, n, row);
         }
     }
 }
@@ -47,8 +47,8 @@ fn claim_entry(table: &mut [u8], buffer: &[u8; 405], nodes: usize, page: u16, k:
     let id = read16(buffer, 15 * k) as usize;
     let version = read32(buffer, 15 * k + 2);
     if id < nodes {
-        let row = flash_rows::load(table, id);
-        settle(table, id, row.claim(version, page));
+        let row = flash_rows::read_row(table, id);
+        store_claim(table, id, row.claim(version, page));
         return;
     }
 }

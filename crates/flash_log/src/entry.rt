@@ -3,21 +3,21 @@ ghost use mathlib.Core.Path.{_≡_};
 ghost use Prim.Native.Nat.{_*_, _<_};
 ghost use Rattle.laws.specs.Lay.{lay};
 ghost use Rattle.node.specs.Drafts.{changeOf};
-ghost use Rattle.page.specs.Image.{kindNumber, changeNumber, changeKey, changePointer, entryBytes};
+ghost use Rattle.page.specs.Image.{shapeNumber, changeNumber, changeKey, changePointer, entryBytes};
 ghost use Rattle.flash_log.specs.Entry as def;
 ghost use Rattle.flash_log.specs.Entry.{entryOf};
-use node::ChangeValue;
-use node::Kind;
 use flash_allocate::state::State;
+use node::ChangeValue;
+use node::Shape;
 use wire::bytes::lay_bytes;
 
 // 3 for a leaf's link, 4 for a branch's last pointer.
-fn kind_number(kind: Kind) -> u8
-    ensures { λ r. ⌜ r ≡ kindNumber kind ⌝ }
+fn shape_number(shape: Shape) -> u8
+    ensures { λ r. ⌜ r ≡ shapeNumber shape ⌝ }
 {
-    match kind {
-        Kind::Leaf => 3,
-        Kind::Branch => 4,
+    match shape {
+        Shape::Leaf => 3,
+        Shape::Branch => 4,
     }
 }
 
@@ -27,8 +27,8 @@ fn change_number(change: ChangeValue) -> u8
 {
     match change {
         ChangeValue::Put { key: _, pointer: _ } => 1,
-        ChangeValue::Remove { key: _ } => 2,
-        ChangeValue::Link { kind, link: _ } => kind_number(kind),
+        ChangeValue::Delete { key: _ } => 2,
+        ChangeValue::Link { shape, link: _ } => shape_number(shape),
     }
 }
 
@@ -38,8 +38,8 @@ fn change_key(change: ChangeValue) -> u32
 {
     match change {
         ChangeValue::Put { key, pointer: _ } => key,
-        ChangeValue::Remove { key } => key,
-        ChangeValue::Link { kind: _, link: _ } => 0,
+        ChangeValue::Delete { key } => key,
+        ChangeValue::Link { shape: _, link: _ } => 0,
     }
 }
 
@@ -49,8 +49,8 @@ fn change_pointer(change: ChangeValue) -> u32
 {
     match change {
         ChangeValue::Put { key: _, pointer } => pointer,
-        ChangeValue::Remove { key: _ } => 0,
-        ChangeValue::Link { kind: _, link } => link,
+        ChangeValue::Delete { key: _ } => 0,
+        ChangeValue::Link { shape: _, link } => link,
     }
 }
 

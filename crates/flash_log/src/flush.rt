@@ -7,16 +7,16 @@ ghost use Rattle.flash_blocks.specs.Pages.{pagesOf};
 ghost use Rattle.flash_allocate.specs.World.{Good, world};
 ghost use Rattle.page_write.specs.Pages.{logImage};
 ghost use Rattle.flash_log.specs.Flush as def;
-ghost use Rattle.flash_log.specs.Flush.{Kept, nextNumber, advanced, emptied, writeBuffer};
+ghost use Rattle.flash_log.specs.Flush.{Kept, nextSequence, advanced, emptied, writeBuffer};
 use super::claim::claim_entries;
-use page_write::frame::write_page;
-use page_write::log_page::log_image;
 use flash_allocate::allocate::allocate;
 use flash_allocate::state::State;
+use page_write::frame::write_page;
+use page_write::log_page::log_image;
 
 // The sequence number behind another.
-pub fn next_number(last: u32) -> u32
-    ensures { λ r. ⌜ r ≡ nextNumber last ⌝ }
+pub fn next_sequence(last: u32) -> u32
+    ensures { λ r. ⌜ r ≡ nextSequence last ⌝ }
 {
     if last < 4294967295 {
         return last + 1;
@@ -36,7 +36,7 @@ pub fn advance(state: State, number: u32) -> State
 }
 
 // The state with an empty buffer.
-fn empty(state: State) -> State
+fn without_entries(state: State) -> State
     ensures { λ r. ⌜ r ≡ emptied state ⌝ }
 {
     let mut s = state;
@@ -67,11 +67,11 @@ fn write_buffer(pool: &mut [u8], table: &mut [u8], state: State) -> State
     ensures { λ r. ⌜ Kept (length (now (pool .exit))) (length (now (table .exit))) state (world (pagesOf (now (pool .exit))) (rowsOf (now (table .exit))) r) (writeBuffer (world (pagesOf (now (pool .entry))) (rowsOf (now (table .entry))) state)) ⌝ }
 {
     let page = 32 * state.current + state.fill;
-    let number = next_number(state.last);
+    let number = next_sequence(state.last);
     let buffer = state.buffer;
     put_log(pool, page, number, &buffer, state.entries);
     claim_entries(table, &buffer, state.entries, state.nodes, page as u16);
-    empty(advance(state, number))
+    without_entries(advance(state, number))
 }
 
 // A place, then the buffer as a page there.
@@ -87,7 +87,7 @@ pub fn flush(pool: &mut [u8], table: &mut [u8], state: State) -> State
 }
 
 // Room for k entries in the buffer.
-pub fn room(pool: &mut [u8], table: &mut [u8], state: State, k: usize) -> State
+pub fn make_room(pool: &mut [u8], table: &mut [u8], state: State, k: usize) -> State
     requires { ⌜ (Good (length (now pool)) (length (now table)) state) × (k ≤ 27) ⌝ }
     ensures { λ r. ⌜ Kept (length (now (pool .exit))) (length (now (table .exit))) state (world (pagesOf (now (pool .exit))) (rowsOf (now (table .exit))) r) (def.room k (world (pagesOf (now (pool .entry))) (rowsOf (now (table .entry))) state)) ⌝ }
 {

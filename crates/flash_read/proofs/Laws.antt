@@ -26,7 +26,7 @@ use Rattle.node.specs.declared.ChangeValue.{ChangeValue}
 use Rattle.node.specs.declared.DraftValue.{DraftValue}
 use Rattle.node.specs.declared.DraftState.the-variants.{Made}
 use Rattle.node.specs.declared.NodeValue.{NodeValue}
-use Rattle.node.specs.declared.Kind.{Kind}
+use Rattle.node.specs.declared.Shape.{Shape}
 use Rattle.node.specs.Node.{node, pairsOf}
 use Rattle.node.specs.Splice.{zip}
 use Rattle.node.specs.Ascends.{ascends, ascends-within}
@@ -36,7 +36,7 @@ use Rattle.node.specs.Drafts.{draftOf, changeOf, Redone}
 use Rattle.page.specs.Decode as decode
 use Rattle.flash_read.specs.Replay.{redoEntry, redoRun, redoNth}
 use Rattle.flash_read.specs.Slots.{sequenceAt, slotAt, redoAt, redoTwo, redoThree}
-use Rattle.flash_read.specs.Whole.{wholeOf, wholeAt}
+use Rattle.flash_read.specs.NodePage.{nodeOfPayload, nodePageAt}
 use Rattle.flash_read.specs.Content.{redoPages, logContent, contentBy}
 
 -- A draft as it is.
@@ -203,17 +203,17 @@ module _ (p : List ℕ) (n : ℕ) where
 
 -- A payload that spells no node, or one whose keys ascend, or do not.
 module _ (p : List ℕ) where
-  pub whole-short : length p < 7 → broken ≡ wholeOf p
-  unfolding wholeOf
+  pub whole-short : length p < 7 → broken ≡ nodeOfPayload p
+  unfolding nodeOfPayload
   whole-short h = rw (lt-ltb (length p) 7 h) refl
 
   module _ (h : 7 ≤ length p) (n : ℕ) (e : n ≡ decode.pairsIn p) where
-    pub whole-long : 24 < n → broken ≡ wholeOf p
-    unfolding wholeOf
+    pub whole-long : 24 < n → broken ≡ nodeOfPayload p
+    unfolding nodeOfPayload
     whole-long l = rw (le-ltb (length p) 7 h, ← e, lt-ltb 24 n l) refl
 
-    module _ (l : n ≤ 24) (v : NodeValue) (kind : Kind) (link : ℕ) (k : kind ≡ decode.kindOfNumber (getD p 2 0)) (m : link ≡ numberAt 4 p 3)
-        (s : Stands v (node kind (decode.pairsFrom n p 7) link)) where
+    module _ (l : n ≤ 24) (v : NodeValue) (shape : Shape) (link : ℕ) (k : shape ≡ decode.shapeOfNumber (getD p 2 0)) (m : link ≡ numberAt 4 p 3)
+        (s : Stands v (node shape (decode.pairsFrom n p 7) link)) where
       pairs-are : pairsIn v ≡ decode.pairsFrom n p 7
       pairs-are = ap pairsOf (s .is)
 
@@ -221,34 +221,34 @@ module _ (p : List ℕ) where
       unfolding decode.nodeOf
       node-is = s .is ∙ rw (k, m, e) refl
 
-      pub whole-made : ascends 0 bound32 (pairsIn v) ≡ true → Redone (record { state = Made; node = v }) (wholeOf p)
-      unfolding wholeOf
+      pub whole-made : ascends 0 bound32 (pairsIn v) ≡ true → Redone (record { state = Made; node = v }) (nodeOfPayload p)
+      unfolding nodeOfPayload
       whole-made a =
           rw (le-ltb (length p) 7 h, ← e, le-ltb 24 n l, ← pairs-are, a)
           (record { is = ap made node-is; held = record { sized = s .sized; ascending = ascends-within 0 bound32 (pairsIn v) a } })
 
-      pub whole-loose : ascends 0 bound32 (pairsIn v) ≡ false → broken ≡ wholeOf p
-      unfolding wholeOf
+      pub whole-loose : ascends 0 bound32 (pairsIn v) ≡ false → broken ≡ nodeOfPayload p
+      unfolding nodeOfPayload
       whole-loose a = rw (le-ltb (length p) 7 h, ← e, le-ltb 24 n l, ← pairs-are, a) refl
 
 -- A page within the pool, and none behind its end.
 pub whole-in : (pool : List ℕ) (q n : ℕ) → 512 * q + 512 ≤ length pool → n ≡ 512 →
-    wholeOf (payloadAt (take n (drop (512 * q) pool)) 7 0x11) ≡ wholeAt (pagesOf pool) q
-unfolding wholeAt
-whole-in pool q n h e = ap (λ (b : List ℕ). wholeOf (payloadAt b 7 0x11)) (page-part pool q n h e)
+    nodeOfPayload (payloadAt (take n (drop (512 * q) pool)) 7 0x11) ≡ nodePageAt (pagesOf pool) q
+unfolding nodePageAt
+whole-in pool q n h e = ap (λ (b : List ℕ). nodeOfPayload (payloadAt b 7 0x11)) (page-part pool q n h e)
 
-pub whole-behind : (pool : List ℕ) (q : ℕ) → length pool < 512 * q + 512 → broken ≡ wholeAt (pagesOf pool) q
-unfolding wholeAt
+pub whole-behind : (pool : List ℕ) (q : ℕ) → length pool < 512 * q + 512 → broken ≡ nodePageAt (pagesOf pool) q
+unfolding nodePageAt
 whole-behind pool q h =
     whole-short [] (omega arith) ∙
-    sym (ap (λ (b : List ℕ). wholeOf (payloadAt b 7 0x11)) (page-behind pool q h) ∙ ap wholeOf (payload-blank 7 0x11 (omega arith) (λ e. omega arith)))
+    sym (ap (λ (b : List ℕ). nodeOfPayload (payloadAt b 7 0x11)) (page-behind pool q h) ∙ ap nodeOfPayload (payload-blank 7 0x11 (omega arith) (λ e. omega arith)))
 
 -- A node by its mode.
 module _ (pages : List (List ℕ)) (s : State) (row : Row) (n : ℕ) where
   pub content-log : row .mode ≡ Log → logContent pages s row n ≡ contentBy pages s row n
   unfolding contentBy
-  content-log e = ap (λ (m : Mode). byMode m (logContent pages s row n) (wholeAt pages (row .first))) (sym e)
+  content-log e = ap (λ (m : Mode). byMode m (logContent pages s row n) (nodePageAt pages (row .first))) (sym e)
 
-  pub content-disk : row .mode ≡ Disk → wholeAt pages (row .first) ≡ contentBy pages s row n
+  pub content-disk : row .mode ≡ Disk → nodePageAt pages (row .first) ≡ contentBy pages s row n
   unfolding contentBy
-  content-disk e = ap (λ (m : Mode). byMode m (logContent pages s row n) (wholeAt pages (row .first))) (sym e)
+  content-disk e = ap (λ (m : Mode). byMode m (logContent pages s row n) (nodePageAt pages (row .first))) (sym e)

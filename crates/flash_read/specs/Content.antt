@@ -12,7 +12,7 @@ use Rattle.flash_rows.specs.declared.Row.{Row}
 use Rattle.flash_allocate.specs.declared.state.State.{State}
 use Rattle.flash_read.specs.Replay.{redoBuffer}
 use Rattle.flash_read.specs.Slots.{slotAt, redoAt, redoTwo, redoThree}
-use Rattle.flash_read.specs.Whole.{wholeAt}
+use Rattle.flash_read.specs.NodePage.{nodePageAt}
 
 -- The entries of node n on the pages that its row names: none, one, two or three.
 unfoldable pub redoPages : List (List ℕ) → Row → ℕ → Draft → Draft
@@ -30,7 +30,7 @@ logContent pages s row n = redoBuffer n (row .version) (s .buffer) (s .entries) 
 
 -- Node n by its row: replayed in log mode, whole from its one page in disk mode.
 unfoldable pub contentBy : List (List ℕ) → State → Row → ℕ → Draft
-contentBy pages s row n = byMode (row .mode) (logContent pages s row n) (wholeAt pages (row .first))
+contentBy pages s row n = byMode (row .mode) (logContent pages s row n) (nodePageAt pages (row .first))
 
 -- The content of node n.
 unfoldable pub content : List (List ℕ) → List Row → State → ℕ → Draft

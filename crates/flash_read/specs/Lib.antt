@@ -1,6 +1,6 @@
 pub mod Replay
 pub mod Slots
-pub mod Whole
+pub mod NodePage
 pub mod Content
 pub mod NodeTable
-pub mod Kinds
+pub mod Shapes

@@ -5,13 +5,13 @@ ghost use Rattle.node.specs.Value.{Held, Becomes};
 ghost use Rattle.node.specs.Drafts.{draftOf};
 ghost use Rattle.store.specs.Store.{nodeIn};
 ghost use Rattle.flash_read.specs.NodeTable.{tableOf, Readable};
+use super::content::content;
+use flash_allocate::state::State;
 use node::DraftState;
 use node::DraftValue;
-use node::Kind;
 use node::NodeValue;
-use super::content::content;
-use node_replay::empty;
-use flash_allocate::state::State;
+use node::Shape;
+use node_replay::empty_node;
 
 // The node that a draft has made; a branch without a key, which is in no sound tree, where it has made none.
 pub fn node_in(d: DraftValue) -> NodeValue
@@ -20,9 +20,9 @@ pub fn node_in(d: DraftValue) -> NodeValue
 {
     let state = d.state;
     match state {
-        DraftState::Unlinked => empty(Kind::Branch, 0),
+        DraftState::Unlinked => empty_node(Shape::Branch, 0),
         DraftState::Made => d.node,
-        DraftState::Broken => empty(Kind::Branch, 0),
+        DraftState::Broken => empty_node(Shape::Branch, 0),
     }
 }
 
@@ -35,5 +35,5 @@ pub fn node_at<'a>(pool: &'a [u8], table: &'a [u8], state: State, n: usize) -> N
         let d = content(pool, table, state, n);
         return node_in(d);
     }
-    empty(Kind::Branch, 0)
+    empty_node(Shape::Branch, 0)
 }

@@ -7,17 +7,17 @@ ghost use Rattle.node.specs.Value.{Held};
 ghost use Rattle.node.specs.Drafts.{draftOf, Redone};
 ghost use Rattle.flash_read.specs.Content as def;
 ghost use Rattle.flash_read.specs.Content.{redoPages, logContent, contentBy};
+use super::node_page::node_page_at;
 use super::replay::redo_buffer;
 use super::slot::redo_one;
 use super::slot::redo_three;
 use super::slot::redo_two;
 use super::slot::slot_at;
-use super::whole::whole_at;
 use account::Mode;
-use node::DraftValue;
-use node_replay::nothing;
 use flash_allocate::state::State;
 use flash_rows::Row;
+use node::DraftValue;
+use node_replay::empty_draft;
 
 // The entries of a version on the pages that a row names, by sequence number.
 fn redo_pages(pool: &[u8], row: Row, n: usize, d: DraftValue) -> DraftValue
@@ -44,7 +44,7 @@ pub fn log_content(pool: &[u8], state: State, row: Row, n: usize) -> DraftValue
     requires { ⌜ state .entries ≤ 27 ⌝ }
     ensures { λ r. ⌜ Redone r (logContent (pagesOf (now (pool .entry))) state row n) ⌝ }
 {
-    let d = redo_pages(pool, row, n, nothing());
+    let d = redo_pages(pool, row, n, empty_draft());
     let buffer = state.buffer;
     redo_buffer(&buffer, state.entries, n, row.version, d)
 }
@@ -57,7 +57,7 @@ fn content_by(pool: &[u8], state: State, row: Row, n: usize) -> DraftValue
     let mode = row.mode;
     match mode {
         Mode::Log => log_content(pool, state, row, n),
-        Mode::Disk => whole_at(pool, row.first),
+        Mode::Disk => node_page_at(pool, row.first),
     }
 }
 
@@ -66,6 +66,6 @@ pub fn content<'a>(pool: &'a [u8], table: &'a [u8], state: State, n: usize) -> D
     requires { ⌜ (state .entries ≤ 27) × (16 * n + 16 ≤ length (now table)) ⌝ }
     ensures { λ r. ⌜ Redone r (def.content (pagesOf (now (pool .entry))) (rowsOf (now (table .entry))) state n) ⌝ }
 {
-    let row = flash_rows::load(table, n);
+    let row = flash_rows::read_row(table, n);
     content_by(pool, state, row, n)
 }

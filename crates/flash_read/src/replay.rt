@@ -9,7 +9,7 @@ ghost use Rattle.page.specs.Decode as decode;
 ghost use Rattle.flash_read.specs.Replay.{redoEntry, redoRun, redoBuffer};
 use node::ChangeValue;
 use node::DraftValue;
-use node::Kind;
+use node::Shape;
 use node_replay::redo;
 use wire::field::payload;
 use wire::number::read16;
@@ -23,16 +23,16 @@ fn change_of(number: u8, key: u32, pointer: u32) -> ChangeValue
         return ChangeValue::Put { key, pointer };
     }
     if number == 2 {
-        return ChangeValue::Remove { key };
+        return ChangeValue::Delete { key };
     }
     if number == 3 {
         return ChangeValue::Link {
-            kind: Kind::Leaf,
+            shape: Shape::Leaf,
             link: pointer,
         };
     }
     ChangeValue::Link {
-        kind: Kind::Branch,
+        shape: Shape::Branch,
         link: pointer,
     }
 }

@@ -1,3 +1,3 @@
-pub mod Sheets
-pub mod SheetPage
+pub mod CheckpointPages
+pub mod CheckpointPage
 pub mod Closing

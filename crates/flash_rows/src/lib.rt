@@ -106,7 +106,7 @@ fn encode(r: Row) -> [u8; 16]
 }
 
 // The row of a node, or of a checkpoint page being written.
-pub fn load(table: &[u8], n: usize) -> Row
+pub fn read_row(table: &[u8], n: usize) -> Row
     requires { ⌜ 16 * n + 16 ≤ length (now table) ⌝ }
     ensures { λ r. ⌜ r ≡ getD (rowsOf (now (table .entry))) n noRow ⌝ }
 {
@@ -116,7 +116,7 @@ pub fn load(table: &[u8], n: usize) -> Row
 }
 
 // The row laid in its place.
-pub fn store(table: &mut [u8], n: usize, r: Row)
+pub fn write_row(table: &mut [u8], n: usize, r: Row)
     requires { ⌜ 16 * n + 16 ≤ length (now table) ⌝ }
     ensures { λ _. ⌜ rowsOf (now (table .exit)) ≡ set (rowsOf (now (table .entry))) n r ⌝ }
 {

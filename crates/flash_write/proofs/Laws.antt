@@ -22,7 +22,7 @@ use Rattle.page_write.specs.Pages.{firstPairs}
 use Rattle.flash_allocate.specs.World.{World, world, spot, Good}
 use Rattle.flash_allocate.specs.declared.state.State.{State}
 use Rattle.flash_log.specs.Entry.{append, appendAll}
-use Rattle.flash_log.specs.Flush.{nextNumber, advanced, room, Kept}
+use Rattle.flash_log.specs.Flush.{nextSequence, advanced, room, Kept}
 use Rattle.flash_log.proofs.Laws.{Beside, beside-append, good-append, good-advanced}
 use Rattle.flash_write.specs.Group.{numbered, withNodes, startState, start, Started, roomFor, restart, group, startNext, create, Grown}
 use Rattle.flash_write.specs.NodePage.{diskRow, writeNode}
@@ -114,7 +114,7 @@ module _ (n version : ℕ) (x : Node) (s : State) where
 
 -- Room, then the fresh start.
 module _ {P T T′ : ℕ} (x : Node) (w w₁ : World) (k : ℕ) (e : k ≡ length (pairsOf x) + 1) (m : Kept P T (w .state) w₁ (room k w)) (t : T′ ≡ T)
-    (version : ℕ) (v : version ≡ nextNumber (w₁ .state .last)) where
+    (version : ℕ) (v : version ≡ nextSequence (w₁ .state .last)) where
   started : (n : ℕ) (row row′ : Row) (rows₂ : List Row) (s₂ : State) → row ≡ row′ → Started (w₁ .rows) (w₁ .state) n row version x rows₂ s₂ →
       world (w₁ .pages) rows₂ s₂ ≡ start n row′ x w₁
   unfolding start
@@ -170,7 +170,7 @@ module _ {P T T′ : ℕ} (x : Node) (w w₁ : World) (k : ℕ) (e : k ≡ lengt
 
 -- The page, the row and the state of a node page put together.
 pub node-written : {P T P′ T′ : ℕ} (n : ℕ) (x : Node) (pages pages′ : List (List ℕ)) (rows rows′ : List Row) (s s₁ : State) (number : ℕ) →
-    Good P T s → P′ ≡ P → T′ ≡ T → s .fill < 32 → number ≡ nextNumber (s .last) →
+    Good P T s → P′ ≡ P → T′ ≡ T → s .fill < 32 → number ≡ nextSequence (s .last) →
     pages′ ≡ set pages (spot s) (image (page number (whole n x))) → rows′ ≡ diskRow n number (spot s) rows → s₁ ≡ advanced number s →
     Kept P′ T′ s (world pages′ rows′ s₁) (writeNode n x (world pages rows s))
 unfolding writeNode advanced

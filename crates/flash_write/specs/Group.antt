@@ -13,7 +13,7 @@ use Rattle.node.specs.Change.{changesOf}
 use Rattle.flash_allocate.specs.World.{World, world, Good}
 use Rattle.flash_allocate.specs.declared.state.State.{State}
 use Rattle.flash_log.specs.Entry.{appendAll}
-use Rattle.flash_log.specs.Flush.{nextNumber, room}
+use Rattle.flash_log.specs.Flush.{nextSequence, room}
 
 -- The state with another last sequence number, or another number of nodes.
 unfoldable pub numbered : ℕ → State → State
@@ -53,7 +53,7 @@ startState n version x s = appendAll n version (changesOf x) (numbered version s
 -- A fresh start of node n with a content, whose row was this.
 unfoldable pub start : ℕ → Row → Node → World → World
 start n row x w =
-    world (w .pages) (startRow n row (nextNumber (w .state .last)) (w .rows)) (startState n (nextNumber (w .state .last)) x (w .state))
+    world (w .pages) (startRow n row (nextSequence (w .state .last)) (w .rows)) (startState n (nextSequence (w .state .last)) x (w .state))
 
 -- What the code of a fresh start leaves of rows and state.
 pub record Started (before : List Row) (s : State) (n : ℕ) (row : Row) (version : ℕ) (x : Node) (after : List Row) (s′ : State) : Type 0 where

@@ -11,7 +11,7 @@ use Rattle.page.specs.Page.{page, whole}
 use Rattle.page.specs.Image.{image}
 use Rattle.flash_allocate.specs.World.{World, world, spot}
 use Rattle.flash_allocate.specs.Allocate.{allocate}
-use Rattle.flash_log.specs.Flush.{nextNumber, advanced, ifRoom}
+use Rattle.flash_log.specs.Flush.{nextSequence, advanced, ifRoom}
 
 -- The rows once node n lies whole on one page: "its version is its stamp".
 unfoldable pub diskRow : ℕ → ℕ → ℕ → List Row → List Row
@@ -21,9 +21,9 @@ diskRow n number at rows = set rows n (noted at (fresh number Disk (getD rows n 
 unfoldable pub writeNode : ℕ → Node → World → World
 writeNode n x w =
     world
-    (set (w .pages) (spot (w .state)) (image (page (nextNumber (w .state .last)) (whole n x))))
-    (diskRow n (nextNumber (w .state .last)) (spot (w .state)) (w .rows))
-    (advanced (nextNumber (w .state .last)) (w .state))
+    (set (w .pages) (spot (w .state)) (image (page (nextSequence (w .state .last)) (whole n x))))
+    (diskRow n (nextSequence (w .state .last)) (spot (w .state)) (w .rows))
+    (advanced (nextSequence (w .state .last)) (w .state))
 
 -- A place for the page, then the page. While the place is found, the node's row is the old one.
 unfoldable pub nodePage : ℕ → Node → World → World

@@ -9,11 +9,11 @@ ghost use Rattle.flash_allocate.specs.World.{Good, world};
 ghost use Rattle.flash_log.specs.Flush.{Kept};
 ghost use Rattle.flash_write.specs.Edit as def;
 use super::group::group;
+use flash_allocate::state::State;
 use flash_log::entry::append;
-use flash_log::flush::room;
+use flash_log::flush::make_room;
 use node::ChangeValue;
 use node::NodeValue;
-use flash_allocate::state::State;
 
 // One entry under the node's version; of a node that lies on three pages by then, the whole edited content.
 pub fn edit(
@@ -27,8 +27,8 @@ pub fn edit(
     requires { ⌜ (Good (length (now pool)) (length (now table)) state) × (n < state .nodes) × (Sized edited) ⌝ }
     ensures { λ r. ⌜ Kept (length (now (pool .exit))) (length (now (table .exit))) state (world (pagesOf (now (pool .exit))) (rowsOf (now (table .exit))) r) (def.edit n (changeOf change) (nodeOf edited) (world (pagesOf (now (pool .entry))) (rowsOf (now (table .entry))) state)) ⌝ }
 {
-    let s = room(pool, table, state, 1);
-    let row = flash_rows::load(table, n);
+    let s = make_room(pool, table, state, 1);
+    let row = flash_rows::read_row(table, n);
     if row.pages < 3 {
         return append(s, n, row.version, change);
     }

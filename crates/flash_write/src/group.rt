@@ -12,17 +12,17 @@ ghost use Rattle.flash_log.specs.Flush.{Kept};
 ghost use Rattle.flash_write.specs.Group as def;
 ghost use Rattle.flash_write.specs.Group.{numbered, withNodes, Started, Grown};
 use account::Mode;
+use flash_allocate::state::State;
 use flash_log::claim::no_row;
 use flash_log::entry::append;
-use flash_log::flush::next_number;
-use flash_log::flush::room;
+use flash_log::flush::make_room;
+use flash_log::flush::next_sequence;
+use flash_rows::Row;
 use node::ChangeValue;
 use node::NodeValue;
-use flash_allocate::state::State;
-use flash_rows::Row;
 
 // The state with another last sequence number.
-fn number(state: State, last: u32) -> State
+fn with_sequence(state: State, last: u32) -> State
     ensures { λ r. ⌜ r ≡ numbered last state ⌝ }
 {
     let mut s = state;
@@ -64,9 +64,12 @@ fn append_node(state: State, id: usize, version: u32, v: NodeValue) -> State
     requires { ⌜ Sized v ⌝ }
     ensures { λ r. ⌜ r ≡ appendAll id version (changesOf (nodeOf v)) state ⌝ }
 {
-    let kind = v.kind;
+    let shape = v.shape;
     let s = append_pairs(state, id, version, v);
-    let change = ChangeValue::Link { kind, link: v.link };
+    let change = ChangeValue::Link {
+        shape,
+        link: v.link,
+    };
     append(s, id, version, change)
 }
 
@@ -75,8 +78,8 @@ fn start(table: &mut [u8], state: State, n: usize, row: Row, version: u32, v: No
     requires { ⌜ (16 * n + 16 ≤ length (now table)) × (Sized v) ⌝ }
     ensures { λ r. ⌜ Started (rowsOf (now (table .entry))) state n row version (nodeOf v) (rowsOf (now (table .exit))) r ⌝ }
 {
-    flash_rows::store(table, n, row.fresh(version, Mode::Log));
-    append_node(number(state, version), n, version, v)
+    flash_rows::write_row(table, n, row.fresh(version, Mode::Log));
+    append_node(with_sequence(state, version), n, version, v)
 }
 
 // The whole content of a node under a new version. A page that it forces out takes its sequence number before.
@@ -84,9 +87,9 @@ pub fn group(pool: &mut [u8], table: &mut [u8], state: State, n: usize, v: NodeV
     requires { ⌜ (Good (length (now pool)) (length (now table)) state) × (n < state .nodes) × (Sized v) ⌝ }
     ensures { λ r. ⌜ Kept (length (now (pool .exit))) (length (now (table .exit))) state (world (pagesOf (now (pool .exit))) (rowsOf (now (table .exit))) r) (def.group n (nodeOf v) (world (pagesOf (now (pool .entry))) (rowsOf (now (table .entry))) state)) ⌝ }
 {
-    let s = room(pool, table, state, v.count + 1);
-    let version = next_number(s.last);
-    let row = flash_rows::load(table, n);
+    let s = make_room(pool, table, state, v.count + 1);
+    let version = next_sequence(s.last);
+    let row = flash_rows::read_row(table, n);
     start(table, s, n, row, version, v)
 }
 
@@ -95,8 +98,8 @@ pub fn create(pool: &mut [u8], table: &mut [u8], state: State, v: NodeValue) -> 
     requires { ⌜ (Good (length (now pool)) (length (now table)) state) × (state .nodes + state .checkpoint < 64 * state .blocks) × (Sized v) ⌝ }
     ensures { λ r. ⌜ Grown (length (now (pool .exit))) (length (now (table .exit))) state (world (pagesOf (now (pool .exit))) (rowsOf (now (table .exit))) r) (def.create (nodeOf v) (world (pagesOf (now (pool .entry))) (rowsOf (now (table .entry))) state)) ⌝ }
 {
-    let s = room(pool, table, state, v.count + 1);
-    let version = next_number(s.last);
+    let s = make_room(pool, table, state, v.count + 1);
+    let version = next_sequence(s.last);
     let row = no_row();
     let t = start(table, s, s.nodes, row, version, v);
     with_nodes(t, s.nodes + 1)

@@ -12,33 +12,33 @@ ghost use Rattle.flash_log.specs.Flush.{Kept};
 ghost use Rattle.flash_write.specs.NodePage as def;
 ghost use Rattle.flash_write.specs.NodePage.{diskRow, writeNode};
 use account::Mode;
+use flash_allocate::allocate::allocate;
+use flash_allocate::state::State;
 use flash_log::flush::advance;
-use flash_log::flush::next_number;
+use flash_log::flush::next_sequence;
 use flash_log::flush::put_image;
 use node::NodeValue;
 use page_write::node_page::node_image;
-use flash_allocate::allocate::allocate;
-use flash_allocate::state::State;
 
 // A node written as a page of the pool.
 fn put_node(pool: &mut [u8], at: usize, number: u32, id: usize, v: NodeValue)
     requires { ⌜ (512 * at + 512 ≤ length (now pool)) × (id < 65536) × (Sized v) ⌝ }
     ensures { λ _. ⌜ pagesOf (now (pool .exit)) ≡ set (pagesOf (now (pool .entry))) at (image (page number (whole id (nodeOf v)))) ⌝ }
 {
-    let kind = v.kind;
+    let shape = v.shape;
     let keys = v.keys;
     let pointers = v.pointers;
-    let bytes = node_image(number, id as u32, kind, &keys, &pointers, v.count, v.link);
+    let bytes = node_image(number, id as u32, shape, &keys, &pointers, v.count, v.link);
     put_image(pool, at, bytes);
 }
 
 // The row of a node that has this page for its version, alone.
-fn disk_row(table: &mut [u8], n: usize, number: u32, at: u16)
+fn node_page_row(table: &mut [u8], n: usize, number: u32, at: u16)
     requires { ⌜ 16 * n + 16 ≤ length (now table) ⌝ }
     ensures { λ _. ⌜ rowsOf (now (table .exit)) ≡ diskRow n number at (rowsOf (now (table .entry))) ⌝ }
 {
-    let row = flash_rows::load(table, n).fresh(number, Mode::Disk);
-    flash_rows::store(table, n, row.note(at));
+    let row = flash_rows::read_row(table, n).fresh(number, Mode::Disk);
+    flash_rows::write_row(table, n, row.note(at));
 }
 
 // A node page as the next page, in a block that has room.
@@ -47,9 +47,9 @@ fn write_node(pool: &mut [u8], table: &mut [u8], state: State, n: usize, v: Node
     ensures { λ r. ⌜ Kept (length (now (pool .exit))) (length (now (table .exit))) state (world (pagesOf (now (pool .exit))) (rowsOf (now (table .exit))) r) (writeNode n (nodeOf v) (world (pagesOf (now (pool .entry))) (rowsOf (now (table .entry))) state)) ⌝ }
 {
     let at = 32 * state.current + state.fill;
-    let number = next_number(state.last);
+    let number = next_sequence(state.last);
     put_node(pool, at, number, n, v);
-    disk_row(table, n, number, at as u16);
+    node_page_row(table, n, number, at as u16);
     advance(state, number)
 }
 

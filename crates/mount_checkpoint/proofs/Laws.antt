@@ -15,8 +15,8 @@ use Rattle.wire.specs.Field.{payloadAt}
 use Rattle.page.specs.Decode.{tariffOf}
 use Rattle.page_read.specs.Value.{scoreValue}
 use Rattle.page_read.specs.declared.value.ScoreValue.{ScoreValue}
-use Rattle.mount_checkpoint_pages.specs.Sheet.{numberOf, scoresOn, Standing}
-use Rattle.mount_checkpoint_pages.specs.declared.sheet.Scores.{Scores}
+use Rattle.mount_checkpoint_pages.specs.CheckpointPage.{numberOf, scoresOn, Standing}
+use Rattle.mount_checkpoint_pages.specs.declared.checkpoint_page.Scores.{Scores}
 use Rattle.mount_checkpoint_pages.specs.Extent.{extentOf}
 use Rattle.mount_checkpoint_pages.specs.Totals.{totalsOf}
 use Rattle.mount_checkpoint_pages.specs.declared.extent.Extent.{Extent}

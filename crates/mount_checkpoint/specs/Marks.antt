@@ -12,7 +12,7 @@ use Rattle.wire.specs.Field.{payloadAt}
 use Rattle.flash_blocks.specs.Pages.{pageAt}
 use Rattle.page_read.specs.Value.{scoreValue}
 use Rattle.page_read.specs.declared.value.ScoreValue.{ScoreValue}
-use Rattle.mount_checkpoint_pages.specs.Sheet.{numberOf, scoresFrom, scoresOn}
+use Rattle.mount_checkpoint_pages.specs.CheckpointPage.{numberOf, scoresFrom, scoresOn}
 use Rattle.mount_checkpoint.specs.EveryFrom.{everyFrom}
 
 -- The score at an index of a checkpoint page.

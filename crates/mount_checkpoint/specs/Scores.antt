@@ -11,7 +11,7 @@ use Rattle.flash_rows.specs.Row.{noRow}
 use Rattle.flash_rows.specs.Step.{scored}
 use Rattle.flash_rows.specs.declared.Row.{Row}
 use Rattle.flash_blocks.specs.Pages.{pageAt}
-use Rattle.mount_checkpoint_pages.specs.Sheet.{numberOf, scoresOn}
+use Rattle.mount_checkpoint_pages.specs.CheckpointPage.{numberOf, scoresOn}
 use Rattle.mount_checkpoint.specs.Marks.{scoreAt}
 
 -- The score of one node; an id that is no node's is passed over.

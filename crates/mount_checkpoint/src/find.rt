@@ -8,10 +8,10 @@ ghost use Rattle.mount_checkpoint.specs.Find.{tariffAt, Found};
 use super::marks::covers;
 use account::Costs;
 use account::Tariff;
-use page_read::value::tariff_of;
 use mount_checkpoint_pages::extent::extent_of;
 use mount_checkpoint_pages::part::page_in;
 use mount_checkpoint_pages::totals::sum_pages;
+use page_read::value::tariff_of;
 use wire::field::payload;
 
 // A complete checkpoint: the tariff, the node count and the number of its first page; or none.

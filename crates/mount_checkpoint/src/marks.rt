@@ -5,10 +5,10 @@ ghost use lib.ListN.{length};
 ghost use Rattle.flash_blocks.specs.Pages.{pagesOf};
 ghost use Rattle.mount_checkpoint.specs.EveryFrom.{everyFrom};
 ghost use Rattle.mount_checkpoint.specs.Marks.{marked, markPage, markPages, isMarked, Windowed, Covered};
+use mount_checkpoint_pages::checkpoint_page::scores_of;
+use mount_checkpoint_pages::part::page_in;
 use page_read::seal::sequence;
 use page_read::value::score_at;
-use mount_checkpoint_pages::part::page_in;
-use mount_checkpoint_pages::sheet::scores_of;
 use wire::bytes::fill;
 
 // Marks an id, where it is in the window that begins at `start`.

@@ -7,10 +7,10 @@ ghost use Rattle.flash_rows.specs.Row.{rowsOf};
 ghost use Rattle.flash_blocks.specs.Pages.{pagesOf};
 ghost use Rattle.mount_checkpoint.specs.EveryFrom.{everyFrom};
 ghost use Rattle.mount_checkpoint.specs.Scores.{scoreTaken, takePage, takePages, isBelow};
+use mount_checkpoint_pages::checkpoint_page::scores_of;
+use mount_checkpoint_pages::part::page_in;
 use page_read::seal::sequence;
 use page_read::value::score_at;
-use mount_checkpoint_pages::part::page_in;
-use mount_checkpoint_pages::sheet::scores_of;
 
 // The score of a node in its row.
 fn take_score(table: &mut [u8], nodes: usize, id: usize, score: u32)
@@ -18,8 +18,8 @@ fn take_score(table: &mut [u8], nodes: usize, id: usize, score: u32)
     ensures { λ _. ⌜ rowsOf (now (table .exit)) ≡ scoreTaken nodes id score (rowsOf (now (table .entry))) ⌝ }
 {
     if id < nodes {
-        let row = flash_rows::load(table, id);
-        flash_rows::store(table, id, row.scored(score));
+        let row = flash_rows::read_row(table, id);
+        flash_rows::write_row(table, id, row.scored(score));
     }
 }
 
@@ -60,7 +60,7 @@ fn is_below(table: &[u8], n: usize, limit: u64) -> bool
     requires { ⌜ 16 * n + 16 ≤ length (now table) ⌝ }
     ensures { λ r. ⌜ r ≡ isBelow limit (rowsOf (now (table .entry))) n ⌝ }
 {
-    let row = flash_rows::load(table, n);
+    let row = flash_rows::read_row(table, n);
     let score = row.score as u64;
     score < limit
 }

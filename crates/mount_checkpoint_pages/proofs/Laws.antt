@@ -15,11 +15,11 @@ use Rattle.flash_blocks.specs.Pages.{pagesOf, pageAt}
 use Rattle.flash_blocks.proofs.Laws.{pageAt-part}
 use Rattle.page.specs.Decode.{run, found, taken, scoreOk, mostScores}
 use Rattle.page_read.specs.Payload.{found-true, taken-some}
-use Rattle.mount_checkpoint_pages.specs.Sheet.{numberOf, hasTariff, scoresFrom, scoresOn, countPart, Standing, sheetOf, Read, fitsIn}
+use Rattle.mount_checkpoint_pages.specs.CheckpointPage.{numberOf, hasTariff, scoresFrom, scoresOn, countPart, Standing, checkpointPageOf, Read, fitsIn}
 use Rattle.mount_checkpoint_pages.specs.Extent.{extended}
 use Rattle.mount_checkpoint_pages.specs.Totals.{plus, addPage, Added}
-use Rattle.mount_checkpoint_pages.specs.declared.sheet.Scores.{Scores}
-use Rattle.mount_checkpoint_pages.specs.declared.sheet.Sheet.{Sheet}
+use Rattle.mount_checkpoint_pages.specs.declared.checkpoint_page.Scores.{Scores}
+use Rattle.mount_checkpoint_pages.specs.declared.checkpoint_page.CheckpointPage.{CheckpointPage}
 use Rattle.mount_checkpoint_pages.specs.declared.extent.Extent.{Extent}
 use Rattle.mount_checkpoint_pages.specs.declared.totals.Totals.{Totals}
 
@@ -64,16 +64,16 @@ module _ (b : List ℕ) (s : Scores) (h : Standing b s) where
   unfolding countPart
   count-place = rw (h .from, h .count) refl
 
-  pub sheet-open : payloadAt b (s .from + 9 * s .count) 0x15 ≡ [] → Read b (record { scores = s .count; counted = false; nodes = 0 })
-  unfolding sheetOf
-  sheet-open z =
+  pub checkpoint-page-open : payloadAt b (s .from + 9 * s .count) 0x15 ≡ [] → Read b (record { scores = s .count; counted = false; nodes = 0 })
+  unfolding checkpointPageOf
+  checkpoint-page-open z =
       let e : countPart b ≡ [] = sym count-place ∙ z in
       record { is = rw (e, h .count) refl; few = h .few; small = omega arith }
 
-  pub sheet-counted : (p : List ℕ) → p ≡ payloadAt b (s .from + 9 * s .count) 0x15 → length p ≡ 2 → (n : ℕ) → n ≡ number p → n < 65536 →
+  pub checkpoint-page-counted : (p : List ℕ) → p ≡ payloadAt b (s .from + 9 * s .count) 0x15 → length p ≡ 2 → (n : ℕ) → n ≡ number p → n < 65536 →
       Read b (record { scores = s .count; counted = true; nodes = n })
-  unfolding sheetOf
-  sheet-counted p e l n en small =
+  unfolding checkpointPageOf
+  checkpoint-page-counted p e l n en small =
       let q : p ≡ countPart b = e ∙ count-place in
       let f : found (countPart b) ≡ true = ap found (sym q) ∙ found-true p (omega arith) in
       let m : n ≡ number (countPart b) = en ∙ ap number q in
@@ -143,11 +143,11 @@ module _ (since newest : ℕ) (b : List ℕ) (t : Totals) (n : ℕ) (own : n ≡
   unfolding addPage
   add-below h = record { is = rw (← own, lt-ltb n since h) refl; misfits = omega arith; scores = omega arith; nodes = omega arith }
 
-  module _ (h : since ≤ n) (s : Sheet) (r : Read b s) where
+  module _ (h : since ≤ n) (s : CheckpointPage) (r : Read b s) where
     add-is : (fit : Bool) → fit ≡ fitsIn newest (s .counted) b → plus fit s t ≡ addPage since newest b t
     unfolding addPage
     add-is fit e =
-        let f : fit ≡ fitsIn newest (sheetOf b .counted) b = e ∙ ap (λ (x : Sheet). fitsIn newest (x .counted) b) (r .is) in
+        let f : fit ≡ fitsIn newest (checkpointPageOf b .counted) b = e ∙ ap (λ (x : CheckpointPage). fitsIn newest (x .counted) b) (r .is) in
         rw (← own, le-ltb n since h, ← f, ← r .is) refl
 
     pub add-fit : true ≡ fitsIn newest (s .counted) b →

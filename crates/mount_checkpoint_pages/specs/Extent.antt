@@ -8,7 +8,7 @@ use lib.Dec.{ltb}
 use Rattle.laws.specs.Tests.{choose}
 use Rattle.laws.specs.Loops.{steps}
 use Rattle.flash_blocks.specs.Pages.{pageAt}
-use Rattle.mount_checkpoint_pages.specs.Sheet.{numberOf, hasTariff}
+use Rattle.mount_checkpoint_pages.specs.CheckpointPage.{numberOf, hasTariff}
 use Rattle.mount_checkpoint_pages.specs.declared.extent.Extent.{Extent}
 
 -- One page more.

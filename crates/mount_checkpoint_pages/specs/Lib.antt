@@ -1,3 +1,3 @@
-pub mod Sheet
+pub mod CheckpointPage
 pub mod Extent
 pub mod Totals

@@ -8,18 +8,18 @@ use Rattle.laws.specs.Tests.{choose}
 use Rattle.laws.specs.Counts.{bit}
 use Rattle.laws.specs.Loops.{steps}
 use Rattle.flash_blocks.specs.Pages.{pageAt}
-use Rattle.mount_checkpoint_pages.specs.Sheet.{numberOf, sheetOf, fitsIn}
-use Rattle.mount_checkpoint_pages.specs.declared.sheet.Sheet.{Sheet}
+use Rattle.mount_checkpoint_pages.specs.CheckpointPage.{numberOf, checkpointPageOf, fitsIn}
+use Rattle.mount_checkpoint_pages.specs.declared.checkpoint_page.CheckpointPage.{CheckpointPage}
 use Rattle.mount_checkpoint_pages.specs.declared.totals.Totals.{Totals}
 
--- A sheet more, which fits or not.
-unfoldable pub plus : Bool → Sheet → Totals → Totals
+-- A checkpoint page more, which fits or not.
+unfoldable pub plus : Bool → CheckpointPage → Totals → Totals
 plus fit s t =
     record { misfits = t .misfits + bit (not fit); scores = t .scores + s .scores; nodes = t .nodes + s .nodes }
 
 unfoldable pub addPage : ℕ → ℕ → List ℕ → Totals → Totals
 addPage since newest b t =
-    choose (ltb (numberOf b) since) t (plus (fitsIn newest (sheetOf b .counted) b) (sheetOf b) t)
+    choose (ltb (numberOf b) since) t (plus (fitsIn newest (checkpointPageOf b .counted) b) (checkpointPageOf b) t)
 
 unfoldable pub nothing : Totals
 nothing = record { misfits = 0; scores = 0; nodes = 0 }

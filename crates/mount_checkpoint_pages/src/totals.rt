@@ -4,9 +4,9 @@ ghost use lib.ListN.{length};
 ghost use Rattle.layout.specs.Layout.{mostBlocks, pagesInBlock};
 ghost use Rattle.flash_blocks.specs.Pages.{pagesOf};
 ghost use Rattle.mount_checkpoint_pages.specs.Totals.{Few, Added, Summed};
+use super::checkpoint_page::checkpoint_page_of;
+use super::checkpoint_page::fits;
 use super::part::page_in;
-use super::sheet::fits;
-use super::sheet::sheet_of;
 use page_read::seal::sequence;
 
 // Over some pages: how many do not fit, the scores on them, and the node counts.
@@ -24,7 +24,7 @@ fn add_page(page: &[u8], since: u32, newest: u32, t: Totals) -> Totals
     if sequence(page) < since {
         return t;
     }
-    let s = sheet_of(page);
+    let s = checkpoint_page_of(page);
     let scores = t.scores + s.scores;
     let nodes = t.nodes + s.nodes;
     if fits(page, newest, s.counted) {

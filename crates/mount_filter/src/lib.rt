@@ -35,14 +35,14 @@ fn mark_of(blocks: usize, v: u32) -> usize
 }
 
 // A number's print.
-fn print_of(v: u32) -> u32
+fn fingerprint(v: u32) -> u32
     ensures { λ r. ⌜ (r ≡ printOf v) × (r < 256) ⌝ }
 {
     v / 2048 % 254 + 1
 }
 
 // A mark with one print more.
-fn printed(mark: u32, print: u32) -> u32
+fn with_fingerprint(mark: u32, print: u32) -> u32
     requires { ⌜ print < 256 ⌝ }
     ensures { λ r. ⌜ (r ≡ def.printed mark print) × (r < 256) ⌝ }
 {
@@ -56,7 +56,7 @@ fn printed(mark: u32, print: u32) -> u32
 }
 
 // Whether a mark says that a number is not there.
-fn rules_out(mark: u32, v: u32) -> bool
+fn excludes(mark: u32, v: u32) -> bool
     ensures { λ r. ⌜ r ≡ rulesOut mark v ⌝ }
 {
     if mark == 0 {
@@ -65,7 +65,7 @@ fn rules_out(mark: u32, v: u32) -> bool
     if mark == 255 {
         return false;
     }
-    if mark == print_of(v) {
+    if mark == fingerprint(v) {
         return false;
     }
     true
@@ -98,7 +98,7 @@ fn set_marks(table: &mut [u8], n: usize, blocks: usize)
     while i < n {
         let v = read32(table, 4 * i);
         let at = 512 * blocks + mark_of(blocks, v);
-        let mark = printed(read8(table, at), print_of(v));
+        let mark = with_fingerprint(read8(table, at), fingerprint(v));
         put(table, at, mark);
         i += 1;
     }
@@ -119,7 +119,7 @@ pub fn has_marked(table: &[u8], n: usize, blocks: usize, v: u32) -> bool
     ensures { λ r. ⌜ r ≡ find.has (row n 0 (now (table .entry))) v ⌝ }
 {
     let mark = read8(table, 512 * blocks + mark_of(blocks, v));
-    if rules_out(mark, v) {
+    if excludes(mark, v) {
         return false;
     }
     has(table, n, v)

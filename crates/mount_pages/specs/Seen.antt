@@ -14,7 +14,7 @@ use Rattle.mount_pages.specs.declared.collect.Seen.the-variants.{Blank, 
 abbrev pub seenIn : PageView → Seen
 seenIn view.Blank = Blank
 seenIn (view.Log s n) = Numbered s
-seenIn (view.Whole s id kind n) = Numbered s
+seenIn (view.NodePage s id shape n) = Numbered s
 seenIn (view.Checkpoint s first n nodes) = Numbered s
 seenIn view.Bad = Bad
 

@@ -33,10 +33,10 @@ fn seen_in(view: PageView) -> Seen
             sequence,
             entries: _,
         } => Seen::Numbered(sequence),
-        PageView::Whole {
+        PageView::NodePage {
             sequence,
             id: _,
-            kind: _,
+            shape: _,
             keys: _,
         } => Seen::Numbered(sequence),
         PageView::Checkpoint {

@@ -12,7 +12,7 @@ use wire::number::read8;
 use wire::number::read32;
 
 // Whether no entry of a page has a version that is a number of the row.
-fn is_apart<'a>(page: &'a [u8], table: &'a [u8], n: usize, blocks: usize) -> bool
+fn is_new_version<'a>(page: &'a [u8], table: &'a [u8], n: usize, blocks: usize) -> bool
     requires { ⌜ (length (now page) ≡ 512) × (Ascending (now table) n) × (Marked (now table) n blocks) ⌝ }
     ensures { λ r. ⌜ r ≡ apartOn (has (row n 0 (now (table .entry)))) (now (page .entry)) ⌝ }
 {
@@ -32,23 +32,35 @@ fn is_apart<'a>(page: &'a [u8], table: &'a [u8], n: usize, blocks: usize) -> boo
 }
 
 // The same of a page of the pool.
-fn is_page_apart<'a>(pool: &'a [u8], table: &'a [u8], n: usize, blocks: usize, page: usize) -> bool
+fn page_versions_are_new<'a>(
+    pool: &'a [u8],
+    table: &'a [u8],
+    n: usize,
+    blocks: usize,
+    page: usize,
+) -> bool
     requires { ⌜ (512 * page + 512 ≤ length (now pool)) × (Ascending (now table) n) × (Marked (now table) n blocks) ⌝ }
     ensures { λ r. ⌜ r ≡ pageApart (row n 0 (now (table .entry))) (pagesOf (now (pool .entry))) page ⌝ }
 {
     let from = 512 * page;
     let to = from + 512;
-    is_apart(&pool[from..to], table, n, blocks)
+    is_new_version(&pool[from..to], table, n, blocks)
 }
 
 // Whether no entry of the first pages has a version that is a number of the row.
-pub fn are_apart<'a>(pool: &'a [u8], table: &'a [u8], n: usize, blocks: usize, pages: usize) -> bool
+pub fn versions_are_new<'a>(
+    pool: &'a [u8],
+    table: &'a [u8],
+    n: usize,
+    blocks: usize,
+    pages: usize,
+) -> bool
     requires { ⌜ (512 * pages ≤ length (now pool)) × (Ascending (now table) n) × (Marked (now table) n blocks) ⌝ }
     ensures { λ r. ⌜ r ≡ pagesApart (row n 0 (now (table .entry))) pages (pagesOf (now (pool .entry))) ⌝ }
 {
     let mut page: usize = 0;
     while page < pages {
-        if is_page_apart(pool, table, n, blocks, page) {} else {
+        if page_versions_are_new(pool, table, n, blocks, page) {} else {
             return false;
         }
         page += 1;

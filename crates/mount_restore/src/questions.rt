@@ -8,8 +8,8 @@ ghost use Rattle.flash_blocks.specs.Pages.{pagesOf};
 ghost use Rattle.mount_restore.specs.Questions.{rowsPass, Judged, Asked};
 use super::table::restore_rows;
 use account::Tariff;
-use mount_checkpoint::scores::scores_below;
 use flash_allocate::state::State;
+use mount_checkpoint::scores::scores_below;
 use mount_tree::is_sound;
 
 // Whether restored rows pass: the tariff in range, the scores below its limit, the tree sound.

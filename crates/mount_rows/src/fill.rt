@@ -43,7 +43,7 @@ fn within_three(table: &[u8], nodes: usize) -> bool
     let mut left = nodes;
     while 0 < left {
         left -= 1;
-        let row = flash_rows::load(table, left);
+        let row = flash_rows::read_row(table, left);
         if 3 < row.pages {
             return false;
         }

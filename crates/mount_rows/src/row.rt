@@ -38,13 +38,13 @@ fn see_row(table: &mut [u8], id: usize, version: u32, mode: Mode, page: u16)
     requires { ⌜ 16 * id + 16 ≤ length (now table) ⌝ }
     ensures { λ _. ⌜ rowsOf (now (table .exit)) ≡ set (rowsOf (now (table .entry))) id (def.seen version mode page (getD (rowsOf (now (table .entry))) id noRow)) ⌝ }
 {
-    let row = flash_rows::load(table, id);
+    let row = flash_rows::read_row(table, id);
     if row.version < version {
-        flash_rows::store(table, id, row.fresh(version, mode).note(page));
+        flash_rows::write_row(table, id, row.fresh(version, mode).note(page));
         return;
     }
     if lacks(row, version, page) {
-        flash_rows::store(table, id, one_more(row, page));
+        flash_rows::write_row(table, id, one_more(row, page));
         return;
     }
 }

@@ -14,11 +14,11 @@ use answer::failed;
 use answer::found;
 use mount_blocks::rules::all_pass;
 use mount_filter::mark;
+use mount_pages::collect::collect;
+use mount_pages::versions::versions_are_new;
 use mount_sequences::sort::greatest;
 use mount_sequences::sort::is_strict;
 use mount_sequences::sort::sort;
-use mount_pages::collect::collect;
-use mount_pages::versions::are_apart;
 
 // Whether the sequence numbers of a row all differ, and none is the version of a log entry.
 fn numbers_pass(pool: &[u8], table: &mut [u8], n: usize, blocks: usize, newest: u32) -> bool
@@ -30,7 +30,7 @@ fn numbers_pass(pool: &[u8], table: &mut [u8], n: usize, blocks: usize, newest: 
         return false;
     }
     mark(table, n, blocks);
-    are_apart(pool, table, n, blocks, 32 * blocks)
+    versions_are_new(pool, table, n, blocks, 32 * blocks)
 }
 
 // Surveys a pool, with a table lent for the work; what the table holds afterwards means nothing.

@@ -11,7 +11,7 @@ use lib.ListN.{length, getD, set, drop, drop-of-length-le}
 use Rattle.laws.specs.Tests.{and-left}
 use Rattle.layout.specs.Layout.{mostKeys, noLeaf}
 use Rattle.pairs.specs.Pairs.{Pair}
-use Rattle.node.specs.declared.Kind.the-variants.{Leaf, Branch}
+use Rattle.node.specs.declared.Shape.the-variants.{Leaf, Branch}
 use Rattle.node.specs.Node.{Node, node, pairsOf, linkOf}
 use Rattle.node.specs.Ascends.{ascends}
 use Rattle.node.specs.Search.{keyAt, pointerAt}

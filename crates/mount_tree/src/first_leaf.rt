@@ -5,11 +5,11 @@ ghost use Rattle.flash_rows.specs.Row.{rowsOf};
 ghost use Rattle.tree.specs.Sound.{leftmost};
 ghost use Rattle.flash_read.specs.NodeTable.{tableOf, Readable};
 ghost use Rattle.mount_tree.specs.FirstLeaf.{leftmostOf};
-use node::Kind;
-use node::search::pointer;
-use node_replay::same_kind;
-use flash_read::by_id::node_at;
 use flash_allocate::state::State;
+use flash_read::by_id::node_at;
+use node::Shape;
+use node::search::pointer;
+use node_replay::same_shape;
 
 pub struct FirstLeaf {
     pub depth: usize,
@@ -25,8 +25,8 @@ pub fn first_leaf<'a>(pool: &'a [u8], table: &'a [u8], state: State) -> FirstLea
     let mut leaf: usize = 0;
     while depth < 9 {
         let v = node_at(pool, table, state, leaf);
-        let kind = v.kind;
-        if same_kind(kind, Kind::Leaf) {
+        let shape = v.shape;
+        if same_shape(shape, Shape::Leaf) {
             return FirstLeaf { depth, leaf };
         }
         leaf = pointer(v, 0) as usize;

@@ -11,14 +11,14 @@ ghost use Rattle.flash_read.specs.NodeTable.{tableOf, Readable};
 ghost use Rattle.mount_tree.specs.WalkValue.{walkOf, soFar, andThen, failedAt, markedAt, beginAt, Room, Walked};
 ghost use Rattle.mount_tree.specs.Steps.{enterBranch};
 ghost use Rattle.mount_tree.specs.Nodes.{Visit};
-use node::Kind;
+use flash_allocate::state::State;
+use flash_read::by_id::node_at;
 use node::NodeValue;
+use node::Shape;
 use node::search::ascends;
 use node::search::key;
 use node::search::pointer;
-use node_replay::same_kind;
-use flash_read::by_id::node_at;
-use flash_allocate::state::State;
+use node_replay::same_shape;
 
 // Whether every node was in order so far, the leaf that must come next, and a mark for each id, 1 once it was reached.
 pub struct WalkValue {
@@ -81,8 +81,8 @@ fn visit_leaf(v: NodeValue, id: usize, nodes: usize, low: u64, high: u64, w: Wal
     requires { ⌜ Visit v nodes w ⌝ }
     ensures { λ r. ⌜ Walked r nodes (visitLeaf id low high (walkOf nodes w) (nodeOf v)) ⌝ }
 {
-    let kind = v.kind;
-    if same_kind(kind, Kind::Leaf) {
+    let shape = v.shape;
+    if same_shape(shape, Shape::Leaf) {
         if in_order(v, id, nodes, low, high, w) {
             if w.awaited == id {
                 return marked(w, id, v.link as usize);
@@ -106,8 +106,8 @@ fn enter_branch(
     requires { ⌜ Visit v nodes w ⌝ }
     ensures { λ r. ⌜ Walked r nodes (enterBranch id low high (walkOf nodes w) (nodeOf v)) ⌝ }
 {
-    let kind = v.kind;
-    if same_kind(kind, Kind::Leaf) {
+    let shape = v.shape;
+    if same_shape(shape, Shape::Leaf) {
         return failed(w);
     }
     if in_order(v, id, nodes, low, high, w) {

@@ -85,13 +85,13 @@ pub repoint-put :
     (at right middle left : ℕ) (n : Node) → (keyAt (pairsOf n) at ≡ middle → ⊥) →
     change (repoint at right n) (change (put middle left) n) ≡ change (put middle left) (change (repoint at right n) n)
 unfolding repoint
-repoint-put at right middle left (node kind ps l) h = go (le-or (length ps) at)
+repoint-put at right middle left (node shape ps l) h = go (le-or (length ps) at)
   where
     go :
         (length ps ≤ at) ⊎ (at < length ps) →
-        change (repoint at right (node kind ps l)) (change (put middle left) (node kind ps l)) ≡
-        change (put middle left) (change (repoint at right (node kind ps l)) (node kind ps l))
+        change (repoint at right (node shape ps l)) (change (put middle left) (node shape ps l)) ≡
+        change (put middle left) (change (repoint at right (node shape ps l)) (node shape ps l))
     go (inl m) = rw (le-ltb at (length ps) m, repoint)
     go (inr m) =
         rw (lt-ltb at (length ps) m, repoint)
-        (ap (λ (qs : List Pair). node kind qs l) (insert-comm (keyAt ps at) right middle left ps h))
+        (ap (λ (qs : List Pair). node shape qs l) (insert-comm (keyAt ps at) right middle left ps h))

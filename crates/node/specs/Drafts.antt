@@ -5,16 +5,16 @@ use Prim.Native.Nat.{ℕ, _≤_, _<_}
 use lib.ListN.{length}
 use Rattle.layout.specs.Layout.{mostKeys}
 use Rattle.pairs.specs.Pairs.{insert}
-use Rattle.node.specs.declared.Kind.{Kind}
+use Rattle.node.specs.declared.Shape.{Shape}
 use Rattle.node.specs.declared.NodeValue.{NodeValue}
 use Rattle.node.specs.declared.DraftState.{DraftState}
 use Rattle.node.specs.declared.DraftState.the-variants.{Unlinked, Made, Broken}
 use Rattle.node.specs.declared.DraftValue.{DraftValue}
 use Rattle.node.specs.declared.ChangeValue.{ChangeValue}
-use Rattle.node.specs.declared.ChangeValue.the-variants.{Put, Remove, Link}
+use Rattle.node.specs.declared.ChangeValue.the-variants.{Put, Delete, Link}
 use Rattle.node.specs.Node.{Node, node, pairsOf}
 use Rattle.node.specs.Change.{Change, put, remove, link, change}
-use Rattle.node.specs.Replay.{Draft, unlinked, made, broken, sameKind, redo}
+use Rattle.node.specs.Replay.{Draft, unlinked, made, broken, sameShape, redo}
 use Rattle.node.specs.ReplayLaws.{ifFits-room, ifFits-full}
 use Rattle.node.specs.Value.{pairsIn, nodeOf, Held, Becomes}
 
@@ -31,8 +31,8 @@ brokenAt v = record { state = Broken; node = v }
 
 abbrev pub changeOf : ChangeValue → Change
 changeOf (Put k p) = put k p
-changeOf (Remove k) = remove k
-changeOf (Link kind l) = link kind l
+changeOf (Delete k) = remove k
+changeOf (Link shape l) = link shape l
 
 -- A result stands for a draft, and the pairs in it ascend.
 pub record Redone (r : DraftValue) (d : Draft) : Type 0 where
@@ -57,26 +57,26 @@ module _ (v w : NodeValue) (k p : ℕ) where
   redone-full Made b h = record { is = sym (ifFits-full (insert k p (pairsIn v)) _ h); held = b }
   redone-full Broken b h = record { is = refl; held = b }
 
-  pub redone-remove :
+  pub redone-delete :
       (s : DraftState) → Becomes w (change (remove k) (nodeOf v)) → Redone (record { state = s; node = w }) (redo (draftAs s v) (remove k))
   unfolding redo
-  redone-remove Unlinked b = record { is = ap (λ (n : Node). unlinked (pairsOf n)) (b .is); held = b .held }
-  redone-remove Made b = record { is = ap made (b .is); held = b .held }
-  redone-remove Broken b = record { is = refl; held = b .held }
+  redone-delete Unlinked b = record { is = ap (λ (n : Node). unlinked (pairsOf n)) (b .is); held = b .held }
+  redone-delete Made b = record { is = ap made (b .is); held = b .held }
+  redone-delete Broken b = record { is = refl; held = b .held }
 
 -- A link: the first makes the node, a later one of its kind changes the link, one of the other kind breaks it.
-module _ (v w : NodeValue) (kind : Kind) (to : ℕ) where
-  pub redone-first : Becomes w (node kind (pairsIn v) to) → Redone (record { state = Made; node = w }) (redo (unlinked (pairsIn v)) (link kind to))
+module _ (v w : NodeValue) (shape : Shape) (to : ℕ) where
+  pub redone-first : Becomes w (node shape (pairsIn v) to) → Redone (record { state = Made; node = w }) (redo (unlinked (pairsIn v)) (link shape to))
   unfolding redo
   redone-first b = record { is = ap made (b .is); held = b .held }
 
   pub redone-again :
-      Becomes w (change (link (v .kind) to) (nodeOf v)) → sameKind (v .kind) kind ≡ true →
-      Redone (record { state = Made; node = w }) (redo (made (nodeOf v)) (link kind to))
+      Becomes w (change (link (v .shape) to) (nodeOf v)) → sameShape (v .shape) shape ≡ true →
+      Redone (record { state = Made; node = w }) (redo (made (nodeOf v)) (link shape to))
   unfolding redo
   redone-again b e = record { is = ap made (b .is) ∙ sym (rw (e, redo)); held = b .held }
 
   pub redone-other :
-      Held v → sameKind (v .kind) kind ≡ false → Redone (record { state = Broken; node = v }) (redo (made (nodeOf v)) (link kind to))
+      Held v → sameShape (v .shape) shape ≡ false → Redone (record { state = Broken; node = v }) (redo (made (nodeOf v)) (link shape to))
   unfolding redo
   redone-other h e = record { is = sym (rw (e, redo)); held = h }

@@ -8,7 +8,7 @@ use lib.Seq.{set-getD}
 use Rattle.layout.specs.Layout.{mostKeys, bound32}
 use Rattle.pairs.specs.Pairs.{Pair, insert, Within}
 use Rattle.pairs.specs.Bounds.{within-insert, within-delete}
-use Rattle.node.specs.declared.Kind.{Kind}
+use Rattle.node.specs.declared.Shape.{Shape}
 use Rattle.node.specs.declared.NodeValue.{NodeValue}
 use Rattle.node.specs.Node.{Node, node, pairsOf, Neat}
 use Rattle.node.specs.Change.{Change, put, remove, link, change}
@@ -24,10 +24,10 @@ pub record Fitting (c : Change) (n : Node) : Type 0 where
   pub room : length (pairsOf (change c n)) ≤ mostKeys
 
 pub neat-change : (c : Change) (n : Node) → Fitting c n → Neat n → Neat (change c n)
-neat-change (put k p) (node kind ps l) f w =
+neat-change (put k p) (node shape ps l) f w =
     record { keys = within-insert k p 0 bound32 ps (omega arith) (f .key k p refl) (w .keys); size = f .room }
-neat-change (remove k) (node kind ps l) f w = record { keys = within-delete k 0 bound32 ps (w .keys); size = f .room }
-neat-change (link kind′ p) (node kind ps l) f w = record { keys = w .keys; size = w .size }
+neat-change (remove k) (node shape ps l) f w = record { keys = within-delete k 0 bound32 ps (w .keys); size = f .room }
+neat-change (link kind′ p) (node shape ps l) f w = record { keys = w .keys; size = w .size }
 
 -- What the arrays of an edited node stand for.
 module _ (v : NodeValue) (s : Sized v) where
@@ -36,11 +36,11 @@ module _ (v : NodeValue) (s : Sized v) where
       take (v .count + 1) ks ≡ insertAt at k (take (v .count) (v .keys)) →
       take (v .count + 1) ps ≡ insertAt at p (take (v .count) (v .pointers)) →
       length ks ≡ mostKeys → length ps ≡ mostKeys →
-      Stands (record { kind = v .kind; count = v .count + 1; keys = ks; pointers = ps; link = v .link }) (node (v .kind) (insertAt at (k, p) (pairsIn v)) (v .link))
+      Stands (record { shape = v .shape; count = v .count + 1; keys = ks; pointers = ps; link = v .link }) (node (v .shape) (insertAt at (k, p) (pairsIn v)) (v .link))
   unfolding pairsIn
   stands-added at k p ks ps h e f a b =
       record {
-        is = ap (λ (qs : List Pair). node (v .kind) qs (v .link)) (pairs-insertAt v s at k p (take (v .count + 1) ks) (take (v .count + 1) ps) e f);
+        is = ap (λ (qs : List Pair). node (v .shape) qs (v .link)) (pairs-insertAt v s at k p (take (v .count + 1) ks) (take (v .count + 1) ps) e f);
         sized = record { size = omega arith; keyRoom = a; pointerRoom = b };
       }
 
@@ -49,26 +49,26 @@ module _ (v : NodeValue) (s : Sized v) where
       take (v .count - 1) ks ≡ removeAt at (take (v .count) (v .keys)) →
       take (v .count - 1) ps ≡ removeAt at (take (v .count) (v .pointers)) →
       length ks ≡ mostKeys → length ps ≡ mostKeys →
-      Stands (record { kind = v .kind; count = v .count - 1; keys = ks; pointers = ps; link = v .link }) (node (v .kind) (removeAt at (pairsIn v)) (v .link))
+      Stands (record { shape = v .shape; count = v .count - 1; keys = ks; pointers = ps; link = v .link }) (node (v .shape) (removeAt at (pairsIn v)) (v .link))
   unfolding pairsIn
   stands-removed at ks ps e f a b =
       record {
-        is = ap (λ (qs : List Pair). node (v .kind) qs (v .link)) (pairs-removeAt v s at (take (v .count - 1) ks) (take (v .count - 1) ps) e f);
+        is = ap (λ (qs : List Pair). node (v .shape) qs (v .link)) (pairs-removeAt v s at (take (v .count - 1) ks) (take (v .count - 1) ps) e f);
         sized = record { size = omega (arith, s .size); keyRoom = a; pointerRoom = b };
       }
 
   pub stands-repointed :
       (at p : ℕ) → at < v .count →
-      Stands (record { kind = v .kind; count = v .count; keys = v .keys; pointers = set (v .pointers) at p; link = v .link }) (node (v .kind) (set (pairsIn v) at (keyAt (pairsIn v) at, p)) (v .link))
+      Stands (record { shape = v .shape; count = v .count; keys = v .keys; pointers = set (v .pointers) at p; link = v .link }) (node (v .shape) (set (pairsIn v) at (keyAt (pairsIn v) at, p)) (v .link))
   unfolding pairsIn
   stands-repointed at p h =
       let k = getD (v .keys) at 0 in
       let qs = take (v .count) (set (v .pointers) at p) in
       record {
         is =
-            ap (λ (ks : List ℕ). node (v .kind) (zip (take (v .count) ks) qs) (v .link)) (sym (set-getD (v .keys) at 0)) ∙
-            ap (λ (qs : List Pair). node (v .kind) qs (v .link)) (pairs-set v s at k p h) ∙
-            ap (λ (k : ℕ). node (v .kind) (set (pairsIn v) at (k, p)) (v .link)) (sym (keyAt-pairsIn v s at h));
+            ap (λ (ks : List ℕ). node (v .shape) (zip (take (v .count) ks) qs) (v .link)) (sym (set-getD (v .keys) at 0)) ∙
+            ap (λ (qs : List Pair). node (v .shape) qs (v .link)) (pairs-set v s at k p h) ∙
+            ap (λ (k : ℕ). node (v .shape) (set (pairsIn v) at (k, p)) (v .link)) (sym (keyAt-pairsIn v s at h));
         sized = record { size = s .size; keyRoom = s .keyRoom; pointerRoom = simp length-set (s .pointerRoom) };
       }
 
@@ -80,32 +80,32 @@ becomes r n m s e w =
 module _ (v r : NodeValue) (h : Held v) (key i : ℕ) where
   pub becomes-replaced :
       (p : ℕ) → key < bound32 → found key (pairsIn v) ≡ At i →
-      Stands r (node (v .kind) (set (pairsIn v) i (keyAt (pairsIn v) i, p)) (v .link)) → Becomes r (change (put key p) (nodeOf v))
+      Stands r (node (v .shape) (set (pairsIn v) i (keyAt (pairsIn v) i, p)) (v .link)) → Becomes r (change (put key p) (nodeOf v))
   becomes-replaced p l e s =
       let w = at-present key (pairsIn v) i e in
       let f = at-place key (pairsIn v) i e in
       let k : keyAt (pairsIn v) i ≡ key = ap (λ (j : ℕ). keyAt (pairsIn v) j) f ∙ w .equal in
       becomes r _ _ s
-      (ap₂ (λ (j k : ℕ). node (v .kind) (set (pairsIn v) j (k, p)) (v .link)) f k ∙
-      ap (λ (qs : List Pair). node (v .kind) qs (v .link)) (sym (insert-present key p (pairsIn v) w)))
+      (ap₂ (λ (j k : ℕ). node (v .shape) (set (pairsIn v) j (k, p)) (v .link)) f k ∙
+      ap (λ (qs : List Pair). node (v .shape) qs (v .link)) (sym (insert-present key p (pairsIn v) w)))
       (within-insert key p 0 bound32 (pairsIn v) (omega arith) l (h .ascending))
 
   pub becomes-added :
       (p : ℕ) → key < bound32 → found key (pairsIn v) ≡ Above i →
-      Stands r (node (v .kind) (insertAt i (key, p) (pairsIn v)) (v .link)) → Becomes r (change (put key p) (nodeOf v))
+      Stands r (node (v .shape) (insertAt i (key, p) (pairsIn v)) (v .link)) → Becomes r (change (put key p) (nodeOf v))
   becomes-added p l e s =
       becomes r _ _ s
-      (ap (λ (j : ℕ). node (v .kind) (insertAt j (key, p) (pairsIn v)) (v .link)) (above-place key (pairsIn v) i e) ∙
-      ap (λ (qs : List Pair). node (v .kind) qs (v .link)) (sym (insert-absent key p (pairsIn v) (above-absent key (pairsIn v) i e))))
+      (ap (λ (j : ℕ). node (v .shape) (insertAt j (key, p) (pairsIn v)) (v .link)) (above-place key (pairsIn v) i e) ∙
+      ap (λ (qs : List Pair). node (v .shape) qs (v .link)) (sym (insert-absent key p (pairsIn v) (above-absent key (pairsIn v) i e))))
       (within-insert key p 0 bound32 (pairsIn v) (omega arith) l (h .ascending))
 
   pub becomes-removed :
       found key (pairsIn v) ≡ At i →
-      Stands r (node (v .kind) (removeAt i (pairsIn v)) (v .link)) → Becomes r (change (remove key) (nodeOf v))
+      Stands r (node (v .shape) (removeAt i (pairsIn v)) (v .link)) → Becomes r (change (remove key) (nodeOf v))
   becomes-removed e s =
       becomes r _ _ s
-      (ap (λ (j : ℕ). node (v .kind) (removeAt j (pairsIn v)) (v .link)) (at-place key (pairsIn v) i e) ∙
-      ap (λ (qs : List Pair). node (v .kind) qs (v .link)) (sym (delete-present key (pairsIn v) (at-present key (pairsIn v) i e))))
+      (ap (λ (j : ℕ). node (v .shape) (removeAt j (pairsIn v)) (v .link)) (at-place key (pairsIn v) i e) ∙
+      ap (λ (qs : List Pair). node (v .shape) qs (v .link)) (sym (delete-present key (pairsIn v) (at-present key (pairsIn v) i e))))
       (within-delete key 0 bound32 (pairsIn v) (h .ascending))
 
 module _ (v : NodeValue) (h : Held v) (key i : ℕ) where
@@ -136,17 +136,17 @@ module _ (v : NodeValue) (h : Held v) (key i : ℕ) where
   becomes-same e =
       record {
         is =
-            ap (λ (qs : List Pair). node (v .kind) qs (v .link))
+            ap (λ (qs : List Pair). node (v .shape) qs (v .link))
             (sym (delete-absent key 0 bound32 (pairsIn v) (h .ascending) (above-absent key (pairsIn v) i e)));
         held = h;
       }
 
 -- A link leaves the pairs alone.
 pub becomes-linked :
-    (v : NodeValue) → Held v → (kind : Kind) (to : ℕ) →
-    Becomes (record { kind = kind; count = v .count; keys = v .keys; pointers = v .pointers; link = to }) (node kind (pairsIn v) to)
+    (v : NodeValue) → Held v → (shape : Shape) (to : ℕ) →
+    Becomes (record { shape = shape; count = v .count; keys = v .keys; pointers = v .pointers; link = to }) (node shape (pairsIn v) to)
 unfolding pairsIn
-becomes-linked v h kind to =
+becomes-linked v h shape to =
     record {
       is = refl;
       held =

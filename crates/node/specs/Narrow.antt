@@ -17,4 +17,4 @@ pub record Narrow (n : Node) : Type 0 where
 abbrev pub NarrowChange : Change → Type 0
 NarrowChange (put k p) = (k < bound32) × (p < bound32)
 NarrowChange (remove k) = k < bound32
-NarrowChange (link kind p) = p < bound32
+NarrowChange (link shape p) = p < bound32

@@ -4,21 +4,21 @@ use Prim.Native.Nat.{ℕ, _≤_}
 use lib.ListN.{length}
 use Rattle.layout.specs.Layout.{mostKeys, bound32}
 use Rattle.pairs.specs.Pairs.{Pair, Within}
-use Rattle.node.specs.declared.Kind.{Kind}
+use Rattle.node.specs.declared.Shape.{Shape}
 
 -- In a leaf a pair is a key and its value, and the link is the next leaf, FFFFFFFF after the last. In a branch a pair is a key
 -- and the child for the keys below it, and the link is the last pointer, to the child for the rest.
 pub data Node : Type 0 where
-  node : Kind → List Pair → ℕ → Node
+  node : Shape → List Pair → ℕ → Node
 
-abbrev pub kindOf : Node → Kind
-kindOf (node kind pairs link) = kind
+abbrev pub shapeOf : Node → Shape
+shapeOf (node shape pairs link) = shape
 
 abbrev pub pairsOf : Node → List Pair
-pairsOf (node kind pairs link) = pairs
+pairsOf (node shape pairs link) = pairs
 
 abbrev pub linkOf : Node → ℕ
-linkOf (node kind pairs link) = link
+linkOf (node shape pairs link) = link
 
 -- A node whose keys ascend, are 32-bit numbers, and are at most 24.
 pub record Neat (n : Node) : Type 0 where

@@ -5,8 +5,8 @@ use lib.Dec.{leb}
 use lib.ListN.{length}
 use Rattle.layout.specs.Layout.{mostKeys}
 use Rattle.pairs.specs.Pairs.{Pair, insert, delete}
-use Rattle.node.specs.declared.Kind.{Kind}
-use Rattle.node.specs.declared.Kind.the-variants.{Leaf, Branch}
+use Rattle.node.specs.declared.Shape.{Shape}
+use Rattle.node.specs.declared.Shape.the-variants.{Leaf, Branch}
 use Rattle.node.specs.Node.{Node, node}
 use Rattle.node.specs.Change.{Change, put, remove, link}
 
@@ -25,21 +25,21 @@ pub data Draft : Type 0 where
 abbrev pub ifFits : List Pair → Draft → Draft
 ifFits pairs draft = elim (leb (length pairs) mostKeys) [ true ↦ draft | false ↦ broken ]
 
-abbrev pub sameKind : Kind → Kind → Bool
-sameKind Leaf Leaf = true
-sameKind Leaf Branch = false
-sameKind Branch Leaf = false
-sameKind Branch Branch = true
+abbrev pub sameShape : Shape → Shape → Bool
+sameShape Leaf Leaf = true
+sameShape Leaf Branch = false
+sameShape Branch Leaf = false
+sameShape Branch Branch = true
 
 -- one change more
 unfoldable pub redo : Draft → Change → Draft
 redo broken c = broken
 redo (unlinked ps) (put k p) = ifFits (insert k p ps) (unlinked (insert k p ps))
 redo (unlinked ps) (remove k) = unlinked (delete k ps)
-redo (unlinked ps) (link kind l) = made (node kind ps l)
-redo (made (node kind ps l)) (put k p) = ifFits (insert k p ps) (made (node kind (insert k p ps) l))
-redo (made (node kind ps l)) (remove k) = made (node kind (delete k ps) l)
-redo (made (node kind ps l)) (link kind′ l′) = elim (sameKind kind kind′) [ true ↦ made (node kind ps l′) | false ↦ broken ]
+redo (unlinked ps) (link shape l) = made (node shape ps l)
+redo (made (node shape ps l)) (put k p) = ifFits (insert k p ps) (made (node shape (insert k p ps) l))
+redo (made (node shape ps l)) (remove k) = made (node shape (delete k ps) l)
+redo (made (node shape ps l)) (link kind′ l′) = elim (sameShape shape kind′) [ true ↦ made (node shape ps l′) | false ↦ broken ]
 
 -- one piece more; a node page stands alone in its version
 unfoldable pub redoPiece : Draft → Piece → Draft

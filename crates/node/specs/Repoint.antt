@@ -19,7 +19,7 @@ use Rattle.node.specs.Value.{pairsIn, nodeOf, Held, Stands, Becomes, len
 use Rattle.node.specs.Edits.{becomes}
 
 unfoldable pub repoint : ℕ → ℕ → Node → Change
-repoint at p (node kind ps l) = elim (ltb at (length ps)) [ true ↦ put (keyAt ps at) p | false ↦ link kind p ]
+repoint at p (node shape ps l) = elim (ltb at (length ps)) [ true ↦ put (keyAt ps at) p | false ↦ link shape p ]
 
 -- Every key of an ascending list stands at its own place.
 pub place-keyAt : (low high : ℕ) (ps : List Pair) (i : ℕ) → Within low high ps → i < length ps → i ≡ place (keyAt ps i) ps
@@ -40,18 +40,18 @@ insert-keyAt low high ps i p w l =
 
 module _ (v r : NodeValue) (h : Held v) (at p : ℕ) where
   pub becomes-repointed :
-      at < v .count → Stands r (node (v .kind) (set (pairsIn v) at (keyAt (pairsIn v) at, p)) (v .link)) →
+      at < v .count → Stands r (node (v .shape) (set (pairsIn v) at (keyAt (pairsIn v) at, p)) (v .link)) →
       Becomes r (change (repoint at p (nodeOf v)) (nodeOf v))
   unfolding repoint
   becomes-repointed l s =
       let ps = pairsIn v in
       let k : at < length ps = omega (arith, length-pairsIn v (h .sized)) in
       rw (lt-ltb at (length ps) k, repoint)
-      (becomes r _ _ s (ap (λ (qs : List Pair). node (v .kind) qs (v .link)) (sym (insert-keyAt 0 bound32 ps at p (h .ascending) k)))
+      (becomes r _ _ s (ap (λ (qs : List Pair). node (v .shape) qs (v .link)) (sym (insert-keyAt 0 bound32 ps at p (h .ascending) k)))
       (within-insert (keyAt ps at) p 0 bound32 ps (omega arith) (within-keyAt 0 bound32 ps at (h .ascending) k .1) (h .ascending)))
 
   pub becomes-last :
-      v .count ≤ at → Becomes r (change (link (v .kind) p) (nodeOf v)) → Becomes r (change (repoint at p (nodeOf v)) (nodeOf v))
+      v .count ≤ at → Becomes r (change (link (v .shape) p) (nodeOf v)) → Becomes r (change (repoint at p (nodeOf v)) (nodeOf v))
   unfolding repoint
   becomes-last l b =
       let k : length (pairsIn v) ≤ at = omega (arith, length-pairsIn v (h .sized)) in

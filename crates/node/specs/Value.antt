@@ -19,7 +19,7 @@ unfoldable pub pairsIn : NodeValue → List Pair
 pairsIn v = zip (take (v .count) (v .keys)) (take (v .count) (v .pointers))
 
 abbrev pub nodeOf : NodeValue → Node
-nodeOf v = node (v .kind) (pairsIn v) (v .link)
+nodeOf v = node (v .shape) (pairsIn v) (v .link)
 
 -- Its count is within its arrays.
 pub record Sized (v : NodeValue) : Type 0 where

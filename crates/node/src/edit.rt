@@ -10,24 +10,24 @@ ghost use Rattle.node.specs.Splice.{insertAt, removeAt};
 ghost use Rattle.node.specs.Search.{keyAt};
 ghost use Rattle.node.specs.Value.{pairsIn, nodeOf, Sized, Held, Stands, Becomes};
 use crate::Found;
-use crate::Kind;
 use crate::NodeValue;
+use crate::Shape;
 use crate::search;
 use crate::splice;
 
 // The node with a pair more, at a place.
 pub fn added(v: NodeValue, at: usize, key: u32, pointer: u32) -> NodeValue
     requires { ⌜ (Sized v) × (at ≤ v .count) × (v .count < mostKeys) ⌝ }
-    ensures { λ r. ⌜ Stands r (node (v .kind) (insertAt at (key, pointer) (pairsIn v)) (v .link)) ⌝ }
+    ensures { λ r. ⌜ Stands r (node (v .shape) (insertAt at (key, pointer) (pairsIn v)) (v .link)) ⌝ }
 {
-    let kind = v.kind;
+    let shape = v.shape;
     let count = v.count;
     let old_keys = v.keys;
     let old_pointers = v.pointers;
     let keys = splice::insert(old_keys, count, at, key);
     let pointers = splice::insert(old_pointers, count, at, pointer);
     NodeValue {
-        kind,
+        shape,
         count: count + 1,
         keys,
         pointers,
@@ -38,7 +38,7 @@ pub fn added(v: NodeValue, at: usize, key: u32, pointer: u32) -> NodeValue
 // The node with another pointer at a place.
 pub fn repointed(v: NodeValue, at: usize, pointer: u32) -> NodeValue
     requires { ⌜ (Sized v) × (at < v .count) ⌝ }
-    ensures { λ r. ⌜ Stands r (node (v .kind) (set (pairsIn v) at (keyAt (pairsIn v) at, pointer)) (v .link)) ⌝ }
+    ensures { λ r. ⌜ Stands r (node (v .shape) (set (pairsIn v) at (keyAt (pairsIn v) at, pointer)) (v .link)) ⌝ }
 {
     let mut w = v;
     let mut pointers = v.pointers;
@@ -50,16 +50,16 @@ pub fn repointed(v: NodeValue, at: usize, pointer: u32) -> NodeValue
 // The node without the pair at a place.
 pub fn removed(v: NodeValue, at: usize) -> NodeValue
     requires { ⌜ (Sized v) × (at < v .count) ⌝ }
-    ensures { λ r. ⌜ Stands r (node (v .kind) (removeAt at (pairsIn v)) (v .link)) ⌝ }
+    ensures { λ r. ⌜ Stands r (node (v .shape) (removeAt at (pairsIn v)) (v .link)) ⌝ }
 {
-    let kind = v.kind;
+    let shape = v.shape;
     let count = v.count;
     let old_keys = v.keys;
     let old_pointers = v.pointers;
     let keys = splice::remove(old_keys, count, at);
     let pointers = splice::remove(old_pointers, count, at);
     NodeValue {
-        kind,
+        shape,
         count: count - 1,
         keys,
         pointers,
@@ -70,7 +70,7 @@ pub fn removed(v: NodeValue, at: usize) -> NodeValue
 // The node with another link.
 pub fn relinked(v: NodeValue, to: u32) -> NodeValue
     requires { ⌜ Held v ⌝ }
-    ensures { λ r. ⌜ Becomes r (change (link (v .kind) to) (nodeOf v)) ⌝ }
+    ensures { λ r. ⌜ Becomes r (change (link (v .shape) to) (nodeOf v)) ⌝ }
 {
     let mut w = v;
     w.link = to;
@@ -101,15 +101,15 @@ pub fn delete(v: NodeValue, key: u32) -> NodeValue
     }
 }
 
-// The node with its pairs, as another kind and with another link.
-pub fn linked(v: NodeValue, kind: Kind, to: u32) -> NodeValue
+// The node with its pairs, as another shape and with another link.
+pub fn linked(v: NodeValue, shape: Shape, to: u32) -> NodeValue
     requires { ⌜ Held v ⌝ }
-    ensures { λ r. ⌜ Becomes r (node kind (pairsIn v) to) ⌝ }
+    ensures { λ r. ⌜ Becomes r (node shape (pairsIn v) to) ⌝ }
 {
     let keys = v.keys;
     let pointers = v.pointers;
     NodeValue {
-        kind,
+        shape,
         count: v.count,
         keys,
         pointers,

@@ -5,14 +5,14 @@ pub mod splice;
 
 // Document 01's types 3 and 4: a leaf holds the map's pairs and a link to the next leaf, a branch holds keys with child
 // pointers and a last pointer.
-pub enum Kind {
+pub enum Shape {
     Leaf,
     Branch,
 }
 
 // A node: the first `count` keys, ascending, with the pointers beside them, and the link.
 pub struct NodeValue {
-    pub kind: Kind,
+    pub shape: Shape,
     pub count: usize,
     pub keys: [u32; 24],
     pub pointers: [u32; 24],
@@ -41,6 +41,6 @@ pub struct DraftValue {
 // One change of a node: what one log entry says.
 pub enum ChangeValue {
     Put { key: u32, pointer: u32 },
-    Remove { key: u32 },
-    Link { kind: Kind, link: u32 },
+    Delete { key: u32 },
+    Link { shape: Shape, link: u32 },
 }

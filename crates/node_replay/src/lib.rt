@@ -3,24 +3,24 @@ ghost use mathlib.Core.Path.{_≡_};
 ghost use mathlib.Core.List.{[]};
 ghost use Rattle.node.specs.Node.{node};
 ghost use Rattle.node.specs.Change.{put, remove, link};
-ghost use Rattle.node.specs.Replay.{unlinked, redo, sameKind};
+ghost use Rattle.node.specs.Replay.{unlinked, redo, sameShape};
 ghost use Rattle.node.specs.Value.{Held, Becomes};
 ghost use Rattle.node.specs.Drafts.{draftOf, changeOf, brokenAt, Redone};
 use node::ChangeValue;
 use node::DraftState;
 use node::DraftValue;
 use node::Found;
-use node::Kind;
 use node::NodeValue;
+use node::Shape;
 use node::edit;
 use node::search;
 
 // A node with no key.
-pub fn empty(kind: Kind, to: u32) -> NodeValue
-    ensures { λ r. ⌜ Becomes r (node kind [] to) ⌝ }
+pub fn empty_node(shape: Shape, to: u32) -> NodeValue
+    ensures { λ r. ⌜ Becomes r (node shape [] to) ⌝ }
 {
     NodeValue {
-        kind,
+        shape,
         count: 0,
         keys: [0u32; 24],
         pointers: [0u32; 24],
@@ -29,10 +29,10 @@ pub fn empty(kind: Kind, to: u32) -> NodeValue
 }
 
 // A node of which no entry was taken yet.
-pub fn nothing() -> DraftValue
+pub fn empty_draft() -> DraftValue
     ensures { λ r. ⌜ Redone r (unlinked []) ⌝ }
 {
-    let node = empty(Kind::Leaf, 0);
+    let node = empty_node(Shape::Leaf, 0);
     DraftValue {
         state: DraftState::Unlinked,
         node,
@@ -40,17 +40,17 @@ pub fn nothing() -> DraftValue
 }
 
 // Whether two kinds are the same.
-pub fn same_kind(a: Kind, b: Kind) -> bool
-    ensures { λ r. ⌜ r ≡ sameKind a b ⌝ }
+pub fn same_shape(a: Shape, b: Shape) -> bool
+    ensures { λ r. ⌜ r ≡ sameShape a b ⌝ }
 {
     match a {
-        Kind::Leaf => match b {
-            Kind::Leaf => true,
-            Kind::Branch => false,
+        Shape::Leaf => match b {
+            Shape::Leaf => true,
+            Shape::Branch => false,
         },
-        Kind::Branch => match b {
-            Kind::Leaf => false,
-            Kind::Branch => true,
+        Shape::Branch => match b {
+            Shape::Leaf => false,
+            Shape::Branch => true,
         },
     }
 }
@@ -89,7 +89,7 @@ fn redo_put(d: DraftValue, key: u32, pointer: u32) -> DraftValue
 }
 
 // One removal more.
-fn redo_remove(d: DraftValue, key: u32) -> DraftValue
+fn redo_delete(d: DraftValue, key: u32) -> DraftValue
     requires { ⌜ Held (d .node) ⌝ }
     ensures { λ r. ⌜ Redone r (redo (draftOf d) (remove key)) ⌝ }
 {
@@ -99,24 +99,24 @@ fn redo_remove(d: DraftValue, key: u32) -> DraftValue
     DraftValue { state, node }
 }
 
-// One link more: the first makes the node, one of the other kind breaks it.
-fn redo_link(d: DraftValue, kind: Kind, to: u32) -> DraftValue
+// One link more: the first makes the node, one of the other shape breaks it.
+fn redo_link(d: DraftValue, shape: Shape, to: u32) -> DraftValue
     requires { ⌜ Held (d .node) ⌝ }
-    ensures { λ r. ⌜ Redone r (redo (draftOf d) (link kind to)) ⌝ }
+    ensures { λ r. ⌜ Redone r (redo (draftOf d) (link shape to)) ⌝ }
 {
     let state = d.state;
     let v = d.node;
     match state {
         DraftState::Unlinked => {
-            let node = edit::linked(v, kind, to);
+            let node = edit::linked(v, shape, to);
             return DraftValue {
                 state: DraftState::Made,
                 node,
             };
         }
         DraftState::Made => {
-            let own = v.kind;
-            if same_kind(own, kind) {
+            let own = v.shape;
+            if same_shape(own, shape) {
                 let node = edit::relinked(v, to);
                 return DraftValue {
                     state: DraftState::Made,
@@ -138,7 +138,7 @@ pub fn redo(d: DraftValue, change: ChangeValue) -> DraftValue
 {
     match change {
         ChangeValue::Put { key, pointer } => redo_put(d, key, pointer),
-        ChangeValue::Remove { key } => redo_remove(d, key),
-        ChangeValue::Link { kind, link } => redo_link(d, kind, link),
+        ChangeValue::Delete { key } => redo_delete(d, key),
+        ChangeValue::Link { shape, link } => redo_link(d, shape, link),
     }
 }

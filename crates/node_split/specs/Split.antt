@@ -95,14 +95,14 @@ module _ (v : NodeValue) (at key p : ℕ) (s : Splits v at key) where
       take keptKeys ks ≡ take keptKeys (drop 0 keys25) →
       take keptKeys ps ≡ take keptKeys (drop 0 pointers25) →
       length ks ≡ mostKeys → length ps ≡ mostKeys →
-      l ≡ lowerLink (v .kind) upper (getD pointers25 keptKeys 0) →
-      Becomes (record { kind = v .kind; count = keptKeys; keys = ks; pointers = ps; link = l }) (lowerHalf (change (put key p) (nodeOf v)) upper)
+      l ≡ lowerLink (v .shape) upper (getD pointers25 keptKeys 0) →
+      Becomes (record { shape = v .shape; count = keptKeys; keys = ks; pointers = ps; link = l }) (lowerHalf (change (put key p) (nodeOf v)) upper)
   unfolding pairsIn lowerHalf
   becomes-lower upper l ks ps h e f a b g =
       let pairs = zip-part 0 keptKeys ks ps e f in
-      let link = g ∙ ap (λ (x : ℕ). lowerLink (v .kind) upper x) (getD-pointers25 (v .link) keptKeys (omega arith)) in
+      let link = g ∙ ap (λ (x : ℕ). lowerLink (v .shape) upper x) (getD-pointers25 (v .link) keptKeys (omega arith)) in
       record {
-        is = ap₂ (λ (qs : List Pair) (x : ℕ). node (v .kind) qs x) pairs link;
+        is = ap₂ (λ (qs : List Pair) (x : ℕ). node (v .shape) qs x) pairs link;
         held =
             record {
               sized = record { size = omega arith; keyRoom = a; pointerRoom = b };
@@ -111,11 +111,11 @@ module _ (v : NodeValue) (at key p : ℕ) (s : Splits v at key) where
       }
 
   pub becomes-upper :
-      (from n : ℕ) (ks ps : List ℕ) → key < bound32 → from ≡ upperFrom (v .kind) → n + from ≡ suc mostKeys → n ≤ mostKeys →
+      (from n : ℕ) (ks ps : List ℕ) → key < bound32 → from ≡ upperFrom (v .shape) → n + from ≡ suc mostKeys → n ≤ mostKeys →
       take n ks ≡ take n (drop from keys25) →
       take n ps ≡ take n (drop from pointers25) →
       length ks ≡ mostKeys → length ps ≡ mostKeys →
-      Becomes (record { kind = v .kind; count = n; keys = ks; pointers = ps; link = v .link }) (upperHalf (change (put key p) (nodeOf v)))
+      Becomes (record { shape = v .shape; count = n; keys = ks; pointers = ps; link = v .link }) (upperHalf (change (put key p) (nodeOf v)))
   unfolding pairsIn upperHalf
   becomes-upper from n ks ps h g m k e f a b =
       let q = insert key p (pairsIn v) in
@@ -123,7 +123,7 @@ module _ (v : NodeValue) (at key p : ℕ) (s : Splits v at key) where
       let all : take n (drop from q) ≡ drop from q = take-all n (drop from q) (omega (arith, length-drop from q)) in
       let pairs = zip-part from n ks ps e f ∙ all in
       record {
-        is = ap (λ (qs : List Pair). node (v .kind) qs (v .link)) (pairs ∙ ap (λ (i : ℕ). drop i q) g);
+        is = ap (λ (qs : List Pair). node (v .shape) qs (v .link)) (pairs ∙ ap (λ (i : ℕ). drop i q) g);
         held =
             record {
               sized = record { size = k; keyRoom = a; pointerRoom = b };

@@ -8,8 +8,8 @@ ghost use Rattle.node.specs.Splice.{insertAt};
 ghost use Rattle.node.specs.Value.{nodeOf, Becomes};
 ghost use Rattle.node.specs.Halves.{lowerHalf, upperHalf, middleKey, lowerLink, upperFrom};
 ghost use Rattle.node_split.specs.Split.{Splits};
-use node::Kind;
 use node::NodeValue;
+use node::Shape;
 
 // The value at an index of the array with one more at a place.
 fn value_at(a: [u32; 24], at: usize, x: u32, i: usize) -> u32
@@ -26,7 +26,7 @@ fn value_at(a: [u32; 24], at: usize, x: u32, i: usize) -> u32
 }
 
 // The n values from an index on of the array with one more at a place.
-fn part(a: [u32; 24], at: usize, x: u32, from: usize, n: usize) -> [u32; 24]
+fn values_from(a: [u32; 24], at: usize, x: u32, from: usize, n: usize) -> [u32; 24]
     requires { ⌜ (at ≤ mostKeys) × (n ≤ mostKeys) × (from + n ≤ mostKeys + 1) ⌝ }
     ensures { λ r. ⌜ (take n r ≡ take n (drop from (insertAt at x a))) × (length r ≡ mostKeys) ⌝ }
 {
@@ -41,22 +41,22 @@ fn part(a: [u32; 24], at: usize, x: u32, from: usize, n: usize) -> [u32; 24]
 }
 
 // The lower half's link: a leaf's names the upper half, a branch's is the pointer of the key that rises.
-fn lower_link(kind: Kind, upper: u32, rising: u32) -> u32
-    ensures { λ r. ⌜ r ≡ lowerLink kind upper rising ⌝ }
+fn lower_link(shape: Shape, upper: u32, rising: u32) -> u32
+    ensures { λ r. ⌜ r ≡ lowerLink shape upper rising ⌝ }
 {
-    match kind {
-        Kind::Leaf => upper,
-        Kind::Branch => rising,
+    match shape {
+        Shape::Leaf => upper,
+        Shape::Branch => rising,
     }
 }
 
 // How many pairs stand before the upper half.
-fn upper_from(kind: Kind) -> usize
-    ensures { λ r. ⌜ (r ≡ upperFrom kind) × (12 ≤ r) × (r ≤ 13) ⌝ }
+fn upper_from(shape: Shape) -> usize
+    ensures { λ r. ⌜ (r ≡ upperFrom shape) × (12 ≤ r) × (r ≤ 13) ⌝ }
 {
-    match kind {
-        Kind::Leaf => 12,
-        Kind::Branch => 13,
+    match shape {
+        Shape::Leaf => 12,
+        Shape::Branch => 13,
     }
 }
 
@@ -65,15 +65,15 @@ pub fn lower(v: NodeValue, at: usize, key: u32, pointer: u32, upper: u32) -> Nod
     requires { ⌜ Splits v at key ⌝ }
     ensures { λ r. ⌜ Becomes r (lowerHalf (change (put key pointer) (nodeOf v)) upper) ⌝ }
 {
-    let kind = v.kind;
+    let shape = v.shape;
     let old_keys = v.keys;
     let old_pointers = v.pointers;
-    let keys = part(old_keys, at, key, 0, 12);
-    let pointers = part(old_pointers, at, pointer, 0, 12);
+    let keys = values_from(old_keys, at, key, 0, 12);
+    let pointers = values_from(old_pointers, at, pointer, 0, 12);
     let rising = value_at(old_pointers, at, pointer, 12);
-    let link = lower_link(kind, upper, rising);
+    let link = lower_link(shape, upper, rising);
     NodeValue {
-        kind,
+        shape,
         count: 12,
         keys,
         pointers,
@@ -86,15 +86,15 @@ pub fn upper(v: NodeValue, at: usize, key: u32, pointer: u32) -> NodeValue
     requires { ⌜ Splits v at key ⌝ }
     ensures { λ r. ⌜ Becomes r (upperHalf (change (put key pointer) (nodeOf v))) ⌝ }
 {
-    let kind = v.kind;
+    let shape = v.shape;
     let old_keys = v.keys;
     let old_pointers = v.pointers;
-    let from = upper_from(kind);
+    let from = upper_from(shape);
     let count = 25 - from;
-    let keys = part(old_keys, at, key, from, count);
-    let pointers = part(old_pointers, at, pointer, from, count);
+    let keys = values_from(old_keys, at, key, from, count);
+    let pointers = values_from(old_pointers, at, pointer, from, count);
     NodeValue {
-        kind,
+        shape,
         count,
         keys,
         pointers,

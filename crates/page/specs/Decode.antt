@@ -10,8 +10,8 @@ use Rattle.laws.specs.BigEndian.{number, numberAt}
 use Rattle.layout.specs.Layout.{mostEntries, firstScores, otherScores}
 use Rattle.pairs.specs.Pairs.{Pair}
 use Rattle.account.specs.declared.Tariff.{Tariff}
-use Rattle.node.specs.declared.Kind.{Kind}
-use Rattle.node.specs.declared.Kind.the-variants.{Leaf, Branch}
+use Rattle.node.specs.declared.Shape.{Shape}
+use Rattle.node.specs.declared.Shape.the-variants.{Leaf, Branch}
 use Rattle.node.specs.Node.{Node, node}
 use Rattle.node.specs.Change.{Change, put, remove, link}
 use Rattle.wire.specs.Sum.{sumsOf}
@@ -93,15 +93,15 @@ pairsFrom (suc n) p at = (numberAt 4 p at, numberAt 4 p (at + 4)) ∷ pairsFrom 
 abbrev pub pairsIn : List ℕ → ℕ
 pairsIn p = (length p - 7) / 8
 
-abbrev pub kindOfNumber : ℕ → Kind
-kindOfNumber n = choose (eqb n 3) Leaf Branch
+abbrev pub shapeOfNumber : ℕ → Shape
+shapeOfNumber n = choose (eqb n 3) Leaf Branch
 
 -- A payload of field 11 was found, and says leaf or branch.
 unfoldable pub nodeOk : List ℕ → Bool
 nodeOk p = found p && (eqb (getD p 2 0) 3 || eqb (getD p 2 0) 4)
 
 unfoldable pub nodeOf : List ℕ → Node
-nodeOf p = node (kindOfNumber (getD p 2 0)) (pairsFrom (pairsIn p) p 7) (numberAt 4 p 3)
+nodeOf p = node (shapeOfNumber (getD p 2 0)) (pairsFrom (pairsIn p) p 7) (numberAt 4 p 3)
 
 -- The tariff that a payload of field 13 spells.
 unfoldable pub tariffOf : List ℕ → Tariff

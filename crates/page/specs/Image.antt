@@ -7,8 +7,8 @@ use Rattle.laws.specs.BigEndian.{bigEndian}
 use Rattle.layout.specs.Layout.{pageBytes}
 use Rattle.pairs.specs.Pairs.{Pair}
 use Rattle.account.specs.declared.Tariff.{Tariff}
-use Rattle.node.specs.declared.Kind.{Kind}
-use Rattle.node.specs.declared.Kind.the-variants.{Leaf, Branch}
+use Rattle.node.specs.declared.Shape.{Shape}
+use Rattle.node.specs.declared.Shape.the-variants.{Leaf, Branch}
 use Rattle.node.specs.Node.{Node, node}
 use Rattle.node.specs.Change.{Change, put, remove, link}
 use Rattle.wire.specs.Sum.{sumsOf}
@@ -16,26 +16,26 @@ use Rattle.wire.specs.Field.{field}
 use Rattle.page.specs.Page.{Entry, Score, Content, log, whole, checkpoint, Page, page}
 
 -- 3 for a leaf, 4 for a branch.
-abbrev pub kindNumber : Kind → ℕ
-kindNumber Leaf = 3
-kindNumber Branch = 4
+abbrev pub shapeNumber : Shape → ℕ
+shapeNumber Leaf = 3
+shapeNumber Branch = 4
 
 -- A log entry's kind: 1 adds or replaces, 2 drops, 3 sets a leaf's link, 4 a branch's last pointer.
 abbrev pub changeNumber : Change → ℕ
 changeNumber (put k p) = 1
 changeNumber (remove k) = 2
-changeNumber (link kind p) = kindNumber kind
+changeNumber (link shape p) = shapeNumber shape
 
 -- Its key, 0 where it has none, and its pointer, 0 where it has none.
 abbrev pub changeKey : Change → ℕ
 changeKey (put k p) = k
 changeKey (remove k) = k
-changeKey (link kind p) = 0
+changeKey (link shape p) = 0
 
 abbrev pub changePointer : Change → ℕ
 changePointer (put k p) = p
 changePointer (remove k) = 0
-changePointer (link kind p) = p
+changePointer (link shape p) = p
 
 -- Payload of field 12: node id (2), version (4), kind (1), key (4), pointer (4).
 unfoldable pub entryBytes : Entry → List ℕ
@@ -51,7 +51,7 @@ pairsBytes (p ∷ ps) = bigEndian 4 (p .0) ++ (bigEndian 4 (p .1) ++ pairsBytes 
 
 -- Payload of field 11: id (2), 3 for leaf or 4 for branch (1), link (4), the pairs.
 unfoldable pub wholeBytes : ℕ → Node → List ℕ
-wholeBytes id (node kind pairs l) = bigEndian 2 id ++ (kindNumber kind ∷ (bigEndian 4 l ++ pairsBytes pairs))
+wholeBytes id (node shape pairs l) = bigEndian 2 id ++ (shapeNumber shape ∷ (bigEndian 4 l ++ pairsBytes pairs))
 
 -- Payload of field 13: read, edit, rewrite in log mode; the same in disk mode; switch to disk, switch to log.
 unfoldable pub tariffBytes : Tariff → List ℕ

@@ -9,15 +9,15 @@ use Rattle.laws.specs.BigEndian.{bigEndian, Bytes, bytes-bigEndian}
 use Rattle.layout.specs.Layout.{pageBytes}
 use Rattle.pairs.specs.Pairs.{Pair}
 use Rattle.account.specs.declared.Tariff.{Tariff}
-use Rattle.node.specs.declared.Kind.{Kind}
-use Rattle.node.specs.declared.Kind.the-variants.{Leaf, Branch}
+use Rattle.node.specs.declared.Shape.{Shape}
+use Rattle.node.specs.declared.Shape.the-variants.{Leaf, Branch}
 use Rattle.node.specs.Node.{Node, node}
 use Rattle.node.specs.Change.{Change, put, remove, link}
 use Rattle.wire.specs.Sum.{sumsOf}
 use Rattle.wire.specs.Field.{field}
 use Rattle.page.specs.Page.{Entry, Score, Content, log, whole, checkpoint, Page, page}
 use Rattle.page.specs.Image.{
-  kindNumber,
+  shapeNumber,
   changeNumber,
   changeKey,
   changePointer,
@@ -46,14 +46,14 @@ unfolding field
 bytes-field tag p l e = both l (before 2 (length p) e)
 
 -- The payloads.
-kindNumber-byte : (kind : Kind) → kindNumber kind < 256
-kindNumber-byte Leaf = omega arith
-kindNumber-byte Branch = omega arith
+shapeNumber-byte : (shape : Shape) → shapeNumber shape < 256
+shapeNumber-byte Leaf = omega arith
+shapeNumber-byte Branch = omega arith
 
 changeNumber-byte : (c : Change) → changeNumber c < 256
 changeNumber-byte (put k p) = omega arith
 changeNumber-byte (remove k) = omega arith
-changeNumber-byte (link kind p) = kindNumber-byte kind
+changeNumber-byte (link shape p) = shapeNumber-byte shape
 
 bytes-entry : (e : Entry) → Bytes (entryBytes e)
 unfolding entryBytes
@@ -69,7 +69,7 @@ bytes-pairs (p ∷ ps) = before 4 (p .0) (before 4 (p .1) (bytes-pairs ps))
 
 bytes-whole : (id : ℕ) (n : Node) → Bytes (wholeBytes id n)
 unfolding wholeBytes
-bytes-whole id (node kind ps l) = before 2 id (both (kindNumber-byte kind) (before 4 l (bytes-pairs ps)))
+bytes-whole id (node shape ps l) = before 2 id (both (shapeNumber-byte shape) (before 4 l (bytes-pairs ps)))
 
 bytes-tariff : (t : Tariff) → Bytes (tariffBytes t)
 unfolding tariffBytes

@@ -78,7 +78,7 @@ pub record CheckpointFits (t : Option Tariff) (ss : List Score) (c : Option ℕ)
 
 abbrev pub ContentFits : ℕ → Content → Type 0
 ContentFits s (log es) = LogFits s es
-ContentFits s (whole id (node kind pairs l)) = WholeFits id pairs l
+ContentFits s (whole id (node shape pairs l)) = WholeFits id pairs l
 ContentFits s (checkpoint t ss c) = CheckpointFits t ss c
 
 -- A page within its limits: a sequence number from 1, of 32 bits, and a content that a page of that number may have.

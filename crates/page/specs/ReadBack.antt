@@ -15,7 +15,7 @@ use Rattle.laws.specs.BigEndian.{bigEndian, number, number-bigEndian}
 use Rattle.layout.specs.Layout.{pageBytes, mostEntries, mostKeys, bound32}
 use Rattle.pairs.specs.Pairs.{Pair}
 use Rattle.account.specs.declared.Tariff.{Tariff}
-use Rattle.node.specs.declared.Kind.{Kind}
+use Rattle.node.specs.declared.Shape.{Shape}
 use Rattle.node.specs.Node.{node}
 use Rattle.wire.specs.Tag.{lengthOf, allowed, isNodeBytes, nodeBytes}
 use Rattle.wire.specs.Field.{field, payloadAt}
@@ -165,9 +165,9 @@ module _ (s : ℕ) (e : Entry) (es : List Entry) (n : ℕ) (h : Fits s (log (e �
 
 -- ---- node pages
 
-module _ (s id : ℕ) (kind : Kind) (ps : List Pair) (l n : ℕ) (h : Fits s (whole id (node kind ps l))) where
+module _ (s id : ℕ) (shape : Shape) (ps : List Pair) (l n : ℕ) (h : Fits s (whole id (node shape ps l))) where
   abbrev payload : List ℕ
-  payload = wholeBytes id (node kind ps l)
+  payload = wholeBytes id (node shape ps l)
 
   abbrev after-node : List ℕ
   after-node = tail s (field 0x11 payload) n
@@ -175,7 +175,7 @@ module _ (s id : ℕ) (kind : Kind) (ps : List Pair) (l n : ℕ) (h : Fits s (wh
   whole-may : isNodeBytes (length payload) ≡ true
   unfolding isNodeBytes
   whole-may =
-      let k : length payload ≡ 7 + 8 * length ps = length-wholeBytes id kind ps l in
+      let k : length payload ≡ 7 + 8 * length ps = length-wholeBytes id shape ps l in
       let m : length payload % 8 ≡ 7 = omega arith in
       rw (eq-eqb _ _ m) (le-leb (length payload) (nodeBytes mostKeys) (omega (arith, h .content .node .few)))
 
@@ -183,7 +183,7 @@ module _ (s id : ℕ) (kind : Kind) (ps : List Pair) (l n : ℕ) (h : Fits s (wh
   unfolding numbered field
   whole-found =
       payloadAt-field (field 0x10 (bigEndian 4 s)) 0x11 payload after-node
-      (omega (arith, length-wholeBytes id kind ps l, h .content .node .few)) (allowed-11 (length payload) ∙ whole-may)
+      (omega (arith, length-wholeBytes id shape ps l, h .content .node .few)) (allowed-11 (length payload) ∙ whole-may)
 
   whole-first : getD (field 0x11 payload ++ after-node) 0 0 ≡ 0x11
   unfolding field
@@ -196,14 +196,14 @@ module _ (s id : ℕ) (kind : Kind) (ps : List Pair) (l n : ℕ) (h : Fits s (wh
   seal-whole : sealedAt (numbered s (field 0x11 payload ++ after-node)) (7 + taken payload) ≡ true
   seal-whole = seal-found s (field 0x11 payload) n (7 + taken payload) (omega (arith, whole-taken, length-field 0x11 payload))
 
-  whole-back : decode (numbered s (field 0x11 payload ++ after-node)) ≡ written (page s (whole id (node kind ps l)))
+  whole-back : decode (numbered s (field 0x11 payload ++ after-node)) ≡ written (page s (whole id (node shape ps l)))
   unfolding decodeNode when
   whole-back =
       let b = numbered s (field 0x11 payload ++ after-node) in
       decode-numbered s (field 0x11 payload ++ after-node) (h .from) (h .below) ∙
       content-node s b _ whole-first ∙
       ap (λ (p : List ℕ). decodeNode s p b) whole-found ∙
-      rw (nodeOk-bytes id (node kind ps l), seal-whole, idOf-bytes id (node kind ps l) (h .content .id), nodeOf-bytes id kind ps l (h .content .node))
+      rw (nodeOk-bytes id (node shape ps l), seal-whole, idOf-bytes id (node shape ps l) (h .content .id), nodeOf-bytes id shape ps l (h .content .node))
 
 -- ---- checkpoint pages
 
@@ -405,8 +405,8 @@ content-back : (s : ℕ) (c : Content) (n : ℕ) → Fits s c → decode (number
 unfolding contentBytes
 content-back s (log []) n h = absurd (not-suc-le-zero (h .content .some))
 content-back s (log (e ∷ es)) n h = ap decode (split s (contentBytes (log (e ∷ es))) n) ∙ log-back s e es n h
-content-back s (whole id (node kind ps l)) n h =
-    ap decode (split s (contentBytes (whole id (node kind ps l))) n) ∙ whole-back s id kind ps l n h
+content-back s (whole id (node shape ps l)) n h =
+    ap decode (split s (contentBytes (whole id (node shape ps l))) n) ∙ whole-back s id shape ps l n h
 content-back s (checkpoint t [] c) n h = absurd (not-suc-le-zero (h .content .some))
 content-back s (checkpoint t (x ∷ xs) c) n h =
     ap decode (split s (contentBytes (checkpoint t (x ∷ xs) c)) n) ∙ checkpoint-back s t x xs c n h

@@ -53,8 +53,8 @@ length-content s (log es) h =
       length-map es entryBytes,
       h .few,
     )
-length-content s (whole id (node kind ps l)) h =
-    omega (arith, length-field 0x11 (wholeBytes id (node kind ps l)), length-wholeBytes id kind ps l, h .node .few)
+length-content s (whole id (node shape ps l)) h =
+    omega (arith, length-field 0x11 (wholeBytes id (node shape ps l)), length-wholeBytes id shape ps l, h .node .few)
 length-content s (checkpoint t ss c) h =
     omega (
       arith,

@@ -14,7 +14,7 @@ use Rattle.laws.specs.BigEndian.{bigEndian, number, numberAt, Bytes, number-big
 use Rattle.layout.specs.Layout.{bound32}
 use Rattle.account.specs.declared.Costs.{Costs}
 use Rattle.account.specs.declared.Tariff.{Tariff}
-use Rattle.node.specs.declared.Kind.the-variants.{Leaf, Branch}
+use Rattle.node.specs.declared.Shape.the-variants.{Leaf, Branch}
 use Rattle.node.specs.Change.{Change, put, remove, link}
 use Rattle.node.specs.Narrow.{NarrowChange}
 use Rattle.page.specs.Page.{Entry, Score}

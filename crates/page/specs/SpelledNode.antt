@@ -14,13 +14,13 @@ use Rattle.laws.specs.Lay.{part, part-add, part-append}
 use Rattle.laws.specs.BigEndian.{bigEndian, number, numberAt, Bytes, number-bigEndian, bigEndian-numberAt, numberAt-lt}
 use Rattle.layout.specs.Layout.{mostKeys, bound32}
 use Rattle.pairs.specs.Pairs.{Pair}
-use Rattle.node.specs.declared.Kind.{Kind}
-use Rattle.node.specs.declared.Kind.the-variants.{Leaf, Branch}
+use Rattle.node.specs.declared.Shape.{Shape}
+use Rattle.node.specs.declared.Shape.the-variants.{Leaf, Branch}
 use Rattle.node.specs.Node.{Node, node, pairsOf, linkOf}
 use Rattle.node.specs.Narrow.{NarrowPair}
 use Rattle.wire.specs.Tag.{nodeBytes, isNodeBytes}
-use Rattle.page.specs.Image.{kindNumber, pairsBytes, wholeBytes}
-use Rattle.page.specs.Decode.{found, pairsFrom, pairsIn, kindOfNumber, nodeOk, nodeOf}
+use Rattle.page.specs.Image.{shapeNumber, pairsBytes, wholeBytes}
+use Rattle.page.specs.Decode.{found, pairsFrom, pairsIn, shapeOfNumber, nodeOk, nodeOf}
 use Rattle.page.specs.Limits.{bound16, NodeFits}
 use Rattle.page.specs.Spelled.{parts-whole, part-one}
 
@@ -29,9 +29,9 @@ unfolding pairsBytes
 length-pairsBytes [] = refl
 length-pairsBytes (p ∷ ps) = omega (arith, length-pairsBytes ps)
 
-pub length-wholeBytes : (id : ℕ) (kind : Kind) (ps : List Pair) (l : ℕ) → length (wholeBytes id (node kind ps l)) ≡ nodeBytes (length ps)
+pub length-wholeBytes : (id : ℕ) (shape : Shape) (ps : List Pair) (l : ℕ) → length (wholeBytes id (node shape ps l)) ≡ nodeBytes (length ps)
 unfolding wholeBytes
-length-wholeBytes id kind ps l = omega (arith, length-pairsBytes ps)
+length-wholeBytes id shape ps l = omega (arith, length-pairsBytes ps)
 
 -- Pairs are read where they were laid.
 pairs-front : (front : List ℕ) (k v : ℕ) (ps : List Pair) →
@@ -62,9 +62,9 @@ pairsFrom-bytes ((k, v) ∷ ps) (both h hs) front =
     ap₂ (λ (s : List ℕ) (i : ℕ). pairsFrom (length ps) s i) (pairs-front front k v ps) l ∙ pairsFrom-bytes ps hs next in
     ap₂ _∷_ (ap₂ {C = Pair} (λ (a b : ℕ). (a, b)) (key-front front k v ps (h .0)) (pointer-front front k v ps (h .1))) again
 
-kindOfNumber-number : (kind : Kind) → kindOfNumber (kindNumber kind) ≡ kind
-kindOfNumber-number Leaf = refl
-kindOfNumber-number Branch = refl
+shapeOfNumber-number : (shape : Shape) → shapeOfNumber (shapeNumber shape) ≡ shape
+shapeOfNumber-number Leaf = refl
+shapeOfNumber-number Branch = refl
 
 pub nodeOk-bytes : (id : ℕ) (n : Node) → nodeOk (wholeBytes id n) ≡ true
 unfolding nodeOk wholeBytes
@@ -73,29 +73,29 @@ nodeOk-bytes id (node Branch ps l) = refl
 
 pub idOf-bytes : (id : ℕ) (n : Node) → id < bound16 → numberAt 2 (wholeBytes id n) 0 ≡ id
 unfolding wholeBytes numberAt part
-idOf-bytes id (node kind ps l) h = number-bigEndian 2 id h
+idOf-bytes id (node shape ps l) h = number-bigEndian 2 id h
 
-node-eq : {k k′ : Kind} {a b : List Pair} {x y : ℕ} → k ≡ k′ → a ≡ b → x ≡ y → node k a x ≡ node k′ b y
+node-eq : {k k′ : Shape} {a b : List Pair} {x y : ℕ} → k ≡ k′ → a ≡ b → x ≡ y → node k a x ≡ node k′ b y
 node-eq e f g = rw (e, f, g)
 
-module _ (id : ℕ) (kind : Kind) (ps : List Pair) (l : ℕ) (h : NodeFits ps l) where
-  kind-read : kindOfNumber (getD (wholeBytes id (node kind ps l)) 2 0) ≡ kind
+module _ (id : ℕ) (shape : Shape) (ps : List Pair) (l : ℕ) (h : NodeFits ps l) where
+  shape-read : shapeOfNumber (getD (wholeBytes id (node shape ps l)) 2 0) ≡ shape
   unfolding wholeBytes
-  kind-read = kindOfNumber-number kind
+  shape-read = shapeOfNumber-number shape
 
-  pairs-read : pairsFrom (length ps) (wholeBytes id (node kind ps l)) 7 ≡ ps
+  pairs-read : pairsFrom (length ps) (wholeBytes id (node shape ps l)) 7 ≡ ps
   unfolding wholeBytes
-  pairs-read = pairsFrom-bytes ps (h .numbers) (bigEndian 2 id ++ (kindNumber kind ∷ bigEndian 4 l))
+  pairs-read = pairsFrom-bytes ps (h .numbers) (bigEndian 2 id ++ (shapeNumber shape ∷ bigEndian 4 l))
 
-  link-read : numberAt 4 (wholeBytes id (node kind ps l)) 3 ≡ l
+  link-read : numberAt 4 (wholeBytes id (node shape ps l)) 3 ≡ l
   unfolding wholeBytes numberAt part
   link-read = number-bigEndian 4 l (h .link)
 
-  pub nodeOf-bytes : nodeOf (wholeBytes id (node kind ps l)) ≡ node kind ps l
+  pub nodeOf-bytes : nodeOf (wholeBytes id (node shape ps l)) ≡ node shape ps l
   unfolding nodeOf
   nodeOf-bytes =
-      let n : pairsIn (wholeBytes id (node kind ps l)) ≡ length ps = omega (arith, length-wholeBytes id kind ps l) in
-      node-eq kind-read (ap (λ (k : ℕ). pairsFrom k (wholeBytes id (node kind ps l)) 7) n ∙ pairs-read) link-read
+      let n : pairsIn (wholeBytes id (node shape ps l)) ≡ length ps = omega (arith, length-wholeBytes id shape ps l) in
+      node-eq shape-read (ap (λ (k : ℕ). pairsFrom k (wholeBytes id (node shape ps l)) 7) n ∙ pairs-read) link-read
 
 -- Pairs that were read are those that stand there.
 pub pairsBytes-from : (n : ℕ) (p : List ℕ) (at : ℕ) → Bytes p → at + 8 * n ≤ length p → pairsBytes (pairsFrom n p at) ≡ part p at (8 * n)
@@ -142,13 +142,13 @@ module _ (p : List ℕ) (b : Bytes p) (m : isNodeBytes (length p) ≡ true) wher
       }
 
   module _ (t : nodeOk p ≡ true) where
-    either-kind : (eqb (getD p 2 0) 3 || eqb (getD p 2 0) 4) ≡ true
+    either-shape : (eqb (getD p 2 0) 3 || eqb (getD p 2 0) 4) ≡ true
     unfolding nodeOk
-    either-kind = and-right (found p) _ t
+    either-shape = and-right (found p) _ t
 
-    kind-is : (x : Bool) → eqb (getD p 2 0) 3 ≡ x → kindNumber (kindOfNumber (getD p 2 0)) ≡ getD p 2 0
-    kind-is true e = rw e (sym (eqb-true (getD p 2 0) 3 e))
-    kind-is false e = rw e (sym (eqb-true (getD p 2 0) 4 (rw e at either-kind)))
+    shape-is : (x : Bool) → eqb (getD p 2 0) 3 ≡ x → shapeNumber (shapeOfNumber (getD p 2 0)) ≡ getD p 2 0
+    shape-is true e = rw e (sym (eqb-true (getD p 2 0) 3 e))
+    shape-is false e = rw e (sym (eqb-true (getD p 2 0) 4 (rw e at either-shape)))
 
     pub wholeBytes-of : wholeBytes (numberAt 2 p 0) (nodeOf p) ≡ p
     unfolding wholeBytes nodeOf
@@ -157,8 +157,8 @@ module _ (p : List ℕ) (b : Bytes p) (m : isNodeBytes (length p) ≡ true) wher
         let i : bigEndian 2 (numberAt 2 p 0) ≡ part p 0 2 = bigEndian-numberAt 2 p 0 b (omega arith) in
         let l : bigEndian 4 (numberAt 4 p 3) ≡ part p 3 4 = bigEndian-numberAt 4 p 3 b (omega arith) in
         let o : part p 2 1 ≡ getD p 2 0 ∷ [] = part-one p 2 (omega arith) in
-        let k : kindNumber (kindOfNumber (getD p 2 0)) ∷ [] ≡ part p 2 1 =
-        ap (λ (x : ℕ). x ∷ []) (kind-is (eqb (getD p 2 0) 3) refl) ∙ sym o in
+        let k : shapeNumber (shapeOfNumber (getD p 2 0)) ∷ [] ≡ part p 2 1 =
+        ap (λ (x : ℕ). x ∷ []) (shape-is (eqb (getD p 2 0) 3) refl) ∙ sym o in
         ap₂ _++_ i (ap₂ _++_ k (ap₂ _++_ l (pairsBytes-from (pairsIn p) p 7 b (omega arith)))) ∙
         parts-whole 2 (1 ∷ 4 ∷ 8 * pairsIn p ∷ []) p (omega arith)
 

@@ -38,8 +38,8 @@ unfoldable pub scoresIn : ℕ → List ℕ → List Score
 scoresIn n records = map scoreOf (chunks 6 n records 0)
 
 -- The page of the first n records: with the tariff where it is the first, with the node count where it is the last.
-unfoldable pub checkpointPage : ℕ → Bool → Tariff → ℕ → List ℕ → Bool → ℕ → Page
-checkpointPage s first t n records last count = page s (checkpoint (onlyIf first t) (scoresIn n records) (onlyIf last count))
+unfoldable pub recordsPage : ℕ → Bool → Tariff → ℕ → List ℕ → Bool → ℕ → Page
+recordsPage s first t n records last count = page s (checkpoint (onlyIf first t) (scoresIn n records) (onlyIf last count))
 
 pub scoresIn-bytes : (n : ℕ) (records : List ℕ) → Bytes records → 6 * n ≤ length records → map scoreBytes (scoresIn n records) ≡ chunks 6 n records 0
 unfolding scoresIn
@@ -105,8 +105,8 @@ count-room false count = omega arith
 
 pub length-checkpointBody : (s : ℕ) (first : Bool) (t : Tariff) (n : ℕ) (records : List ℕ) (last : Bool) (count at end : ℕ) →
     Bytes records → 6 * n ≤ length records → at ≡ 7 + length (fieldIf 0x13 tariffBytes (onlyIf first t)) →
-    end ≡ at + 9 * n + length (fieldIf 0x15 countBytes (onlyIf last count)) → end ≡ length (bodyOf (checkpointPage s first t n records last count))
-unfolding bodyOf checkpointPage contentBytes numbered
+    end ≡ at + 9 * n + length (fieldIf 0x15 countBytes (onlyIf last count)) → end ≡ length (bodyOf (recordsPage s first t n records last count))
+unfolding bodyOf recordsPage contentBytes numbered
 length-checkpointBody s first t n records last count at end b h ea ee =
     let f = fieldIf 0x13 tariffBytes (onlyIf first t) in
     let m = fields 0x14 (map scoreBytes (scoresIn n records)) in
@@ -126,8 +126,8 @@ pub checkpoint-laid :
     Bytes records → 6 * n ≤ length records → 42 ≤ length p →
     at ≡ 7 + length (fieldIf 0x13 tariffBytes (onlyIf first t)) → end ≡ at + 9 * n → end ≤ length p →
     lay (lay (lay (lay p 0 (field 0x10 (bigEndian 4 s))) 7 (fieldIf 0x13 tariffBytes (onlyIf first t))) at (fields 0x14 (chunks 6 n records 0))) end (fieldIf 0x15 countBytes (onlyIf last count)) ≡
-    lay p 0 (bodyOf (checkpointPage s first t n records last count))
-unfolding bodyOf checkpointPage contentBytes
+    lay p 0 (bodyOf (recordsPage s first t n records last count))
+unfolding bodyOf recordsPage contentBytes
 checkpoint-laid p s first t n records last count at end b h l ea ee le =
     let f = fieldIf 0x13 tariffBytes (onlyIf first t) in
     let m = fields 0x14 (chunks 6 n records 0) in

@@ -11,7 +11,7 @@ ghost use Rattle.page.specs.Image.{tariffBytes, countBytes, fieldIf, image};
 ghost use Rattle.page.specs.Decode.{mostScores};
 ghost use Rattle.page_write.specs.Laid.{summed};
 ghost use Rattle.page_write.specs.Pages.{bodyOf};
-ghost use Rattle.page_checkpoint.specs.Checkpoint.{scoreRecord, onlyIf, checkpointPage, LaidTo};
+ghost use Rattle.page_checkpoint.specs.Checkpoint.{scoreRecord, onlyIf, recordsPage, LaidTo};
 use account::Tariff;
 use page_write::frame::lay_run;
 use page_write::frame::lay_sequence;
@@ -54,7 +54,7 @@ fn lay_tariff(p: &mut [u8], at: usize, tariff: Tariff)
 }
 
 // Lays field 13 behind field 10 where the page is the first; the place behind it.
-fn lay_opening(p: &mut [u8], first: bool, tariff: Tariff) -> usize
+fn lay_front(p: &mut [u8], first: bool, tariff: Tariff) -> usize
     requires { ⌜ length (now p) ≡ pageBytes ⌝ }
     ensures { λ r. ⌜ LaidTo (now (p .entry)) (now (p .exit)) 7 (fieldIf 0x13 tariffBytes (onlyIf first tariff)) r ⌝ }
 {
@@ -66,7 +66,7 @@ fn lay_opening(p: &mut [u8], first: bool, tariff: Tariff) -> usize
 }
 
 // Lays field 15 at a place where the page is the last; the place behind it.
-fn lay_closing(p: &mut [u8], at: usize, last: bool, count: u32) -> usize
+fn lay_end(p: &mut [u8], at: usize, last: bool, count: u32) -> usize
     requires { ⌜ (at + 5 ≤ length (now p)) × (count < 65536) ⌝ }
     ensures { λ r. ⌜ LaidTo (now (p .entry)) (now (p .exit)) at (fieldIf 0x15 countBytes (onlyIf last count)) r ⌝ }
 {
@@ -90,12 +90,12 @@ fn lay_checkpoint(
     count: u32,
 )
     requires { ⌜ (length (now p) ≡ pageBytes) × ((n ≤ mostScores first) × ((6 * n ≤ length (now records)) × (count < 65536))) ⌝ }
-    ensures { λ _. ⌜ now (p .exit) ≡ lay (now (p .entry)) 0 (summed (bodyOf (checkpointPage sequence first tariff n (now (records .entry)) last count))) ⌝ }
+    ensures { λ _. ⌜ now (p .exit) ≡ lay (now (p .entry)) 0 (summed (bodyOf (recordsPage sequence first tariff n (now (records .entry)) last count))) ⌝ }
 {
     lay_sequence(p, sequence);
-    let at = lay_opening(p, first, tariff);
+    let at = lay_front(p, first, tariff);
     lay_run(p, at, 0x14, records, 6, n);
-    let end = lay_closing(p, at + 9 * n, last, count);
+    let end = lay_end(p, at + 9 * n, last, count);
     lay_sums(p, end);
 }
 
@@ -111,7 +111,7 @@ pub fn checkpoint_image(
     count: u32,
 ) -> [u8; 512]
     requires { ⌜ (n ≤ mostScores first) × ((6 * n ≤ length (now records)) × (count < 65536)) ⌝ }
-    ensures { λ r. ⌜ r ≡ image (checkpointPage sequence first tariff n (now (records .entry)) last count) ⌝ }
+    ensures { λ r. ⌜ r ≡ image (recordsPage sequence first tariff n (now (records .entry)) last count) ⌝ }
 {
     let mut p = [255u8; 512];
     lay_checkpoint(&mut p, sequence, first, tariff, records, n, last, count);

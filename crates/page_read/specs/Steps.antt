@@ -14,14 +14,14 @@ use Rattle.laws.specs.BigEndian.{number, numberAt}
 use Rattle.wire.specs.Sum.{sumsOf}
 use Rattle.wire.specs.Field.{payloadAt}
 use Rattle.page.specs.Page.{log, whole, checkpoint, Page, page}
-use Rattle.page.specs.Decode.{written, found, taken, allBlank, sealedAt, run, payloads, changeOk, entryOk, entryOf, pairsIn, kindOfNumber, nodeOk, nodeOf, tariffOf, scoreOk, scoreOf, readIf, when, mostScores, decodeLog, decodeNode, decodeScores, decodeCounted, decodeCheckpoint}
+use Rattle.page.specs.Decode.{written, found, taken, allBlank, sealedAt, run, payloads, changeOk, entryOk, entryOf, pairsIn, shapeOfNumber, nodeOk, nodeOf, tariffOf, scoreOk, scoreOf, readIf, when, mostScores, decodeLog, decodeNode, decodeScores, decodeCounted, decodeCheckpoint}
 use Rattle.page.specs.Limits.{given}
 use Rattle.page.specs.Runs.{run-goes, run-stops, length-payloads}
 use Rattle.page.specs.SpelledNode.{length-pairsFrom}
 use Rattle.page.specs.Cases.{when-true, when-false}
 use Rattle.page_read.specs.View.{view, nodesOf}
 use Rattle.page_read.specs.declared.view.Nodes.the-variants.{Count, Open}
-use Rattle.page_read.specs.declared.view.PageView.the-variants.{Log, Whole, Checkpoint, Bad}
+use Rattle.page_read.specs.declared.view.PageView.the-variants.{Log, NodePage, Checkpoint, Bad}
 
 -- ---- FF to the end
 
@@ -147,10 +147,10 @@ module _ (s : ℕ) (p b : List ℕ) where
       node-unsealed t = view-bad _ _ (rw (node-passes, t))
 
       pub node-sealed : sealedAt b (7 + taken p) ≡ true →
-          Whole s (numberAt 2 p 0) (kindOfNumber (getD p 2 0)) (pairsIn p) ≡ view (decodeNode s p b)
+          NodePage s (numberAt 2 p 0) (shapeOfNumber (getD p 2 0)) (pairsIn p) ≡ view (decodeNode s p b)
       unfolding decodeNode nodeOf
       node-sealed t =
-          ap (Whole s (numberAt 2 p 0) (kindOfNumber (getD p 2 0))) (sym (length-pairsFrom (pairsIn p) p 7)) ∙
+          ap (NodePage s (numberAt 2 p 0) (shapeOfNumber (getD p 2 0))) (sym (length-pairsFrom (pairsIn p) p 7)) ∙
           view-page _ (page s (whole (numberAt 2 p 0) (nodeOf p))) (rw (node-passes, t))
 
 module _ (s : ℕ) (t : List ℕ) (at n : ℕ) (c b : List ℕ) where

@@ -23,7 +23,7 @@ entryValue p =
     record {
       id = numberAt 2 p 0;
       version = numberAt 4 p 2;
-      kind = getD p 6 0;
+      shape = getD p 6 0;
       key = numberAt 4 p 7;
       pointer = numberAt 4 p 11;
     }
@@ -44,7 +44,7 @@ pairValue p i = record { key = numberAt 4 p (7 + 8 * i); pointer = numberAt 4 p 
 unfoldable pub linkValue : List ℕ → ℕ
 linkValue p = numberAt 4 p 3
 
-pub entryValue-empty : entryValue [] ≡ record { id = 0; version = 0; kind = 0; key = 0; pointer = 0 }
+pub entryValue-empty : entryValue [] ≡ record { id = 0; version = 0; shape = 0; key = 0; pointer = 0 }
 unfolding entryValue numberAt part
 entryValue-empty = refl
 
@@ -58,7 +58,7 @@ costsAt-tariff p = refl
 
 -- The entry and the score that a value is.
 abbrev pub entryIn : EntryValue → Entry
-entryIn v = record { id = v .id; version = v .version; change = changeOf (v .kind) (v .key) (v .pointer) }
+entryIn v = record { id = v .id; version = v .version; change = changeOf (v .shape) (v .key) (v .pointer) }
 
 abbrev pub scoreIn : ScoreValue → Score
 scoreIn v = record { id = v .id; score = v .score }

@@ -3,14 +3,14 @@ use mathlib.Core.List.{List}
 use mathlib.Core.Option.{Option, none, some}
 use Prim.Native.Nat.{ℕ}
 use lib.ListN.{length}
-use Rattle.node.specs.Node.{kindOf, pairsOf}
+use Rattle.node.specs.Node.{shapeOf, pairsOf}
 use Rattle.page.specs.Page.{Content, log, whole, checkpoint, Page, page}
 use Rattle.page.specs.Decode.{Decoded, blank, written, bad, decode}
 use Rattle.page.specs.Limits.{given}
 use Rattle.page_read.specs.declared.view.Nodes.{Nodes}
 use Rattle.page_read.specs.declared.view.Nodes.the-variants.{Count, Open}
 use Rattle.page_read.specs.declared.view.PageView.{PageView}
-use Rattle.page_read.specs.declared.view.PageView.the-variants.{Blank, Log, Whole, Checkpoint, Bad}
+use Rattle.page_read.specs.declared.view.PageView.the-variants.{Blank, Log, NodePage, Checkpoint, Bad}
 
 -- The node count of a last checkpoint page, or none.
 abbrev pub nodesOf : Option ℕ → Nodes
@@ -20,7 +20,7 @@ nodesOf (some n) = Count n
 -- Sequence number and counts of each kind of content.
 abbrev pub contentView : ℕ → Content → PageView
 contentView s (log es) = Log s (length es)
-contentView s (whole id n) = Whole s id (kindOf n) (length (pairsOf n))
+contentView s (whole id n) = NodePage s id (shapeOf n) (length (pairsOf n))
 contentView s (checkpoint t ss c) = Checkpoint s (given t) (length ss) (nodesOf c)
 
 abbrev pub pageView : Page → PageView

@@ -6,7 +6,7 @@ ghost use lib.Dec.{eqb};
 ghost use lib.ListN.{length};
 ghost use Rattle.layout.specs.Layout.{pageBytes, mostEntries};
 ghost use Rattle.wire.specs.Field.{payloadAt};
-ghost use Rattle.page.specs.Decode.{entryOk, run, decodeLog, decodeNode, decodeCounted, decodeCheckpoint, kindOfNumber};
+ghost use Rattle.page.specs.Decode.{entryOk, run, decodeLog, decodeNode, decodeCounted, decodeCheckpoint, shapeOfNumber};
 ghost use Rattle.page_read.specs.View.{view, viewOf};
 ghost use Rattle.page_read.specs.Asked.{Asked};
 use super::field::count_entries;
@@ -14,7 +14,7 @@ use super::field::count_scores;
 use super::seal::all_blank;
 use super::seal::is_sealed;
 use super::seal::sequence;
-use node::Kind;
+use node::Shape;
 use wire::field::payload;
 use wire::number::read16;
 
@@ -32,11 +32,11 @@ pub enum PageView {
         sequence: u32,
         entries: usize,
     },
-    // A node page: the node's id, its kind and how many keys it has.
-    Whole {
+    // A node page: the node's id, its shape and how many keys it has.
+    NodePage {
         sequence: u32,
         id: u32,
-        kind: Kind,
+        shape: Shape,
         keys: usize,
     },
     // A checkpoint page: whether it begins with the tariff, how many scores it has, and the node count or none.
@@ -70,7 +70,7 @@ fn view_log(page: &[u8], sequence: u32) -> PageView
 }
 
 // Whether a number says leaf or branch.
-fn is_kind(number: u8) -> bool
+fn is_shape(number: u8) -> bool
     ensures { λ r. ⌜ r ≡ (eqb number 3 || eqb number 4) ⌝ }
 {
     if number == 3 {
@@ -79,14 +79,14 @@ fn is_kind(number: u8) -> bool
     number == 4
 }
 
-// The kind that a number says.
-fn kind_of(number: u8) -> Kind
-    ensures { λ r. ⌜ r ≡ kindOfNumber number ⌝ }
+// The shape that a number says.
+fn shape_of(number: u8) -> Shape
+    ensures { λ r. ⌜ r ≡ shapeOfNumber number ⌝ }
 {
     if number == 3 {
-        return Kind::Leaf;
+        return Shape::Leaf;
     }
-    Kind::Branch
+    Shape::Branch
 }
 
 // A node page.
@@ -100,14 +100,14 @@ fn view_node(page: &[u8], sequence: u32) -> PageView
         return PageView::Bad;
     }
     let number = p[2];
-    if is_kind(number) {} else {
+    if is_shape(number) {} else {
         return PageView::Bad;
     }
     if is_sealed(page, 10 + bytes) {
-        return PageView::Whole {
+        return PageView::NodePage {
             sequence,
             id: read16(p, 0),
-            kind: kind_of(number),
+            shape: shape_of(number),
             keys: (bytes - 7) / 8,
         };
     }

@@ -8,7 +8,7 @@ use Rattle.laws.specs.Every.{Every}
 use Rattle.laws.specs.BigEndian.{Bytes, bigEndian}
 use Rattle.layout.specs.Layout.{pageBytes}
 use Rattle.pairs.specs.Pairs.{Pair}
-use Rattle.node.specs.declared.Kind.{Kind}
+use Rattle.node.specs.declared.Shape.{Shape}
 use Rattle.node.specs.Node.{node}
 use Rattle.node.specs.Change.{Change}
 use Rattle.page.specs.Page.{Entry, log, whole, Page, page}
@@ -32,7 +32,7 @@ use Rattle.page_write.specs.Chunks.{chunks}
 
 -- The bytes of one, from its numbers; those of an entry where the numbers are its change's.
 unfoldable pub entryRecord : ℕ → ℕ → ℕ → ℕ → ℕ → List ℕ
-entryRecord id version kind key pointer = bigEndian 2 id ++ (bigEndian 4 version ++ (kind ∷ (bigEndian 4 key ++ bigEndian 4 pointer)))
+entryRecord id version shape key pointer = bigEndian 2 id ++ (bigEndian 4 version ++ (shape ∷ (bigEndian 4 key ++ bigEndian 4 pointer)))
 
 pub entryRecord-bytes : (id version : ℕ) (c : Change) →
     entryRecord id version (changeNumber c) (changeKey c) (changePointer c) ≡ entryBytes (record { id = id; version = version; change = c })
@@ -75,5 +75,5 @@ unfoldable pub firstPairs : ℕ → List ℕ → List ℕ → ℕ → List Pair
 firstPairs zero keys pointers i = []
 firstPairs (suc n) keys pointers i = (getD keys i 0, getD pointers i 0) ∷ firstPairs n keys pointers (i + 1)
 
-unfoldable pub nodePage : ℕ → ℕ → Kind → ℕ → List ℕ → List ℕ → ℕ → Page
-nodePage s id kind n keys pointers l = page s (whole id (node kind (firstPairs n keys pointers 0) l))
+unfoldable pub nodePage : ℕ → ℕ → Shape → ℕ → List ℕ → List ℕ → ℕ → Page
+nodePage s id shape n keys pointers l = page s (whole id (node shape (firstPairs n keys pointers 0) l))

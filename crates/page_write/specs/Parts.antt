@@ -6,11 +6,11 @@ use native.Mathlib.Omega.{arith}
 use lib.ListN.{length, getD, length-append}
 use Rattle.laws.specs.Lay.{lay, lay-nil, lay-next, length-lay}
 use Rattle.laws.specs.BigEndian.{bigEndian}
-use Rattle.node.specs.declared.Kind.{Kind}
+use Rattle.node.specs.declared.Shape.{Shape}
 use Rattle.node.specs.Node.{node}
 use Rattle.wire.specs.Field.{field, head}
 use Rattle.wire.specs.FieldLaws.{length-field}
-use Rattle.page.specs.Image.{kindNumber, pairsBytes, wholeBytes, contentBytes, numbered}
+use Rattle.page.specs.Image.{shapeNumber, pairsBytes, wholeBytes, contentBytes, numbered}
 use Rattle.page.specs.SpelledNode.{length-wholeBytes}
 use Rattle.page_write.specs.Chunks.{length-chunk-fields}
 use Rattle.page_write.specs.Laid.{numbered-laid}
@@ -18,21 +18,21 @@ use Rattle.page_write.specs.Pages.{entryRecord, logBody, firstPairs, bod
 
 -- ---- log pages
 
-pub entry-laid : (s : List ℕ) (at id version kind key pointer : ℕ) → at + 15 ≤ length s →
-    lay (lay (lay (lay (lay s at (bigEndian 2 id)) (at + 2) (bigEndian 4 version)) (at + 6) (kind ∷ [])) (at + 7) (bigEndian 4 key)) (at + 11) (bigEndian 4 pointer) ≡
-    lay s at (entryRecord id version kind key pointer)
+pub entry-laid : (s : List ℕ) (at id version shape key pointer : ℕ) → at + 15 ≤ length s →
+    lay (lay (lay (lay (lay s at (bigEndian 2 id)) (at + 2) (bigEndian 4 version)) (at + 6) (shape ∷ [])) (at + 7) (bigEndian 4 key)) (at + 11) (bigEndian 4 pointer) ≡
+    lay s at (entryRecord id version shape key pointer)
 unfolding entryRecord
-entry-laid s at id version kind key pointer h =
+entry-laid s at id version shape key pointer h =
     let s₁ = lay s at (bigEndian 2 id) in
     let s₂ = lay s₁ (at + 2) (bigEndian 4 version) in
-    let s₃ = lay s₂ (at + 6) (kind ∷ []) in
+    let s₃ = lay s₂ (at + 6) (shape ∷ []) in
     let l₁ : length s₁ ≡ length s = length-lay s at (bigEndian 2 id) (omega arith) in
     let l₂ : length s₂ ≡ length s₁ = length-lay s₁ (at + 2) (bigEndian 4 version) (omega arith) in
-    let l₃ : length s₃ ≡ length s₂ = length-lay s₂ (at + 6) (kind ∷ []) (omega arith) in
+    let l₃ : length s₃ ≡ length s₂ = length-lay s₂ (at + 6) (shape ∷ []) (omega arith) in
     lay-next s₃ (at + 7) (bigEndian 4 key) (bigEndian 4 pointer) (at + 11) (omega arith) (omega arith) ∙
-    lay-next s₂ (at + 6) (kind ∷ []) (bigEndian 4 key ++ bigEndian 4 pointer) (at + 7) (omega arith) (omega arith) ∙
-    lay-next s₁ (at + 2) (bigEndian 4 version) (kind ∷ (bigEndian 4 key ++ bigEndian 4 pointer)) (at + 6) (omega arith) (omega arith) ∙
-    lay-next s at (bigEndian 2 id) (bigEndian 4 version ++ (kind ∷ (bigEndian 4 key ++ bigEndian 4 pointer))) (at + 2) (omega arith) refl
+    lay-next s₂ (at + 6) (shape ∷ []) (bigEndian 4 key ++ bigEndian 4 pointer) (at + 7) (omega arith) (omega arith) ∙
+    lay-next s₁ (at + 2) (bigEndian 4 version) (shape ∷ (bigEndian 4 key ++ bigEndian 4 pointer)) (at + 6) (omega arith) (omega arith) ∙
+    lay-next s at (bigEndian 2 id) (bigEndian 4 version ++ (shape ∷ (bigEndian 4 key ++ bigEndian 4 pointer))) (at + 2) (omega arith) refl
 
 pub length-logBody : (s n : ℕ) (buffer : List ℕ) → 15 * n ≤ length buffer → 7 + 18 * n ≡ length (logBody s n buffer)
 unfolding logBody numbered field
@@ -66,13 +66,13 @@ length-firstPairs zero keys pointers i = refl
 length-firstPairs (suc n) keys pointers i = ap suc (length-firstPairs n keys pointers (i + 1))
 
 -- What stands before the pairs in field 11.
-unfoldable pub nodeHead : ℕ → Kind → ℕ → ℕ → List ℕ
-nodeHead id kind l n = head 0x11 (7 + 8 * n) ++ (bigEndian 2 id ++ (kindNumber kind ∷ bigEndian 4 l))
+unfoldable pub nodeHead : ℕ → Shape → ℕ → ℕ → List ℕ
+nodeHead id shape l n = head 0x11 (7 + 8 * n) ++ (bigEndian 2 id ++ (shapeNumber shape ∷ bigEndian 4 l))
 
-pub nodeHead-laid : (s : List ℕ) (at id k : ℕ) (kind : Kind) (l n : ℕ) → at + 10 ≤ length s → k ≡ kindNumber kind →
-    lay (lay (lay (lay s at (head 0x11 (7 + 8 * n))) (at + 3) (bigEndian 2 id)) (at + 5) (k ∷ [])) (at + 6) (bigEndian 4 l) ≡ lay s at (nodeHead id kind l n)
+pub nodeHead-laid : (s : List ℕ) (at id k : ℕ) (shape : Shape) (l n : ℕ) → at + 10 ≤ length s → k ≡ shapeNumber shape →
+    lay (lay (lay (lay s at (head 0x11 (7 + 8 * n))) (at + 3) (bigEndian 2 id)) (at + 5) (k ∷ [])) (at + 6) (bigEndian 4 l) ≡ lay s at (nodeHead id shape l n)
 unfolding nodeHead
-nodeHead-laid s at id k kind l n h e =
+nodeHead-laid s at id k shape l n h e =
     let h₁ = head 0x11 (7 + 8 * n) in
     let s₁ = lay s at h₁ in
     let s₂ = lay s₁ (at + 3) (bigEndian 2 id) in
@@ -84,38 +84,38 @@ nodeHead-laid s at id k kind l n h e =
     lay-next s at h₁ (bigEndian 2 id ++ (k ∷ bigEndian 4 l)) (at + 3) (omega arith) refl)
 
 -- With the pairs behind it, it is field 11.
-head-and-pairs : (id : ℕ) (kind : Kind) (l n : ℕ) (pairs w : List ℕ) →
-    (bigEndian 2 id ++ (kindNumber kind ∷ (bigEndian 4 l ++ pairs))) ≡ w → 7 + 8 * n ≡ length w → nodeHead id kind l n ++ pairs ≡ field 0x11 w
+head-and-pairs : (id : ℕ) (shape : Shape) (l n : ℕ) (pairs w : List ℕ) →
+    (bigEndian 2 id ++ (shapeNumber shape ∷ (bigEndian 4 l ++ pairs))) ≡ w → 7 + 8 * n ≡ length w → nodeHead id shape l n ++ pairs ≡ field 0x11 w
 unfolding nodeHead field
-head-and-pairs id kind l n pairs w e k =
-    ap (λ (i : ℕ). head 0x11 i ++ (bigEndian 2 id ++ (kindNumber kind ∷ (bigEndian 4 l ++ pairs)))) k ∙
+head-and-pairs id shape l n pairs w e k =
+    ap (λ (i : ℕ). head 0x11 i ++ (bigEndian 2 id ++ (shapeNumber shape ∷ (bigEndian 4 l ++ pairs)))) k ∙
     ap (λ (x : List ℕ). head 0x11 (length w) ++ x) e
 
-pub node-laid : (p : List ℕ) (s id : ℕ) (kind : Kind) (n : ℕ) (keys pointers : List ℕ) (l : ℕ) → 17 ≤ length p →
-    lay (lay (lay p 0 (field 0x10 (bigEndian 4 s))) 7 (nodeHead id kind l n)) 17 (pairsBytes (firstPairs n keys pointers 0)) ≡
-    lay p 0 (bodyOf (nodePage s id kind n keys pointers l))
+pub node-laid : (p : List ℕ) (s id : ℕ) (shape : Shape) (n : ℕ) (keys pointers : List ℕ) (l : ℕ) → 17 ≤ length p →
+    lay (lay (lay p 0 (field 0x10 (bigEndian 4 s))) 7 (nodeHead id shape l n)) 17 (pairsBytes (firstPairs n keys pointers 0)) ≡
+    lay p 0 (bodyOf (nodePage s id shape n keys pointers l))
 unfolding bodyOf nodePage contentBytes nodeHead wholeBytes
-node-laid p s id kind n keys pointers l h =
+node-laid p s id shape n keys pointers l h =
     let ps = firstPairs n keys pointers 0 in
-    let w = wholeBytes id (node kind ps l) in
+    let w = wholeBytes id (node shape ps l) in
     let p₁ = lay p 0 (field 0x10 (bigEndian 4 s)) in
     let k : length (field 0x10 (bigEndian 4 s)) ≡ 7 = length-field 0x10 (bigEndian 4 s) in
     let l₁ : length p₁ ≡ length p = length-lay p 0 (field 0x10 (bigEndian 4 s)) (omega arith) in
-    let lw : 7 + 8 * n ≡ length w = omega (arith, length-wholeBytes id kind ps l, length-firstPairs n keys pointers 0) in
-    lay-next p₁ 7 (nodeHead id kind l n) (pairsBytes ps) 17 (omega arith) refl ∙
-    ap (λ (bs : List ℕ). lay p₁ 7 bs) (head-and-pairs id kind l n (pairsBytes ps) w refl lw) ∙
+    let lw : 7 + 8 * n ≡ length w = omega (arith, length-wholeBytes id shape ps l, length-firstPairs n keys pointers 0) in
+    lay-next p₁ 7 (nodeHead id shape l n) (pairsBytes ps) 17 (omega arith) refl ∙
+    ap (λ (bs : List ℕ). lay p₁ 7 bs) (head-and-pairs id shape l n (pairsBytes ps) w refl lw) ∙
     numbered-laid p s (field 0x11 w)
 
-pub length-nodeBody : (s id : ℕ) (kind : Kind) (n : ℕ) (keys pointers : List ℕ) (l : ℕ) → 17 + 8 * n ≡ length (bodyOf (nodePage s id kind n keys pointers l))
+pub length-nodeBody : (s id : ℕ) (shape : Shape) (n : ℕ) (keys pointers : List ℕ) (l : ℕ) → 17 + 8 * n ≡ length (bodyOf (nodePage s id shape n keys pointers l))
 unfolding bodyOf nodePage contentBytes numbered
-length-nodeBody s id kind n keys pointers l =
+length-nodeBody s id shape n keys pointers l =
     let ps = firstPairs n keys pointers 0 in
-    let w = wholeBytes id (node kind ps l) in
+    let w = wholeBytes id (node shape ps l) in
     omega (
       arith,
       length-append (field 0x10 (bigEndian 4 s)) (field 0x11 w),
       length-field 0x10 (bigEndian 4 s),
       length-field 0x11 w,
-      length-wholeBytes id kind ps l,
+      length-wholeBytes id shape ps l,
       length-firstPairs n keys pointers 0,
     )

@@ -4,35 +4,35 @@ ghost use Prim.Native.Nat.{_+_, _*_, _≤_, _<_};
 ghost use lib.ListN.{length};
 ghost use Rattle.laws.specs.Lay.{lay};
 ghost use Rattle.layout.specs.Layout.{pageBytes, mostKeys};
-ghost use Rattle.page.specs.Image.{kindNumber, pairsBytes, image};
+ghost use Rattle.page.specs.Image.{shapeNumber, pairsBytes, image};
 ghost use Rattle.page_write.specs.Laid.{summed};
 ghost use Rattle.page_write.specs.Pages.{firstPairs, bodyOf, nodePage};
 ghost use Rattle.page_write.specs.Parts.{nodeHead};
 use super::frame::lay_byte;
 use super::frame::lay_sequence;
 use super::frame::lay_sums;
-use node::Kind;
+use node::Shape;
 use wire::field::lay_head;
 use wire::number::write16;
 use wire::number::write32;
 
 // 3 for a leaf, 4 for a branch.
-fn kind_number(kind: Kind) -> u8
-    ensures { λ r. ⌜ r ≡ kindNumber kind ⌝ }
+fn shape_number(shape: Shape) -> u8
+    ensures { λ r. ⌜ r ≡ shapeNumber shape ⌝ }
 {
-    match kind {
-        Kind::Leaf => 3,
-        Kind::Branch => 4,
+    match shape {
+        Shape::Leaf => 3,
+        Shape::Branch => 4,
     }
 }
 
 // Lays field 11 up to its pairs, of which there are n.
-fn lay_node_head(p: &mut [u8], at: usize, id: u32, kind: Kind, link: u32, n: usize)
+fn lay_node_head(p: &mut [u8], at: usize, id: u32, shape: Shape, link: u32, n: usize)
     requires { ⌜ (at + 10 ≤ length (now p)) × ((id < 65536) × (n ≤ mostKeys)) ⌝ }
-    ensures { λ _. ⌜ now (p .exit) ≡ lay (now (p .entry)) at (nodeHead id kind link n) ⌝ }
+    ensures { λ _. ⌜ now (p .exit) ≡ lay (now (p .entry)) at (nodeHead id shape link n) ⌝ }
 {
     let bytes = (7 + 8 * n) as u32;
-    let number = kind_number(kind);
+    let number = shape_number(shape);
     lay_head(p, at, 0x11, bytes);
     write16(p, at + 3, id);
     lay_byte(p, at + 5, number);
@@ -59,7 +59,7 @@ fn lay_node(
     p: &mut [u8],
     sequence: u32,
     id: u32,
-    kind: Kind,
+    shape: Shape,
     keys: &[u32],
     pointers: &[u32],
     n: usize,
@@ -67,10 +67,10 @@ fn lay_node(
 )
     requires { ⌜ (length (now p) ≡ pageBytes) × ((id < 65536) × (n ≤ mostKeys)) ⌝ }
     requires { ⌜ (n ≤ length (now keys)) × (n ≤ length (now pointers)) ⌝ }
-    ensures { λ _. ⌜ now (p .exit) ≡ lay (now (p .entry)) 0 (summed (bodyOf (nodePage sequence id kind n (now (keys .entry)) (now (pointers .entry)) link))) ⌝ }
+    ensures { λ _. ⌜ now (p .exit) ≡ lay (now (p .entry)) 0 (summed (bodyOf (nodePage sequence id shape n (now (keys .entry)) (now (pointers .entry)) link))) ⌝ }
 {
     lay_sequence(p, sequence);
-    lay_node_head(p, 7, id, kind, link, n);
+    lay_node_head(p, 7, id, shape, link, n);
     lay_pairs(p, 17, keys, pointers, n);
     lay_sums(p, 17 + 8 * n);
 }
@@ -79,7 +79,7 @@ fn lay_node(
 pub fn node_image(
     sequence: u32,
     id: u32,
-    kind: Kind,
+    shape: Shape,
     keys: &[u32],
     pointers: &[u32],
     n: usize,
@@ -87,9 +87,9 @@ pub fn node_image(
 ) -> [u8; 512]
     requires { ⌜ (id < 65536) × (n ≤ mostKeys) ⌝ }
     requires { ⌜ (n ≤ length (now keys)) × (n ≤ length (now pointers)) ⌝ }
-    ensures { λ r. ⌜ r ≡ image (nodePage sequence id kind n (now (keys .entry)) (now (pointers .entry)) link) ⌝ }
+    ensures { λ r. ⌜ r ≡ image (nodePage sequence id shape n (now (keys .entry)) (now (pointers .entry)) link) ⌝ }
 {
     let mut p = [255u8; 512];
-    lay_node(&mut p, sequence, id, kind, keys, pointers, n, link);
+    lay_node(&mut p, sequence, id, shape, keys, pointers, n, link);
     p
 }

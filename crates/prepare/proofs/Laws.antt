@@ -9,7 +9,7 @@ use Rattle.laws.specs.BigEndian.{number, numberAt}
 use Rattle.layout.specs.Layout.{pageBytes, noLeaf}
 use Rattle.account.specs.declared.Tariff.{Tariff}
 use Rattle.account.specs.Range.{inRange}
-use Rattle.node.specs.declared.Kind.the-variants.{Leaf}
+use Rattle.node.specs.declared.Shape.the-variants.{Leaf}
 use Rattle.node.specs.Change.{link}
 use Rattle.page.specs.Page.{Entry}
 use Rattle.page.specs.Image.{entryBytes, contentBytes, fields, numbered, sealed, image}
@@ -37,8 +37,8 @@ root-image buffer e = ap (λ (p : List ℕ). sealed pageBytes (numbered 2 (field
     whole : part buffer 0 15 ≡ entryBytes root
     whole = part-whole buffer 15 (ap length is ∙ length-entryBytes root) ∙ is
 
-pub checkpoint-page : (t : Tariff) → Writer.checkpointPage 3 true t 1 (replicate 6 0) true 1 ≡ checkpointPage t
-unfolding Writer.checkpointPage scoresIn chunks scoreOf numberAt part
+pub checkpoint-page : (t : Tariff) → Writer.recordsPage 3 true t 1 (replicate 6 0) true 1 ≡ checkpointPage t
+unfolding Writer.recordsPage scoresIn chunks scoreOf numberAt part
 checkpoint-page t = refl
 
 -- The bytes erased, then one page and the other.

@@ -15,7 +15,7 @@ use Rattle.laws.specs.Order.{eq-or, le-or}
 use Rattle.laws.specs.Lay.{lay, lay-replicate, lay-next}
 use Rattle.layout.specs.Layout.{pageBytes, pagesInBlock, blockBytes, fewestBlocks, mostBlocks, noLeaf}
 use Rattle.account.specs.declared.Tariff.{Tariff}
-use Rattle.node.specs.declared.Kind.the-variants.{Leaf}
+use Rattle.node.specs.declared.Shape.the-variants.{Leaf}
 use Rattle.node.specs.Change.{link}
 use Rattle.page.specs.Page.{Page, page, log, checkpoint}
 use Rattle.page.specs.Image.{image, blankBytes}

@@ -11,7 +11,7 @@ use Rattle.pairs.specs.Ranges.{length-range}
 use Rattle.node.specs.Node.{pairsOf, linkOf}
 use Rattle.tree.specs.Table.{Table}
 use Rattle.tree.specs.Scan.{stopsIn, taken, pairsFrom}
-use Rattle.command.specs.declared.Answer.the-variants.{Got, Removed}
+use Rattle.command.specs.declared.Answer.the-variants.{Got, Deleted}
 use Rattle.command.specs.declared.Command.{Command}
 use Rattle.command.specs.declared.Command.the-variants.{Get, Put, Delete, Scan}
 use Rattle.command.specs.Answer.{valueOr}
@@ -56,5 +56,5 @@ scan-few low high most w = go (ltb high low)
 pub reply-room : (t : Tariff) (c : Command) (w : World) → length (replyBytes (commandReply t c w)) ≤ roomFor c
 reply-room t (Get k) w = length-answerBytes (valueOr Got (valueIn k w))
 reply-room t (Put k v) w = length-answerBytes (put t k v w .answer)
-reply-room t (Delete k) w = length-answerBytes (valueOr Removed (valueIn k w))
+reply-room t (Delete k) w = length-answerBytes (valueOr Deleted (valueIn k w))
 reply-room t (Scan low high most) w = omega (arith, length-scanBytes (scanPairs low high most w), scan-few low high most w)

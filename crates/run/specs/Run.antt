@@ -8,7 +8,7 @@ use Rattle.laws.specs.Lay.{lay}
 use Rattle.layout.specs.Layout.{mostBlocks, nodeLimit}
 use Rattle.account.specs.declared.Tariff.{Tariff}
 use Rattle.account.specs.Fair.{mostCharge}
-use Rattle.command.specs.declared.Answer.the-variants.{Got, Removed}
+use Rattle.command.specs.declared.Answer.the-variants.{Got, Deleted}
 use Rattle.command.specs.declared.Command.{Command}
 use Rattle.command.specs.declared.Command.the-variants.{Get, Put, Delete, Scan}
 use Rattle.command.specs.Answer.{valueOr}
@@ -16,7 +16,7 @@ use Rattle.command.specs.Command.{mostPairs}
 use Rattle.book.specs.Command.{Reply, short, listed, replyBytes, repliesBytes}
 use Rattle.flash_rows.specs.declared.Row.{Row}
 use Rattle.flash_allocate.specs.World.{World, world}
-use Rattle.run_path.specs.Path.{wayTo}
+use Rattle.run_path.specs.Path.{pathTo}
 use Rattle.run_path.specs.Reads.{readAll, readCharges}
 use Rattle.run_lookup.specs.Value.{valueIn}
 use Rattle.run_lookup.specs.Delete.{delete, deleteCharge}
@@ -27,13 +27,13 @@ use Rattle.run.specs.declared.Progress.{Progress}
 
 -- One command: the world after it, its charge, its reply.
 abbrev pub commandWorld : Tariff → Command → World → World
-commandWorld t (Get k) w = readAll t (wayTo k w) w
+commandWorld t (Get k) w = readAll t (pathTo k w) w
 commandWorld t (Put k v) w = put t k v w .now
 commandWorld t (Delete k) w = delete t k w
 commandWorld t (Scan low high most) w = readAll t (scanReads low high most w) w
 
 abbrev pub commandCharge : Tariff → Command → World → ℕ
-commandCharge t (Get k) w = readCharges t (wayTo k w) w
+commandCharge t (Get k) w = readCharges t (pathTo k w) w
 commandCharge t (Put k v) w = put t k v w .charge
 commandCharge t (Delete k) w = deleteCharge t k w
 commandCharge t (Scan low high most) w = readCharges t (scanReads low high most w) w
@@ -41,7 +41,7 @@ commandCharge t (Scan low high most) w = readCharges t (scanReads low high most 
 abbrev pub commandReply : Tariff → Command → World → Reply
 commandReply t (Get k) w = short (valueOr Got (valueIn k w))
 commandReply t (Put k v) w = short (put t k v w .answer)
-commandReply t (Delete k) w = short (valueOr Removed (valueIn k w))
+commandReply t (Delete k) w = short (valueOr Deleted (valueIn k w))
 commandReply t (Scan low high most) w = listed (scanPairs low high most w)
 
 -- All commands, one after another.
@@ -64,7 +64,7 @@ InRange (Put k v) = Unit {0}
 InRange (Delete k) = Unit {0}
 InRange (Scan low high most) = (1 ≤ most) × (most ≤ mostPairs)
 
--- A command makes at most so many requests: the nodes of a way, and every leaf.
+-- A command makes at most so many requests: the nodes of a path, and every leaf.
 abbrev pub mostRequests : ℕ
 mostRequests = 9 + nodeLimit mostBlocks
 

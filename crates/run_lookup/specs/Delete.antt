@@ -7,36 +7,36 @@ use Rattle.account.specs.declared.Tariff.{Tariff}
 use Rattle.account.specs.Fair.{mostCharge}
 use Rattle.node.specs.Change.{remove}
 use Rattle.store.specs.Serve.{edit}
-use Rattle.command.specs.declared.Answer.the-variants.{Removed}
+use Rattle.command.specs.declared.Answer.the-variants.{Deleted}
 use Rattle.command.specs.Answer.{valueOr}
 use Rattle.flash_rows.specs.declared.Row.{Row}
 use Rattle.flash_allocate.specs.World.{World, world}
 use Rattle.flash_log.specs.Flush.{Kept}
 use Rattle.run_serve.specs.Serve.{serve, charge}
-use Rattle.run_path.specs.Path.{wayTo, leafAt}
+use Rattle.run_path.specs.Path.{pathTo, leafAt}
 use Rattle.run_path.specs.Reads.{readAll, readCharges}
 use Rattle.run_lookup.specs.declared.Done.{Done}
 use Rattle.run_lookup.specs.Value.{valueIn}
 
 -- The edit of a leaf for a key with this value there, and its charge.
-abbrev pub removal : Tariff → Option ℕ → ℕ → ℕ → World → World
-removal t none leaf k w = w
-removal t (some old) leaf k w = serve t leaf (edit (remove k)) w
+abbrev pub deletion : Tariff → Option ℕ → ℕ → ℕ → World → World
+deletion t none leaf k w = w
+deletion t (some old) leaf k w = serve t leaf (edit (remove k)) w
 
-abbrev pub removalCharge : Tariff → Option ℕ → ℕ → ℕ → World → ℕ
-removalCharge t none leaf k w = 0
-removalCharge t (some old) leaf k w = charge t leaf (edit (remove k)) w
+abbrev pub deletionCharge : Tariff → Option ℕ → ℕ → ℕ → World → ℕ
+deletionCharge t none leaf k w = 0
+deletionCharge t (some old) leaf k w = charge t leaf (edit (remove k)) w
 
 -- All reads, then the edit: of the leaf, and with the value, of before the reads.
 unfoldable pub delete : Tariff → ℕ → World → World
-delete t k w = removal t (valueIn k w) (leafAt k w) k (readAll t (wayTo k w) w)
+delete t k w = deletion t (valueIn k w) (leafAt k w) k (readAll t (pathTo k w) w)
 
 unfoldable pub deleteCharge : Tariff → ℕ → World → ℕ
-deleteCharge t k w = readCharges t (wayTo k w) w + removalCharge t (valueIn k w) (leafAt k w) k (readAll t (wayTo k w) w)
+deleteCharge t k w = readCharges t (pathTo k w) w + deletionCharge t (valueIn k w) (leafAt k w) k (readAll t (pathTo k w) w)
 
 -- What the code of a delete leaves: this world and this charge, and "answer 83 with the word removed", or 80.
 pub record DeletedAs (poolLength tableLength : ℕ) (pages : List (List ℕ)) (rows : List Row) (r : Done) (t : Tariff) (k : ℕ) (w : World) : Type 0 where
   pub kept : Kept poolLength tableLength (w .state) (world pages rows (r .state)) (delete t k w)
   pub charge : r .charge ≡ deleteCharge t k w
   pub most : r .charge ≤ mostCharge * 10
-  pub answer : r .answer ≡ valueOr Removed (valueIn k w)
+  pub answer : r .answer ≡ valueOr Deleted (valueIn k w)

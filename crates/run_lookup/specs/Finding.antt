@@ -1,4 +1,4 @@
--- What the way and the search in its leaf find is what the definitions say. Assumes nothing.
+-- What the path and the search in its leaf find is what the definitions say. Assumes nothing.
 use mathlib.Core.Path.{_≡_, sym, ap, _∙_, subst}
 use mathlib.Core.List.{List}
 use mathlib.Core.Option.{Option, none, some}
@@ -22,7 +22,7 @@ use Rattle.flash_rows.specs.declared.Row.{Row}
 use Rattle.flash_allocate.specs.World.{World}
 use Rattle.run_serve.specs.declared.request.Charged.{Charged}
 use Rattle.run_path.specs.declared.path.Path.{Path}
-use Rattle.run_path.specs.Path.{tableIn, wayTo, PathTo}
+use Rattle.run_path.specs.Path.{tableIn, pathTo, PathTo}
 use Rattle.run_path.specs.Reads.{ReadAs}
 use Rattle.run_lookup.specs.declared.value.Value.{Value}
 use Rattle.run_lookup.specs.Value.{valueOf, valueIn}
@@ -38,21 +38,21 @@ module _ (v : NodeValue) (h : Held v) (k i : ℕ) where
   pub value-missing : found k (pairsIn v) ≡ Above i → none ≡ lookup k (pairsIn v)
   value-missing e = sym (lookup-absent k 0 bound32 (pairsIn v) (h .ascending) (above-absent k (pairsIn v) i e))
 
--- A way found in a world.
-module _ {k : ℕ} (w : World) {way : Path} (found : PathTo (tableIn w) k way) where
-  pub value-in : (o : Option ℕ) → o ≡ lookup k (pairsIn (way .leaf)) → valueIn k w ≡ o
+-- A path found in a world.
+module _ {k : ℕ} (w : World) {path : Path} (found : PathTo (tableIn w) k path) where
+  pub value-in : (o : Option ℕ) → o ≡ lookup k (pairsIn (path .leaf)) → valueIn k w ≡ o
   unfolding getAnswer
   value-in o e = sym (e ∙ ap (λ n. lookup k (pairsOf n)) (found .leaf .is))
 
   module _ {P T : ℕ} {pages : List (List ℕ)} {rows : List Row} {c : Charged} {t : Tariff} where
-    pub way-read : ReadAs P T pages rows c t (way .length) (take (way .length) (way .ids)) w → ReadAs P T pages rows c t (way .length) (wayTo k w) w
-    way-read r = subst (λ (ns : List ℕ). ReadAs P T pages rows c t (way .length) ns w) (found .ids) r
+    pub path-read : ReadAs P T pages rows c t (path .length) (take (path .length) (path .ids)) w → ReadAs P T pages rows c t (path .length) (pathTo k w) w
+    path-read r = subst (λ (ns : List ℕ). ReadAs P T pages rows c t (path .length) ns w) (found .ids) r
 
-    -- a get: the way read, and the value in its leaf
-    pub got-as : ReadAs P T pages rows c t (way .length) (take (way .length) (way .ids)) w → (v : Value) → valueOf v ≡ lookup k (pairsIn (way .leaf)) →
+    -- a get: the path read, and the value in its leaf
+    pub got-as : ReadAs P T pages rows c t (path .length) (take (path .length) (path .ids)) w → (v : Value) → valueOf v ≡ lookup k (pairsIn (path .leaf)) →
         (a : Answer) → a ≡ valueOr Got (valueOf v) → GotAs P T pages rows (record { state = c .state; charge = c .charge; answer = a }) t k w
     got-as r v e a f =
-        let reads = way-read r in
+        let reads = path-read r in
         record {
           kept = reads .kept;
           charge = reads .charge;

@@ -2,4 +2,4 @@ pub mod Value
 pub mod Get
 pub mod Finding
 pub mod Delete
-pub mod Removal
+pub mod Deletion

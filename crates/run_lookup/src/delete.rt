@@ -12,30 +12,30 @@ use super::value::Value;
 use super::value::value_at;
 use account::Tariff;
 use command::Answer;
-use node::ChangeValue;
 use flash_allocate::state::State;
-use run_serve::request::serve_edit;
+use node::ChangeValue;
 use run_path::path::path_to;
 use run_path::reads::serve_reads;
+use run_serve::request::serve_edit;
 
 // The reads to the leaf, then one edit of it where the key is there.
 pub fn delete(pool: &mut [u8], table: &mut [u8], state: State, tariff: Tariff, key: u32) -> Done
     requires { ⌜ (Good (length (now pool)) (length (now table)) state) × (Ranged tariff) × (state .nodes ≤ nodeLimit mostBlocks) ⌝ }
     ensures { λ r. ⌜ DeletedAs (length (now (pool .exit))) (length (now (table .exit))) (pagesOf (now (pool .exit))) (rowsOf (now (table .exit))) r tariff key (world (pagesOf (now (pool .entry))) (rowsOf (now (table .entry))) state) ⌝ }
 {
-    let way = path_to(pool, table, state, key);
-    let leaf = way.leaf;
-    let ids = way.ids;
-    let last = way.length - 1;
+    let path = path_to(pool, table, state, key);
+    let leaf = path.leaf;
+    let ids = path.ids;
+    let last = path.length - 1;
     let value = value_at(leaf, key);
-    let read = serve_reads(pool, table, state, tariff, ids, way.length);
+    let read = serve_reads(pool, table, state, tariff, ids, path.length);
     let s = read.state;
     match value {
         Value::There(old) => {
-            let removal = ChangeValue::Remove { key };
-            let edit = serve_edit(pool, table, s, tariff, ids[last], removal);
+            let deletion = ChangeValue::Delete { key };
+            let edit = serve_edit(pool, table, s, tariff, ids[last], deletion);
             let t = edit.state;
-            let answer = Answer::Removed(old);
+            let answer = Answer::Deleted(old);
             Done {
                 state: t,
                 charge: read.charge + edit.charge,

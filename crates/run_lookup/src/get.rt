@@ -8,7 +8,7 @@ ghost use Rattle.flash_blocks.specs.Pages.{pagesOf};
 ghost use Rattle.flash_allocate.specs.World.{Good, world};
 ghost use Rattle.run_lookup.specs.Get.{GotAs};
 use super::Done;
-use super::value::got;
+use super::value::get_answer;
 use super::value::value_at;
 use account::Tariff;
 use flash_allocate::state::State;
@@ -20,11 +20,11 @@ pub fn get(pool: &mut [u8], table: &mut [u8], state: State, tariff: Tariff, key:
     requires { ⌜ (Good (length (now pool)) (length (now table)) state) × (Ranged tariff) × (state .nodes ≤ nodeLimit mostBlocks) ⌝ }
     ensures { λ r. ⌜ GotAs (length (now (pool .exit))) (length (now (table .exit))) (pagesOf (now (pool .exit))) (rowsOf (now (table .exit))) r tariff key (world (pagesOf (now (pool .entry))) (rowsOf (now (table .entry))) state) ⌝ }
 {
-    let way = path_to(pool, table, state, key);
-    let leaf = way.leaf;
-    let answer = got(value_at(leaf, key));
-    let ids = way.ids;
-    let read = serve_reads(pool, table, state, tariff, ids, way.length);
+    let path = path_to(pool, table, state, key);
+    let leaf = path.leaf;
+    let answer = get_answer(value_at(leaf, key));
+    let ids = path.ids;
+    let read = serve_reads(pool, table, state, tariff, ids, path.length);
     let s = read.state;
     Done {
         state: s,

@@ -29,7 +29,7 @@ pub fn value_at(v: NodeValue, key: u32) -> Value
 }
 
 // The answer of a get.
-pub fn got(value: Value) -> Answer
+pub fn get_answer(value: Value) -> Answer
     ensures { λ r. ⌜ r ≡ valueOr Answer.Got (valueOf value) ⌝ }
 {
     match value {

@@ -1,4 +1,4 @@
--- The way from the root to the leaf of a key, by value (document 01, "Nodes and tree": every command reads "the nodes from root to leaf").
+-- The path from the root to the leaf of a key, by value (document 01, "Nodes and tree": every command reads "the nodes from root to leaf").
 use mathlib.Core.Path.{_≡_}
 use mathlib.Core.List.{List}
 use Prim.Native.Nat.{ℕ, _-_, _≤_}
@@ -13,13 +13,13 @@ use Rattle.run_path.specs.declared.path.Path.{Path}
 abbrev pub tableIn : World → Table
 tableIn w = tableOf (w .pages) (w .rows) (w .state)
 
--- A sound tree has at most 9 levels, so a way has at most 9 nodes: 8 steps down.
+-- A sound tree has at most 9 levels, so a path has at most 9 nodes: 8 steps down.
 abbrev pub mostSteps : ℕ
 mostSteps = 8
 
--- The way to a key in a world, and the leaf at its end.
-abbrev pub wayTo : ℕ → World → List ℕ
-wayTo k w = path mostSteps (tableIn w) k 0
+-- The path to a key in a world, and the leaf at its end.
+abbrev pub pathTo : ℕ → World → List ℕ
+pathTo k w = path mostSteps (tableIn w) k 0
 
 abbrev pub leafAt : ℕ → World → ℕ
 leafAt k w = leafFor mostSteps (tableIn w) k 0

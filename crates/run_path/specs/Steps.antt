@@ -10,7 +10,7 @@ use lib.Dec.{ltb}
 use lib.ListN.{length, take, set, length-set}
 use lib.Seq.{getD-set-same, take-suc-set}
 use Rattle.pairs.specs.Pairs.{Pair}
-use Rattle.node.specs.declared.Kind.the-variants.{Leaf, Branch}
+use Rattle.node.specs.declared.Shape.the-variants.{Leaf, Branch}
 use Rattle.node.specs.declared.NodeValue.{NodeValue}
 use Rattle.node.specs.Node.{node}
 use Rattle.node.specs.Search.{place, childPlace, pointerAt, place-first, place-below}
@@ -54,15 +54,15 @@ module _ (table : Table) (k id : ℕ) where
     unfolding leafFor
     leaf-below fuel = rw (e, leafFor) (ap (λ (j : ℕ). leafFor fuel table k (pointerAt ks last j)) (slot-place k ks))
 
--- After i steps: the ids so far, and the node that the way has come to.
+-- After i steps: the ids so far, and the node that the path has come to.
 pub record Down (table : Table) (k : ℕ) (ids : List ℕ) (id i : ℕ) : Type 0 where
   pub steps : i ≤ mostSteps
   pub long : length ids ≡ 9
-  pub way : take i ids ++ path (mostSteps - i) table k id ≡ path mostSteps table k 0
+  pub onPath : take i ids ++ path (mostSteps - i) table k id ≡ path mostSteps table k 0
   pub leaf : leafFor (mostSteps - i) table k id ≡ leafFor mostSteps table k 0
 
 pub down-start : (table : Table) (k : ℕ) (ids : List ℕ) → length ids ≡ 9 → Down table k ids 0 0
-down-start table k ids l = record { steps = omega arith; long = l; way = refl; leaf = refl }
+down-start table k ids l = record { steps = omega arith; long = l; onPath = refl; leaf = refl }
 
 module _ {table : Table} {k : ℕ} {ids : List ℕ} {id i : ℕ} (d : Down table k ids id i) where
   noted : take (i + 1) (set ids i id) ≡ take i ids ++ (id ∷ [])
@@ -77,23 +77,23 @@ module _ {table : Table} {k : ℕ} {ids : List ℕ} {id i : ℕ} (d : Down table
       record {
         steps = omega arith;
         long = length-set ids i id ∙ d .long;
-        way =
+        onPath =
             ap (λ (xs : List ℕ). xs ++ path (mostSteps - (i + 1)) table k next) noted ∙
             append-assoc (take i ids) (id ∷ []) (path (mostSteps - (i + 1)) table k next) ∙
             ap (λ (xs : List ℕ). take i ids ++ xs)
             (sym (ap (λ (n : ℕ). path n table k id) f ∙ path-branch table k id ks last e (mostSteps - (i + 1)))) ∙
-            d .way;
+            d .onPath;
         leaf = sym (ap (λ (n : ℕ). leafFor n table k id) f ∙ leaf-below table k id ks last e (mostSteps - (i + 1))) ∙ d .leaf;
       }
 
-  -- the end of the way: a leaf, or no step left
+  -- the end of the path: a leaf, or no step left
   pub down-end : path (mostSteps - i) table k id ≡ id ∷ [] → leafFor (mostSteps - i) table k id ≡ id → (v : NodeValue) → Becomes v (table id) →
       PathTo table k (record { ids = set ids i id; length = i + 1; leaf = v })
   down-end e f v b =
       let here : leafFor mostSteps table k 0 ≡ id = sym (d .leaf) ∙ f in
       let last : i + 1 - 1 ≡ i = omega arith in
       record {
-        ids = noted ∙ ap (λ (xs : List ℕ). take i ids ++ xs) (sym e) ∙ d .way;
+        ids = noted ∙ ap (λ (xs : List ℕ). take i ids ++ xs) (sym e) ∙ d .onPath;
         some = omega arith;
         few = omega (arith, d .steps);
         end = rw last (getD-set-same ids i id 0 (omega (arith, d .steps, d .long))) ∙ sym here;

@@ -1,3 +1,3 @@
-// The way from the root to a leaf: found, and read as requests.
+// The path from the root to a leaf: found, and read as requests.
 pub mod path;
 pub mod reads;

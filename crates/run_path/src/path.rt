@@ -1,16 +1,16 @@
-// The way from the root to the leaf of a key.
+// The path from the root to the leaf of a key.
 ghost use Rattle.flash_rows.specs.Row.{rowsOf};
 ghost use Rattle.flash_blocks.specs.Pages.{pagesOf};
 ghost use Rattle.flash_read.specs.NodeTable.{tableOf, Readable};
 ghost use Rattle.run_path.specs.Path.{PathTo};
-use node::Kind;
-use node::NodeValue;
-use node::search::child;
-use node_replay::same_kind;
-use flash_read::by_id::node_at;
 use flash_allocate::state::State;
+use flash_read::by_id::node_at;
+use node::NodeValue;
+use node::Shape;
+use node::search::child;
+use node_replay::same_shape;
 
-// The nodes of the way, from the root on, and the leaf at its end.
+// The nodes of the path, from the root on, and the leaf at its end.
 pub struct Path {
     pub ids: [usize; 9],
     pub length: usize,
@@ -28,8 +28,8 @@ pub fn path_to<'a>(pool: &'a [u8], table: &'a [u8], state: State, key: u32) -> P
     while i < 8 {
         ids[i] = id;
         let v = node_at(pool, table, state, id);
-        let kind = v.kind;
-        if same_kind(kind, Kind::Leaf) {
+        let shape = v.shape;
+        if same_shape(shape, Shape::Leaf) {
             return Path {
                 ids,
                 length: i + 1,

@@ -35,7 +35,7 @@ pub fn read_nodes(
     Charged { state: s, charge }
 }
 
-// Reads of the first n nodes of a way.
+// Reads of the first n nodes of a path.
 pub fn serve_reads(
     pool: &mut [u8],
     table: &mut [u8],

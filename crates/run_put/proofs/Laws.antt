@@ -35,9 +35,9 @@ use Rattle.run_split.specs.declared.fit.Fitting.{Fitting}
 use Rattle.run_split.specs.declared.fit.Fitting.the-variants.{Room, Full}
 use Rattle.run_split.specs.Fit.{fitOf, full-above}
 use Rattle.run_split.specs.Growing.{Growing, growing-kept}
-use Rattle.run_split.specs.Climb.{climb, ClimbedAs}
+use Rattle.run_split.specs.SplitUpwards.{splitUpwards, SplitUpwardsAs}
 use Rattle.run_put.specs.declared.put.Done.{Done}
-use Rattle.run_put.specs.Put.{requests, lastOf, editLeaf, splitWay, Doing, answering, putNew, tableAt, putIn, put, RequestsAs, DoneAs}
+use Rattle.run_put.specs.Put.{requests, lastOf, readAndEdit, readAndSplit, Doing, answering, putSplitting, tableAt, putIn, put, RequestsAs, DoneAs}
 
 -- The old value, by what the search found.
 module _ (v : NodeValue) (h : Held v) (key : ℕ) where
@@ -56,11 +56,11 @@ requests-is : {a b : World} {m n : ℕ} → a ≡ b → m ≡ n → requests a m
 requests-is {b = b} {m = m} e f = ap (λ (z : World). requests z m) e ∙ ap (λ (z : ℕ). requests b z) f
 
 -- The reads, then the edit or the splits.
-module _ {P₀ T₀ P₁ T₁ : ℕ} (t : Tariff) (key value n : ℕ) (way : List ℕ) (w : World) (g : Growing P₀ T₀ (w .state)) (few : n ≤ 9)
-    (pages₁ : List (List ℕ)) (rows₁ : List Row) (one : Charged) (r : ReadAs P₁ T₁ pages₁ rows₁ one t n way w) (pages : List (List ℕ)) (rows : List Row) (two : Charged) where
+module _ {P₀ T₀ P₁ T₁ : ℕ} (t : Tariff) (key value n : ℕ) (onPath : List ℕ) (w : World) (g : Growing P₀ T₀ (w .state)) (few : n ≤ 9)
+    (pages₁ : List (List ℕ)) (rows₁ : List Row) (one : Charged) (r : ReadAs P₁ T₁ pages₁ rows₁ one t n onPath w) (pages : List (List ℕ)) (rows : List Row) (two : Charged) where
   pub then-edit : {P T : ℕ} (leaf : ℕ) → ServedAs P T pages rows two t leaf (edit (Change.put key value)) (world pages₁ rows₁ (one .state)) →
-      RequestsAs P T pages rows (record { state = two .state; charge = one .charge + two .charge }) (w .state) (editLeaf t way leaf key value w)
-  unfolding editLeaf
+      RequestsAs P T pages rows (record { state = two .state; charge = one .charge + two .charge }) (w .state) (readAndEdit t onPath leaf key value w)
+  unfolding readAndEdit
   then-edit leaf s =
       record {
         is =
@@ -71,24 +71,24 @@ module _ {P₀ T₀ P₁ T₁ : ℕ} (t : Tariff) (key value n : ℕ) (way : Lis
         most = omega (arith, r .most, s .most);
       }
 
-  pub then-split : {P T : ℕ} → ClimbedAs P T pages rows two t key value way (world pages₁ rows₁ (one .state)) →
-      RequestsAs P T pages rows (record { state = two .state; charge = one .charge + two .charge }) (w .state) (splitWay t way key value w)
-  unfolding splitWay
+  pub then-split : {P T : ℕ} → SplitUpwardsAs P T pages rows two t key value onPath (world pages₁ rows₁ (one .state)) →
+      RequestsAs P T pages rows (record { state = two .state; charge = one .charge + two .charge }) (w .state) (readAndSplit t onPath key value w)
+  unfolding readAndSplit
   then-split s =
       record {
         is =
-            requests-is (s .is ∙ ap (λ (z : World). climb t key value way z .now) (r .kept .is))
-            (ap₂ _+_ (r .charge) (s .charge ∙ ap (λ (z : World). climb t key value way z .charge) (r .kept .is)));
+            requests-is (s .is ∙ ap (λ (z : World). splitUpwards t key value onPath z .now) (r .kept .is))
+            (ap₂ _+_ (r .charge) (s .charge ∙ ap (λ (z : World). splitUpwards t key value onPath z .charge) (r .kept .is)));
         growing = s .growing;
         blocks = s .blocks ∙ r .kept .blocks;
         most = omega (arith, r .most, s .most);
       }
 
 -- A new key: refused, or put with the splits.
-module _ (t : Tariff) (way : List ℕ) (needed counted key value : ℕ) (w : World) (e : needed ≡ counted) where
+module _ (t : Tariff) (onPath : List ℕ) (needed counted key value : ℕ) (w : World) (e : needed ≡ counted) where
   pub new-refused : {P T : ℕ} → nodeLimit (w .state .blocks) < w .state .nodes + needed → Growing P T (w .state) →
-      DoneAs P T (w .pages) (w .rows) (record { state = w .state; charge = 0; answer = Refused 9 }) (w .state) (putNew t way counted key value w)
-  unfolding putNew
+      DoneAs P T (w .pages) (w .rows) (record { state = w .state; charge = 0; answer = Refused 9 }) (w .state) (putSplitting t onPath counted key value w)
+  unfolding putSplitting
   new-refused l g =
       record {
         is = rw (← e, lt-ltb (nodeLimit (w .state .blocks)) (w .state .nodes + needed) l) refl;
@@ -98,9 +98,9 @@ module _ (t : Tariff) (way : List ℕ) (needed counted key value : ℕ) (w : Wor
       }
 
   pub new-split : {P T : ℕ} (pages : List (List ℕ)) (rows : List Row) (r : Charged) → w .state .nodes + needed ≤ nodeLimit (w .state .blocks) →
-      RequestsAs P T pages rows r (w .state) (splitWay t way key value w) →
-      DoneAs P T pages rows (record { state = r .state; charge = r .charge; answer = Absent }) (w .state) (putNew t way counted key value w)
-  unfolding putNew
+      RequestsAs P T pages rows r (w .state) (readAndSplit t onPath key value w) →
+      DoneAs P T pages rows (record { state = r .state; charge = r .charge; answer = Absent }) (w .state) (putSplitting t onPath counted key value w)
+  unfolding putSplitting
   new-split pages rows r l k =
       record {
         is = ap (answering Absent) (k .is) ∙ rw (← e, le-ltb (nodeLimit (w .state .blocks)) (w .state .nodes + needed) l) refl;
@@ -120,8 +120,8 @@ module _ (t : Tariff) (key value : ℕ) (w : World) (p : Path) (to : PathTo (tab
   abbrev leaf : ℕ
   leaf = leafFor mostSteps table key 0
 
-  abbrev way : List ℕ
-  way = path mostSteps table key 0
+  abbrev onPath : List ℕ
+  onPath = path mostSteps table key 0
 
   pairs-are : pairsIn (p .leaf) ≡ pairsOf (table leaf)
   pairs-are = ap pairsOf (to .leaf .is)
@@ -132,14 +132,14 @@ module _ (t : Tariff) (key value : ℕ) (w : World) (p : Path) (to : PathTo (tab
   -- it fits
   pub put-edit : {P T : ℕ} (pages : List (List ℕ)) (rows : List Row) (answer : Answer) (r : Charged) → f ≡ Room →
       answer ≡ valueOr Replaced (lookup key (pairsIn (p .leaf))) →
-      RequestsAs P T pages rows r (w .state) (editLeaf t (take (p .length) (p .ids)) (lastOf (p .length) (p .ids)) key value w) →
+      RequestsAs P T pages rows r (w .state) (readAndEdit t (take (p .length) (p .ids)) (lastOf (p .length) (p .ids)) key value w) →
       DoneAs P T pages rows (record { state = r .state; charge = r .charge; answer = answer }) (w .state) (put t key value w)
   unfolding putIn
   put-edit pages rows answer r room said k =
       record {
         is =
-            ap (answering answer) (k .is ∙ ap₂ (λ (ids : List ℕ) (id : ℕ). editLeaf t ids id key value w) (to .ids) (to .end)) ∙
-            ap (λ (a : Answer). answering a (editLeaf t way leaf key value w)) (said ∙ ap (λ (ps : _). valueOr Replaced (lookup key ps)) pairs-are) ∙
+            ap (answering answer) (k .is ∙ ap₂ (λ (ids : List ℕ) (id : ℕ). readAndEdit t ids id key value w) (to .ids) (to .end)) ∙
+            ap (λ (a : Answer). answering a (readAndEdit t onPath leaf key value w)) (said ∙ ap (λ (ps : _). valueOr Replaced (lookup key ps)) pairs-are) ∙
             rw (fit-is ∙ room) refl;
         growing = k .growing;
         blocks = k .blocks;
@@ -157,6 +157,6 @@ module _ (t : Tariff) (key value : ℕ) (w : World) (p : Path) (to : PathTo (tab
           ap (sizeAt table) (to .end),
         )
 
-    pub put-new : putNew t (take (p .length) (p .ids)) (idsNeeded table (take (p .length) (p .ids))) key value w ≡ put t key value w
+    pub put-new : putSplitting t (take (p .length) (p .ids)) (idsNeeded table (take (p .length) (p .ids))) key value w ≡ put t key value w
     unfolding putIn
-    put-new = ap (λ (ids : List ℕ). putNew t ids (idsNeeded table ids) key value w) (to .ids) ∙ rw (fit-is ∙ full) refl
+    put-new = ap (λ (ids : List ℕ). putSplitting t ids (idsNeeded table ids) key value w) (to .ids) ∙ rw (fit-is ∙ full) refl

@@ -1,4 +1,4 @@
--- The run of full nodes of a way, counted from its leaf upwards. Assumes nothing.
+-- The run of full nodes of a path, counted from its leaf upwards. Assumes nothing.
 use mathlib.Core.Path.{_≡_, refl, sym, ap, _∙_, subst}
 use mathlib.Core.List.{List, [], _∷_}
 use Prim.Native.Nat.{ℕ, zero, suc, _+_, _-_, _≤_, _<_}

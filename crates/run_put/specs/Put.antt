@@ -29,7 +29,7 @@ use Rattle.run_path.specs.Path.{mostSteps}
 use Rattle.run_path.specs.Reads.{readAll, readCharges}
 use Rattle.run_split.specs.Fit.{byFit, fitOf}
 use Rattle.run_split.specs.Growing.{Growing}
-use Rattle.run_split.specs.Climb.{climb}
+use Rattle.run_split.specs.SplitUpwards.{splitUpwards}
 use Rattle.run_put.specs.declared.put.Done.{Done}
 
 -- Requests that were served: the world after them, and what they were charged.
@@ -45,16 +45,16 @@ abbrev pub lastOf : ℕ → List ℕ → ℕ
 lastOf n ids = getD ids (n - 1) 0
 
 -- "Hang .. of a present route, and a hang that fits, are one edit."
-unfoldable pub editLeaf : Tariff → List ℕ → ℕ → ℕ → ℕ → World → Requests
-editLeaf t way leaf key value w =
-    let read = readAll t way w in
+unfoldable pub readAndEdit : Tariff → List ℕ → ℕ → ℕ → ℕ → World → Requests
+readAndEdit t onPath leaf key value w =
+    let read = readAll t onPath w in
     let work = edit (Change.put key value) in
-    requests (serve t leaf work read) (readCharges t way w + charge t leaf work read)
+    requests (serve t leaf work read) (readCharges t onPath w + charge t leaf work read)
 
-unfoldable pub splitWay : Tariff → List ℕ → ℕ → ℕ → World → Requests
-splitWay t way key value w =
-    let read = readAll t way w in
-    requests (climb t key value way read .now) (readCharges t way w + climb t key value way read .charge)
+unfoldable pub readAndSplit : Tariff → List ℕ → ℕ → ℕ → World → Requests
+readAndSplit t onPath key value w =
+    let read = readAll t onPath w in
+    requests (splitUpwards t key value onPath read .now) (readCharges t onPath w + splitUpwards t key value onPath read .charge)
 
 -- A command that is done: the world after it, what was charged, and its answer.
 pub record Doing : Type 0 where
@@ -73,20 +73,20 @@ abbrev pub refused : World → Doing
 refused w = doing w 0 (Refused noIds)
 
 -- A new key for a full leaf: "are enough node ids unused? (9)"
-unfoldable pub putNew : Tariff → List ℕ → ℕ → ℕ → ℕ → World → Doing
-putNew t way needed key value w =
-    choose (ltb (nodeLimit (w .state .blocks)) (w .state .nodes + needed)) (refused w) (answering Absent (splitWay t way key value w))
+unfoldable pub putSplitting : Tariff → List ℕ → ℕ → ℕ → ℕ → World → Doing
+putSplitting t onPath needed key value w =
+    choose (ltb (nodeLimit (w .state .blocks)) (w .state .nodes + needed)) (refused w) (answering Absent (readAndSplit t onPath key value w))
 
 abbrev pub tableAt : World → Table
 tableAt w = tableOf (w .pages) (w .rows) (w .state)
 
 unfoldable pub putIn : Table → Tariff → ℕ → ℕ → World → Doing
 putIn table t key value w =
-    let way = path mostSteps table key 0 in
+    let onPath = path mostSteps table key 0 in
     let leaf = leafFor mostSteps table key 0 in
     byFit (fitOf key (pairsOf (table leaf)))
-    (answering (valueOr Replaced (lookup key (pairsOf (table leaf)))) (editLeaf t way leaf key value w))
-    (putNew t way (idsNeeded table way) key value w)
+    (answering (valueOr Replaced (lookup key (pairsOf (table leaf)))) (readAndEdit t onPath leaf key value w))
+    (putSplitting t onPath (idsNeeded table onPath) key value w)
 
 abbrev pub put : Tariff → ℕ → ℕ → World → Doing
 put t key value w = putIn (tableAt w) t key value w

@@ -8,10 +8,10 @@ ghost use Rattle.flash_blocks.specs.Pages.{pagesOf};
 ghost use Rattle.tree.specs.Put.{idsNeeded};
 ghost use Rattle.tree_laws.specs.IdsNeeded.{sizeAt};
 ghost use Rattle.flash_read.specs.NodeTable.{tableOf, Readable};
-use flash_read::by_id::node_at;
 use flash_allocate::state::State;
+use flash_read::by_id::node_at;
 
-// The ids that a new key needs whose way of n nodes ends in a full leaf: "one id for each full node counted from that leaf upwards
+// The ids that a new key needs whose path of n nodes ends in a full leaf: "one id for each full node counted from that leaf upwards
 // without a gap, and one more if the root is among them".
 pub fn ids_needed<'a>(
     pool: &'a [u8],

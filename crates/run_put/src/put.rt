@@ -19,19 +19,19 @@ ghost use Rattle.run_put.specs.Put.{RequestsAs, DoneAs};
 use super::ids::ids_needed;
 use account::Tariff;
 use command::Answer;
+use flash_allocate::state::State;
 use node::ChangeValue;
 use node::Found;
 use node::NodeValue;
 use node::search::find;
 use node::search::pointer;
-use flash_allocate::state::State;
-use run_serve::request::Charged;
-use run_serve::request::serve_edit;
-use run_split::climb::climb;
-use run_split::fit::Fitting;
-use run_split::fit::fit;
 use run_path::path::path_to;
 use run_path::reads::serve_reads;
+use run_serve::request::Charged;
+use run_serve::request::serve_edit;
+use run_split::fit::Fitting;
+use run_split::fit::fit;
+use run_split::split_upwards::split_upwards;
 
 // A put that is done: the state after it, what was charged, and its answer.
 pub struct Done {
@@ -41,7 +41,7 @@ pub struct Done {
 }
 
 // The value that a put replaces, where there is one.
-fn old_value(v: NodeValue, key: u32) -> Answer
+fn replaced_answer(v: NodeValue, key: u32) -> Answer
     requires { ⌜ Held v ⌝ }
     ensures { λ r. ⌜ r ≡ valueOr Answer.Replaced (lookup key (pairsIn v)) ⌝ }
 {
@@ -55,8 +55,8 @@ fn old_value(v: NodeValue, key: u32) -> Answer
     }
 }
 
-// The reads of the way, then one edit of its leaf.
-fn edit_leaf(
+// The reads of the path, then one edit of its leaf.
+fn read_and_edit(
     pool: &mut [u8],
     table: &mut [u8],
     state: State,
@@ -67,7 +67,7 @@ fn edit_leaf(
     value: u32,
 ) -> Charged
     requires { ⌜ (Growing (length (now pool)) (length (now table)) state) × (Ranged tariff) × (1 ≤ n) × (n ≤ 9) ⌝ }
-    ensures { λ r. ⌜ RequestsAs (length (now (pool .exit))) (length (now (table .exit))) (pagesOf (now (pool .exit))) (rowsOf (now (table .exit))) r state (def.editLeaf tariff (take n ids) (def.lastOf n ids) key value (world (pagesOf (now (pool .entry))) (rowsOf (now (table .entry))) state)) ⌝ }
+    ensures { λ r. ⌜ RequestsAs (length (now (pool .exit))) (length (now (table .exit))) (pagesOf (now (pool .exit))) (rowsOf (now (table .exit))) r state (def.readAndEdit tariff (take n ids) (def.lastOf n ids) key value (world (pagesOf (now (pool .entry))) (rowsOf (now (table .entry))) state)) ⌝ }
 {
     let reads = serve_reads(pool, table, state, tariff, ids, n);
     let s = reads.state;
@@ -83,8 +83,8 @@ fn edit_leaf(
     }
 }
 
-// The reads of the way, then the splits.
-fn split_way(
+// The reads of the path, then the splits.
+fn read_and_split(
     pool: &mut [u8],
     table: &mut [u8],
     state: State,
@@ -95,11 +95,11 @@ fn split_way(
     value: u32,
 ) -> Charged
     requires { ⌜ (Growing (length (now pool)) (length (now table)) state) × (Ranged tariff) × (1 ≤ n) × (n ≤ 9) ⌝ }
-    ensures { λ r. ⌜ RequestsAs (length (now (pool .exit))) (length (now (table .exit))) (pagesOf (now (pool .exit))) (rowsOf (now (table .exit))) r state (def.splitWay tariff (take n ids) key value (world (pagesOf (now (pool .entry))) (rowsOf (now (table .entry))) state)) ⌝ }
+    ensures { λ r. ⌜ RequestsAs (length (now (pool .exit))) (length (now (table .exit))) (pagesOf (now (pool .exit))) (rowsOf (now (table .exit))) r state (def.readAndSplit tariff (take n ids) key value (world (pagesOf (now (pool .entry))) (rowsOf (now (table .entry))) state)) ⌝ }
 {
     let reads = serve_reads(pool, table, state, tariff, ids, n);
     let s = reads.state;
-    let split = climb(pool, table, s, tariff, ids, n, key, value);
+    let split = split_upwards(pool, table, s, tariff, ids, n, key, value);
     let t = split.state;
     Charged {
         state: t,
@@ -107,8 +107,8 @@ fn split_way(
     }
 }
 
-// A new key for a full leaf, at the end of a way of n nodes: refused, or put with the splits.
-fn put_new(
+// A new key for a full leaf, at the end of a path of n nodes: refused, or put with the splits.
+fn put_splitting(
     pool: &mut [u8],
     table: &mut [u8],
     state: State,
@@ -119,7 +119,7 @@ fn put_new(
     value: u32,
 ) -> Done
     requires { ⌜ (Growing (length (now pool)) (length (now table)) state) × (Ranged tariff) × (1 ≤ n) × (n ≤ 9) × (mostKeys ≤ sizeAt (tableOf (pagesOf (now pool)) (rowsOf (now table)) state) (def.lastOf n ids)) ⌝ }
-    ensures { λ r. ⌜ DoneAs (length (now (pool .exit))) (length (now (table .exit))) (pagesOf (now (pool .exit))) (rowsOf (now (table .exit))) r state (def.putNew tariff (take n ids) (idsNeeded (tableOf (pagesOf (now (pool .entry))) (rowsOf (now (table .entry))) state) (take n ids)) key value (world (pagesOf (now (pool .entry))) (rowsOf (now (table .entry))) state)) ⌝ }
+    ensures { λ r. ⌜ DoneAs (length (now (pool .exit))) (length (now (table .exit))) (pagesOf (now (pool .exit))) (rowsOf (now (table .exit))) r state (def.putSplitting tariff (take n ids) (idsNeeded (tableOf (pagesOf (now (pool .entry))) (rowsOf (now (table .entry))) state) (take n ids)) key value (world (pagesOf (now (pool .entry))) (rowsOf (now (table .entry))) state)) ⌝ }
 {
     let needed = ids_needed(pool, table, state, ids, n);
     if 10 * (state.blocks - 2) < state.nodes + needed {
@@ -130,7 +130,7 @@ fn put_new(
             answer,
         };
     }
-    let split = split_way(pool, table, state, tariff, ids, n, key, value);
+    let split = read_and_split(pool, table, state, tariff, ids, n, key, value);
     let s = split.state;
     let answer = Answer::Absent;
     Done {
@@ -159,8 +159,8 @@ pub fn put(
     let found = fit(leaf, key);
     match found {
         Fitting::Room => {
-            let answer = old_value(leaf, key);
-            let edited = edit_leaf(pool, table, state, tariff, ids, n, key, value);
+            let answer = replaced_answer(leaf, key);
+            let edited = read_and_edit(pool, table, state, tariff, ids, n, key, value);
             let s = edited.state;
             return Done {
                 state: s,
@@ -169,7 +169,7 @@ pub fn put(
             };
         }
         Fitting::Full(_) => {
-            return put_new(pool, table, state, tariff, ids, n, key, value);
+            return put_splitting(pool, table, state, tariff, ids, n, key, value);
         }
     }
 }

@@ -1,8 +1,8 @@
 pub mod Lists
 pub mod Moments
 pub mod Sizes
-pub mod Way
+pub mod Paths
 pub mod Turns
 pub mod Splits
-pub mod Climbs
+pub mod SplitsUpwards
 pub mod Puts

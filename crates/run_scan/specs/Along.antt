@@ -83,7 +83,7 @@ pub record Along (first : ℕ) (table : Table) (nodes low high most : ℕ) (keys
   pub valueRoom : length values ≡ mostPairs
   pub wanted : count < most
   pub pairs : listed count keys values ++ pairsFrom (nodes - visited) table low high (most - count) id ≡ pairsFrom nodes table low high most first
-  pub way : take visited leaves ++ leavesAfter (nodes - visited) table low high (most - count) id ≡ leavesAfter nodes table low high most first
+  pub onPath : take visited leaves ++ leavesAfter (nodes - visited) table low high (most - count) id ≡ leavesAfter nodes table low high most first
 
 pub along-start : (first : ℕ) (table : Table) (nodes low high most : ℕ) (keys values leaves : List ℕ) (leaf : NodeValue) → Becomes leaf (table first) →
     length leaves ≡ nodeLimit mostBlocks → length keys ≡ mostPairs → length values ≡ mostPairs → 0 < most →
@@ -98,7 +98,7 @@ along-start first table nodes low high most keys values leaves leaf b room k v l
       valueRoom = v;
       wanted = l;
       pairs = rw (sub-zero nodes, sub-zero most, listed-none keys values) refl;
-      way = rw (sub-zero nodes, sub-zero most) refl;
+      onPath = rw (sub-zero nodes, sub-zero most) refl;
     }
 
 module _ {first : ℕ} {table : Table} {nodes low high most : ℕ} {keys values : List ℕ} {count : ℕ} {leaves : List ℕ} {visited : ℕ} {leaf : NodeValue}
@@ -129,7 +129,7 @@ module _ {first : ℕ} {table : Table} {nodes low high most : ℕ} {keys values 
   result e f =
       record {
         pairs = all ∙ ap (λ (ps : List Pair). listed count keys values ++ ps) (sym e) ∙ a .pairs;
-        leaves = sym (append-nil (take visited leaves)) ∙ ap (λ (ns : List ℕ). take visited leaves ++ ns) (sym f) ∙ a .way;
+        leaves = sym (append-nil (take visited leaves)) ∙ ap (λ (ns : List ℕ). take visited leaves ++ ns) (sym f) ∙ a .onPath;
         sized = record { size = omega arith; keyRoom = keyRoom; valueRoom = valueRoom };
         wanted = few;
         few = a .links;
@@ -178,7 +178,7 @@ module _ {first : ℕ} {table : Table} {nodes low high most : ℕ} {keys values 
             ap₂ (λ (ps : List Pair) (n : ℕ). ps ++ pairsFrom (nodes - (visited + 1)) table low high n (linkOf (table (a .id)))) given-is left ∙
             ap (λ (n : ℕ). given ++ pairsFrom (nodes - (visited + 1)) table low high (most - count′) n) link)) ∙
             a .pairs;
-        way =
+        onPath =
             ap (λ (ns : List ℕ). ns ++ leavesAfter (nodes - (visited + 1)) table low high (most - count′) (leaf .link))
             (ap (λ (n : ℕ). take n (set leaves visited (leaf .link))) (add-one visited) ∙
             take-suc-set leaves visited (leaf .link) (omega (arith, a .links, a .room))) ∙
@@ -188,5 +188,5 @@ module _ {first : ℕ} {table : Table} {nodes low high most : ℕ} {keys values 
             (ap (λ (n : ℕ). leavesAfter n table low high (most - count) (a .id)) fuel ∙
             leaves-on table low high (most - count) (a .id) (at-leaf false e) (nodes - (visited + 1)) ∙
             ap₂ (λ (l n : ℕ). l ∷ leavesAfter (nodes - (visited + 1)) table low high n l) link left)) ∙
-            a .way;
+            a .onPath;
       }

@@ -17,7 +17,7 @@ use Rattle.flash_allocate.specs.World.{World, world, Good}
 use Rattle.flash_log.specs.Flush.{Kept}
 use Rattle.run_serve.specs.declared.request.Charged.{Charged}
 use Rattle.run_path.specs.declared.path.Path.{Path}
-use Rattle.run_path.specs.Path.{tableIn, wayTo, leafAt, PathTo}
+use Rattle.run_path.specs.Path.{tableIn, pathTo, leafAt, PathTo}
 use Rattle.run_path.specs.Reads.{readAll, readCharges, ReadAs}
 use Rattle.run_path.specs.Reading.{reads-then}
 use Rattle.run_scan.specs.declared.Pairs.{Pairs}
@@ -31,7 +31,7 @@ unfoldable pub scanReads : ℕ → ℕ → ℕ → World → List ℕ
 scanReads low high most w =
     elim (ltb high low) [
       | true ↦ []
-      | false ↦ wayTo low w ++ leavesAfter (w .state .nodes) (tableIn w) low high most (leafAt low w)
+      | false ↦ pathTo low w ++ leavesAfter (w .state .nodes) (tableIn w) low high most (leafAt low w)
     ]
 
 -- The pairs that it finds; "low above high: an empty list".
@@ -74,16 +74,16 @@ module _ (t : Tariff) (low high most : ℕ) (w : World) where
         count = f;
       }
 
-  -- the way read, then the leaves behind it
-  module _ {P T P′ T′ : ℕ} {pages pages′ : List (List ℕ)} {rows rows′ : List Row} {c d : Charged} {way : Path} {g : Gathered} where
-    pub scanned : low ≤ high → w .state .nodes ≤ nodeLimit mostBlocks → PathTo (tableIn w) low way → GatheredAs (tableIn w) (w .state .nodes) low high most g →
-        ReadAs P T pages rows c t (way .length) (take (way .length) (way .ids)) w →
+  -- the path read, then the leaves behind it
+  module _ {P T P′ T′ : ℕ} {pages pages′ : List (List ℕ)} {rows rows′ : List Row} {c d : Charged} {onPath : Path} {g : Gathered} where
+    pub scanned : low ≤ high → w .state .nodes ≤ nodeLimit mostBlocks → PathTo (tableIn w) low onPath → GatheredAs (tableIn w) (w .state .nodes) low high most g →
+        ReadAs P T pages rows c t (onPath .length) (take (onPath .length) (onPath .ids)) w →
         ReadAs P′ T′ pages′ rows′ d t (g .visited) (take (g .visited) (g .leaves)) (world pages rows (c .state)) →
         ScannedAs P′ T′ pages′ rows′ (record { state = d .state; charge = c .charge + d .charge; pairs = g .pairs }) t low high most w
     unfolding scanReads scanPairs
     scanned l limit found gathered down along =
         let all = reads-then down along in
-        let read : take (way .length) (way .ids) ++ take (g .visited) (g .leaves) ≡ scanReads low high most w =
+        let read : take (onPath .length) (onPath .ids) ++ take (g .visited) (g .leaves) ≡ scanReads low high most w =
         ap₂ (λ (ms ns : List ℕ). ms ++ ns) (found .ids) (gathered .leaves) ∙ sym (rw (le-ltb high low l, scanReads) refl) in
         record {
           kept =

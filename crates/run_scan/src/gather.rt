@@ -6,8 +6,8 @@ ghost use Rattle.flash_read.specs.NodeTable.{tableOf, Readable};
 ghost use Rattle.run_path.specs.Path.{PathTo};
 ghost use Rattle.run_scan.specs.Gathered.{GatheredAs};
 use super::Pairs;
-use flash_read::by_id::node_at;
 use flash_allocate::state::State;
+use flash_read::by_id::node_at;
 use run_path::path::Path;
 
 // The pairs, and the ids of the leaves behind the first, in order.
@@ -17,17 +17,17 @@ pub struct Gathered {
     pub visited: usize,
 }
 
-// From the leaf at the end of a way on; as many links are followed as there are nodes at most.
+// From the leaf at the end of a path on; as many links are followed as there are nodes at most.
 pub fn gather<'a>(
     pool: &'a [u8],
     table: &'a [u8],
     state: State,
-    way: Path,
+    path: Path,
     low: u32,
     high: u32,
     most: usize,
 ) -> Gathered
-    requires { ⌜ (Readable state (now table)) × (PathTo (tableOf (pagesOf (now pool)) (rowsOf (now table)) state) low way) × (low ≤ high) × (1 ≤ most) × (most ≤ 32) ⌝ }
+    requires { ⌜ (Readable state (now table)) × (PathTo (tableOf (pagesOf (now pool)) (rowsOf (now table)) state) low path) × (low ≤ high) × (1 ≤ most) × (most ≤ 32) ⌝ }
     ensures { λ r. ⌜ GatheredAs (tableOf (pagesOf (now (pool .entry))) (rowsOf (now (table .entry))) state) (state .nodes) low high most r ⌝ }
 {
     let mut keys = [0u32; 32];
@@ -35,7 +35,7 @@ pub fn gather<'a>(
     let mut count: usize = 0;
     let mut leaves = [0usize; 620];
     let mut visited: usize = 0;
-    let mut leaf = way.leaf;
+    let mut leaf = path.leaf;
     'leaves: loop {
         let leaf_keys = leaf.keys;
         let leaf_values = leaf.pointers;

@@ -47,10 +47,10 @@ pub fn scan(
             pairs,
         };
     }
-    let way = path_to(pool, table, state, low);
-    let found = gather(pool, table, state, way, low, high, most as usize);
-    let ids = way.ids;
-    let down = serve_reads(pool, table, state, tariff, ids, way.length);
+    let path = path_to(pool, table, state, low);
+    let found = gather(pool, table, state, path, low, high, most as usize);
+    let ids = path.ids;
+    let down = serve_reads(pool, table, state, tariff, ids, path.length);
     let s = down.state;
     let leaves = found.leaves;
     let visited = found.visited;

@@ -7,15 +7,15 @@ ghost use Rattle.node.specs.Value.{Becomes};
 ghost use Rattle.node.specs.Drafts.{changeOf};
 ghost use Rattle.flash_allocate.specs.World.{world};
 ghost use Rattle.run_serve.specs.Content.{contentOf, editedOf};
+use flash_allocate::state::State;
+use flash_read::by_id::node_in;
+use flash_read::content::content;
 use node::ChangeValue;
 use node::NodeValue;
-use flash_read::content::content;
 use node_replay::redo;
-use flash_read::by_id::node_in;
-use flash_allocate::state::State;
 
 // The content of node n.
-pub fn current<'a>(pool: &'a [u8], table: &'a [u8], state: State, n: usize) -> NodeValue
+pub fn content_of<'a>(pool: &'a [u8], table: &'a [u8], state: State, n: usize) -> NodeValue
     requires { ⌜ (state .entries ≤ 27) × (16 * n + 16 ≤ length (now table)) ⌝ }
     ensures { λ r. ⌜ Becomes r (contentOf n (world (pagesOf (now (pool .entry))) (rowsOf (now (table .entry))) state)) ⌝ }
 {
@@ -24,7 +24,7 @@ pub fn current<'a>(pool: &'a [u8], table: &'a [u8], state: State, n: usize) -> N
 }
 
 // The content of node n with one change more.
-pub fn edited<'a>(
+pub fn edited_content<'a>(
     pool: &'a [u8],
     table: &'a [u8],
     state: State,

@@ -8,15 +8,15 @@ ghost use Rattle.node.specs.Drafts.{changeOf};
 ghost use Rattle.store.specs.Serve as work;
 ghost use Rattle.flash_allocate.specs.World.{Good, world};
 ghost use Rattle.run_serve.specs.Serve.{ServedAs};
-use super::content::edited;
+use super::content::edited_content;
 use super::settle::settle;
 use super::write::write_edit;
 use super::write::write_whole;
 use account::Request;
 use account::Tariff;
+use flash_allocate::state::State;
 use node::ChangeValue;
 use node::NodeValue;
-use flash_allocate::state::State;
 
 // A request that was served: the state after it, and what was charged.
 pub struct Charged {
@@ -59,7 +59,7 @@ pub fn serve_edit(
     ensures { λ r. ⌜ ServedAs (length (now (pool .exit))) (length (now (table .exit))) (pagesOf (now (pool .exit))) (rowsOf (now (table .exit))) r tariff n (work.edit (changeOf change)) (world (pagesOf (now (pool .entry))) (rowsOf (now (table .entry))) state) ⌝ }
 {
     if n < state.nodes {
-        let new = edited(pool, table, state, n, change);
+        let new = edited_content(pool, table, state, n, change);
         let settled = settle(pool, table, state, tariff, n, Request::Edit);
         let mode = settled.mode;
         let s = settled.state;

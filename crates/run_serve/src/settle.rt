@@ -9,7 +9,7 @@ ghost use Rattle.flash_allocate.specs.World.{Good, world};
 ghost use Rattle.flash_log.specs.Flush.{Kept};
 ghost use Rattle.run_serve.specs.Settle as def;
 ghost use Rattle.run_serve.specs.Settle.{accountIn, sameMode, rescored, SettledAs};
-use super::content::current;
+use super::content::content_of;
 use super::write::write_whole;
 use account::Account;
 use account::Mode;
@@ -57,8 +57,8 @@ fn rescore(table: &mut [u8], n: usize, score: u32)
     requires { ⌜ 16 * n + 16 ≤ length (now table) ⌝ }
     ensures { λ _. ⌜ rowsOf (now (table .exit)) ≡ rescored n score (rowsOf (now (table .entry))) ⌝ }
 {
-    let row = flash_rows::load(table, n);
-    flash_rows::store(table, n, row.scored(score));
+    let row = flash_rows::read_row(table, n);
+    flash_rows::write_row(table, n, row.scored(score));
 }
 
 // A switch where the modes differ: the content that the node has, whole in the other mode.
@@ -69,7 +69,7 @@ fn switch(pool: &mut [u8], table: &mut [u8], state: State, n: usize, from: Mode,
     if same_mode(from, to) {
         return state;
     }
-    let old = current(pool, table, state, n);
+    let old = content_of(pool, table, state, n);
     write_whole(pool, table, state, n, to, old)
 }
 
@@ -85,7 +85,7 @@ pub fn settle(
     requires { ⌜ (Good (length (now pool)) (length (now table)) state) × (n < state .nodes) × (Ranged tariff) ⌝ }
     ensures { λ r. ⌜ SettledAs (length (now (pool .exit))) (length (now (table .exit))) (pagesOf (now (pool .exit))) (rowsOf (now (table .exit))) r tariff request n (world (pagesOf (now (pool .entry))) (rowsOf (now (table .entry))) state) ⌝ }
 {
-    let row = flash_rows::load(table, n);
+    let row = flash_rows::read_row(table, n);
     let account = account_in(row);
     let served = account.serve(tariff, request);
     let after = served.account;

@@ -9,12 +9,12 @@ ghost use Rattle.flash_allocate.specs.World.{Good, world};
 ghost use Rattle.flash_log.specs.Flush.{Kept};
 ghost use Rattle.run_serve.specs.Write.{writeWhole, writeEdit};
 use account::Mode;
-use node::ChangeValue;
-use node::NodeValue;
+use flash_allocate::state::State;
 use flash_write::edit::edit;
 use flash_write::group::group;
 use flash_write::node_page::node_page;
-use flash_allocate::state::State;
+use node::ChangeValue;
+use node::NodeValue;
 
 // The whole content: a group of entries in log mode, a page in disk mode.
 pub fn write_whole(

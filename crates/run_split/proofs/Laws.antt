@@ -11,7 +11,7 @@ use Rattle.laws.specs.Order.{le-or}
 use Rattle.layout.specs.Layout.{nodeLimit, mostKeys}
 use Rattle.account.specs.declared.Tariff.{Tariff}
 use Rattle.pairs.specs.Pairs.{insert}
-use Rattle.node.specs.declared.Kind.the-variants.{Branch}
+use Rattle.node.specs.declared.Shape.the-variants.{Branch}
 use Rattle.node.specs.declared.NodeValue.{NodeValue}
 use Rattle.node.specs.Node.{Node, node, pairsOf}
 use Rattle.node.specs.Change.{Change, put, link, change}
@@ -31,19 +31,19 @@ use Rattle.run_serve.specs.declared.request.Charged.{Charged}
 use Rattle.run_serve.specs.Serve.{serve, charge, ServedAs}
 use Rattle.run_split.specs.declared.Pending.{Pending}
 use Rattle.run_split.specs.declared.Pending.the-variants.{Nothing, Halves}
-use Rattle.run_split.specs.declared.Taken.{Taken}
+use Rattle.run_split.specs.declared.Absorbed.{Absorbed}
 use Rattle.run_split.specs.declared.fit.Fitting.{Fitting}
 use Rattle.run_split.specs.declared.fit.Fitting.the-variants.{Room, Full}
 use Rattle.run_split.specs.Fit.{fitOf, full-splits}
 use Rattle.run_split.specs.Growing.{Growing, growing-kept, Grew}
-use Rattle.run_split.specs.Taking.{Taking, taking-is, TakenAs}
+use Rattle.run_split.specs.Absorbing.{Absorbing, absorbing-is, AbsorbedAs}
 use Rattle.run_split.specs.Split.{grow, splitBelow, splitRoot, split}
-use Rattle.run_split.specs.Take.{nodeAt, takeEdit, takeEdits, takePair, renaming, takeHalves, take}
+use Rattle.run_split.specs.Absorb.{nodeAt, absorbEdit, absorbEdits, absorbPair, renaming, absorbHalves, absorb}
 
 -- A turn's result said otherwise.
-pub taken-is : {P T : ℕ} {pages : List (List ℕ)} {rows : List Row} {r : Taken} {s : State} {a b : Taking} → TakenAs P T pages rows r s a → a ≡ b →
-    TakenAs P T pages rows r s b
-taken-is k e = record { is = k .is ∙ e; growing = k .growing; blocks = k .blocks; most = k .most }
+pub absorbed-is : {P T : ℕ} {pages : List (List ℕ)} {rows : List Row} {r : Absorbed} {s : State} {a b : Absorbing} → AbsorbedAs P T pages rows r s a → a ≡ b →
+    AbsorbedAs P T pages rows r s b
+absorbed-is k e = record { is = k .is ∙ e; growing = k .growing; blocks = k .blocks; most = k .most }
 
 -- A node more, or none where the limit is reached.
 module _ {P T P₀ T₀ : ℕ} (x : Node) (w : World) (g : Growing P₀ T₀ (w .state)) where
@@ -52,7 +52,7 @@ module _ {P T P₀ T₀ : ℕ} (x : Node) (w : World) (g : Growing P₀ T₀ (w 
   grow-made made l k =
       record {
         is = k .is ∙ rw (lt-ltb (w .state .nodes) (nodeLimit (w .state .blocks)) l) refl;
-        growing = record { good = k .good; limited = omega (arith, k .nodes, k .blocks, l); noSheet = k .checkpoint ∙ g .noSheet };
+        growing = record { good = k .good; limited = omega (arith, k .nodes, k .blocks, l); noCheckpointPage = k .checkpoint ∙ g .noCheckpointPage };
         blocks = k .blocks;
       }
 
@@ -66,12 +66,12 @@ module _ (t : Tariff) (whole : Node) (w : World) where
       low ≡ lowerHalf whole (w .state .nodes) → high ≡ upperHalf whole → middle ≡ middleKey whole →
       (pages₁ : List (List ℕ)) (rows₁ : List Row) (r : Charged) → ServedAs P₁ T₁ pages₁ rows₁ r t id (rewrite low) w →
       (pages₂ : List (List ℕ)) (rows₂ : List Row) (s₂ : State) → Grew P T (r .state) (world pages₂ rows₂ s₂) (grow high (world pages₁ rows₁ (r .state))) →
-      TakenAs P T pages₂ rows₂ (record { state = s₂; charge = r .charge; pending = Halves middle id (w .state .nodes) }) (w .state) (splitBelow t id whole w)
+      AbsorbedAs P T pages₂ rows₂ (record { state = s₂; charge = r .charge; pending = Halves middle id (w .state .nodes) }) (w .state) (splitBelow t id whole w)
   unfolding splitBelow
   below-split id low high middle e f m pages₁ rows₁ r s pages₂ rows₂ s₂ k =
       record {
         is =
-            taking-is (k .is ∙ ap₂ grow f (s .kept .is ∙ ap (λ (x : Node). serve t id (rewrite x) w) e))
+            absorbing-is (k .is ∙ ap₂ grow f (s .kept .is ∙ ap (λ (x : Node). serve t id (rewrite x) w) e))
             (s .charge ∙ ap (λ (x : Node). charge t id (rewrite x) w) e) (ap (λ (z : ℕ). Halves z id (w .state .nodes)) m);
         growing = k .growing;
         blocks = k .blocks ∙ s .kept .blocks;
@@ -84,12 +84,12 @@ module _ (t : Tariff) (whole : Node) (w : World) where
       (w₁ : World) → Grew P₁ T₁ (w .state) w₁ (grow low w) →
       (w₂ : World) → Grew P₂ T₂ (w₁ .state) w₂ (grow high w₁) →
       (pages : List (List ℕ)) (rows : List Row) (r : Charged) → ServedAs P T pages rows r t 0 (rewrite top) w₂ →
-      TakenAs P T pages rows (record { state = r .state; charge = r .charge; pending = Nothing }) (w .state) (splitRoot t whole w)
+      AbsorbedAs P T pages rows (record { state = r .state; charge = r .charge; pending = Nothing }) (w .state) (splitRoot t whole w)
   unfolding splitRoot
   root-split low high middle top e f m g w₁ k w₂ l pages rows r s =
       record {
         is =
-            taking-is (s .kept .is ∙ ap₂ (λ (x : Node) (z : World). serve t 0 (rewrite x) z) top-is grown-is)
+            absorbing-is (s .kept .is ∙ ap₂ (λ (x : Node) (z : World). serve t 0 (rewrite x) z) top-is grown-is)
             (s .charge ∙ ap₂ (λ (x : Node) (z : World). charge t 0 (rewrite x) z) top-is grown-is) refl;
         growing = growing-kept (l .growing) (s .kept);
         blocks = s .kept .blocks ∙ l .blocks ∙ k .blocks;
@@ -113,20 +113,20 @@ module _ (t : Tariff) (whole : Node) (w : World) where
 -- The edits.
 module _ {P₀ T₀ : ℕ} (t : Tariff) (id : ℕ) (w : World) (g : Growing P₀ T₀ (w .state)) where
   pub one-edit : {P T : ℕ} (c : Change) (pages : List (List ℕ)) (rows : List Row) (r : Charged) → ServedAs P T pages rows r t id (edit c) w →
-      TakenAs P T pages rows (record { state = r .state; charge = r .charge; pending = Nothing }) (w .state) (takeEdit t id c w)
-  unfolding takeEdit
+      AbsorbedAs P T pages rows (record { state = r .state; charge = r .charge; pending = Nothing }) (w .state) (absorbEdit t id c w)
+  unfolding absorbEdit
   one-edit c pages rows r s =
-      record { is = taking-is (s .kept .is) (s .charge) refl; growing = growing-kept g (s .kept); blocks = s .kept .blocks; most = omega (arith, s .most) }
+      record { is = absorbing-is (s .kept .is) (s .charge) refl; growing = growing-kept g (s .kept); blocks = s .kept .blocks; most = omega (arith, s .most) }
 
   pub two-edits : {P T P₁ T₁ : ℕ} (first second : Change) (pages₁ : List (List ℕ)) (rows₁ : List Row) (one : Charged) →
       ServedAs P₁ T₁ pages₁ rows₁ one t id (edit first) w →
       (pages : List (List ℕ)) (rows : List Row) (two : Charged) → ServedAs P T pages rows two t id (edit second) (world pages₁ rows₁ (one .state)) →
-      TakenAs P T pages rows (record { state = two .state; charge = one .charge + two .charge; pending = Nothing }) (w .state) (takeEdits t id first second w)
-  unfolding takeEdits
+      AbsorbedAs P T pages rows (record { state = two .state; charge = one .charge + two .charge; pending = Nothing }) (w .state) (absorbEdits t id first second w)
+  unfolding absorbEdits
   two-edits first second pages₁ rows₁ one s pages rows two s′ =
       record {
         is =
-            taking-is (s′ .kept .is ∙ ap (λ (z : World). serve t id (edit second) z) (s .kept .is))
+            absorbing-is (s′ .kept .is ∙ ap (λ (z : World). serve t id (edit second) z) (s .kept .is))
             (ap₂ _+_ (s .charge) (s′ .charge ∙ ap (λ (z : World). charge t id (edit second) z) (s .kept .is))) refl;
         growing = growing-kept (growing-kept g (s .kept)) (s′ .kept);
         blocks = s′ .kept .blocks ∙ s .kept .blocks;
@@ -149,13 +149,13 @@ module _ (t : Tariff) (root : Bool) (id key value : ℕ) (w : World) (v : NodeVa
   fit-is : fitOf key (pairsOf (nodeAt id w)) ≡ f
   fit-is = ap (λ (n : Node). fitOf key (pairsOf n)) (sym is) ∙ sym e
 
-  pub pair-fits : f ≡ Room → takeEdit t id (put key value) w ≡ takePair t root id key value w
-  unfolding takePair
+  pub pair-fits : f ≡ Room → absorbEdit t id (put key value) w ≡ absorbPair t root id key value w
+  unfolding absorbPair
   pair-fits r = rw (fit-is ∙ r) refl
 
   module _ (at : ℕ) (r : f ≡ Full at) where
-    pub pair-splits : split t root id (change (put key value) (nodeOf v)) w ≡ takePair t root id key value w
-    unfolding takePair
+    pub pair-splits : split t root id (change (put key value) (nodeOf v)) w ≡ absorbPair t root id key value w
+    unfolding absorbPair
     pair-splits = rw (fit-is ∙ r) (ap (λ (n : Node). split t root id (change (put key value) n) w) is)
 
     pub pair-full : Held v → Splits v at key
@@ -183,15 +183,15 @@ module _ (t : Tariff) (root : Bool) (id wanted middle left right : ℕ) (w : Wor
   halves-fit = ap (λ (n : Node). fitOf middle (pairsOf n)) (sym renamed-is) ∙ sym e
 
   pub halves-fits : f ≡ Room → (second : Change) → second ≡ repoint child right (nodeOf v) →
-      takeEdits t id (put middle left) second w ≡ takeHalves t root id wanted middle left right w
-  unfolding takeHalves
+      absorbEdits t id (put middle left) second w ≡ absorbHalves t root id wanted middle left right w
+  unfolding absorbHalves
   halves-fits r second s =
       let same : second ≡ renaming wanted right (nodeAt id w) = s ∙ ap (λ (i : ℕ). repoint i right (nodeOf v)) c ∙ ap (renaming wanted right) is in
-      rw (halves-fit ∙ r) (ap (λ (d : Change). takeEdits t id (put middle left) d w) same)
+      rw (halves-fit ∙ r) (ap (λ (d : Change). absorbEdits t id (put middle left) d w) same)
 
   module _ (at : ℕ) (r : f ≡ Full at) where
-    pub halves-split : split t root id (change (put middle left) (nodeOf u)) w ≡ takeHalves t root id wanted middle left right w
-    unfolding takeHalves
+    pub halves-split : split t root id (change (put middle left) (nodeOf u)) w ≡ absorbHalves t root id wanted middle left right w
+    unfolding absorbHalves
     halves-split = rw (halves-fit ∙ r) (ap (λ (n : Node). split t root id (change (put middle left) n) w) renamed-is)
 
     pub halves-full : Held u → Splits u at middle
@@ -205,12 +205,12 @@ module _ (t : Tariff) (root : Bool) (id wanted middle left right : ℕ) (w : Wor
         (ap pairsOf (renamed-is ∙ ap renamedIn (tableOf-out (w .pages) (w .rows) (w .state) id l)) ∙ none-renamed wanted right))
 
 -- What is pending, known.
-pub take-nothing : {P T : ℕ} (t : Tariff) (wanted : ℕ) (root : Bool) (id : ℕ) (p : Pending) (w : World) → p ≡ Nothing → Growing P T (w .state) →
-    TakenAs P T (w .pages) (w .rows) (record { state = w .state; charge = 0; pending = p }) (w .state) (take t wanted root id p w)
-take-nothing t wanted root id p w e g = rw e (record { is = refl; growing = g; blocks = refl; most = omega arith })
+pub absorb-nothing : {P T : ℕ} (t : Tariff) (wanted : ℕ) (root : Bool) (id : ℕ) (p : Pending) (w : World) → p ≡ Nothing → Growing P T (w .state) →
+    AbsorbedAs P T (w .pages) (w .rows) (record { state = w .state; charge = 0; pending = p }) (w .state) (absorb t wanted root id p w)
+absorb-nothing t wanted root id p w e g = rw e (record { is = refl; growing = g; blocks = refl; most = omega arith })
 
-pub take-known : (t : Tariff) (wanted : ℕ) (root : Bool) (id : ℕ) (p q : Pending) (w : World) → p ≡ q → take t wanted root id q w ≡ take t wanted root id p w
-take-known t wanted root id p q w e = ap (λ (z : Pending). take t wanted root id z w) (sym e)
+pub absorb-known : (t : Tariff) (wanted : ℕ) (root : Bool) (id : ℕ) (p q : Pending) (w : World) → p ≡ q → absorb t wanted root id q w ≡ absorb t wanted root id p w
+absorb-known t wanted root id p q w e = ap (λ (z : Pending). absorb t wanted root id z w) (sym e)
 
 -- One pair in an empty branch.
 pub put-room : (v : NodeValue) (k p to : ℕ) → nodeOf v ≡ node Branch [] to → length (insert k p (pairsIn v)) ≤ mostKeys
@@ -228,6 +228,6 @@ module _ (v : NodeValue) (s : Sized v) (at to : ℕ) where
   rename-key k l e =
       rw (lt-ltb at (length (pairsIn v)) (omega (arith, length-pairsIn v s)), repoint) (ap (λ (z : ℕ). put z to) e)
 
-  pub rename-link : v .count ≤ at → link (v .kind) to ≡ repoint at to (nodeOf v)
+  pub rename-link : v .count ≤ at → link (v .shape) to ≡ repoint at to (nodeOf v)
   unfolding repoint
   rename-link l = rw (le-ltb at (length (pairsIn v)) (omega (arith, length-pairsIn v s)), repoint) refl

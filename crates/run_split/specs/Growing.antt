@@ -14,7 +14,7 @@ use Rattle.flash_read.specs.NodeTable.{Readable}
 pub record Growing (poolLength tableLength : ℕ) (s : State) : Type 0 where
   pub good : Good poolLength tableLength s
   pub limited : s .nodes ≤ nodeLimit (s .blocks)
-  pub noSheet : s .checkpoint ≡ 0
+  pub noCheckpointPage : s .checkpoint ≡ 0
 
 -- A step's result: the world asked for, with the same blocks.
 pub record Grew (poolLength tableLength : ℕ) (before : State) (made right : World) : Type 0 where
@@ -25,7 +25,7 @@ pub record Grew (poolLength tableLength : ℕ) (before : State) (made right : Wo
 -- Requests of nodes that are there keep it.
 pub growing-kept : {P T P₀ T₀ : ℕ} {s : State} {made right : World} → Growing P₀ T₀ s → Kept P T s made right → Growing P T (made .state)
 growing-kept g k =
-    record { good = k .good; limited = omega (arith, g .limited, k .nodes, k .blocks); noSheet = k .checkpoint ∙ g .noSheet }
+    record { good = k .good; limited = omega (arith, g .limited, k .nodes, k .blocks); noCheckpointPage = k .checkpoint ∙ g .noCheckpointPage }
 
 pub readable : {P : ℕ} {s : State} {table : List ℕ} → Growing P (length table) s → Readable s table
 readable g =

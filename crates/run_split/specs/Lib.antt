@@ -1,7 +1,7 @@
 pub mod Fit
 pub mod Growing
-pub mod Taking
+pub mod Absorbing
 pub mod Split
-pub mod Take
-pub mod Climb
-pub mod Climbing
+pub mod Absorb
+pub mod SplitUpwards
+pub mod SplittingUpwards

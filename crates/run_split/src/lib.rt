@@ -1,8 +1,8 @@
 // A pair put into a leaf, and the splits that it makes, from the leaf upwards.
-pub mod climb;
+pub mod absorb;
 pub mod fit;
 pub mod split;
-pub mod take;
+pub mod split_upwards;
 
 use flash_allocate::state::State;
 
@@ -14,7 +14,7 @@ pub enum Pending {
 }
 
 // After a node took its edits: the state, what they were charged, and what the node above has still to take.
-pub struct Taken {
+pub struct Absorbed {
     pub state: State,
     pub charge: u64,
     pub pending: Pending,

@@ -5,27 +5,27 @@ ghost use lib.ListN.{length};
 ghost use Rattle.account.specs.Range.{Ranged};
 ghost use Rattle.flash_rows.specs.Row.{rowsOf};
 ghost use Rattle.flash_blocks.specs.Pages.{pagesOf};
-ghost use Rattle.node.specs.declared.Kind.the-variants.{Branch};
+ghost use Rattle.node.specs.declared.Shape.the-variants.{Branch};
 ghost use Rattle.node.specs.Node.{node};
 ghost use Rattle.node.specs.Change.{change, put};
 ghost use Rattle.node.specs.Value.{nodeOf, Sized, Becomes};
 ghost use Rattle.node_split.specs.Split.{Splits};
 ghost use Rattle.flash_allocate.specs.World.{world};
 ghost use Rattle.run_split.specs.Growing.{Growing, Grew};
-ghost use Rattle.run_split.specs.Taking.{TakenAs};
+ghost use Rattle.run_split.specs.Absorbing.{AbsorbedAs};
 ghost use Rattle.run_split.specs.Split as def;
+use super::Absorbed;
 use super::Pending;
-use super::Taken;
 use account::Tariff;
-use node::Kind;
+use flash_allocate::state::State;
+use flash_write::group::create;
 use node::NodeValue;
+use node::Shape;
 use node::edit::put;
-use node_replay::empty;
+use node_replay::empty_node;
 use node_split::lower;
 use node_split::middle;
 use node_split::upper;
-use flash_write::group::create;
-use flash_allocate::state::State;
 use run_serve::request::serve_rewrite;
 
 // A node more, where the limit leaves an id for it.
@@ -43,7 +43,7 @@ fn grow(pool: &mut [u8], table: &mut [u8], state: State, v: NodeValue) -> State
 fn root_above(middle: u32, left: u32, right: u32) -> NodeValue
     ensures { λ r. ⌜ Becomes r (node Branch ((middle, left) ∷ []) right) ⌝ }
 {
-    let v = empty(Kind::Branch, right);
+    let v = empty_node(Shape::Branch, right);
     put(v, middle, left)
 }
 
@@ -58,9 +58,9 @@ fn split_below(
     at: usize,
     key: u32,
     pointer: u32,
-) -> Taken
+) -> Absorbed
     requires { ⌜ (Growing (length (now pool)) (length (now table)) state) × (Ranged tariff) × (id < state .nodes) × (Splits v at key) ⌝ }
-    ensures { λ r. ⌜ TakenAs (length (now (pool .exit))) (length (now (table .exit))) (pagesOf (now (pool .exit))) (rowsOf (now (table .exit))) r state (def.splitBelow tariff id (change (put key pointer) (nodeOf v)) (world (pagesOf (now (pool .entry))) (rowsOf (now (table .entry))) state)) ⌝ }
+    ensures { λ r. ⌜ AbsorbedAs (length (now (pool .exit))) (length (now (table .exit))) (pagesOf (now (pool .exit))) (rowsOf (now (table .exit))) r state (def.splitBelow tariff id (change (put key pointer) (nodeOf v)) (world (pagesOf (now (pool .entry))) (rowsOf (now (table .entry))) state)) ⌝ }
 {
     let next = state.nodes as u32;
     let left = id as u32;
@@ -75,7 +75,7 @@ fn split_below(
         left,
         right: next,
     };
-    Taken {
+    Absorbed {
         state: grown,
         charge: rewritten.charge,
         pending,
@@ -92,9 +92,9 @@ fn split_root(
     at: usize,
     key: u32,
     pointer: u32,
-) -> Taken
+) -> Absorbed
     requires { ⌜ (Growing (length (now pool)) (length (now table)) state) × (Ranged tariff) × (Splits v at key) ⌝ }
-    ensures { λ r. ⌜ TakenAs (length (now (pool .exit))) (length (now (table .exit))) (pagesOf (now (pool .exit))) (rowsOf (now (table .exit))) r state (def.splitRoot tariff (change (put key pointer) (nodeOf v)) (world (pagesOf (now (pool .entry))) (rowsOf (now (table .entry))) state)) ⌝ }
+    ensures { λ r. ⌜ AbsorbedAs (length (now (pool .exit))) (length (now (table .exit))) (pagesOf (now (pool .exit))) (rowsOf (now (table .exit))) r state (def.splitRoot tariff (change (put key pointer) (nodeOf v)) (world (pagesOf (now (pool .entry))) (rowsOf (now (table .entry))) state)) ⌝ }
 {
     let left = state.nodes as u32;
     let right = left + 1;
@@ -107,7 +107,7 @@ fn split_root(
     let rewritten = serve_rewrite(pool, table, grown, tariff, 0, top);
     let t = rewritten.state;
     let pending = Pending::Nothing;
-    Taken {
+    Absorbed {
         state: t,
         charge: rewritten.charge,
         pending,
@@ -126,9 +126,9 @@ pub fn split(
     at: usize,
     key: u32,
     pointer: u32,
-) -> Taken
+) -> Absorbed
     requires { ⌜ (Growing (length (now pool)) (length (now table)) state) × (Ranged tariff) × (id < state .nodes) × (Splits v at key) ⌝ }
-    ensures { λ r. ⌜ TakenAs (length (now (pool .exit))) (length (now (table .exit))) (pagesOf (now (pool .exit))) (rowsOf (now (table .exit))) r state (def.split tariff root id (change (put key pointer) (nodeOf v)) (world (pagesOf (now (pool .entry))) (rowsOf (now (table .entry))) state)) ⌝ }
+    ensures { λ r. ⌜ AbsorbedAs (length (now (pool .exit))) (length (now (table .exit))) (pagesOf (now (pool .exit))) (rowsOf (now (table .exit))) r state (def.split tariff root id (change (put key pointer) (nodeOf v)) (world (pagesOf (now (pool .entry))) (rowsOf (now (table .entry))) state)) ⌝ }
 {
     if root {
         return split_root(pool, table, state, tariff, v, at, key, pointer);

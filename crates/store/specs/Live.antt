@@ -18,8 +18,8 @@ live w closing zero p = closing p
 live w closing (suc n) p = carries w n p || live w closing n p
 
 -- No checkpoint is being written.
-abbrev pub noClosing : Page → Bool
-noClosing p = false
+abbrev pub noCheckpoint : Page → Bool
+noCheckpoint p = false
 
 abbrev pub isCheckpoint : Page → Bool
 isCheckpoint (page s (log es)) = false
@@ -27,5 +27,5 @@ isCheckpoint (page s (whole n x)) = false
 isCheckpoint (page s (checkpoint t scores count)) = true
 
 -- The checkpoint being written: its pages have the numbers above the last one taken before it. Older checkpoints are dead.
-unfoldable pub closingSince : ℕ → Page → Bool
-closingSince s p = isCheckpoint p && above s p
+unfoldable pub checkpointSince : ℕ → Page → Bool
+checkpointSince s p = isCheckpoint p && above s p

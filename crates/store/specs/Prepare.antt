@@ -5,7 +5,7 @@ use Prim.Native.Nat.{ℕ, _-_}
 use lib.ListN.{replicate}
 use Rattle.account.specs.declared.Tariff.{Tariff}
 use Rattle.layout.specs.Layout.{noLeaf}
-use Rattle.node.specs.declared.Kind.the-variants.{Leaf}
+use Rattle.node.specs.declared.Shape.the-variants.{Leaf}
 use Rattle.node.specs.Node.{Node, node}
 use Rattle.node.specs.Change.{link}
 use Rattle.page.specs.Page.{Page, page, log, checkpoint}

@@ -12,7 +12,7 @@ use Rattle.node.specs.Change.{Change, changesOf}
 use Rattle.page.specs.Page.{Entry, Content, Page, log, whole}
 use Rattle.store.specs.View.{pages}
 use Rattle.store.specs.Pool.{block}
-use Rattle.store.specs.Live.{live, noClosing}
+use Rattle.store.specs.Live.{live, noCheckpoint}
 use Rattle.store.specs.Allocate.{blanks, nextBlank, victim}
 use Rattle.store.specs.Store.{Store, view}
 use Rattle.store.specs.Write.{place, enter, start}
@@ -71,7 +71,7 @@ write closing c rest run =
 
 -- The buffer is written out.
 abbrev pub flushRun : Run → Run
-flushRun run = write noClosing (log (run .now .buffer)) [] run
+flushRun run = write noCheckpoint (log (run .now .buffer)) [] run
 
 abbrev pub roomBy : Bool → Run → Run
 roomBy true run = run
@@ -102,4 +102,4 @@ writeEdit n c x run =
 
 -- A node page.
 abbrev pub writeNode : ℕ → Node → Run → Run
-writeNode n x run = write noClosing (whole n x) (run .now .buffer) run
+writeNode n x run = write noCheckpoint (whole n x) (run .now .buffer) run

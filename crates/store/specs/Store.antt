@@ -4,7 +4,7 @@ use mathlib.Core.Option.{Option, none, some}
 use Prim.Native.Nat.{ℕ}
 use Rattle.account.specs.declared.Mode.{Mode}
 use Rattle.account.specs.declared.Mode.the-variants.{Log, Disk}
-use Rattle.node.specs.declared.Kind.the-variants.{Branch}
+use Rattle.node.specs.declared.Shape.the-variants.{Branch}
 use Rattle.node.specs.Node.{Node, node}
 use Rattle.node.specs.Replay.{Draft, unlinked, made, broken, replay}
 use Rattle.page.specs.Page.{Entry, Page, page, log, whole, checkpoint}

@@ -9,7 +9,7 @@ use Rattle.account.specs.declared.Mode.the-variants.{Log, Disk}
 use Rattle.account.specs.declared.Tariff.{Tariff}
 use Rattle.layout.specs.Layout.{noLeaf}
 use Rattle.pairs.specs.Pairs as Pairs
-use Rattle.node.specs.declared.Kind.the-variants.{Leaf, Branch}
+use Rattle.node.specs.declared.Shape.the-variants.{Leaf, Branch}
 use Rattle.node.specs.Node.{node}
 use Rattle.node.specs.Change.{put, link}
 use Rattle.node.specs.Replay.{redo, redoPiece, replayFrom, replay}
@@ -17,12 +17,12 @@ use Rattle.page.specs.Page.{Page, page, log, whole, checkpoint}
 use Rattle.store.specs.View.{greatest, pieces, pages}
 use Rattle.store.specs.Pool.{block, above}
 use Rattle.store.specs.Store.{Store, view, draftOf, nodeOf, modeOf}
-use Rattle.store.specs.Live.{carries, closingSince}
+use Rattle.store.specs.Live.{carries, checkpointSince}
 use Rattle.store.specs.Allocate.{spot}
 use Rattle.store.specs.Write.{found, place, enter, start}
 use Rattle.store.specs.Run.{Run, written, write, flushRun, makeRoom, writeGroup, writeEdit}
 use Rattle.store.specs.Serve.{read, edit, rewrite, serve, create}
-use Rattle.store.specs.Checkpoint.{scoresFrom, sheets, close, collect, checkpointOf, scoresIn}
+use Rattle.store.specs.Checkpoint.{scoresFrom, checkpointPages, close, collect, checkpointOf, scoresIn}
 use Rattle.store.specs.Reopen.{cellsIn, poolOf, pagesPass, blocksPass}
 use Rattle.store.specs.Prepare.{prepared, preparedRun}
 
@@ -129,7 +129,7 @@ pub record Ran : Type 0 where
   pub order : nodeOf foreign 0 ≡ node Leaf ((7, 2) ∷ []) noLeaf
 
 pub ran : Ran
-unfolding prepared preparedRun above greatest pages pieces draftOf nodeOf modeOf carries closingSince spot found place enter start written write makeRoom writeGroup writeEdit serve create sheets close collect checkpointOf cellsIn blocksPass pagesPass Pairs.insert redo redoPiece replayFrom replay
+unfolding prepared preparedRun above greatest pages pieces draftOf nodeOf modeOf carries checkpointSince spot found place enter start written write makeRoom writeGroup writeEdit serve create checkpointPages close collect checkpointOf cellsIn blocksPass pagesPass Pairs.insert redo redoPiece replayFrom replay
 ran =
     record {
       three = refl;

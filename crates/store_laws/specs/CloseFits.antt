@@ -16,25 +16,25 @@ use Rattle.account.specs.declared.Tariff.{Tariff}
 use Rattle.account.specs.Range.{Bounded, Ranged}
 use Rattle.page.specs.Page.{Entry, Score, Page}
 use Rattle.page.specs.Limits.{bound16, CostsFit, TariffFits, ScoreFits, Filled, CheckpointFits}
-use Rattle.store.specs.Live.{closingSince}
+use Rattle.store.specs.Live.{checkpointSince}
 use Rattle.store.specs.Write.{place}
 use Rattle.store.specs.Run.{Run, write}
 use Rattle.store.specs.Checkpoint.{
-  Sheet,
-  sheet,
-  sheetContent,
+  CheckpointPage,
+  checkpointPage,
+  checkpointPageContent,
   scoresFrom,
   parts,
   countIfLast,
-  laterSheets,
+  laterCheckpointPages,
   laterParts,
-  sheets,
+  checkpointPages,
   drainBy,
   drain,
-  writeSheets,
+  writeCheckpointPages,
   close,
 }
-use Rattle.store_laws.specs.SheetLaws.{sheets-few, length-scoresFrom}
+use Rattle.store_laws.specs.CheckpointPageLaws.{checkpoint-pages-few, length-scoresFrom}
 use Rattle.store_laws.specs.Numbers.{last, write-last}
 use Rattle.store_laws.specs.StoreFits.{RunFits, later-entries, write-fits}
 use Rattle.store_laws.specs.WriteFits.{flushRun-fits}
@@ -73,15 +73,15 @@ module _ (width most width′ n : ℕ) (few : n < bound16) where
       go (y ∷ ys) e (inr l) = omega (arith, length-take width xs)
 
 -- A checkpoint page within its limits.
-abbrev pub SheetFits : Sheet → Type 0
-SheetFits x = CheckpointFits (x .tariff) (x .scores) (x .count)
+abbrev pub CheckpointPageFits : CheckpointPage → Type 0
+CheckpointPageFits x = CheckpointFits (x .tariff) (x .scores) (x .count)
 
-laterSheets-fit : (most n : ℕ) → n < bound16 → (xs : List Score) → Every ScoreFits xs →
-    Every SheetFits (laterSheets n (parts most otherScores xs))
-laterSheets-fit zero n few xs e = none
-laterSheets-fit (suc most) n few [] e = none
-laterSheets-fit (suc most) n few (x ∷ xs) e =
-    both {x = sheet none (take otherScores (x ∷ xs)) (countIfLast n (parts most otherScores (drop otherScores (x ∷ xs))))}
+laterCheckpointPages-fit : (most n : ℕ) → n < bound16 → (xs : List Score) → Every ScoreFits xs →
+    Every CheckpointPageFits (laterCheckpointPages n (parts most otherScores xs))
+laterCheckpointPages-fit zero n few xs e = none
+laterCheckpointPages-fit (suc most) n few [] e = none
+laterCheckpointPages-fit (suc most) n few (x ∷ xs) e =
+    both {x = checkpointPage none (take otherScores (x ∷ xs)) (countIfLast n (parts most otherScores (drop otherScores (x ∷ xs))))}
     (record {
       tariff = tt;
       some = omega (arith, length-take otherScores (x ∷ xs));
@@ -89,13 +89,13 @@ laterSheets-fit (suc most) n few (x ∷ xs) e =
       scores = every-take otherScores (x ∷ xs) e;
       filled = filled otherScores most otherScores n few (x ∷ xs);
     })
-    (laterSheets-fit most n few (drop otherScores (x ∷ xs)) (every-drop otherScores (x ∷ xs) e))
+    (laterCheckpointPages-fit most n few (drop otherScores (x ∷ xs)) (every-drop otherScores (x ∷ xs) e))
 
-pub sheets-fit : (t : Tariff) → TariffFits t → (scores : List Score) → Every ScoreFits scores → 1 ≤ length scores → length scores < bound16 →
-    Every SheetFits (sheets t scores)
-unfolding sheets
-sheets-fit t f scores e least few =
-    both {x = sheet (some t) (take firstScores scores) (countIfLast (length scores) (laterParts scores))}
+pub checkpoint-pages-fit : (t : Tariff) → TariffFits t → (scores : List Score) → Every ScoreFits scores → 1 ≤ length scores → length scores < bound16 →
+    Every CheckpointPageFits (checkpointPages t scores)
+unfolding checkpointPages
+checkpoint-pages-fit t f scores e least few =
+    both {x = checkpointPage (some t) (take firstScores scores) (countIfLast (length scores) (laterParts scores))}
     (record {
       tariff = f;
       some = omega (arith, length-take firstScores scores);
@@ -103,17 +103,17 @@ sheets-fit t f scores e least few =
       scores = every-take firstScores scores e;
       filled = filled firstScores (length scores) otherScores (length scores) few scores;
     })
-    (laterSheets-fit (length scores) (length scores) few (drop firstScores scores) (every-drop firstScores scores e))
+    (laterCheckpointPages-fit (length scores) (length scores) few (drop firstScores scores) (every-drop firstScores scores e))
 
--- The sheets are written one after another.
-pub writeSheets-fits : (closing : Page → Bool) (xs : List Sheet) {run : Run} → RunFits run → Every SheetFits xs → length xs + last run < bound32 →
-    RunFits (writeSheets closing xs run)
-writeSheets-fits closing [] h none b = h
-writeSheets-fits closing (x ∷ xs) {run} h (both f e) b =
-    writeSheets-fits closing xs
-    (write-fits h closing (sheetContent x) (run .now .buffer) (record { from = omega arith; below = omega arith; content = f })
+-- The checkpoint pages are written one after another.
+pub writeCheckpointPages-fits : (closing : Page → Bool) (xs : List CheckpointPage) {run : Run} → RunFits run → Every CheckpointPageFits xs → length xs + last run < bound32 →
+    RunFits (writeCheckpointPages closing xs run)
+writeCheckpointPages-fits closing [] h none b = h
+writeCheckpointPages-fits closing (x ∷ xs) {run} h (both f e) b =
+    writeCheckpointPages-fits closing xs
+    (write-fits h closing (checkpointPageContent x) (run .now .buffer) (record { from = omega arith; below = omega arith; content = f })
     (later-entries (omega arith) (h .now .entries)) (h .now .few))
-    e (omega (arith, write-last closing (sheetContent x) (run .now .buffer) run))
+    e (omega (arith, write-last closing (checkpointPageContent x) (run .now .buffer) run))
 
 -- The buffer's page first, if it holds anything.
 pub record Drained (run run′ : Run) : Type 0 where
@@ -136,7 +136,7 @@ close-fits {run} h t r score low least few b =
     let scores = scoresFrom 0 (run .nodes) score in
     let k = length-scoresFrom 0 (run .nodes) score in
     let d = drain-fits h (omega arith) in
-    writeSheets-fits (closingSince (last (drain run))) (sheets t scores) (d .fits)
-    (sheets-fit t (tariff-fits t r) scores (scoresFrom-fit 0 (run .nodes) score (omega arith) (λ n l. low n (omega arith))) (omega arith)
+    writeCheckpointPages-fits (checkpointSince (last (drain run))) (checkpointPages t scores) (d .fits)
+    (checkpoint-pages-fit t (tariff-fits t r) scores (scoresFrom-fit 0 (run .nodes) score (omega arith) (λ n l. low n (omega arith))) (omega arith)
     (omega arith))
-    (omega (arith, d .number, sheets-few t scores (omega arith)))
+    (omega (arith, d .number, checkpoint-pages-few t scores (omega arith)))

@@ -20,21 +20,21 @@ use Rattle.node.specs.Node.{Node}
 use Rattle.page.specs.Page.{Entry, Score, Page, page}
 use Rattle.store.specs.Pool.{Blocks, numbered, above, find}
 use Rattle.store.specs.Store.{Store, view}
-use Rattle.store.specs.Live.{noClosing, isCheckpoint, closingSince}
+use Rattle.store.specs.Live.{noCheckpoint, isCheckpoint, checkpointSince}
 use Rattle.store.specs.Write.{next, place}
 use Rattle.store.specs.Run.{Run, moment, write}
 use Rattle.store.specs.Checkpoint.{
-  Sheet,
-  sheet,
-  sheetContent,
+  CheckpointPage,
+  checkpointPage,
+  checkpointPageContent,
   scoresFrom,
   countIfLast,
-  laterSheets,
+  laterCheckpointPages,
   laterParts,
-  sheets,
+  checkpointPages,
   drainBy,
   drain,
-  writeSheets,
+  writeCheckpointPages,
   close,
   collect,
   checkpointOf,
@@ -47,7 +47,7 @@ use Rattle.store.specs.Checkpoint.{
 use Rattle.store.specs.Reopen.{reopened, poolOf, pagesPass}
 use Rattle.store_laws.specs.LiveLaws.{live-closing}
 use Rattle.store_laws.specs.Placing.{
-  mostSheets,
+  mostCheckpointPages,
   Invariant,
   place-find,
   place-find-live,
@@ -62,7 +62,7 @@ use Rattle.store_laws.specs.Good.{LeanAt, Good, Keep, keep-refl, keep-tr
 use Rattle.store_laws.specs.Keeps.{Keeps, keep-holds}
 use Rattle.store_laws.specs.Numbers.{last, write-last}
 use Rattle.store_laws.specs.Opening.{none-closing, opened, own-passes, reopen}
-use Rattle.store_laws.specs.SheetLaws.{sheets-few, scoresIn-sheets, countIn-sheets, tariffIn-sheets, length-scoresFrom, scoreIn-scoresFrom, sheets-complete}
+use Rattle.store_laws.specs.CheckpointPageLaws.{checkpoint-pages-few, scoresIn-checkpoint-pages, countIn-checkpoint-pages, tariffIn-checkpoint-pages, length-scoresFrom, scoreIn-scoresFrom, checkpoint-pages-complete}
 
 -- What a checkpoint page, or several, leave of a run.
 pub record Left (B : ℕ) (closing : Page → Bool) (run run′ : Run) : Type 0 where
@@ -84,17 +84,17 @@ left-trans p q =
       keep = λ m l. keep-trans (p .keep m l) (q .keep m (omega (arith, p .nodes)));
     }
 
--- the run with one sheet written
-abbrev writeSheet : (Page → Bool) → Sheet → Run → Run
-writeSheet closing x run = write closing (sheetContent x) (run .now .buffer) run
+-- the run with one checkpoint page written
+abbrev writeCheckpointPage : (Page → Bool) → CheckpointPage → Run → Run
+writeCheckpointPage closing x run = write closing (checkpointPageContent x) (run .now .buffer) run
 
-module _ {B : ℕ} {closing : Page → Bool} (run : Run) (v : Invariant B (run .nodes) closing (run .now)) (x : Sheet) where
-  writeSheet-left : VersionRules (run .now) → Every LeanAt (run .passed) → tally closing (run .now .blocks) < mostSheets →
-      Left B closing run (writeSheet closing x run)
+module _ {B : ℕ} {closing : Page → Bool} (run : Run) (v : Invariant B (run .nodes) closing (run .now)) (x : CheckpointPage) where
+  writeCheckpointPage-left : VersionRules (run .now) → Every LeanAt (run .passed) → tally closing (run .now .blocks) < mostCheckpointPages →
+      Left B closing run (writeCheckpointPage closing x run)
   unfolding write place late says
-  writeSheet-left r p l =
+  writeCheckpointPage-left r p l =
       let st = run .now in
-      let c = sheetContent x in
+      let c = checkpointPageContent x in
       let w = silent-invariant v c refl l in
       record {
         nodes = refl;
@@ -109,103 +109,103 @@ module _ {B : ℕ} {closing : Page → Bool} (run : Run) (v : Invariant B (run .
       }
 
   -- it stands under the next number, and every page of the checkpoint stays
-  writeSheet-find : find (suc (last run)) (writeSheet closing x run .now .blocks) ≡ some (page (suc (last run)) (sheetContent x))
+  writeCheckpointPage-find : find (suc (last run)) (writeCheckpointPage closing x run .now .blocks) ≡ some (page (suc (last run)) (checkpointPageContent x))
   unfolding write
-  writeSheet-find = place-find v (sheetContent x) (run .now .buffer)
+  writeCheckpointPage-find = place-find v (checkpointPageContent x) (run .now .buffer)
 
-  writeSheet-stays : (s : ℕ) (q : Page) → find s (run .now .blocks) ≡ some q → closing q ≡ true → s ≤ last run →
-      find s (writeSheet closing x run .now .blocks) ≡ some q
+  writeCheckpointPage-stays : (s : ℕ) (q : Page) → find s (run .now .blocks) ≡ some q → closing q ≡ true → s ≤ last run →
+      find s (writeCheckpointPage closing x run .now .blocks) ≡ some q
   unfolding write
-  writeSheet-stays s q e c l =
-      place-find-live v (sheetContent x) (run .now .buffer) s q l e (live-closing (view (run .now)) closing (run .nodes) q c)
+  writeCheckpointPage-stays s q e c l =
+      place-find-live v (checkpointPageContent x) (run .now .buffer) s q l e (live-closing (view (run .now)) closing (run .nodes) q c)
 
-  writeSheet-tally : (k : ℕ) → tally closing (run .now .blocks) + suc k ≤ mostSheets →
-      tally closing (writeSheet closing x run .now .blocks) + k ≤ mostSheets
+  writeCheckpointPage-tally : (k : ℕ) → tally closing (run .now .blocks) + suc k ≤ mostCheckpointPages →
+      tally closing (writeCheckpointPage closing x run .now .blocks) + k ≤ mostCheckpointPages
   unfolding write
-  writeSheet-tally k l =
-      omega (arith, place-tally v closing (sheetContent x) (run .now .buffer), bit-le-one (closing (next (run .now) (sheetContent x))))
+  writeCheckpointPage-tally k l =
+      omega (arith, place-tally v closing (checkpointPageContent x) (run .now .buffer), bit-le-one (closing (next (run .now) (checkpointPageContent x))))
 
-  writeSheet-has : 0 < tally (numbered (last (writeSheet closing x run))) (writeSheet closing x run .now .blocks)
+  writeCheckpointPage-has : 0 < tally (numbered (last (writeCheckpointPage closing x run))) (writeCheckpointPage closing x run .now .blocks)
   unfolding write place
-  writeSheet-has =
+  writeCheckpointPage-has =
       le-trans (omega (arith, ap bit (eq-eqb (suc (last run)) (suc (last run)) refl)))
-      (place-has v (numbered (suc (last run))) (sheetContent x) (run .now .buffer))
+      (place-has v (numbered (suc (last run))) (checkpointPageContent x) (run .now .buffer))
 
 module _ {B : ℕ} {closing : Page → Bool} where
-  pub writeSheets-left : (xs : List Sheet) (run : Run) → Invariant B (run .nodes) closing (run .now) → VersionRules (run .now) →
-      Every LeanAt (run .passed) → tally closing (run .now .blocks) + length xs ≤ mostSheets → Left B closing run (writeSheets closing xs run)
-  writeSheets-left [] run v r p l =
+  pub writeCheckpointPages-left : (xs : List CheckpointPage) (run : Run) → Invariant B (run .nodes) closing (run .now) → VersionRules (run .now) →
+      Every LeanAt (run .passed) → tally closing (run .now .blocks) + length xs ≤ mostCheckpointPages → Left B closing run (writeCheckpointPages closing xs run)
+  writeCheckpointPages-left [] run v r p l =
       record { nodes = refl; invariant = v; versions = r; buffer = refl; passed = p; keep = λ m k. keep-refl (run .now) m }
-  writeSheets-left (x ∷ xs) run v r p l =
-      let a = writeSheet-left run v x r p (omega arith) in
-      left-trans a (writeSheets-left xs (writeSheet closing x run) (a .invariant) (a .versions) (a .passed) (writeSheet-tally run v x (length xs) l))
+  writeCheckpointPages-left (x ∷ xs) run v r p l =
+      let a = writeCheckpointPage-left run v x r p (omega arith) in
+      left-trans a (writeCheckpointPages-left xs (writeCheckpointPage closing x run) (a .invariant) (a .versions) (a .passed) (writeCheckpointPage-tally run v x (length xs) l))
 
   -- its last page has the last number
-  writeSheets-has : (x : Sheet) (xs : List Sheet) (run : Run) → Invariant B (run .nodes) closing (run .now) → VersionRules (run .now) →
-      Every LeanAt (run .passed) → tally closing (run .now .blocks) + suc (length xs) ≤ mostSheets →
-      0 < tally (numbered (last (writeSheets closing (x ∷ xs) run))) (writeSheets closing (x ∷ xs) run .now .blocks)
-  writeSheets-has x [] run v r p l = writeSheet-has run v x
-  writeSheets-has x (y ∷ xs) run v r p l =
-      let a = writeSheet-left run v x r p (omega arith) in
-      writeSheets-has y xs (writeSheet closing x run) (a .invariant) (a .versions) (a .passed) (writeSheet-tally run v x (suc (length xs)) l)
+  writeCheckpointPages-has : (x : CheckpointPage) (xs : List CheckpointPage) (run : Run) → Invariant B (run .nodes) closing (run .now) → VersionRules (run .now) →
+      Every LeanAt (run .passed) → tally closing (run .now .blocks) + suc (length xs) ≤ mostCheckpointPages →
+      0 < tally (numbered (last (writeCheckpointPages closing (x ∷ xs) run))) (writeCheckpointPages closing (x ∷ xs) run .now .blocks)
+  writeCheckpointPages-has x [] run v r p l = writeCheckpointPage-has run v x
+  writeCheckpointPages-has x (y ∷ xs) run v r p l =
+      let a = writeCheckpointPage-left run v x r p (omega arith) in
+      writeCheckpointPages-has y xs (writeCheckpointPage closing x run) (a .invariant) (a .versions) (a .passed) (writeCheckpointPage-tally run v x (suc (length xs)) l)
 
   -- THE CHECKPOINT STANDS where it was written: no page of it is lost
-  writeSheets-stays : (xs : List Sheet) (run : Run) → Invariant B (run .nodes) closing (run .now) → VersionRules (run .now) →
-      Every LeanAt (run .passed) → tally closing (run .now .blocks) + length xs ≤ mostSheets → (s : ℕ) (q : Page) →
-      find s (run .now .blocks) ≡ some q → closing q ≡ true → s ≤ last run → find s (writeSheets closing xs run .now .blocks) ≡ some q
-  writeSheets-stays [] run v r p l s q e c h = e
-  writeSheets-stays (x ∷ xs) run v r p l s q e c h =
-      let a = writeSheet-left run v x r p (omega arith) in
-      writeSheets-stays xs (writeSheet closing x run) (a .invariant) (a .versions) (a .passed) (writeSheet-tally run v x (length xs) l) s q
-      (writeSheet-stays run v x s q e c h) c
-      (omega (arith, write-last closing (sheetContent x) (run .now .buffer) run))
+  writeCheckpointPages-stays : (xs : List CheckpointPage) (run : Run) → Invariant B (run .nodes) closing (run .now) → VersionRules (run .now) →
+      Every LeanAt (run .passed) → tally closing (run .now .blocks) + length xs ≤ mostCheckpointPages → (s : ℕ) (q : Page) →
+      find s (run .now .blocks) ≡ some q → closing q ≡ true → s ≤ last run → find s (writeCheckpointPages closing xs run .now .blocks) ≡ some q
+  writeCheckpointPages-stays [] run v r p l s q e c h = e
+  writeCheckpointPages-stays (x ∷ xs) run v r p l s q e c h =
+      let a = writeCheckpointPage-left run v x r p (omega arith) in
+      writeCheckpointPages-stays xs (writeCheckpointPage closing x run) (a .invariant) (a .versions) (a .passed) (writeCheckpointPage-tally run v x (length xs) l) s q
+      (writeCheckpointPage-stays run v x s q e c h) c
+      (omega (arith, write-last closing (checkpointPageContent x) (run .now .buffer) run))
 
--- sheets under the numbers after k
-abbrev Stand : Blocks → ℕ → List Sheet → Type 0
+-- checkpoint pages under the numbers after k
+abbrev Stand : Blocks → ℕ → List CheckpointPage → Type 0
 Stand bs k [] = Unit {0}
-Stand bs k (x ∷ xs) = (find (suc k) bs ≡ some (page (suc k) (sheetContent x))) × Stand bs (suc k) xs
+Stand bs k (x ∷ xs) = (find (suc k) bs ≡ some (page (suc k) (checkpointPageContent x))) × Stand bs (suc k) xs
 
-writeSheets-stand : {B : ℕ} {closing : Page → Bool} (xs : List Sheet) (run : Run) → Invariant B (run .nodes) closing (run .now) → VersionRules (run .now) →
-    Every LeanAt (run .passed) → tally closing (run .now .blocks) + length xs ≤ mostSheets →
-    ((s : ℕ) (x : Sheet) → last run < s → closing (page s (sheetContent x)) ≡ true) → Stand (writeSheets closing xs run .now .blocks) (last run) xs
-writeSheets-stand [] run v r p l c = tt
-writeSheets-stand {closing = closing} (x ∷ xs) run v r p l c =
-    let a = writeSheet-left run v x r p (omega arith) in
-    let few = writeSheet-tally run v x (length xs) l in
-    let e = write-last closing (sheetContent x) (run .now .buffer) run in (
-      writeSheets-stays xs (writeSheet closing x run) (a .invariant) (a .versions) (a .passed) few (suc (last run))
-          (page (suc (last run)) (sheetContent x)) (writeSheet-find run v x) (c (suc (last run)) x (omega arith)) (omega arith),
-      subst (λ k. Stand (writeSheets closing xs (writeSheet closing x run) .now .blocks) k xs) e
-          (writeSheets-stand xs (writeSheet closing x run) (a .invariant) (a .versions) (a .passed) few (λ s y h. c s y (omega arith))),
+writeCheckpointPages-stand : {B : ℕ} {closing : Page → Bool} (xs : List CheckpointPage) (run : Run) → Invariant B (run .nodes) closing (run .now) → VersionRules (run .now) →
+    Every LeanAt (run .passed) → tally closing (run .now .blocks) + length xs ≤ mostCheckpointPages →
+    ((s : ℕ) (x : CheckpointPage) → last run < s → closing (page s (checkpointPageContent x)) ≡ true) → Stand (writeCheckpointPages closing xs run .now .blocks) (last run) xs
+writeCheckpointPages-stand [] run v r p l c = tt
+writeCheckpointPages-stand {closing = closing} (x ∷ xs) run v r p l c =
+    let a = writeCheckpointPage-left run v x r p (omega arith) in
+    let few = writeCheckpointPage-tally run v x (length xs) l in
+    let e = write-last closing (checkpointPageContent x) (run .now .buffer) run in (
+      writeCheckpointPages-stays xs (writeCheckpointPage closing x run) (a .invariant) (a .versions) (a .passed) few (suc (last run))
+          (page (suc (last run)) (checkpointPageContent x)) (writeCheckpointPage-find run v x) (c (suc (last run)) x (omega arith)) (omega arith),
+      subst (λ k. Stand (writeCheckpointPages closing xs (writeCheckpointPage closing x run) .now .blocks) k xs) e
+          (writeCheckpointPages-stand xs (writeCheckpointPage closing x run) (a .invariant) (a .versions) (a .passed) few (λ s y h. c s y (omega arith))),
     )
 
-pub writeSheets-last : (closing : Page → Bool) (xs : List Sheet) (run : Run) → last (writeSheets closing xs run) ≡ last run + length xs
-writeSheets-last closing [] run = omega arith
-writeSheets-last closing (x ∷ xs) run =
-    writeSheets-last closing xs (writeSheet closing x run) ∙ omega (arith, write-last closing (sheetContent x) (run .now .buffer) run)
+pub writeCheckpointPages-last : (closing : Page → Bool) (xs : List CheckpointPage) (run : Run) → last (writeCheckpointPages closing xs run) ≡ last run + length xs
+writeCheckpointPages-last closing [] run = omega arith
+writeCheckpointPages-last closing (x ∷ xs) run =
+    writeCheckpointPages-last closing xs (writeCheckpointPage closing x run) ∙ omega (arith, write-last closing (checkpointPageContent x) (run .now .buffer) run)
 
 -- READ BACK, from the greatest number down to the tariff
-collect-later : (bs : Blocks) (n : ℕ) (xs : List (List Score)) (k : ℕ) (later : List Sheet) → Stand bs k (laterSheets n xs) →
-    collect (λ s. find s bs) (k + length (laterSheets n xs)) later ≡ collect (λ s. find s bs) k (laterSheets n xs ++ later)
+collect-later : (bs : Blocks) (n : ℕ) (xs : List (List Score)) (k : ℕ) (later : List CheckpointPage) → Stand bs k (laterCheckpointPages n xs) →
+    collect (λ s. find s bs) (k + length (laterCheckpointPages n xs)) later ≡ collect (λ s. find s bs) k (laterCheckpointPages n xs ++ later)
 unfolding collect
 collect-later bs n [] k later h =
     let e : k + 0 ≡ k = omega arith in
     ap (λ z. collect (λ s. find s bs) z later) e
 collect-later bs n (x ∷ xs) k later h =
-    let e : k + suc (length (laterSheets n xs)) ≡ suc k + length (laterSheets n xs) = omega arith in
+    let e : k + suc (length (laterCheckpointPages n xs)) ≡ suc k + length (laterCheckpointPages n xs) = omega arith in
     ap (λ z. collect (λ s. find s bs) z later) e ∙ collect-later bs n xs (suc k) later (h .1) ∙ rw (h .0) refl
 
-collect-sheets : (bs : Blocks) (t : Tariff) (scores : List Score) (k : ℕ) → Stand bs k (sheets t scores) →
-    collect (λ s. find s bs) (k + length (sheets t scores)) [] ≡ sheets t scores
-unfolding collect sheets
-collect-sheets bs t scores k h =
+collect-checkpoint-pages : (bs : Blocks) (t : Tariff) (scores : List Score) (k : ℕ) → Stand bs k (checkpointPages t scores) →
+    collect (λ s. find s bs) (k + length (checkpointPages t scores)) [] ≡ checkpointPages t scores
+unfolding collect checkpointPages
+collect-checkpoint-pages bs t scores k h =
     let n = length scores in
-    let rest = laterSheets n (laterParts scores) in
-    let first = sheet (some t) (take firstScores scores) (countIfLast n (laterParts scores)) in
+    let rest = laterCheckpointPages n (laterParts scores) in
+    let first = checkpointPage (some t) (take firstScores scores) (countIfLast n (laterParts scores)) in
     let e : k + suc (length rest) ≡ suc k + length rest = omega arith in
     ap (λ z. collect (λ s. find s bs) z []) e ∙
     collect-later bs n (laterParts scores) (suc k) [] (h .1) ∙
-    rw (h .0) (ap {B = List Sheet} (λ z. first ∷ z) (append-nil rest))
+    rw (h .0) (ap {B = List CheckpointPage} (λ z. first ∷ z) (append-nil rest))
 
 -- The buffer is written first, if it has anything.
 pub record Drained (B : ℕ) (run run′ : Run) : Type 0 where
@@ -225,39 +225,39 @@ drained {B} {run} v = go (run .now .buffer) refl
     go (x ∷ b) e = record { good = flushRun-good v; nodes = refl; buffer = refl; number = omega arith; keep = flushRun-keep v }
 
 -- Nothing is in the checkpoint when it begins: older ones are dead.
-pub closing-none : {B N : ℕ} {st : Store} → Invariant B N noClosing st → tally (closingSince (st .last)) (st .blocks) ≡ 0
-unfolding closingSince
+pub closing-none : {B N : ℕ} {st : Store} → Invariant B N noCheckpoint st → tally (checkpointSince (st .last)) (st .blocks) ≡ 0
+unfolding checkpointSince
 closing-none {st = st} v =
     omega (
       arith,
       v .rules .within,
-      tally-mono (closingSince (st .last)) (above (st .last)) (st .blocks) (λ p. and-right (isCheckpoint p) (above (st .last) p)),
+      tally-mono (checkpointSince (st .last)) (above (st .last)) (st .blocks) (λ p. and-right (isCheckpoint p) (above (st .last) p)),
     )
 
-pub closing-begins : {B N : ℕ} {st : Store} → Invariant B N noClosing st → Invariant B N (closingSince (st .last)) st
+pub closing-begins : {B N : ℕ} {st : Store} → Invariant B N noCheckpoint st → Invariant B N (checkpointSince (st .last)) st
 closing-begins v =
     record {
       blocks = v .blocks;
       nodes = v .nodes;
-      sheets = omega (arith, closing-none v);
+      checkpointPages = omega (arith, closing-none v);
       rules = v .rules;
       fit = v .fit;
       lean = v .lean;
     }
 
-closing-over : {B N : ℕ} {closing : Page → Bool} {st : Store} → Invariant B N closing st → Invariant B N noClosing st
+closing-over : {B N : ℕ} {closing : Page → Bool} {st : Store} → Invariant B N closing st → Invariant B N noCheckpoint st
 closing-over {st = st} v =
     record {
       blocks = v .blocks;
       nodes = v .nodes;
-      sheets = omega (arith, none-closing (st .blocks));
+      checkpointPages = omega (arith, none-closing (st .blocks));
       rules = v .rules;
       fit = v .fit;
       lean = v .lean;
     }
 
-closing-new : (k s : ℕ) (x : Sheet) → k < s → closingSince k (page s (sheetContent x)) ≡ true
-unfolding closingSince above
+closing-new : (k s : ℕ) (x : CheckpointPage) → k < s → checkpointSince k (page s (checkpointPageContent x)) ≡ true
+unfolding checkpointSince above
 closing-new k s x l = rw (lt-ltb k s l) refl
 
 -- WHAT A CLOSED RUN IS: it keeps what it kept, its pool passes the tests and is found as this very store, and its checkpoint gives back
@@ -266,7 +266,7 @@ pub record Closed (B N : ℕ) (table : ℕ → Node) (modes : ℕ → Mode) (t :
   pub keeps : Keeps B N table modes run′
   pub passes : pagesPass B (poolOf (run′ .now)) ≡ true
   pub again : reopened B (poolOf (run′ .now)) ≡ run′ .now
-  pub checkpoint : checkpointOf (run′ .now) ≡ sheets t (scoresFrom 0 N score)
+  pub checkpoint : checkpointOf (run′ .now) ≡ checkpointPages t (scoresFrom 0 N score)
   pub complete : complete (checkpointOf (run′ .now)) ≡ true
   pub tariff : tariffIn (checkpointOf (run′ .now)) ≡ some t
   pub count : countIn (checkpointOf (run′ .now)) ≡ N
@@ -279,18 +279,18 @@ module _ {B N : ℕ} {table : ℕ → Node} {modes : ℕ → Mode} {run : Run} (
   scores = scoresFrom 0 (run .nodes) score
 
   closing : Page → Bool
-  closing = closingSince (last (drain run))
+  closing = checkpointSince (last (drain run))
 
   d : Drained B run (drain run)
   d = drained (v .good)
 
-  few : length (sheets t scores) ≤ mostSheets
+  few : length (checkpointPages t scores) ≤ mostCheckpointPages
   unfolding scores
   few =
-      sheets-few t (scoresFrom 0 (run .nodes) score)
+      checkpoint-pages-few t (scoresFrom 0 (run .nodes) score)
       (omega (arith, length-scoresFrom 0 (run .nodes) score, v .good .invariant .nodes))
 
-  fits : tally closing (drain run .now .blocks) + length (sheets t scores) ≤ mostSheets
+  fits : tally closing (drain run .now .blocks) + length (checkpointPages t scores) ≤ mostCheckpointPages
   unfolding closing
   fits = omega (arith, few, closing-none (d .good .invariant))
 
@@ -300,21 +300,21 @@ module _ {B N : ℕ} {table : ℕ → Node} {modes : ℕ → Mode} {run : Run} (
 
   left : Left B closing (drain run) (close t score run)
   unfolding close closing scores
-  left = writeSheets-left (sheets t scores) (drain run) begins (d .good .versions) (d .good .passed) fits
+  left = writeCheckpointPages-left (checkpointPages t scores) (drain run) begins (d .good .versions) (d .good .passed) fits
 
   close-empty : close t score run .now .buffer ≡ []
   close-empty = left .buffer ∙ d .buffer
 
   close-has : 0 < tally (numbered (last (close t score run))) (close t score run .now .blocks)
-  unfolding close closing scores sheets
+  unfolding close closing scores checkpointPages
   close-has =
       let n = length scores in
-      writeSheets-has (sheet (some t) (take firstScores scores) (countIfLast n (laterParts scores))) (laterSheets n (laterParts scores))
+      writeCheckpointPages-has (checkpointPage (some t) (take firstScores scores) (countIfLast n (laterParts scores))) (laterCheckpointPages n (laterParts scores))
       (drain run) begins (d .good .versions) (d .good .passed) fits
 
-  close-last : last (close t score run) ≡ last (drain run) + length (sheets t scores)
+  close-last : last (close t score run) ≡ last (drain run) + length (checkpointPages t scores)
   unfolding close scores
-  close-last = writeSheets-last (closingSince (last (drain run))) (sheets t (scoresFrom 0 (run .nodes) score)) (drain run)
+  close-last = writeCheckpointPages-last (checkpointSince (last (drain run))) (checkpointPages t (scoresFrom 0 (run .nodes) score)) (drain run)
 
   close-good : Good B (close t score run)
   close-good =
@@ -337,12 +337,12 @@ module _ {B N : ℕ} {table : ℕ → Node} {modes : ℕ → Mode} {run : Run} (
         neat = v .neat;
       }
 
-  close-checkpoint : checkpointOf (close t score run .now) ≡ sheets t scores
+  close-checkpoint : checkpointOf (close t score run .now) ≡ checkpointPages t scores
   unfolding checkpointOf close closing scores
   close-checkpoint =
       ap (λ k. collect (λ s. find s (close t score run .now .blocks)) k []) close-last ∙
-      collect-sheets (close t score run .now .blocks) t scores (last (drain run))
-      (writeSheets-stand (sheets t scores) (drain run) begins (d .good .versions) (d .good .passed) fits
+      collect-checkpoint-pages (close t score run .now .blocks) t scores (last (drain run))
+      (writeCheckpointPages-stand (checkpointPages t scores) (drain run) begins (d .good .versions) (d .good .passed) fits
       (λ s x l. closing-new (last (drain run)) s x l))
 
   scores-are : scores ≡ scoresFrom 0 N score
@@ -352,19 +352,19 @@ module _ {B N : ℕ} {table : ℕ → Node} {modes : ℕ → Mode} {run : Run} (
   -- THE END OF A BATCH
   pub close-closed : Closed B N table modes t score run (close t score run)
   close-closed =
-      let set : checkpointOf (close t score run .now) ≡ sheets t (scoresFrom 0 N score) = close-checkpoint ∙ ap (sheets t) scores-are in
+      let set : checkpointOf (close t score run .now) ≡ checkpointPages t (scoresFrom 0 N score) = close-checkpoint ∙ ap (checkpointPages t) scores-are in
       record {
         keeps = close-keeps;
         passes = own-passes (close t score run .now) (left .invariant .rules) (left .versions);
         again = reopen (close t score run .now) (left .invariant .rules) close-has close-empty;
         checkpoint = set;
-        complete = ap complete set ∙ sheets-complete t N score;
-        tariff = ap tariffIn set ∙ tariffIn-sheets t (scoresFrom 0 N score);
-        count = ap countIn set ∙ countIn-sheets t (scoresFrom 0 N score) ∙ length-scoresFrom 0 N score;
+        complete = ap complete set ∙ checkpoint-pages-complete t N score;
+        tariff = ap tariffIn set ∙ tariffIn-checkpoint-pages t (scoresFrom 0 N score);
+        count = ap countIn set ∙ countIn-checkpoint-pages t (scoresFrom 0 N score) ∙ length-scoresFrom 0 N score;
         scores =
             λ n l.
             ap (λ z. scoreIn (scoresIn z) n) set ∙
-            ap (λ z. scoreIn z n) (scoresIn-sheets t (scoresFrom 0 N score)) ∙
+            ap (λ z. scoreIn z n) (scoresIn-checkpoint-pages t (scoresFrom 0 N score)) ∙
             scoreIn-scoresFrom 0 N score n (omega arith) (omega arith);
         number = omega (arith, close-last, few, d .number);
       }
@@ -377,7 +377,7 @@ closed-opens {B} {N} {table} {modes} {run′ = run′} c =
     (record {
       good =
           record {
-            invariant = subst (λ n. Invariant B n noClosing (run′ .now)) (c .keeps .nodes) (c .keeps .good .invariant);
+            invariant = subst (λ n. Invariant B n noCheckpoint (run′ .now)) (c .keeps .nodes) (c .keeps .good .invariant);
             versions = c .keeps .good .versions;
             small = c .keeps .good .small;
             passed = Every.none;

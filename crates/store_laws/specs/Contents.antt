@@ -22,9 +22,9 @@ replay-snoc xs c = replayFrom-snoc (unlinked []) xs c
 
 -- A change that suits a node and leaves a neat one applies to it.
 applies : (c : Change) (x : Node) → Suits c x → Neat (change c x) → Applies c x
-applies (put k p) (node kind ps l) s h = h .size
-applies (remove k) (node kind ps l) s h = tt
-applies (link kind′ p) (node kind ps l) s h = s
+applies (put k p) (node shape ps l) s h = h .size
+applies (remove k) (node shape ps l) s h = tt
+applies (link kind′ p) (node shape ps l) s h = s
 
 pub redo-made : (c : Change) (x : Node) → Suits c x → Neat (change c x) → redo (made x) c ≡ made (change c x)
 redo-made c x s h = redo-change c x (applies c x s h)
@@ -35,7 +35,7 @@ length-puts [] c = refl
 length-puts (p ∷ ps) c = ap suc (length-puts ps c)
 
 pub length-changesOf : (x : Node) → length (changesOf x) ≡ suc (length (pairsOf x))
-length-changesOf (node kind ps l) = length-puts ps (link kind l)
+length-changesOf (node shape ps l) = length-puts ps (link shape l)
 
 pub record Spelled (x : Node) : Type 0 where
   pub first : Change
@@ -43,8 +43,8 @@ pub record Spelled (x : Node) : Type 0 where
   pub is : changesOf x ≡ first ∷ rest
 
 pub spelled : (x : Node) → Spelled x
-spelled (node kind [] l) = record { first = link kind l; rest = []; is = refl }
-spelled (node kind (p ∷ ps) l) = record { first = put (p .0) (p .1); rest = puts ps ++ (link kind l ∷ []); is = refl }
+spelled (node shape [] l) = record { first = link shape l; rest = []; is = refl }
+spelled (node shape (p ∷ ps) l) = record { first = put (p .0) (p .1); rest = puts ps ++ (link shape l ∷ []); is = refl }
 
 -- a neat node's changes fit in the buffer
 pub neat-fits : (x : Node) → Neat x → length (changesOf x) ≤ mostEntries

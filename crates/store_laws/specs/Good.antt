@@ -23,7 +23,7 @@ use Rattle.store.specs.Item.{entries}
 use Rattle.store.specs.View.{greatest, pieces, buffered, pages}
 use Rattle.store.specs.Pool.{numbered}
 use Rattle.store.specs.Store.{Store, view}
-use Rattle.store.specs.Live.{noClosing}
+use Rattle.store.specs.Live.{noCheckpoint}
 use Rattle.store.specs.Write.{place, flush, enter, start, nodePage}
 use Rattle.store.specs.Run.{Moment, Run, moment, write, flushRun, roomBy, makeRoom, begin, writeGroup, editBy, writeEdit, writeNode}
 use Rattle.store_laws.specs.ItemLaws.{length-entries}
@@ -53,7 +53,7 @@ abbrev pub LeanAt : Moment → Type 0
 LeanAt m = Lean (m .nodes) (view (m .state))
 
 pub record Good (B : ℕ) (run : Run) : Type 0 where
-  pub invariant : Invariant B (run .nodes) noClosing (run .now)
+  pub invariant : Invariant B (run .nodes) noCheckpoint (run .now)
   pub versions : VersionRules (run .now)
   pub small : length (run .now .buffer) ≤ mostEntries
   pub passed : Every LeanAt (run .passed)
@@ -91,8 +91,8 @@ pub record Done (B n : ℕ) (run run′ : Run) (xs : List Piece) (m₀ : Mode) :
 
 module _ {B : ℕ} {run : Run} (v : Good B run) where
   -- the states passed while a page is written
-  write-passed : (c : Content) (rest : List Entry) → Lean (run .nodes) (view (place noClosing (run .nodes) c rest (run .now))) →
-      Every LeanAt (write noClosing c rest run .passed)
+  write-passed : (c : Content) (rest : List Entry) → Lean (run .nodes) (view (place noCheckpoint (run .nodes) c rest (run .now))) →
+      Every LeanAt (write noCheckpoint c rest run .passed)
   unfolding write
   write-passed c rest t =
       every-append (v .passed) (every-map (moment (run .nodes)) (written-lean (v .invariant) c rest t))
@@ -147,7 +147,7 @@ makeRoom-roomy {B} {run} v k l = go (leb (k + length (run .now .buffer)) mostEnt
 -- A fresh start that fits; the node may be the next one.
 module _ {B : ℕ} {run : Run} (v : Good B run) (n : ℕ) (c : Change) (cs : List Change) (fits : length (c ∷ cs) + length (run .now .buffer) ≤ mostEntries)
     (next-or-there : n ≤ run .nodes) (limit : max (run .nodes) (suc n) ≤ nodeLimit B) where
-  begin-invariant : Invariant B (max (run .nodes) (suc n)) noClosing (start n (c ∷ cs) (run .now))
+  begin-invariant : Invariant B (max (run .nodes) (suc n)) noCheckpoint (start n (c ∷ cs) (run .now))
   begin-invariant = start-invariant (v .invariant) n c cs (max (run .nodes) (suc n)) (λ m k h. omega arith) limit
 
   begin-good : Good B (begin n (c ∷ cs) run)
@@ -297,8 +297,8 @@ writeNode-done {B} {run} v n x l =
           place-keep (v .invariant) (whole n x) (run .now .buffer) m k (o .greatest) (o .pieces);
     }
   where
-    now : Now (view (place noClosing (run .nodes) (whole n x) (run .now .buffer) (run .now))) n (suc (run .now .last)) (Replay.whole x ∷ []) 1 []
+    now : Now (view (place noCheckpoint (run .nodes) (whole n x) (run .now .buffer) (run .now))) n (suc (run .now .last)) (Replay.whole x ∷ []) 1 []
     now = page-now (v .invariant) n x
 
-    rest-small : length (place noClosing (run .nodes) (whole n x) (run .now .buffer) (run .now) .buffer) ≤ mostEntries
+    rest-small : length (place noCheckpoint (run .nodes) (whole n x) (run .now .buffer) (run .now) .buffer) ≤ mostEntries
     rest-small = v .small

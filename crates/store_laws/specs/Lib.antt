@@ -17,7 +17,7 @@ pub mod CellLaws
 pub mod BlockTests
 pub mod PageTests
 pub mod Opening
-pub mod SheetLaws
+pub mod CheckpointPageLaws
 pub mod Closing
 pub mod Compaction
 pub mod StoreFits

@@ -22,7 +22,7 @@ use Rattle.store.specs.Item.{entryItem, itemsOf, piecesIn, greatestIn}
 use Rattle.store.specs.View.{gather, greatestTo, greatest, pieces, buffered, pages}
 use Rattle.store.specs.Pool.{Blocks, numbered, find, itemsAt}
 use Rattle.store.specs.Store.{Store, view, draftOf, nodeOf, modeOf}
-use Rattle.store.specs.Live.{noClosing}
+use Rattle.store.specs.Live.{noCheckpoint}
 use Rattle.store.specs.Run.{Run}
 use Rattle.store.specs.Checkpoint.{collect, checkpointOf, complete}
 use Rattle.store.specs.Reopen.{Cells, blocksIn, newest, blockOf, storeOf, reopened, poolOf, blocksPass, versionPasses, versionsPass, pagePasses, everyPage, pagesPass}
@@ -56,11 +56,11 @@ use Rattle.store_laws.specs.Changes.{Lean}
 use Rattle.store_laws.specs.Good.{Good}
 use Rattle.store_laws.specs.Keeps.{Keeps}
 
-none-closing-in : (b : List Page) → count noClosing b ≡ 0
+none-closing-in : (b : List Page) → count noCheckpoint b ≡ 0
 none-closing-in [] = refl
 none-closing-in (p ∷ b) = omega (arith, none-closing-in b)
 
-pub none-closing : (bs : Blocks) → tally noClosing bs ≡ 0
+pub none-closing : (bs : Blocks) → tally noCheckpoint bs ≡ 0
 none-closing [] = refl
 none-closing (b ∷ bs) = omega (arith, none-closing-in b, none-closing bs)
 
@@ -101,7 +101,7 @@ module _ {B N : ℕ} {c : Cells} (o : Opens B N c) where
             record {
               blocks = o .blocks;
               nodes = o .nodes;
-              sheets = omega (arith, none-closing bs);
+              checkpointPages = omega (arith, none-closing bs);
               rules = passing-rules pagesInBlock B c (passing pagesInBlock B c opens-blocks) (passing-numbers bs opens-pages) (o .some);
               fit = passing-fit bs opens-pages;
               lean = opened-lean;

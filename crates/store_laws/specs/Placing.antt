@@ -77,8 +77,8 @@ use Rattle.store_laws.specs.BlockRules.{
 use Rattle.store_laws.specs.BlockRules as BlockRules
 
 -- 620 nodes take twelve checkpoint pages.
-abbrev pub mostSheets : ℕ
-mostSheets = 12
+abbrev pub mostCheckpointPages : ℕ
+mostCheckpointPages = 12
 
 -- One page more, of the next number: it is found under it, and every other number as before.
 module _ {width B : ℕ} {bs : Blocks} {current k : ℕ} (p : Page) (e : sequence p ≡ suc k) (r : Ready width B bs current k) where
@@ -119,7 +119,7 @@ added-wrote {bs = bs} {current} {k} buffer rest p e r =
 pub record Invariant (B N : ℕ) (closing : Page → Bool) (st : Store) : Type 0 where
   pub blocks : fewestBlocks ≤ B
   pub nodes : N ≤ nodeLimit B
-  pub sheets : tally closing (st .blocks) ≤ mostSheets
+  pub checkpointPages : tally closing (st .blocks) ≤ mostCheckpointPages
   pub rules : BlockRules pagesInBlock B (st .blocks) (st .current) (st .last)
   pub fit : Fit (view st)
   pub lean : Lean N (view st)
@@ -133,7 +133,7 @@ live-fits {B} {N} {closing} {st} v =
       live-bound (st .blocks) (st .buffer) (st .last) (v .rules .once) (v .rules .fromOne) (v .rules .within) closing mostLogPages N
           (λ n l. le-trans (omega arith) (v .lean .each n l)),
       v .nodes,
-      v .sheets,
+      v .checkpointPages,
       v .blocks,
     )
 
@@ -229,7 +229,7 @@ module _ {B N : ℕ} {closing : Page → Bool} {st : Store} (v : Invariant B N c
             (omega (arith, found-ready .size, found-ready .inside)),
       )
 
-  pub place-invariant : (c : Content) (rest : List Entry) → tally closing (st .blocks) + bit (closing (next st c)) ≤ mostSheets →
+  pub place-invariant : (c : Content) (rest : List Entry) → tally closing (st .blocks) + bit (closing (next st c)) ≤ mostCheckpointPages →
       ((n : ℕ) → greatestIn n (itemsOf (next st c)) ≤ suc (st .last)) → ((n : ℕ) → greatestIn n (map entryItem rest) ≤ suc (st .last)) →
       Lean N (view (place closing N c rest st)) → Invariant B N closing (place closing N c rest st)
   unfolding place found
@@ -237,7 +237,7 @@ module _ {B N : ℕ} {closing : Page → Bool} {st : Store} (v : Invariant B N c
       record {
         blocks = v .blocks;
         nodes = v .nodes;
-        sheets = le-trans (place-tally closing c rest) l;
+        checkpointPages = le-trans (place-tally closing c rest) l;
         rules = place-rules c rest;
         fit = wrote-fit (place-wrote c rest) found-fit hx hy;
         lean = t;
@@ -264,7 +264,7 @@ module _ {B N : ℕ} {closing : Page → Bool} {st : Store} (v : Invariant B N c
   pub flush-invariant : closing (next st (log (st .buffer))) ≡ false → Invariant B N closing (flush closing N st)
   unfolding flush found
   flush-invariant e =
-      place-invariant (log (st .buffer)) [] (omega (arith, ap bit e, v .sheets)) (λ n. omega (arith, fit-buffer (v .fit) n))
+      place-invariant (log (st .buffer)) [] (omega (arith, ap bit e, v .checkpointPages)) (λ n. omega (arith, fit-buffer (v .fit) n))
       (λ n. omega arith) (flushed-lean flush-wrote found-lean)
 
   -- A NODE PAGE: the node has exactly what was written
@@ -284,7 +284,7 @@ module _ {B N : ℕ} {closing : Page → Bool} {st : Store} (v : Invariant B N c
   pub page-invariant : (n : ℕ) (x : Node) → closing (next st (whole n x)) ≡ false → Invariant B N closing (nodePage closing N n x st)
   unfolding nodePage found
   page-invariant n x c =
-      place-invariant (whole n x) (st .buffer) (omega (arith, ap bit c, v .sheets))
+      place-invariant (whole n x) (st .buffer) (omega (arith, ap bit c, v .checkpointPages))
       (λ m. greatestIn-group-any m n (suc (st .last)) (Replay.whole x ∷ [])) (λ m. omega (arith, fit-buffer (v .fit) m))
       (paged-lean found-fit n (Replay.whole x) (page-wrote n x) found-lean)
 
@@ -296,7 +296,7 @@ module _ {B N : ℕ} {closing : Page → Bool} {st : Store} (v : Invariant B N c
       rw e at (place-wrote c (st .buffer)) in
       same-trans (found-same m l) (silent wrote m)
 
-  pub silent-invariant : (c : Content) → itemsOf (next st c) ≡ [] → tally closing (st .blocks) < mostSheets →
+  pub silent-invariant : (c : Content) → itemsOf (next st c) ≡ [] → tally closing (st .blocks) < mostCheckpointPages →
       Invariant B N closing (place closing N c (st .buffer) st)
   silent-invariant c e l =
       place-invariant c (st .buffer) (omega (arith, bit-le-one (closing (next st c)))) (λ m. rw e (omega arith))
@@ -322,7 +322,7 @@ module _ {B N : ℕ} {closing : Page → Bool} {st : Store} (v : Invariant B N c
       record {
         blocks = v .blocks;
         nodes = v .nodes;
-        sheets = v .sheets;
+        checkpointPages = v .checkpointPages;
         rules = v .rules;
         fit =
             added-fit (enter-added n c) (v .fit)
@@ -357,7 +357,7 @@ module _ {B N : ℕ} {closing : Page → Bool} {st : Store} (v : Invariant B N c
       record {
         blocks = v .blocks;
         nodes = l;
-        sheets = v .sheets;
+        checkpointPages = v .checkpointPages;
         rules = rules-later (v .rules);
         fit =
             wrote-fit (start-wrote n (c ∷ cs)) (v .fit) (λ m. omega arith)

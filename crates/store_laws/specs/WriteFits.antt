@@ -21,7 +21,7 @@ use Rattle.store.specs.Item.{entries}
 use Rattle.store_laws.specs.ItemLaws.{length-entries}
 use Rattle.store.specs.View.{greatest, pages}
 use Rattle.store.specs.Store.{Store, view}
-use Rattle.store.specs.Live.{noClosing}
+use Rattle.store.specs.Live.{noCheckpoint}
 use Rattle.store.specs.Write.{place, flush, enter, start, nodePage}
 use Rattle.store.specs.Run.{Run, write, flushRun, roomBy, makeRoom, writeGroup, editBy, writeEdit, writeNode}
 use Rattle.store_laws.specs.Versions.{InLog}
@@ -35,7 +35,7 @@ puts-fit [] none = none
 puts-fit (p ∷ ps) (both n e) = both {x = put (p .0) (p .1)} n (puts-fit ps e)
 
 pub changesOf-fit : (x : Node) → Narrow x → Every NarrowChange (changesOf x)
-changesOf-fit (node kind ps l) n = every-append (puts-fit ps (n .pairs)) (both {x = link kind l} (n .last) none)
+changesOf-fit (node shape ps l) n = every-append (puts-fit ps (n .pairs)) (both {x = link shape l} (n .last) none)
 
 entries-fit : (s n v : ℕ) → n < bound16 → 1 ≤ v → v < s → (cs : List Change) → Every NarrowChange cs → Every (EntryFits s) (entries n v cs)
 entries-fit s n v i a b [] none = none
@@ -74,7 +74,7 @@ module _ {st : Store} (h : StoreFits st) (room : suc (st .last) < bound32) where
   log-fits k = record { from = omega arith; below = room; content = record { some = k; few = h .few; entries = h .entries } }
 
   whole-fits : (n : ℕ) → n < bound16 → (x : Node) → Narrow x → length (pairsOf x) ≤ mostKeys → Fits (suc (st .last)) (whole n x)
-  whole-fits n id (node kind ps l) w k =
+  whole-fits n id (node shape ps l) w k =
       record {
         from = omega arith;
         below = room;
@@ -94,7 +94,7 @@ module _ {st : Store} (h : StoreFits st) (room : suc (st .last) < bound32) where
   nodePage-fits closing nodes n id x w k = place-fits h closing nodes (whole n x) (st .buffer) (whole-fits n id x w k) waiting (h .few)
 
 pub flushRun-fits : {run : Run} → RunFits run → 1 ≤ length (run .now .buffer) → suc (last run) < bound32 → RunFits (flushRun run)
-flushRun-fits {run} h k b = write-fits h noClosing (log (run .now .buffer)) [] (log-fits (h .now) b k) none (omega arith)
+flushRun-fits {run} h k b = write-fits h noCheckpoint (log (run .now .buffer)) [] (log-fits (h .now) b k) none (omega arith)
 
 -- Room for k entries: where a page is forced out, the buffer holds something.
 pub record HasRoom (k : ℕ) (run run′ : Run) : Type 0 where
@@ -129,7 +129,7 @@ module _ {run : Run} (h : RunFits run) (n : ℕ) (id : n < bound16) (x : Node) (
   -- A NODE PAGE
   pub writeNode-fits : length (pairsOf x) ≤ mostKeys → 1 + last run < bound32 → RunFits (writeNode n x run)
   writeNode-fits k b =
-      write-fits h noClosing (whole n x) (run .now .buffer) (whole-fits (h .now) (omega arith) n id x narrow k) (waiting (h .now) (omega arith))
+      write-fits h noCheckpoint (whole n x) (run .now .buffer) (whole-fits (h .now) (omega arith) n id x narrow k) (waiting (h .now) (omega arith))
       (h .now .few)
 
 -- AN EDIT in log mode: one entry more, or the whole edited content

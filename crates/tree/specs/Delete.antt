@@ -8,13 +8,13 @@ use Rattle.tree.specs.NodeRequest.{NodeRequest, edit}
 use Rattle.tree.specs.Get.{readsTo, getAnswer}
 
 -- The edit of the leaf, for a key that is present; leaves are never joined.
-abbrev pub removalFor : Option ℕ → ℕ → ℕ → List NodeRequest
-removalFor none leaf k = []
-removalFor (some old) leaf k = edit leaf (remove k) ∷ []
+abbrev pub deletionFor : Option ℕ → ℕ → ℕ → List NodeRequest
+deletionFor none leaf k = []
+deletionFor (some old) leaf k = edit leaf (remove k) ∷ []
 
 -- All reads first, then the edit.
 unfoldable pub deleteRequests : ℕ → Table → ℕ → List NodeRequest
-deleteRequests count table k = readsTo count table k ++ removalFor (getAnswer count table k) (leafFor count table k 0) k
+deleteRequests count table k = readsTo count table k ++ deletionFor (getAnswer count table k) (leafFor count table k 0) k
 
 -- The value removed.
 abbrev pub deleteAnswer : ℕ → Table → ℕ → Option ℕ

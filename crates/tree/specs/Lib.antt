@@ -1,4 +1,4 @@
--- The definitions, in document 01's order: the table and the way to a leaf, node requests, the commands, what is sound and what it
+-- The definitions, in document 01's order: the table and the path to a leaf, node requests, the commands, what is sound and what it
 -- spells, and what the store asks of requests.
 pub mod Table
 pub mod NodeRequest

@@ -8,7 +8,7 @@ use lib.Dec.{eqb, ltb, leb}
 use lib.ListN.{length}
 use Rattle.layout.specs.Layout.{mostKeys}
 use Rattle.pairs.specs.Pairs.{Pair}
-use Rattle.node.specs.declared.Kind.the-variants.{Branch}
+use Rattle.node.specs.declared.Shape.the-variants.{Branch}
 use Rattle.node.specs.Node.{Node, node, pairsOf}
 use Rattle.node.specs.Change.{Change, put, link}
 use Rattle.node.specs.Halves.{lowerHalf, middleKey, upperHalf}

@@ -7,7 +7,7 @@ use lib.Dec.{eqb, ltb, leb}
 use lib.ListN.{length, getD, set, replicate}
 use Rattle.layout.specs.Layout.{mostKeys, noLeaf, bound32}
 use Rattle.pairs.specs.Pairs.{Pair}
-use Rattle.node.specs.declared.Kind.the-variants.{Leaf, Branch}
+use Rattle.node.specs.declared.Shape.the-variants.{Leaf, Branch}
 use Rattle.node.specs.Node.{Node, node}
 use Rattle.node.specs.Ascends.{ascends}
 use Rattle.node.specs.Search.{pointerAt}
@@ -62,8 +62,8 @@ unfoldable pub leftmost : ℕ → Table → ℕ → ℕ → Leftmost
 leftmost zero table depth id = record { depth = depth; leaf = id }
 leftmost (suc fuel) table depth id =
     elim (table id) [
-      | node kind ps l ↦
-          elim kind [ Leaf ↦ record { depth = depth; leaf = id } | Branch ↦ leftmost fuel table (suc depth) (pointerAt ps l 0) ]
+      | node shape ps l ↦
+          elim shape [ Leaf ↦ record { depth = depth; leaf = id } | Branch ↦ leftmost fuel table (suc depth) (pointerAt ps l 0) ]
     ]
 
 -- Every id was reached.

@@ -1,11 +1,11 @@
--- A table of nodes by id, and the way from a node down to the leaf of a key (document 01, "Nodes and tree"). Assumes nothing.
+-- A table of nodes by id, and the path from a node down to the leaf of a key (document 01, "Nodes and tree"). Assumes nothing.
 use mathlib.Core.Bool.{true, false}
 use mathlib.Core.List.{List, [], _∷_}
 use mathlib.Core.Option.{Option, none, some}
 use Prim.Native.Nat.{ℕ, zero, suc}
 use lib.Dec.{ltb}
 use Rattle.pairs.specs.Pairs.{Pair}
-use Rattle.node.specs.declared.Kind.the-variants.{Leaf, Branch}
+use Rattle.node.specs.declared.Shape.the-variants.{Leaf, Branch}
 use Rattle.node.specs.Node.{Node, node}
 use Rattle.node.specs.Search.{pointerAt}
 

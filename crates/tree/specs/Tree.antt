@@ -7,7 +7,7 @@ use lib.ListN.{length}
 use Rattle.laws.specs.Counts.{bit}
 use Rattle.layout.specs.Layout.{mostKeys}
 use Rattle.pairs.specs.Pairs.{Pair, Within}
-use Rattle.node.specs.declared.Kind.the-variants.{Leaf, Branch}
+use Rattle.node.specs.declared.Shape.the-variants.{Leaf, Branch}
 use Rattle.node.specs.Node.{Node, node}
 use Rattle.tree.specs.Table.{Table}
 

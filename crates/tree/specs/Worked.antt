@@ -8,7 +8,7 @@ use lib.ListN.{length}
 use Rattle.laws.specs.Update.{update}
 use Rattle.layout.specs.Layout.{noLeaf}
 use Rattle.pairs.specs.Pairs.{Pair, lookup, insert, range, hasAbove}
-use Rattle.node.specs.declared.Kind.the-variants.{Leaf, Branch}
+use Rattle.node.specs.declared.Shape.the-variants.{Leaf, Branch}
 use Rattle.node.specs.Node.{node, pairsOf}
 use Rattle.node.specs.Change.{put, remove, link}
 use Rattle.node.specs.Ascends.{ascends}

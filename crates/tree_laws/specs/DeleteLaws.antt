@@ -24,10 +24,10 @@ use Rattle.tree_laws.specs.GetLaws.{leaf-found, get-answer, get-served}
 
 module _ (table : Table) (count : ℕ) (pairs : List Pair) (s : Spells table count pairs) (k : ℕ) (small : k < bound32) where
   -- the work of a removal is one edit
-  removal-single :
+  deletion-single :
       (finish table (work table k (remove k) count (path count table k 0)) ≡ edit (leafFor count table k 0) (remove k) ∷ []) ×
       (finalCount table (work table k (remove k) count (path count table k 0)) ≡ count)
-  removal-single =
+  deletion-single =
       let l = leaf-found table count pairs s k small in
       finish-single table k (remove k) count count (rw (l .content) (omega (arith, l .size, length-delete k (l .pairs))))
 
@@ -37,7 +37,7 @@ module _ (table : Table) (count : ℕ) (pairs : List Pair) (s : Spells table cou
 
   pub delete-present-requests : (old : ℕ) → lookup k pairs ≡ some old → deleteRequests count table k ≡ writeRequests count table k (remove k)
   unfolding deleteRequests
-  delete-present-requests old e = rw (get-answer table count pairs s k small, e, removal-single .0)
+  delete-present-requests old e = rw (get-answer table count pairs s k small, e, deletion-single .0)
 
   pub delete-served : (limit : ℕ) → count ≤ limit → Served limit table count (deleteRequests count table k) (delete k pairs)
   delete-served limit l = go (lookup k pairs) refl
@@ -46,7 +46,7 @@ module _ (table : Table) (count : ℕ) (pairs : List Pair) (s : Spells table cou
       n = write-count table count pairs s k small (remove k) (delete k) (delete-local k) (remove-says k)
 
       m : finalCount table (work table k (remove k) count (path count table k 0)) ≤ limit
-      m = omega (arith, removal-single .1, l)
+      m = omega (arith, deletion-single .1, l)
 
       go : (o : Option ℕ) → lookup k pairs ≡ o → Served limit table count (deleteRequests count table k) (delete k pairs)
       go none e = rw (delete-absent-requests e, delete-absent k pairs e) (get-served table count pairs s k small limit l)

@@ -13,7 +13,7 @@ use Rattle.laws.specs.Order.{le-or}
 use Rattle.layout.specs.Layout.{mostKeys}
 use Rattle.pairs.specs.Pairs.{Pair, insert}
 use Rattle.pairs.specs.LocalEdit.{LocalEdit}
-use Rattle.node.specs.declared.Kind.the-variants.{Branch}
+use Rattle.node.specs.declared.Shape.the-variants.{Branch}
 use Rattle.node.specs.Node.{Node, node, pairsOf}
 use Rattle.node.specs.Change.{link, change}
 use Rattle.node.specs.Halves.{lowerHalf, middleKey, upperHalf}

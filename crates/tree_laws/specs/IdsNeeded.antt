@@ -56,7 +56,7 @@ unfoldable pub runDown : Table → ℕ → List ℕ → ℕ
 runDown table run [] = run
 runDown table run (id ∷ ids) = runDown table (elim (leb mostKeys (sizeAt table id)) [ true ↦ suc run | false ↦ 0 ]) ids
 
--- one more node on the way
+-- one more node on the path
 module _ (table : Table) (run id : ℕ) (ids : List ℕ) where
   runDown-full : mostKeys ≤ sizeAt table id → runDown table run (id ∷ ids) ≡ runDown table (suc run) ids
   unfolding runDown

@@ -8,7 +8,7 @@ use lib.ListN.{length}
 use Rattle.layout.specs.Layout.{mostKeys, noLeaf}
 use Rattle.pairs.specs.Pairs.{Pair, Within}
 use Rattle.pairs.specs.Bounds.{within-append}
-use Rattle.node.specs.declared.Kind.the-variants.{Leaf}
+use Rattle.node.specs.declared.Shape.the-variants.{Leaf}
 use Rattle.node.specs.Node.{node}
 use Rattle.tree.specs.Table.{Table, slot, leafFor}
 use Rattle.tree.specs.Tree.{keysOf, firstOf, joinOf, sumOf, EachChild, Tree, rootOf, firstLeaf, pairsIn, reached, Holds, Stands}

@@ -1,5 +1,5 @@
 -- The leaf that a key leads to in a tree that stands: the path to it, and the pairs before it, in it and behind it, which the
--- bounds on the way keep apart. Assumes nothing.
+-- bounds on the path keep apart. Assumes nothing.
 use mathlib.Core.Path.{_≡_, refl, sym, ap, _∙_}
 use mathlib.Core.List.{List, [], _∷_, _++_, append-assoc, append-nil}
 use mathlib.Core.Option.{none, some}
@@ -11,7 +11,7 @@ use Rattle.layout.specs.Layout.{mostKeys}
 use Rattle.pairs.specs.Pairs.{Pair, lookup, Within}
 use Rattle.pairs.specs.Bounds.{within-append}
 use Rattle.pairs.specs.LocalEdit.{lookup-append-left, lookup-append-right}
-use Rattle.node.specs.declared.Kind.the-variants.{Leaf}
+use Rattle.node.specs.declared.Shape.the-variants.{Leaf}
 use Rattle.node.specs.Node.{Node, node, pairsOf}
 use Rattle.tree.specs.Table.{Table, slot, childFor, path, leafFor}
 use Rattle.tree.specs.Tree.{keysOf, Tree, rootOf, firstLeaf, pairsIn, Holds, Stands}

@@ -15,7 +15,7 @@ use Rattle.laws.specs.Update.{update, update-same, update-other}
 use Rattle.layout.specs.Layout.{keptKeys, bound32}
 use Rattle.pairs.specs.Pairs.{Pair}
 use Rattle.pairs.specs.Members.{every-insert, every-delete}
-use Rattle.node.specs.declared.Kind.the-variants.{Leaf, Branch}
+use Rattle.node.specs.declared.Shape.the-variants.{Leaf, Branch}
 use Rattle.node.specs.Node.{Node, node, pairsOf}
 use Rattle.node.specs.Change.{Change, put, remove, link, change}
 use Rattle.node.specs.Halves.{lowerHalf, middleKey, upperHalf}
@@ -24,7 +24,7 @@ use Rattle.tree.specs.Table.{Table, slot, path, leafFor}
 use Rattle.tree.specs.NodeRequest.{NodeRequest, read, edit, rewrite, create, apply, applyAll, countAfter, changeAll}
 use Rattle.tree.specs.Get.{getAnswer}
 use Rattle.tree.specs.Put.{renamed, fitsNode, Work, finished, pending, settle, work, finish, putRefused, putRequests}
-use Rattle.tree.specs.Delete.{removalFor, deleteRequests}
+use Rattle.tree.specs.Delete.{deletionFor, deleteRequests}
 use Rattle.tree.specs.Fit.{Fit, Fits}
 use Rattle.tree.specs.Spells.{Spells}
 use Rattle.tree_laws.specs.Size.{depth-count}
@@ -56,9 +56,9 @@ pointerAt-narrow (p ∷ ps) last (suc j) l (both x e) = pointerAt-narrow ps last
 
 -- A node after changes, and its halves.
 pub change-narrow : (c : Change) (n : Node) → NarrowChange c → Narrow n → Narrow (change c n)
-change-narrow (put k p) (node kind ps l) c n = record { pairs = every-insert k p ps c (n .pairs); last = n .last }
-change-narrow (remove k) (node kind ps l) c n = record { pairs = every-delete k ps (n .pairs); last = n .last }
-change-narrow (link kind′ p) (node kind ps l) c n = record { pairs = n .pairs; last = c }
+change-narrow (put k p) (node shape ps l) c n = record { pairs = every-insert k p ps c (n .pairs); last = n .last }
+change-narrow (remove k) (node shape ps l) c n = record { pairs = every-delete k ps (n .pairs); last = n .last }
+change-narrow (link kind′ p) (node shape ps l) c n = record { pairs = n .pairs; last = c }
 
 pub changeAll-narrow : (cs : List Change) (n : Node) → Every NarrowChange cs → Narrow n → Narrow (changeAll cs n)
 changeAll-narrow [] n none w = w
@@ -178,7 +178,7 @@ module _ (table : Table) (count : ℕ) (pairs : List Pair) (s : Spells table cou
   unfolding deleteRequests
   delete-narrow = every-append (reads-narrow (path count table k 0)) (go (getAnswer count table k))
     where
-      go : (o : Option ℕ) → Every NarrowRequest (removalFor o (leafFor count table k 0) k)
+      go : (o : Option ℕ) → Every NarrowRequest (deletionFor o (leafFor count table k 0) k)
       go none = none
       go (some old) = both small none
 

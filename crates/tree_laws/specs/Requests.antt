@@ -80,7 +80,7 @@ module _ (limit : ℕ) where
   fits-reads [] table count none = refl
   fits-reads (i ∷ ids) table count (both l e) = (l, fits-reads ids table count e)
 
--- Each content on the way is neat, and each change suits it.
+-- Each content on the path is neat, and each change suits it.
 abbrev pub NeatAll : List Change → Node → Type 0
 NeatAll [] n = Unit {0}
 NeatAll (c ∷ cs) n = Neat (change c n) × Suits c n × NeatAll cs (change c n)

@@ -14,8 +14,8 @@ use Rattle.pairs.specs.Pairs.{Pair, insert, delete, Within}
 use Rattle.pairs.specs.Bounds.{within-insert}
 use Rattle.pairs.specs.Sizes.{length-insert}
 use Rattle.pairs.specs.LocalEdit.{LocalEdit}
-use Rattle.node.specs.declared.Kind.the-variants.{Leaf, Branch}
-use Rattle.node.specs.Node.{Node, node, kindOf, pairsOf, Neat}
+use Rattle.node.specs.declared.Shape.the-variants.{Leaf, Branch}
+use Rattle.node.specs.Node.{Node, node, shapeOf, pairsOf, Neat}
 use Rattle.node.specs.Change.{Change, put, remove, Suits, change}
 use Rattle.node.specs.Halves.{lowerHalf, middleKey, upperHalf}
 use Rattle.tree.specs.Table.{Table, slot, path}
@@ -35,7 +35,7 @@ stands-top-neat d table t low high link b s =
     (holds-most d table t low high link mostKeys (table (rootOf d t)) s)
 
 -- The second edit of a branch sets its last pointer by the branch's kind, where it sets that.
-renamed-suits : (j : ℕ) (ks : List Pair) (right : ℕ) (n : Node) → kindOf n ≡ Branch → Suits (renamed j ks right) n
+renamed-suits : (j : ℕ) (ks : List Pair) (right : ℕ) (n : Node) → shapeOf n ≡ Branch → Suits (renamed j ks right) n
 unfolding renamed
 renamed-suits j ks right n e = go (ltb j (length ks)) refl
   where
@@ -186,13 +186,13 @@ module _ (limit d : ℕ) (table : Table) (count k : ℕ) (f : List Pair → List
         (omega (arith, p .under, child-leads d table count k f local t low high link a b o h .under)) (h .1) in
         let size : length (insert m (rootOf d child) ks) ≤ mostKeys =
         omega (arith, two-long, s, length-insert m (rootOf d child) ks, ap (λ (n : Node). length (pairsOf n)) (h .0)) in
-        let kind : kindOf (change (put m (rootOf d child)) (table (t .0))) ≡ Branch = ap (λ (n : Node). kindOf (change (put m (rootOf d child)) n)) (h .0) in (
+        let shape : shapeOf (change (put m (rootOf d child)) (table (t .0))) ≡ Branch = ap (λ (n : Node). shapeOf (change (put m (rootOf d child)) n)) (h .0) in (
           rw (h .0) (neat-within low high (node Branch (insert m (rootOf d child) ks) _) bound w size),
           tt,
           (
             neat-within low high (changeAll bothEdits (table (t .0))) bound
                 (holds-keys (suc d) (applyAll splitting table) (risen .tree) low high link (suc mostKeys) (changeAll bothEdits (table (t .0))) (risen .holds)) s,
-            renamed-suits (slot k (pairsOf (table (t .0)))) (pairsOf (table (t .0))) next (change (put m (rootOf d child)) (table (t .0))) kind,
+            renamed-suits (slot k (pairsOf (table (t .0)))) (pairsOf (table (t .0))) next (change (put m (rootOf d child)) (table (t .0))) shape,
             tt,
           ),
         )

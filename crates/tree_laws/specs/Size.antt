@@ -68,7 +68,7 @@ sum-reached (suc d) n t o =
       sum-children n (size d) (reached d) (sum-reached d n) (t .1) (t .2) (λ i. omega (arith, o i)),
     )
 
--- The branches on the way to a leaf are no leaves: the first child on it has d of them, the others have their leaves.
+-- The branches on the path to a leaf are no leaves: the first child on it has d of them, the others have their leaves.
 pub depth-leaves : (d : ℕ) (t : Tree d) → d + leaves d t ≤ size d t
 unfolding size leaves
 depth-leaves zero t = omega arith

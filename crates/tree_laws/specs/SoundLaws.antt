@@ -17,7 +17,7 @@ use Rattle.laws.specs.Tests.{and-left, and-right, and-both}
 use mathlib.Core.Logic.{_⊎_, inl, inr}
 use Rattle.layout.specs.Layout.{mostKeys, noLeaf, bound32}
 use Rattle.pairs.specs.Pairs.{Pair, Within}
-use Rattle.node.specs.declared.Kind.the-variants.{Leaf, Branch}
+use Rattle.node.specs.declared.Shape.the-variants.{Leaf, Branch}
 use Rattle.node.specs.Node.{Node, node}
 use Rattle.node.specs.Ascends.{ascends, ascends-within, within-ascends}
 use Rattle.node.specs.Search.{pointerAt}

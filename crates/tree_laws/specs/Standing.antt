@@ -12,8 +12,8 @@ use Rattle.laws.specs.Order.{eq-or, le-or}
 use Rattle.layout.specs.Layout.{mostKeys, bound32}
 use Rattle.pairs.specs.Pairs.{Within}
 use Rattle.pairs.specs.Bounds.{within-weaken, within-tail}
-use Rattle.node.specs.declared.Kind.the-variants.{Leaf, Branch}
-use Rattle.node.specs.Node.{Node, node, kindOf, pairsOf, Neat}
+use Rattle.node.specs.declared.Shape.the-variants.{Leaf, Branch}
+use Rattle.node.specs.Node.{Node, node, shapeOf, pairsOf, Neat}
 use Rattle.tree.specs.Table.{Table}
 use Rattle.tree.specs.Tree.{keysOf, firstOf, sumOf, EachChild, Tree, rootOf, firstLeaf, pairsIn, reached, Holds, Stands}
 use Rattle.tree_laws.specs.Children.{length-keysOf, joinOf-within, each-keep, childAt, sumOf-childAt}
@@ -116,7 +116,7 @@ module _ {X : Type 0} (idOf first : X → ℕ) (reach : X → ℕ → ℕ) (S : 
 -- A node of a sound tree: neat, and a branch has "at least one key".
 pub record Proper (n : Node) : Type 0 where
   pub neat : Neat n
-  pub keyed : kindOf n ≡ Branch → 1 ≤ length (pairsOf n)
+  pub keyed : shapeOf n ≡ Branch → 1 ≤ length (pairsOf n)
 
 leaf-no-branch : Leaf ≡ Branch → ⊥
 leaf-no-branch e = let z : _≡_ {A = ℕ} 0 1 = cc in omega arith

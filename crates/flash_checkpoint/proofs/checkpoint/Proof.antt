@@ -1,4 +1,4 @@
--- `checkpoint` meets its contract: the buffer drained, then the sheets. Assumes nothing.
+-- `checkpoint` meets its contract: the buffer drained, then the checkpoint pages. Assumes nothing.
 use Rattle.flash_rows.specs.Row.{rowsOf}
 use Rattle.flash_blocks.specs.Pages.{pagesOf}
 use Rattle.flash_allocate.specs.World.{world}
@@ -10,8 +10,8 @@ use Rattle.flash_checkpoint.proofs.checkpoint.Tie as tie
 drain-requires : tie.Need-drain-requires
 drain-requires c κs = search needs
 
-sheets-requires : tie.Need-sheets-requires
-sheets-requires c κs = search needs
+checkpoint-pages-requires : tie.Need-checkpoint-pages-requires
+checkpoint-pages-requires c κs = search needs
 
 same-length : tie.Need-same-length
 same-length c = search needs
@@ -22,9 +22,9 @@ same-length-2 c = search needs
 returns : tie.Need-returns
 returns c = let a = c .before .before .before .before .before .before .before .before .before .before .before .before .before .before .before .before .args in
     let d = c .before .before .before .before .before .before .before .before .before .before .before .drain in
-    let s = c .before .before .before .before .sheets in
+    let s = c .before .before .before .before .checkpoint-pages in
     checkpoint-made (a .tariff) (world (pagesOf (a .pool .now)) (rowsOf (a .table .now)) (a .state)) (world (pagesOf (d .last .0)) (rowsOf (d .last .1 .0)) (d .result)) (world (pagesOf (s .last .0)) (rowsOf (s .last .1 .0)) (s .result)) (d .ensures) (s .ensures)
 
 pub checkpoint-spec : {M : Type 1} → statement M
 checkpoint-spec =
-    tie.close (tie.spec drain-requires sheets-requires same-length same-length-2 returns)
+    tie.close (tie.spec drain-requires checkpoint-pages-requires same-length same-length-2 returns)

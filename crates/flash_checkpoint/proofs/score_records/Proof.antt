@@ -20,11 +20,11 @@ loop-holds : tie.Need-loop-holds Inv-loop μ-loop
 loop-holds c = let a = c .before .args in
     ((omega arith, length-replicate {A = ℕ} 324 0), records-begin (rowsOf (a .table .now)) (a .from) (a .n) (replicate 324 0))
 
-add-load : tie.Need-add-load Inv-loop μ-loop
-add-load c = omega arith
+add-read-row : tie.Need-add-read-row Inv-loop μ-loop
+add-read-row c = omega arith
 
-load-requires : tie.Need-load-requires Inv-loop μ-loop
-load-requires c κs = omega arith
+read-row-requires : tie.Need-read-row-requires Inv-loop μ-loop
+read-row-requires c κs = omega arith
 
 slice-aggregate-lay-score : tie.Need-slice-aggregate-lay-score Inv-loop μ-loop
 slice-aggregate-lay-score c = omega arith
@@ -47,7 +47,7 @@ loop-less c = omega arith
 loop-again : tie.Need-loop-again Inv-loop μ-loop
 loop-again c = let l = c .before .before .before .before .before .loop in
     let a = c .before .before .before .before .before .before .before .args in
-    (omega (arith, c .before .lay-score .kept .0), rw (c .before .lay-score .ensures, c .before .before .before .load .ensures) (records-more (rowsOf (a .table .now)) (a .from) (a .n) (l .records) (l .i) (omega arith) (omega arith) ∙ l .inv .1))
+    (omega (arith, c .before .lay-score .kept .0), rw (c .before .lay-score .ensures, c .before .before .before .read-row .ensures) (records-more (rowsOf (a .table .now)) (a .from) (a .n) (l .records) (l .i) (omega arith) (omega arith) ∙ l .inv .1))
 
 returns : tie.Need-returns Inv-loop μ-loop
 returns c = let l = c .before .loop in
@@ -61,8 +61,8 @@ score-records-spec =
     Inv-loop
     μ-loop
     loop-holds
-    add-load
-    load-requires
+    add-read-row
+    read-row-requires
     slice-aggregate-lay-score
     mul-lay-score
     add-lay-score

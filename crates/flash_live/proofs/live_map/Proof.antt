@@ -20,8 +20,8 @@ loop-holds : tie.Need-loop-holds Inv-loop μ-loop
 loop-holds c = let a = c .before .args in
     (omega arith, steps-begin (markNth (rowsOf (a .table .now))) (a .used) (replicate 2048 0))
 
-load-requires : tie.Need-load-requires Inv-loop μ-loop
-load-requires c κs = omega arith
+read-row-requires : tie.Need-read-row-requires Inv-loop μ-loop
+read-row-requires c κs = omega arith
 
 mark-row-requires : tie.Need-mark-row-requires Inv-loop μ-loop
 mark-row-requires c κs = search needs
@@ -36,7 +36,7 @@ loop-again : tie.Need-loop-again Inv-loop μ-loop
 unfolding markNth
 loop-again c = let l = c .before .before .before .before .loop in
     let a = c .before .before .before .before .before .before .args in
-    (omega arith, rw (c .mark-row .ensures, c .before .load .ensures) (steps-more (markNth (rowsOf (a .table .now))) (a .used) (l .n) (l .live) (omega arith) ∙ l .inv .1))
+    (omega arith, rw (c .mark-row .ensures, c .before .read-row .ensures) (steps-more (markNth (rowsOf (a .table .now))) (a .used) (l .n) (l .live) (omega arith) ∙ l .inv .1))
 
 returns : tie.Need-returns Inv-loop μ-loop
 unfolding liveMap
@@ -51,7 +51,7 @@ live-map-spec =
     Inv-loop
     μ-loop
     loop-holds
-    load-requires
+    read-row-requires
     mark-row-requires
     add-n
     loop-less

@@ -1,4 +1,4 @@
--- THE CHECKPOINT of the code is the model's: sheet by sheet the world stands for the store, and at the end each page is the image of the
+-- THE CHECKPOINT of the code is the model's: checkpoint page by checkpoint page the world stands for the store, and at the end each page is the image of the
 -- store's page there. Assumes nothing.
 use mathlib.Core.Path.{_≡_, refl, sym, ap, _∙_, subst}
 use mathlib.Core.Option.{Option, none, some}
@@ -18,11 +18,11 @@ use Rattle.page.specs.Page as p
 use Rattle.page.specs.Image.{image}
 use Rattle.store.specs.Pool.{block}
 use Rattle.store.specs.Store.{Store, view}
-use Rattle.store.specs.Live.{carries, noClosing, closingSince}
+use Rattle.store.specs.Live.{carries, noCheckpoint, checkpointSince}
 use Rattle.store.specs.Write.{next, place}
 use Rattle.store.specs.Write as Write
 use Rattle.store.specs.Run.{Run, write, flushRun}
-use Rattle.store.specs.Checkpoint.{Sheet, sheetContent, scoresFrom, writeSheets, drainBy, close}
+use Rattle.store.specs.Checkpoint.{CheckpointPage, checkpointPageContent, scoresFrom, writeCheckpointPages, drainBy, close}
 use Rattle.store.specs.Checkpoint as Model
 use Rattle.store_laws.specs.Placing.{Invariant, place-tally, silent-invariant}
 use Rattle.store_laws.specs.Closing.{closing-none, closing-begins}
@@ -32,32 +32,32 @@ use Rattle.flash_rows.specs.declared.Row.{Row}
 use Rattle.flash_allocate.specs.declared.state.State.{State}
 use Rattle.flash_allocate.specs.World.{World, world, used, spot}
 use Rattle.flash_allocate.specs.Allocate.{allocate}
-use Rattle.flash_log.specs.Flush.{nextNumber, flush}
+use Rattle.flash_log.specs.Flush.{nextSequence, flush}
 use Rattle.page_checkpoint.specs.Checkpoint.{onlyIf}
-use Rattle.flash_checkpoint.specs.Sheets.{sheetStart, sheetSize, sheetCount, sheetImage, sheetRow, closedBy, writeSheet, sheet, sheets, drain, checkpoint}
+use Rattle.flash_checkpoint.specs.CheckpointPages.{scoresBefore, scoresOfPage, pageCount, checkpointImage, checkpointRow, pageCounted, writeCheckpointPage, checkpointPage, checkpointPages, drain, checkpoint}
 use Rattle.flash_refines.specs.Store.Mirror.{rowAt, test, PagesAre, Owners, Mirrors}
 use Rattle.flash_refines.specs.Store.Allocate.{Kept}
 use Rattle.flash_refines.specs.Store.Follows.{Follows, Writable}
 use Rattle.flash_refines.specs.Store.Followed.{few-blocks, invariant-here}
 use Rattle.flash_refines.specs.Write.Flush.{flush-follows}
 use Rattle.flash_refines.specs.Store.Placed.{nextNumber-is, kept-found, step-found}
-use Rattle.flash_refines.specs.Checkpoint.Sheets.{scoresOf-is, sheet-inside, sheetOf, sheetsFrom, sheets-are}
-use Rattle.flash_refines.specs.Checkpoint.SheetPage.{owner, owner-node, owners-closing, row-kept, sheet-mirrors}
+use Rattle.flash_refines.specs.Checkpoint.CheckpointPages.{scoresOf-is, checkpoint-page-inside, checkpointPageOf, checkpointPagesFrom, checkpoint-pages-are}
+use Rattle.flash_refines.specs.Checkpoint.CheckpointPage.{owner, owner-node, owners-closing, row-kept, checkpoint-page-mirrors}
 
--- A world stands for a store while a checkpoint is written, `base` being the last number taken before it and k the sheets written: as many rows
+-- A world stands for a store while a checkpoint is written, `base` being the last number taken before it and k the checkpoint pages written: as many rows
 -- behind those of the nodes name its pages. With what the store keeps meanwhile.
 pub record Closes (score : ℕ → ℕ) (base k : ℕ) (w : World) (st : Store) : Type 0 where
   pub few : w .state .blocks ≤ mostBlocks
   pub table : length (w .rows) ≡ 64 * w .state .blocks
   pub written : w .state .checkpoint ≡ k
   pub number : st .last ≡ base + k
-  pub mirrors : Mirrors image (owner base (w .state .nodes) st) (closingSince base) w st
+  pub mirrors : Mirrors image (owner base (w .state .nodes) st) (checkpointSince base) w st
   pub scores : (n : ℕ) → n < w .state .nodes → rowAt (w .rows) n .score ≡ score n
-  pub invariant : Invariant (w .state .blocks) (w .state .nodes) (closingSince base) st
-  pub sheets : tally (closingSince base) (st .blocks) ≤ k
+  pub invariant : Invariant (w .state .blocks) (w .state .nodes) (checkpointSince base) st
+  pub checkpointPages : tally (checkpointSince base) (st .blocks) ≤ k
 
--- The next sheet, k being written.
-module _ {score : ℕ → ℕ} (base k : ℕ) {w : World} {st : Store} (h : Closes score base k w st) (t : Tariff) (needed : k < sheetCount (w .state .nodes))
+-- The next checkpoint page, k being written.
+module _ {score : ℕ → ℕ} (base k : ℕ) {w : World} {st : Store} (h : Closes score base k w st) (t : Tariff) (needed : k < pageCount (w .state .nodes))
     (low : suc (st .last) < bound32) where
   abbrev nodes : ℕ
   nodes = w .state .nodes
@@ -70,17 +70,17 @@ module _ {score : ℕ → ℕ} (base k : ℕ) {w : World} {st : Store} (h : Clos
   s = allocate w .state
 
   -- what it holds; the store and the world with it
-  abbrev x : Sheet
-  x = sheetOf t score nodes k
+  abbrev x : CheckpointPage
+  x = checkpointPageOf t score nodes k
 
   abbrev after : Store
-  after = place (closingSince base) nodes (sheetContent x) (st .buffer) st
+  after = place (checkpointSince base) nodes (checkpointPageContent x) (st .buffer) st
 
   abbrev put : ℕ → List ℕ → World
-  put number bytes = world (set (allocate w .pages) (spot s) bytes) (set rows (used s) (sheetRow number (spot s))) (closedBy number s)
+  put number bytes = world (set (allocate w .pages) (spot s) bytes) (set rows (used s) (checkpointRow number (spot s))) (pageCounted number s)
 
   abbrev with : World
-  with = put (suc (st .last)) (image (next st (sheetContent x)))
+  with = put (suc (st .last)) (image (next st (checkpointPageContent x)))
 
   room : used (w .state) < length (w .rows)
   room = omega (arith, h .table, h .written, h .invariant .nodes, h .invariant .blocks, h .few)
@@ -91,57 +91,57 @@ module _ {score : ℕ → ℕ} (base k : ℕ) {w : World} {st : Store} (h : Clos
   found-scores : (n : ℕ) → n < nodes → rowAt rows n .score ≡ score n
   found-scores n l = ap (λ (r : Row). r .score) (keep .rows n (omega arith) .1) ∙ h .scores n l
 
-  sheet-image : sheetImage (suc (st .last)) t k nodes rows ≡ image (next st (sheetContent x))
-  unfolding sheetImage sheetOf
-  sheet-image =
-      ap (λ (ss : List Score). image (page (suc (st .last)) (p.checkpoint (onlyIf (eqb k 0) t) ss (onlyIf (eqb (k + 1) (sheetCount nodes)) nodes))))
-      (scoresOf-is rows score nodes found-scores (sheetStart k) (sheetSize k nodes) (sheet-inside k nodes needed))
+  checkpoint-page-image : checkpointImage (suc (st .last)) t k nodes rows ≡ image (next st (checkpointPageContent x))
+  unfolding checkpointImage checkpointPageOf
+  checkpoint-page-image =
+      ap (λ (ss : List Score). image (page (suc (st .last)) (p.checkpoint (onlyIf (eqb k 0) t) ss (onlyIf (eqb (k + 1) (pageCount nodes)) nodes))))
+      (scoresOf-is rows score nodes found-scores (scoresBefore k) (scoresOfPage k nodes) (checkpoint-page-inside k nodes needed))
 
-  sheet-is : sheet t k w ≡ with
-  unfolding sheet writeSheet
-  sheet-is =
-      let number : nextNumber (s .last) ≡ suc (st .last) = ap nextNumber (keep .last ∙ h .mirrors .last) ∙ nextNumber-is (st .last) low in
-      step-found (h .few) (h .invariant) (h .mirrors) (writeSheet t k) ∙
-      ap (λ (n : ℕ). put n (sheetImage n t k (s .nodes) rows)) number ∙
-      ap (put (suc (st .last))) (ap (λ (n : ℕ). sheetImage (suc (st .last)) t k n rows) (keep .nodes) ∙ sheet-image)
+  checkpoint-page-is : checkpointPage t k w ≡ with
+  unfolding checkpointPage writeCheckpointPage
+  checkpoint-page-is =
+      let number : nextSequence (s .last) ≡ suc (st .last) = ap nextSequence (keep .last ∙ h .mirrors .last) ∙ nextNumber-is (st .last) low in
+      step-found (h .few) (h .invariant) (h .mirrors) (writeCheckpointPage t k) ∙
+      ap (λ (n : ℕ). put n (checkpointImage n t k (s .nodes) rows)) number ∙
+      ap (put (suc (st .last))) (ap (λ (n : ℕ). checkpointImage (suc (st .last)) t k n rows) (keep .nodes) ∙ checkpoint-page-image)
 
   closes-with : Closes score base (suc k) with after
-  unfolding closedBy place
+  unfolding pageCounted place
   closes-with =
       let most : k < 12 = omega (arith, h .invariant .nodes, h .few) in
       record {
         few = omega (arith, keep .blocks, h .few);
-        table = omega (arith, length-set rows (used s) (sheetRow (suc (st .last)) (spot s)), keep .table, keep .blocks, h .table);
+        table = omega (arith, length-set rows (used s) (checkpointRow (suc (st .last)) (spot s)), keep .table, keep .blocks, h .table);
         written = omega (arith, keep .checkpoint, h .written);
         number = omega (arith, h .number);
         mirrors =
-            subst (λ (n : ℕ). Mirrors image (owner base n after) (closingSince base) with after) (sym (keep .nodes))
-            (sheet-mirrors base (h .few) (h .invariant) (h .mirrors) (h .written) (h .number) room x);
+            subst (λ (n : ℕ). Mirrors image (owner base n after) (checkpointSince base) with after) (sym (keep .nodes))
+            (checkpoint-page-mirrors base (h .few) (h .invariant) (h .mirrors) (h .written) (h .number) room x);
         scores =
             λ n l.
             let below : n < nodes = omega (arith, keep .nodes) in
             ap (λ (r : Row). r .score) (row-kept base (h .few) (h .invariant) (h .mirrors) (h .written) (h .number) room x n below .1) ∙ h .scores n below;
         invariant =
-            subst (λ (n : ℕ). Invariant (s .blocks) n (closingSince base) after) (sym (keep .nodes))
-            (subst (λ (b : ℕ). Invariant b nodes (closingSince base) after) (sym (keep .blocks))
-            (silent-invariant (h .invariant) (sheetContent x) refl (omega (arith, h .sheets))));
-        sheets =
+            subst (λ (n : ℕ). Invariant (s .blocks) n (checkpointSince base) after) (sym (keep .nodes))
+            (subst (λ (b : ℕ). Invariant b nodes (checkpointSince base) after) (sym (keep .blocks))
+            (silent-invariant (h .invariant) (checkpointPageContent x) refl (omega (arith, h .checkpointPages))));
+        checkpointPages =
             omega (
               arith,
-              place-tally (h .invariant) (closingSince base) (sheetContent x) (st .buffer),
-              h .sheets,
-              bit-le-one (closingSince base (next st (sheetContent x))),
+              place-tally (h .invariant) (checkpointSince base) (checkpointPageContent x) (st .buffer),
+              h .checkpointPages,
+              bit-le-one (checkpointSince base (next st (checkpointPageContent x))),
             );
       }
 
-  -- ONE SHEET: the world that the code leaves stands for the store with the model's sheet.
-  pub closes-sheet : Closes score base (suc k) (sheet t k w)
-      (place (closingSince base) (w .state .nodes) (sheetContent (sheetOf t score (w .state .nodes) k)) (st .buffer) st)
-  closes-sheet = subst (λ (w′ : World). Closes score base (suc k) w′ after) (sym sheet-is) closes-with
+  -- ONE SHEET: the world that the code leaves stands for the store with the model's checkpoint page.
+  pub closes-checkpoint-page : Closes score base (suc k) (checkpointPage t k w)
+      (place (checkpointSince base) (w .state .nodes) (checkpointPageContent (checkpointPageOf t score (w .state .nodes) k)) (st .buffer) st)
+  closes-checkpoint-page = subst (λ (w′ : World). Closes score base (suc k) w′ after) (sym checkpoint-page-is) closes-with
 
-  sheet-nodes : sheet t k w .state .nodes ≡ nodes
-  unfolding closedBy
-  sheet-nodes = ap (λ (w′ : World). w′ .state .nodes) sheet-is ∙ keep .nodes
+  checkpoint-page-nodes : checkpointPage t k w .state .nodes ≡ nodes
+  unfolding pageCounted
+  checkpoint-page-nodes = ap (λ (w′ : World). w′ .state .nodes) checkpoint-page-is ∙ keep .nodes
 
 -- A world whose pages are the images of the run's, in the same place: what a checkpoint leaves.
 pub record Closed (w : World) (run : Run) : Type 0 where
@@ -153,30 +153,30 @@ pub record Closed (w : World) (run : Run) : Type 0 where
 
 module _ (score : ℕ → ℕ) (base : ℕ) (t : Tariff) where
   abbrev writeNext : ℕ → Run → Run
-  writeNext k run = write (closingSince base) (sheetContent (sheetOf t score (run .nodes) k)) (run .now .buffer) run
+  writeNext k run = write (checkpointSince base) (checkpointPageContent (checkpointPageOf t score (run .nodes) k)) (run .now .buffer) run
 
-  -- the sheets that are left, from sheet k on
-  closes-rest : (m k : ℕ) (w : World) (run : Run) → w .state .nodes ≡ run .nodes → Closes score base k w (run .now) → k + m ≡ sheetCount (run .nodes) →
-      base + sheetCount (run .nodes) < bound32 → Closed (steps (sheet t) m k w) (writeSheets (closingSince base) (sheetsFrom t score (run .nodes) m k) run)
+  -- the checkpoint pages that are left, from checkpoint page k on
+  closes-rest : (m k : ℕ) (w : World) (run : Run) → w .state .nodes ≡ run .nodes → Closes score base k w (run .now) → k + m ≡ pageCount (run .nodes) →
+      base + pageCount (run .nodes) < bound32 → Closed (steps (checkpointPage t) m k w) (writeCheckpointPages (checkpointSince base) (checkpointPagesFrom t score (run .nodes) m k) run)
   unfolding steps write
   closes-rest zero k w run e h s l =
       record { pages = h .mirrors .pages; current = h .mirrors .current; fill = h .mirrors .fill; last = h .mirrors .last; nodes = e }
   closes-rest (suc m) k w run e h s l =
-      let needed : k < sheetCount (w .state .nodes) = omega arith in
+      let needed : k < pageCount (w .state .nodes) = omega arith in
       let low : suc (run .now .last) < bound32 = omega (arith, h .number) in
-      closes-rest m (k + 1) (sheet t k w) (writeNext k run) (sheet-nodes base k h t needed low ∙ e)
-      (subst (λ (j : ℕ). Closes score base j (sheet t k w) (writeNext k run .now)) (sym (add-one k))
+      closes-rest m (k + 1) (checkpointPage t k w) (writeNext k run) (checkpoint-page-nodes base k h t needed low ∙ e)
+      (subst (λ (j : ℕ). Closes score base j (checkpointPage t k w) (writeNext k run .now)) (sym (add-one k))
       (subst
-      (λ (n : ℕ). Closes score base (suc k) (sheet t k w)
-      (place (closingSince base) n (sheetContent (sheetOf t score n k)) (run .now .buffer) (run .now)))
-      e (closes-sheet base k h t needed low)))
+      (λ (n : ℕ). Closes score base (suc k) (checkpointPage t k w)
+      (place (checkpointSince base) n (checkpointPageContent (checkpointPageOf t score n k)) (run .now .buffer) (run .now)))
+      e (closes-checkpoint-page base k h t needed low)))
       (omega arith) l
 
 module _ {B : ℕ} {score : ℕ → ℕ} {w : World} {run : Run} (b : Writable B run) (f : Follows score w run) where
   abbrev st : Store
   st = run .now
 
-  mirrors-begin : Mirrors image (owner (st .last) (w .state .nodes) st) (closingSince (st .last)) w st
+  mirrors-begin : Mirrors image (owner (st .last) (w .state .nodes) st) (checkpointSince (st .last)) w st
   mirrors-begin =
       let m = f .mirrors in
       record {
@@ -184,10 +184,10 @@ module _ {B : ℕ} {score : ℕ → ℕ} {w : World} {run : Run} (b : Writable B
         names =
             record {
               long = m .names .long;
-              each = λ n i q ln li lq. m .names .each n i q ln li lq ∙ carried n (omega (arith, f .noSheet)) (getElem? (block (st .blocks) i) q);
+              each = λ n i q ln li lq. m .names .each n i q ln li lq ∙ carried n (omega (arith, f .noCheckpointPage)) (getElem? (block (st .blocks) i) q);
             };
         owners =
-            subst (λ (k : ℕ). Owners (owner (st .last) (w .state .nodes) st) (closingSince (st .last)) (w .state .nodes) k st) (sym (f .noSheet))
+            subst (λ (k : ℕ). Owners (owner (st .last) (w .state .nodes) st) (checkpointSince (st .last)) (w .state .nodes) k st) (sym (f .noCheckpointPage))
             (owners-closing (st .last) 0 (w .state .nodes) st (omega arith));
         rows = m .rows;
         current = m .current;
@@ -204,39 +204,39 @@ module _ {B : ℕ} {score : ℕ → ℕ} {w : World} {run : Run} (b : Writable B
       record {
         few = few-blocks b f;
         table = f .table;
-        written = f .noSheet;
+        written = f .noCheckpointPage;
         number = omega arith;
         mirrors = mirrors-begin;
         scores = λ n l. f .scores n (omega (arith, f .nodes));
         invariant = closing-begins (invariant-here b f);
-        sheets = omega (arith, closing-none (b .good .invariant));
+        checkpointPages = omega (arith, closing-none (b .good .invariant));
       }
 
   -- ALL SHEETS: the pages left are the images of the store's.
-  pub sheets-close : 12 + run .now .last < bound32 → (t : Tariff) →
-      Closed (sheets t w) (writeSheets (closingSince (run .now .last)) (Model.sheets t (scoresFrom 0 (run .nodes) score)) run)
-  unfolding sheets
-  sheets-close low t =
-      subst (λ (n : ℕ). goal n (Model.sheets t (scoresFrom 0 (run .nodes) score))) (sym (f .nodes))
-      (subst (goal (run .nodes)) (sym (sheets-are t score (run .nodes)))
-      (closes-rest score (st .last) t (sheetCount (run .nodes)) 0 w run (f .nodes) closes-begin (omega arith)
+  pub checkpoint-pages-close : 12 + run .now .last < bound32 → (t : Tariff) →
+      Closed (checkpointPages t w) (writeCheckpointPages (checkpointSince (run .now .last)) (Model.checkpoint_pages t (scoresFrom 0 (run .nodes) score)) run)
+  unfolding checkpointPages
+  checkpoint-pages-close low t =
+      subst (λ (n : ℕ). goal n (Model.checkpoint_pages t (scoresFrom 0 (run .nodes) score))) (sym (f .nodes))
+      (subst (goal (run .nodes)) (sym (checkpoint-pages-are t score (run .nodes)))
+      (closes-rest score (st .last) t (pageCount (run .nodes)) 0 w run (f .nodes) closes-begin (omega arith)
       (omega (arith, b .few, b .good .invariant .nodes))))
     where
-      goal : ℕ → List Sheet → Type 0
-      goal n xs = Closed (steps (sheet t) (sheetCount n) 0 w) (writeSheets (closingSince (st .last)) xs run)
+      goal : ℕ → List CheckpointPage → Type 0
+      goal n xs = Closed (steps (checkpointPage t) (pageCount n) 0 w) (writeCheckpointPages (checkpointSince (st .last)) xs run)
 
--- THE CHECKPOINT: the buffer is drained, then the sheets are written.
+-- THE CHECKPOINT: the buffer is drained, then the checkpoint pages are written.
 pub checkpoint-follows : {B : ℕ} {score : ℕ → ℕ} {w : World} {run : Run} → Writable B run → 13 + run .now .last < bound32 → (t : Tariff) →
     Follows score w run → Closed (checkpoint t w) (close t score run)
 unfolding checkpoint close drain write place Write.flush
 checkpoint-follows {B} {score} {w} {run} b low t f = go (run .now .buffer) refl
   where
     flushed : 1 ≤ length (run .now .buffer) → Writable B (flushRun run)
-    flushed l = record { few = b .few; good = flushRun-good (b .good); fits = flush-fits (b .fits) (omega arith) noClosing (run .nodes) l }
+    flushed l = record { few = b .few; good = flushRun-good (b .good); fits = flush-fits (b .fits) (omega arith) noCheckpoint (run .nodes) l }
 
     go : (es : List Entry) → run .now .buffer ≡ es →
-        Closed (sheets t (drain w)) (writeSheets (closingSince (drainBy es run .now .last)) (Model.sheets t (scoresFrom 0 (run .nodes) score)) (drainBy es run))
-    go [] e = rw (eq-eqb (w .state .entries) 0 (f .buffer .number ∙ ap length e)) (sheets-close b f (omega arith) t)
+        Closed (checkpointPages t (drain w)) (writeCheckpointPages (checkpointSince (drainBy es run .now .last)) (Model.checkpoint_pages t (scoresFrom 0 (run .nodes) score)) (drainBy es run))
+    go [] e = rw (eq-eqb (w .state .entries) 0 (f .buffer .number ∙ ap length e)) (checkpoint-pages-close b f (omega arith) t)
     go (x ∷ es) e =
         rw (ne-eqb (w .state .entries) 0 (λ z. omega (arith, f .buffer .number, ap length e)))
-        (sheets-close (flushed (omega (arith, ap length e))) (flush-follows b (omega arith) f) (omega arith) t)
+        (checkpoint-pages-close (flushed (omega (arith, ap length e))) (flush-follows b (omega arith) f) (omega arith) t)

@@ -31,7 +31,7 @@ use Rattle.flash_blocks.specs.Pages.{pageAt}
 use Rattle.flash_allocate.specs.World.{World}
 use Rattle.flash_read.specs.Replay.{redoRun, redoBuffer}
 use Rattle.flash_read.specs.Slots.{sequenceAt, slotAt, redoAt}
-use Rattle.flash_read.specs.Whole.{wholeOf, wholeAt}
+use Rattle.flash_read.specs.NodePage.{nodeOfPayload, nodePageAt}
 use Rattle.flash_read.specs.Content.{redoPages, logContent, contentBy, content}
 use Rattle.flash_refines.specs.Store.Mirror.{rowAt, test, RowMode}
 use Rattle.flash_refines.specs.Store.Follows.{Follows, Writable}
@@ -160,18 +160,18 @@ module _ {B : ℕ} {score : ℕ → ℕ} {w : World} {run : Run} (known : Writab
         rw (one-stamp, disk-own (known .good .versions) onPage, disk-buffer (known .good .versions) onPage)
 
     -- the page that its row names is the node page, whatever node stands there
-    pub disk-page : wholeAt (w .pages) (rowAt (w .rows) n .first) ≡ wholeOf (payloadAt (image (page version (whole n (onPage .node)))) 7 0x11)
-    unfolding wholeAt
+    pub disk-page : nodePageAt (w .pages) (rowAt (w .rows) n .first) ≡ nodeOfPayload (payloadAt (image (page version (whole n (onPage .node)))) 7 0x11)
+    unfolding nodePageAt
     disk-page =
         let c = carrier version has-piece in
         let found = c .found in
         let own = onPage .page in
         let same : c .own ≡ page version (whole n (onPage .node)) = cc in
-        in-one (λ x. wholeOf (payloadAt (pageAt (w .pages) x) 7 0x11) ≡ wholeOf (payloadAt (image (page version (whole n (onPage .node)))) 7 0x11))
-        (ap (λ (b : List ℕ). wholeOf (payloadAt b 7 0x11)) (image-here (h .mirrors .pages) (c .lies) ∙ ap image same))
+        in-one (λ x. nodeOfPayload (payloadAt (pageAt (w .pages) x) 7 0x11) ≡ nodeOfPayload (payloadAt (image (page version (whole n (onPage .node)))) 7 0x11))
+        (ap (λ (b : List ℕ). nodeOfPayload (payloadAt b 7 0x11)) (image-here (h .mirrors .pages) (c .lies) ∙ ap image same))
         (rowAt (w .rows) n) (c .named) (omega (arith, pages-stamps, ap length one-stamp))
 
-    pub disk-content : Neat (onPage .node) → wholeAt (w .pages) (rowAt (w .rows) n .first) ≡ made (onPage .node)
+    pub disk-content : Neat (onPage .node) → nodePageAt (w .pages) (rowAt (w .rows) n .first) ≡ made (onPage .node)
     disk-content neat = disk-page ∙ node-read version n (onPage .node) own-page neat
 
   -- IN LOG MODE whatever the store says is read
@@ -180,7 +180,7 @@ module _ {B : ℕ} {score : ℕ → ℕ} {w : World} {run : Run} (known : Writab
   log-follows e = go (rowAt (w .rows) n .mode) (h .mirrors .rows .mode n inside)
     where
       go : (m : Mode) → RowMode m (run .now) n →
-          byMode m (logContent (w .pages) (w .state) (rowAt (w .rows) n) n) (wholeAt (w .pages) (rowAt (w .rows) n .first)) ≡ draftOf (run .now) n
+          byMode m (logContent (w .pages) (w .state) (rowAt (w .rows) n) n) (nodePageAt (w .pages) (rowAt (w .rows) n .first)) ≡ draftOf (run .now) n
       go Log i = log-content i
       go Disk o = let d = mode-is Disk (run .now) n o in absurd (let z : _≡_ {A = ℕ} 0 1 = cc in omega arith)
 
@@ -190,7 +190,7 @@ module _ {B : ℕ} {score : ℕ → ℕ} {w : World} {run : Run} (known : Writab
   content-follows x e neat = go (rowAt (w .rows) n .mode) (h .mirrors .rows .mode n inside)
     where
       go : (m : Mode) → RowMode m (run .now) n →
-          byMode m (logContent (w .pages) (w .state) (rowAt (w .rows) n) n) (wholeAt (w .pages) (rowAt (w .rows) n .first)) ≡ made x
+          byMode m (logContent (w .pages) (w .state) (rowAt (w .rows) n) n) (nodePageAt (w .pages) (rowAt (w .rows) n .first)) ≡ made x
       go Log i = log-content i ∙ e
       go Disk o =
           let said = disk-draft o in

@@ -11,7 +11,7 @@ use Rattle.laws.specs.Every.{Every}
 use Rattle.laws.specs.BigEndian.{bigEndian, number}
 use Rattle.layout.specs.Layout.{pageBytes, mostEntries, mostKeys, bound32}
 use Rattle.pairs.specs.Pairs.{Pair}
-use Rattle.node.specs.declared.Kind.{Kind}
+use Rattle.node.specs.declared.Shape.{Shape}
 use Rattle.node.specs.Node.{Node, node, pairsOf, Neat}
 use Rattle.node.specs.Replay.{Draft, made, replayFrom}
 use Rattle.node.specs.Ascends.{ascends, within-ascends}
@@ -29,7 +29,7 @@ use Rattle.page.specs.SpelledNode.{length-wholeBytes, nodeOf-bytes}
 use Rattle.page.specs.ReadBack.{map-back, every-to, sequence-found}
 use Rattle.store.specs.Item.{entryItem, piecesIn}
 use Rattle.flash_read.specs.Replay.{redoRun}
-use Rattle.flash_read.specs.Whole.{wholeOf}
+use Rattle.flash_read.specs.NodePage.{nodeOfPayload}
 use Rattle.flash_refines.specs.Read.EntriesRead.{redoAll, redoAll-pieces, isEntry, redoRun-payloads, entry-back}
 
 -- Behind a content: the sums, and FF to the end of the page.
@@ -86,32 +86,32 @@ module _ (s : ℕ) (es : List Entry) (h : Fits s (log es)) where
       redoAll-pieces n v es d
 
 -- THE NODE of a node page
-module _ (s id : ℕ) (kind : Kind) (ps : List Pair) (l : ℕ) (h : Fits s (whole id (node kind ps l))) where
+module _ (s id : ℕ) (shape : Shape) (ps : List Pair) (l : ℕ) (h : Fits s (whole id (node shape ps l))) where
   abbrev payload : List ℕ
-  payload = wholeBytes id (node kind ps l)
+  payload = wholeBytes id (node shape ps l)
 
   may-stand : isNodeBytes (length payload) ≡ true
   unfolding isNodeBytes
   may-stand =
-      let k : length payload ≡ 7 + 8 * length ps = length-wholeBytes id kind ps l in
+      let k : length payload ≡ 7 + 8 * length ps = length-wholeBytes id shape ps l in
       let m : length payload % 8 ≡ 7 = omega arith in
       rw (eq-eqb _ _ m) (le-leb (length payload) (nodeBytes mostKeys) (omega (arith, h .content .node .few)))
 
-  pub payload-read : payloadAt (image (page s (whole id (node kind ps l)))) 7 0x11 ≡ payload
+  pub payload-read : payloadAt (image (page s (whole id (node shape ps l)))) 7 0x11 ≡ payload
   unfolding contentBytes numbered field
   payload-read =
-      ap (λ (b : List ℕ). payloadAt b 7 0x11) (image-split s (whole id (node kind ps l))) ∙
+      ap (λ (b : List ℕ). payloadAt b 7 0x11) (image-split s (whole id (node shape ps l))) ∙
       payloadAt-field (field 0x10 (bigEndian 4 s)) 0x11 payload (behind s (field 0x11 payload))
-      (omega (arith, length-wholeBytes id kind ps l, h .content .node .few)) (allowed-11 (length payload) ∙ may-stand)
+      (omega (arith, length-wholeBytes id shape ps l, h .content .node .few)) (allowed-11 (length payload) ∙ may-stand)
 
-  wholeOf-bytes : Neat (node kind ps l) → wholeOf payload ≡ made (node kind ps l)
-  unfolding wholeOf nodeOf
+  wholeOf-bytes : Neat (node shape ps l) → nodeOfPayload payload ≡ made (node shape ps l)
+  unfolding nodeOfPayload nodeOf
   wholeOf-bytes neat =
-      let k : length payload ≡ 7 + 8 * length ps = length-wholeBytes id kind ps l in
-      let is = nodeOf-bytes id kind ps l (h .content .node) in
+      let k : length payload ≡ 7 + 8 * length ps = length-wholeBytes id shape ps l in
+      let is = nodeOf-bytes id shape ps l (h .content .node) in
       let in-order : ascends 0 bound32 (pairsFrom (pairsIn payload) payload 7) ≡ true =
       ap (λ (x : Node). ascends 0 bound32 (pairsOf x)) is ∙ within-ascends 0 bound32 ps (neat .keys) in
       rw (le-ltb (length payload) 7 (omega arith), le-ltb mostKeys (pairsIn payload) (omega (arith, neat .size)), in-order) (ap made is)
 
-pub node-read : (s id : ℕ) (x : Node) → Fits s (whole id x) → Neat x → wholeOf (payloadAt (image (page s (whole id x))) 7 0x11) ≡ made x
-node-read s id (node kind ps l) h neat = ap wholeOf (payload-read s id kind ps l h) ∙ wholeOf-bytes s id kind ps l h neat
+pub node-read : (s id : ℕ) (x : Node) → Fits s (whole id x) → Neat x → nodeOfPayload (payloadAt (image (page s (whole id x))) 7 0x11) ≡ made x
+node-read s id (node shape ps l) h neat = ap nodeOfPayload (payload-read s id shape ps l h) ∙ wholeOf-bytes s id shape ps l h neat

@@ -31,7 +31,7 @@ use Rattle.flash_live.specs.Choose.{victim}
 use Rattle.flash_allocate.specs.declared.state.State.{State}
 use Rattle.flash_allocate.specs.Compact.{Compacted, compactBlock, compact}
 use Rattle.flash_allocate.specs.World.{World, world, used}
-use Rattle.flash_allocate.specs.Allocate.{at, allocate}
+use Rattle.flash_allocate.specs.Allocate.{inBlock, allocate}
 use Rattle.flash_allocate.proofs.Laws.{allocate-room, allocate-next, allocate-compact}
 use Rattle.flash_refines.specs.Store.Mirror.{rowAt, test, Images, PagesAre, RowsName, RowMode, RowsSay, Owners, Mirrors}
 use Rattle.flash_refines.specs.Store.RowModes.{found-rowMode}
@@ -88,7 +88,7 @@ module _ (image : Page → List ℕ) (written : Images image) (own : ℕ → Pag
     stays n l = ((λ x. x), refl)
 
     pub allocate-is : Allocated image own (world ps rows s) (spot 32 keep bs (s .current)) (allocate (world ps rows s))
-    unfolding spot at compact
+    unfolding spot inBlock compact
     allocate-is = go (le-or 32 (s .fill)) (leb 2 (blanks bs)) refl
       where
         j : ℕ
@@ -107,7 +107,7 @@ module _ (image : Page → List ℕ) (written : Images image) (own : ℕ → Pag
             (record { stands = r; kept = record { blocks = refl; nodes = refl; checkpoint = refl; last = refl; entries = refl; buffer = refl; table = refl; rows = stays } }))
         go (inl l) true e =
             rw (full l, e)
-            (subst (goal false true) (allocate-next ps rows s j (blanks bs) l (sym next-is) (sym blanks-is) (leb-true 2 (blanks bs) e) (at j 0 s) refl)
+            (subst (goal false true) (allocate-next ps rows s j (blanks bs) l (sym next-is) (sym blanks-is) (leb-true 2 (blanks bs) e) (inBlock j 0 s) refl)
             (record {
               stands = record { pages = r .pages; names = r .names; current = refl; fill = rw (nextBlank-blank bs (s .current) (blank .number) (blank .inside) (blank .blank) .1) refl };
               kept = record { blocks = refl; nodes = refl; checkpoint = refl; last = refl; entries = refl; buffer = refl; table = refl; rows = stays };
@@ -115,7 +115,7 @@ module _ (image : Page → List ℕ) (written : Images image) (own : ℕ → Pag
         go (inl l) false e =
             rw (full l, e)
             (subst (goal false false)
-            (allocate-compact ps rows s j (blanks bs) l (sym next-is) (sym blanks-is) (leb-false 2 (blanks bs) e) (z .pages) (z .rows) (z .fill) whole (at j (z .fill) s) refl)
+            (allocate-compact ps rows s j (blanks bs) l (sym next-is) (sym blanks-is) (leb-false 2 (blanks bs) e) (z .pages) (z .rows) (z .fill) whole (inBlock j (z .fill) s) refl)
             (record {
               stands = record { pages = c .pages; names = c .names; current = refl; fill = c .fill };
               kept = record { blocks = refl; nodes = refl; checkpoint = refl; last = refl; entries = refl; buffer = refl; table = c .long; rows = c .same };
@@ -165,11 +165,11 @@ owned-live {own} {closing} {N} {C} {st} within h =
   where
     owner : (p : Page) → sequence p ≤ st .last → ((n : ℕ) × (n < N) × (carries (view st) n p ≡ true)) ⊎ (closing p ≡ true) → (n : ℕ) × (n < N + C) × (own n p ≡ true)
     owner p w (inl f) = (f .0, omega (arith, f .1), h .nodes (f .0) (f .1) p ∙ f .2)
-    owner p w (inr f) = let x = h .sheets p w f in (x .0, x .2, x .3)
+    owner p w (inr f) = let x = h .checkpointPages p w f in (x .0, x .2, x .3)
 
     owned : (n : ℕ) → n < N + C → (p : Page) → own n p ≡ true → (N ≤ n) ⊎ (n < N) → live (view st) closing N p ≡ true
     owned n l p e (inr g) = live-carries (view st) closing N p n g (sym (h .nodes n g p) ∙ e)
-    owned n l p e (inl g) = live-closing (view st) closing N p (h .sheet n g l p e)
+    owned n l p e (inl g) = live-closing (view st) closing N p (h .checkpointPage n g l p e)
 
 module _ {image : Page → List ℕ} {own : ℕ → Page → Bool} {closing : Page → Bool} {w : World} {st : Store} (written : Images image) (small : w .state .blocks ≤ 64)
     (v : Invariant (w .state .blocks) (w .state .nodes) closing st) (h : Mirrors image own closing w st) where
@@ -216,8 +216,8 @@ module _ {image : Page → List ℕ} {own : ℕ → Page → Bool} {closing : Pa
       owners =
           record {
             nodes = λ n l p. h .owners .nodes n l p ∙ ap (λ (u : ℕ). not (empty (piecesIn n u (itemsOf p)))) (sym (found-same v n l .greatest));
-            sheet = h .owners .sheet;
-            sheets = h .owners .sheets;
+            checkpointPage = h .owners .checkpointPage;
+            checkpointPages = h .owners .checkpointPages;
           }
 
       row : (n : ℕ) → n < w .state .nodes → (g : ℕ → ℕ) × (rowAt (allocate w .rows) n ≡ mapped g (rowAt (w .rows) n))

@@ -7,7 +7,7 @@ use native.Mathlib.Omega.{arith}
 use Rattle.laws.specs.Tests.{test-clash}
 use Rattle.layout.specs.Layout.{mostBlocks}
 use Rattle.store.specs.Store.{Store, view}
-use Rattle.store.specs.Live.{carries, noClosing}
+use Rattle.store.specs.Live.{carries, noCheckpoint}
 use Rattle.store.specs.Run.{Run}
 use Rattle.store_laws.specs.Placing.{Invariant}
 use Rattle.flash_allocate.specs.World.{World}
@@ -21,12 +21,12 @@ module _ {B : ℕ} {score : ℕ → ℕ} {w : World} {run : Run} (b : Writable B
   pub few-blocks : w .state .blocks ≤ mostBlocks
   few-blocks = omega (arith, blocks-are, b .few)
 
-  pub invariant-here : Invariant (w .state .blocks) (w .state .nodes) noClosing (run .now)
+  pub invariant-here : Invariant (w .state .blocks) (w .state .nodes) noCheckpoint (run .now)
   invariant-here =
-      subst (λ (k : ℕ). Invariant k (w .state .nodes) noClosing (run .now)) (sym blocks-are)
-      (subst (λ (n : ℕ). Invariant B n noClosing (run .now)) (sym (f .nodes)) (b .good .invariant))
+      subst (λ (k : ℕ). Invariant k (w .state .nodes) noCheckpoint (run .now)) (sym blocks-are)
+      (subst (λ (n : ℕ). Invariant B n noCheckpoint (run .now)) (sym (f .nodes)) (b .good .invariant))
 
 -- Each node owns the pages that carry it, and nobody owns another.
-pub owners-open : (nodes sheets : ℕ) → sheets ≡ 0 → (st : Store) → Owners (carries (view st)) noClosing nodes sheets st
-owners-open nodes sheets none st =
-    record { nodes = λ n l p. refl; sheet = λ n a b p e. absurd (omega arith); sheets = λ p l e. absurd (test-clash false e refl) }
+pub owners-open : (nodes checkpointPages : ℕ) → checkpointPages ≡ 0 → (st : Store) → Owners (carries (view st)) noCheckpoint nodes checkpointPages st
+owners-open nodes checkpointPages none st =
+    record { nodes = λ n l p. refl; checkpointPage = λ n a b p e. absurd (omega arith); checkpointPages = λ p l e. absurd (test-clash false e refl) }

@@ -9,7 +9,7 @@ use Rattle.page.specs.Page.{Entry}
 use Rattle.page.specs.Image.{entryBytes, image}
 use Rattle.page_write.specs.Chunks.{chunks}
 use Rattle.store.specs.Store.{view}
-use Rattle.store.specs.Live.{carries, noClosing}
+use Rattle.store.specs.Live.{carries, noCheckpoint}
 use Rattle.store.specs.Run.{Run}
 use Rattle.store_laws.specs.Good.{Good}
 use Rattle.store_laws.specs.StoreFits.{StoreFits}
@@ -28,8 +28,8 @@ pub record BufferIs (s : State) (es : List Entry) : Type 0 where
 pub record Follows (score : ℕ → ℕ) (w : World) (run : Run) : Type 0 where
   pub table : length (w .rows) ≡ 64 * w .state .blocks
   pub nodes : w .state .nodes ≡ run .nodes
-  pub noSheet : w .state .checkpoint ≡ 0
-  pub mirrors : Mirrors image (carries (view (run .now))) noClosing w (run .now)
+  pub noCheckpointPage : w .state .checkpoint ≡ 0
+  pub mirrors : Mirrors image (carries (view (run .now))) noCheckpoint w (run .now)
   pub buffer : BufferIs (w .state) (run .now .buffer)
   pub scores : (n : ℕ) → n < run .nodes → rowAt (w .rows) n .score ≡ score n
 

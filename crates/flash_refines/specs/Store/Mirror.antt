@@ -64,10 +64,10 @@ pub record RowsSay (nodeCount : ℕ) (rows : List Row) (st : Store) : Type 0 whe
 
 -- A node's row owns the pages that carry the node; the rows behind them own the pages of the checkpoint being written, as far as their
 -- numbers are taken.
-pub record Owners (own : ℕ → Page → Bool) (closing : Page → Bool) (nodeCount sheetCount : ℕ) (st : Store) : Type 0 where
+pub record Owners (own : ℕ → Page → Bool) (closing : Page → Bool) (nodeCount pageCount : ℕ) (st : Store) : Type 0 where
   pub nodes : (n : ℕ) → n < nodeCount → (p : Page) → own n p ≡ carries (view st) n p
-  pub sheet : (n : ℕ) → nodeCount ≤ n → n < nodeCount + sheetCount → (p : Page) → own n p ≡ true → closing p ≡ true
-  pub sheets : (p : Page) → sequence p ≤ st .last → closing p ≡ true → (n : ℕ) × (nodeCount ≤ n) × (n < nodeCount + sheetCount) × (own n p ≡ true)
+  pub checkpointPage : (n : ℕ) → nodeCount ≤ n → n < nodeCount + pageCount → (p : Page) → own n p ≡ true → closing p ≡ true
+  pub checkpointPages : (p : Page) → sequence p ≤ st .last → closing p ≡ true → (n : ℕ) × (nodeCount ≤ n) × (n < nodeCount + pageCount) × (own n p ≡ true)
 
 -- A world stands for a store, up to the log buffer.
 pub record Mirrors (image : Page → List ℕ) (own : ℕ → Page → Bool) (closing : Page → Bool) (w : World) (st : Store) : Type 0 where

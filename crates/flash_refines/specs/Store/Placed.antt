@@ -21,7 +21,7 @@ use Rattle.flash_blocks.specs.Pages.{isBlank}
 use Rattle.flash_allocate.specs.declared.state.State.{State}
 use Rattle.flash_allocate.specs.World.{World, world, used, spot}
 use Rattle.flash_allocate.specs.Allocate.{allocate}
-use Rattle.flash_log.specs.Flush.{nextNumber, ifRoom}
+use Rattle.flash_log.specs.Flush.{nextSequence, ifRoom}
 use Rattle.flash_refines.specs.Store.Mirror.{rowAt, Images, Owners, RowsSay, Mirrors}
 use Rattle.flash_refines.specs.Store.Allocate.{Stands, Kept, found-place, allocate-mirrors}
 use Rattle.flash_refines.specs.Store.Written.{spot-free, Named, stands-written}
@@ -35,8 +35,8 @@ image-written = record { written = first }
     first (page s c) = refl
 
 -- The next number, of 32 bits as the last.
-pub nextNumber-is : (last : ℕ) → suc last < bound32 → nextNumber last ≡ suc last
-unfolding nextNumber
+pub nextNumber-is : (last : ℕ) → suc last < bound32 → nextSequence last ≡ suc last
+unfolding nextSequence
 nextNumber-is last l = rw (lt-ltb last 4294967295 (omega arith)) (omega arith)
 
 module _ {own : ℕ → Page → Bool} {closing : Page → Bool} {w : World} {st : Store} (few : w .state .blocks ≤ mostBlocks)

@@ -81,12 +81,12 @@ module _ {B : ℕ} {score : ℕ → ℕ} {w : World} {run : Run} (b : Writable B
       (record {
         table = f .table;
         nodes = f .nodes;
-        noSheet = f .noSheet;
+        noCheckpointPage = f .noCheckpointPage;
         mirrors =
             record {
               pages = f .mirrors .pages;
               names = named;
-              owners = owners-open (w .state .nodes) (w .state .checkpoint) (f .noSheet) after;
+              owners = owners-open (w .state .nodes) (w .state .checkpoint) (f .noCheckpointPage) after;
               rows = says;
               current = f .mirrors .current;
               fill = f .mirrors .fill;

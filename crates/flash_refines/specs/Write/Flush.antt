@@ -22,7 +22,7 @@ use Rattle.store.specs.View.{greatest, pieces, buffered, some?}
 use Rattle.store.specs.View as View
 use Rattle.store.specs.Pool.{block}
 use Rattle.store.specs.Store.{Store, view}
-use Rattle.store.specs.Live.{carries, noClosing}
+use Rattle.store.specs.Live.{carries, noCheckpoint}
 use Rattle.store.specs.Write.{found, next, place}
 use Rattle.store.specs.Write as Model
 use Rattle.store.specs.Run.{Run, write, flushRun, roomBy, makeRoom}
@@ -38,7 +38,7 @@ use Rattle.flash_allocate.specs.declared.state.State.{State}
 use Rattle.flash_allocate.specs.World.{World, world, used, spot}
 use Rattle.flash_allocate.specs.Allocate.{allocate}
 use Rattle.flash_log.specs.Claim.{claimEntries}
-use Rattle.flash_log.specs.Flush.{nextNumber, advanced, emptied, writeBuffer, flush, room}
+use Rattle.flash_log.specs.Flush.{nextSequence, advanced, emptied, writeBuffer, flush, room}
 use Rattle.flash_refines.specs.Store.Mirror.{rowAt, RowMode, RowsSay, Mirrors}
 use Rattle.flash_refines.specs.Store.RowModes.{place-rowMode}
 use Rattle.flash_refines.specs.Store.Names.{mapped}
@@ -78,7 +78,7 @@ module _ {B : ℕ} {score : ℕ → ℕ} {w : World} {run : Run} (b : Writable B
   abbrev st : Store
   st = run .now
 
-  v : Invariant (w .state .blocks) (w .state .nodes) noClosing st
+  v : Invariant (w .state .blocks) (w .state .nodes) noCheckpoint st
   v = invariant-here b f
 
   few : w .state .blocks ≤ 64
@@ -86,7 +86,7 @@ module _ {B : ℕ} {score : ℕ → ℕ} {w : World} {run : Run} (b : Writable B
 
   -- The store with the page, and the page; the world before it, and rows and state after it.
   abbrev after : Store
-  after = Model.flush noClosing (w .state .nodes) st
+  after = Model.flush noCheckpoint (w .state .nodes) st
 
   abbrev p : Page
   p = next st (log (st .buffer))
@@ -167,7 +167,7 @@ module _ {B : ℕ} {score : ℕ → ℕ} {w : World} {run : Run} (b : Writable B
   -- the rows in use are the nodes'
   within : (m : ℕ) → m < used s′ → m < w .state .nodes
   unfolding emptied advanced
-  within m l = omega (arith, same .nodes, same .checkpoint, f .noSheet)
+  within m l = omega (arith, same .nodes, same .checkpoint, f .noCheckpointPage)
 
   says : RowsSay (w .state .nodes) rows′ after
   unfolding Model.flush
@@ -184,7 +184,7 @@ module _ {B : ℕ} {score : ℕ → ℕ} {w : World} {run : Run} (b : Writable B
   length-now : length rows′ ≡ length (before .rows)
   length-now = length-claimed waiting number (b .fits .entries) (before .state .nodes) at (before .rows)
 
-  mirrored : Mirrors image (carries (view after)) noClosing (world (set (before .pages) at (image p)) rows′ s′) after
+  mirrored : Mirrors image (carries (view after)) noCheckpoint (world (set (before .pages) at (image p)) rows′ s′) after
   unfolding Model.flush emptied advanced
   mirrored =
       placed-mirrors few v (f .mirrors) (log (st .buffer)) [] (carries (view after)) rows′ s′
@@ -202,9 +202,9 @@ module _ {B : ℕ} {score : ℕ → ℕ} {w : World} {run : Run} (b : Writable B
                   names-other m (within m l) (32 * i + q) d ∙
                   place-found few v (f .mirrors) .names .each m i q l li lq ∙
                   owned-same (view st) (view after) m (now m (within m l) .greatest)
-                  (getElem? (block (found noClosing (w .state .nodes) st .blocks) i) q);
+                  (getElem? (block (found noCheckpoint (w .state .nodes) st .blocks) i) q);
             };
-        owners = owners-open (before .state .nodes) (before .state .checkpoint) (same .checkpoint ∙ f .noSheet) after;
+        owners = owners-open (before .state .nodes) (before .state .checkpoint) (same .checkpoint ∙ f .noCheckpointPage) after;
         rows = subst (λ (k : ℕ). RowsSay k rows′ after) (sym (same .nodes)) says;
       })
 
@@ -216,11 +216,11 @@ module _ {B : ℕ} {score : ℕ → ℕ} {w : World} {run : Run} (b : Writable B
       (record {
         table = length-now ∙ same .table ∙ f .table ∙ ap (λ (k : ℕ). 64 * k) (sym (same .blocks));
         nodes = same .nodes ∙ f .nodes;
-        noSheet = same .checkpoint ∙ f .noSheet;
+        noCheckpointPage = same .checkpoint ∙ f .noCheckpointPage;
         mirrors =
             subst
-            (λ (k : ℕ). Mirrors image (carries (view (Model.flush noClosing k st))) noClosing (world (set (before .pages) at (image p)) rows′ s′)
-            (Model.flush noClosing k st))
+            (λ (k : ℕ). Mirrors image (carries (view (Model.flush noCheckpoint k st))) noCheckpoint (world (set (before .pages) at (image p)) rows′ s′)
+            (Model.flush noCheckpoint k st))
             (f .nodes) mirrored;
         buffer = record { size = waiting .size; number = refl; bytes = refl };
         scores =
@@ -233,7 +233,7 @@ module _ {B : ℕ} {score : ℕ → ℕ} {w : World} {run : Run} (b : Writable B
       written =
           ap
           (λ (k : ℕ). world (set (before .pages) at (logImage k (before .state .entries) (before .state .buffer))) rows′ (emptied (advanced k (before .state))))
-          (ap nextNumber (same .last ∙ f .mirrors .last) ∙ nextNumber-is (st .last) number) ∙
+          (ap nextSequence (same .last ∙ f .mirrors .last) ∙ nextNumber-is (st .last) number) ∙
           ap (λ (z : List ℕ). world (set (before .pages) at z) rows′ s′) (image-log waiting (suc (st .last)))
 
   -- ROOM MADE for entries follows the store's.

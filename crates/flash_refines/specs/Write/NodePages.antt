@@ -22,7 +22,7 @@ use Rattle.store.specs.View.{greatest}
 use Rattle.store.specs.View as View
 use Rattle.store.specs.Pool.{block}
 use Rattle.store.specs.Store.{Store, view}
-use Rattle.store.specs.Live.{carries, noClosing}
+use Rattle.store.specs.Live.{carries, noCheckpoint}
 use Rattle.store.specs.Write.{found, next, place, nodePage}
 use Rattle.store.specs.Run.{Run, write, writeNode}
 use Rattle.store_laws.specs.Changes.{Same, Now}
@@ -34,7 +34,7 @@ use Rattle.flash_rows.specs.declared.Row.{Row}
 use Rattle.flash_allocate.specs.declared.state.State.{State}
 use Rattle.flash_allocate.specs.World.{World, world, used, spot}
 use Rattle.flash_allocate.specs.Allocate.{allocate}
-use Rattle.flash_log.specs.Flush.{nextNumber, advanced}
+use Rattle.flash_log.specs.Flush.{nextSequence, advanced}
 use Rattle.flash_write.specs.NodePage.{diskRow}
 use Rattle.flash_write.specs.NodePage as Code
 use Rattle.flash_refines.specs.Store.Mirror.{rowAt, test, RowMode, RowsSay, Mirrors}
@@ -53,7 +53,7 @@ module _ {B : ℕ} {score : ℕ → ℕ} {w : World} {run : Run} (b : Writable B
   abbrev st : Store
   st = run .now
 
-  v : Invariant (w .state .blocks) (w .state .nodes) noClosing st
+  v : Invariant (w .state .blocks) (w .state .nodes) noCheckpoint st
   v = invariant-here b f
 
   few : w .state .blocks ≤ 64
@@ -61,7 +61,7 @@ module _ {B : ℕ} {score : ℕ → ℕ} {w : World} {run : Run} (b : Writable B
 
   -- The store with the page, the world before it, and the row, the state after it.
   abbrev after : Store
-  after = nodePage noClosing (w .state .nodes) n x st
+  after = nodePage noCheckpoint (w .state .nodes) n x st
 
   abbrev before : World
   before = allocate w
@@ -104,14 +104,14 @@ module _ {B : ℕ} {score : ℕ → ℕ} {w : World} {run : Run} (b : Writable B
   unfolding carries
   carried = rw (now .greatest, eq-eqb n n refl, eq-eqb (suc (st .last)) (suc (st .last)) refl) refl
 
-  alone : tally (own′ n) (found noClosing (w .state .nodes) st .blocks) ≡ 0
+  alone : tally (own′ n) (found noCheckpoint (w .state .nodes) st .blocks) ≡ 0
   unfolding nodePage place
   alone =
       omega (
         arith,
         carried-few after (page-invariant v n x refl .rules) n,
         now .pages,
-        addTo-tally (own′ n) (found noClosing (w .state .nodes) st .blocks) (found noClosing (w .state .nodes) st .current) p
+        addTo-tally (own′ n) (found noCheckpoint (w .state .nodes) st .blocks) (found noCheckpoint (w .state .nodes) st .current) p
             (omega (arith, found-ready v .size, found-ready v .inside)),
         ap bit carried,
       )
@@ -133,17 +133,17 @@ module _ {B : ℕ} {score : ℕ → ℕ} {w : World} {run : Run} (b : Writable B
   names-new m l (inr d) = ap (names at) (row-other m d) ∙ next-free few v (f .mirrors) m l ∙ sym (uncarried m d)
 
   names-old : (m i q : ℕ) → m < used s′ → i < before .state .blocks → q < 32 → (32 * i + q ≡ at → ⊥) → (n ≡ m) ⊎ (n ≡ m → ⊥) →
-      names (32 * i + q) (rowAt rows′ m) ≡ test (own′ m) (getElem? (block (found noClosing (w .state .nodes) st .blocks) i) q)
+      names (32 * i + q) (rowAt rows′ m) ≡ test (own′ m) (getElem? (block (found noCheckpoint (w .state .nodes) st .blocks) i) q)
   unfolding advanced
   names-old m i q l li lq apart (inl e) =
       rw (← e)
       (ap (names (32 * i + q)) row-here ∙ named-row (32 * i + q) ∙ ne-eqb at (32 * i + q) (λ z. apart (sym z)) ∙
-      sym (none-owned (own′ n) (found noClosing (w .state .nodes) st .blocks) alone i q))
+      sym (none-owned (own′ n) (found noCheckpoint (w .state .nodes) st .blocks) alone i q))
   names-old m i q l li lq apart (inr d) =
       ap (names (32 * i + q)) (row-other m d) ∙
       place-found few v (f .mirrors) .names .each m i q l li lq ∙
-      owned-same (view st) (view after) m (other m (omega (arith, same .nodes, same .checkpoint, f .noSheet)) d .greatest)
-      (getElem? (block (found noClosing (w .state .nodes) st .blocks) i) q)
+      owned-same (view st) (view after) m (other m (omega (arith, same .nodes, same .checkpoint, f .noCheckpointPage)) d .greatest)
+      (getElem? (block (found noCheckpoint (w .state .nodes) st .blocks) i) q)
 
   -- what it says beside
   row-version : row .version ≡ suc (st .last)
@@ -187,7 +187,7 @@ module _ {B : ℕ} {score : ℕ → ℕ} {w : World} {run : Run} (b : Writable B
       pages m l (inl e) = rw (← e) (ap (λ (r : Row). r .pages) row-here ∙ row-pages ∙ sym (now .pages))
       pages m l (inr d) = ap (λ (r : Row). r .pages) (kept m l d .1) ∙ f .mirrors .rows .pages m l ∙ sym (other m l d .pages)
 
-  mirrored : Mirrors image own′ noClosing (world (set (before .pages) at (image p)) rows′ s′) after
+  mirrored : Mirrors image own′ noCheckpoint (world (set (before .pages) at (image p)) rows′ s′) after
   unfolding nodePage advanced
   mirrored =
       placed-mirrors few v (f .mirrors) (whole n x) (st .buffer) own′ rows′ s′
@@ -202,7 +202,7 @@ module _ {B : ℕ} {score : ℕ → ℕ} {w : World} {run : Run} (b : Writable B
               new = λ m l. names-new m l (eq-or n m);
               old = λ m i q l li lq d. names-old m i q l li lq d (eq-or n m);
             };
-        owners = owners-open (before .state .nodes) (before .state .checkpoint) (same .checkpoint ∙ f .noSheet) after;
+        owners = owners-open (before .state .nodes) (before .state .checkpoint) (same .checkpoint ∙ f .noCheckpointPage) after;
         rows = subst (λ (k : ℕ). RowsSay k rows′ after) (sym (same .nodes)) says;
       })
 
@@ -212,12 +212,12 @@ module _ {B : ℕ} {score : ℕ → ℕ} {w : World} {run : Run} (b : Writable B
   node-page-follows =
       subst (λ (z : World). Follows score z (writeNode n x run)) (sym (step-found few v (f .mirrors) (Code.writeNode n x)))
       (subst (λ (k : ℕ). Follows score (world (set (before .pages) at (image (page k (whole n x)))) (diskRow n k at (before .rows)) (advanced k (before .state))) (writeNode n x run))
-      (sym (ap nextNumber (same .last ∙ f .mirrors .last) ∙ nextNumber-is (st .last) room))
+      (sym (ap nextSequence (same .last ∙ f .mirrors .last) ∙ nextNumber-is (st .last) room))
       (record {
         table = length-set (before .rows) n row ∙ same .table ∙ f .table ∙ ap (λ (k : ℕ). 64 * k) (sym (same .blocks));
         nodes = same .nodes ∙ f .nodes;
-        noSheet = same .checkpoint ∙ f .noSheet;
-        mirrors = subst (λ (k : ℕ). Mirrors image (carries (view (nodePage noClosing k n x st))) noClosing (world (set (before .pages) at (image p)) rows′ s′) (nodePage noClosing k n x st)) (f .nodes) mirrored;
+        noCheckpointPage = same .checkpoint ∙ f .noCheckpointPage;
+        mirrors = subst (λ (k : ℕ). Mirrors image (carries (view (nodePage noCheckpoint k n x st))) noCheckpoint (world (set (before .pages) at (image p)) rows′ s′) (nodePage noCheckpoint k n x st)) (f .nodes) mirrored;
         buffer = buffer-same (f .buffer) (same .entries) (same .buffer);
         scores = λ m l. score-of m l (eq-or n m);
       }))

@@ -14,7 +14,7 @@ use Rattle.node.specs.Node.{Node}
 use Rattle.node.specs.Change.{Change, changesOf}
 use Rattle.store.specs.View.{pages}
 use Rattle.store.specs.Store.{view}
-use Rattle.store.specs.Live.{noClosing}
+use Rattle.store.specs.Live.{noCheckpoint}
 use Rattle.store.specs.Write.{flush}
 use Rattle.store.specs.Run.{Run, write, roomBy, makeRoom, begin, writeGroup, editBy, writeEdit}
 use Rattle.store_laws.specs.Contents.{length-changesOf}
@@ -41,7 +41,7 @@ module _ {B : ℕ} {run : Run} (b : Writable B run) (k : ℕ) (few : k ≤ mostE
     where
       go : (t : Bool) → leb (k + length (run .now .buffer)) mostEntries ≡ t → StoreFits (roomBy t run .now)
       go true e = b .fits
-      go false e = flush-fits (b .fits) number noClosing (run .nodes) (omega (arith, leb-false (k + length (run .now .buffer)) mostEntries e))
+      go false e = flush-fits (b .fits) number noCheckpoint (run .nodes) (omega (arith, leb-false (k + length (run .now .buffer)) mostEntries e))
 
   -- A run stays writable where room is made.
   pub room-writable : Writable B (makeRoom k run)

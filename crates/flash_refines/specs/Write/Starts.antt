@@ -22,7 +22,7 @@ use Rattle.store.specs.View.{greatest}
 use Rattle.store.specs.View as View
 use Rattle.store.specs.Pool.{block}
 use Rattle.store.specs.Store.{Store, view}
-use Rattle.store.specs.Live.{carries, noClosing}
+use Rattle.store.specs.Live.{carries, noCheckpoint}
 use Rattle.store.specs.Write.{start}
 use Rattle.store.specs.Run.{Run, begin}
 use Rattle.store_laws.specs.Changes.{Same, Now}
@@ -35,7 +35,7 @@ use Rattle.flash_rows.specs.declared.Row.{Row}
 use Rattle.flash_allocate.specs.declared.state.State.{State}
 use Rattle.flash_allocate.specs.World.{World, world}
 use Rattle.flash_log.specs.Entry.{holding, appendAll}
-use Rattle.flash_log.specs.Flush.{nextNumber}
+use Rattle.flash_log.specs.Flush.{nextSequence}
 use Rattle.flash_write.specs.Group.{numbered, withNodes, startRow, startState, restart, startNext}
 use Rattle.flash_write.specs.Group as Code
 use Rattle.flash_refines.specs.Store.Mirror.{rowAt, test, RowsName, RowMode, RowsSay, Mirrors}
@@ -76,7 +76,7 @@ module _ {B : ℕ} {score : ℕ → ℕ} {w : World} {run : Run} (b : Writable B
   there : (m : ℕ) → m < N′ → (n ≡ m → ⊥) → m < run .nodes
   there m l d = omega (arith, count)
 
-  invariant : Invariant B N′ noClosing after
+  invariant : Invariant B N′ noCheckpoint after
   invariant = start-invariant (b .good .invariant) n c cs N′ there limit
 
   now : Now (view after) n v (map step (c ∷ cs)) 0 (map step (c ∷ cs))
@@ -137,13 +137,13 @@ module _ {B : ℕ} {score : ℕ → ℕ} {w : World} {run : Run} (b : Writable B
       pages m l (inl e) = rw (← e) (ap (λ (r : Row). r .pages) row-here ∙ sym (now .pages))
       pages m l (inr d) = ap (λ (r : Row). r .pages) (row-other m d) ∙ f .mirrors .rows .pages m (here m l d) ∙ sym (other m d .pages)
 
-  mirrored : Mirrors image (carries (view after)) noClosing (world (w .pages) rows′ (withNodes N′ holds)) after
+  mirrored : Mirrors image (carries (view after)) noCheckpoint (world (w .pages) rows′ (withNodes N′ holds)) after
   unfolding start withNodes numbered
   mirrored =
       record {
         pages = f .mirrors .pages;
-        names = subst (λ (k : ℕ). RowsName (w .state .blocks) k (carries (view after)) rows′ (st .blocks)) (omega (arith, f .noSheet)) named;
-        owners = owners-open N′ (w .state .checkpoint) (f .noSheet) after;
+        names = subst (λ (k : ℕ). RowsName (w .state .blocks) k (carries (view after)) rows′ (st .blocks)) (omega (arith, f .noCheckpointPage)) named;
+        owners = owners-open N′ (w .state .checkpoint) (f .noCheckpointPage) after;
         rows = says;
         current = f .mirrors .current;
         fill = f .mirrors .fill;
@@ -157,7 +157,7 @@ module _ {B : ℕ} {score : ℕ → ℕ} {w : World} {run : Run} (b : Writable B
       (record {
         table = length-set (w .rows) n (fresh v Log row) ∙ f .table;
         nodes = count;
-        noSheet = f .noSheet;
+        noCheckpointPage = f .noCheckpointPage;
         mirrors = mirrored;
         buffer = record { size = joined .size; number = joined .number; bytes = joined .bytes };
         scores = λ m l. score-of m (omega (arith, count)) (eq-or n m);
@@ -184,8 +184,8 @@ module _ {B : ℕ} {score : ℕ → ℕ} {w : World} {run : Run} (b : Writable B
   fits′ : length (s .first ∷ s .rest) + length (run .now .buffer) ≤ mostEntries
   fits′ = omega (arith, ap length (s .is))
 
-  version : suc (run .now .last) ≡ nextNumber (w .state .last)
-  version = sym (ap nextNumber (f .mirrors .last) ∙ nextNumber-is (run .now .last) number)
+  version : suc (run .now .last) ≡ nextSequence (w .state .last)
+  version = sym (ap nextSequence (f .mirrors .last) ∙ nextNumber-is (run .now .last) number)
 
   -- A FRESH START of a node that is there follows the store's.
   pub restart-follows : (n : ℕ) → n < run .nodes → Follows score (restart n x w) (begin n (changesOf x) run)

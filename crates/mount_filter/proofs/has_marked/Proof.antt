@@ -21,14 +21,14 @@ add-read8 c = search needs
 read8-requires : tie.Need-read8-requires
 read8-requires c κs = search needs
 
-rules-out-requires : tie.Need-rules-out-requires
-rules-out-requires c κs = search needs
+excludes-requires : tie.Need-excludes-requires
+excludes-requires c κs = search needs
 
 returns : tie.Need-returns
 returns c = let a = c .before .before .before .before .before .args in
     let t = a .table .now in
     let mark = c .before .before .read8 .ensures .0 ∙ ap (λ (k : ℕ). getD t (512 * a .blocks + k) 0) (c .before .before .before .mark-of .ensures .0) in
-    sym (has-none (a .v) (row (a .n) 0 t) (c .before .before .before .before .before .pre .1 .none (a .v) (ap (λ (m : ℕ). rulesOut m (a .v)) (sym mark) ∙ sym (c .before .rules-out .ensures) ∙ c .if1 .taken)))
+    sym (has-none (a .v) (row (a .n) 0 t) (c .before .before .before .before .before .pre .1 .none (a .v) (ap (λ (m : ℕ). rulesOut m (a .v)) (sym mark) ∙ sym (c .before .excludes .ensures) ∙ c .if1 .taken)))
 
 has-requires : tie.Need-has-requires
 has-requires c κs = search needs
@@ -44,7 +44,7 @@ has-marked-spec =
     mark-of-requires
     add-read8
     read8-requires
-    rules-out-requires
+    excludes-requires
     returns
     has-requires
     returns-2)

@@ -38,14 +38,14 @@ add-at c = omega (arith, c .before .before .before .before .before .before .pre 
 read8-requires : tie.Need-read8-requires Inv-loop μ-loop
 read8-requires c κs = omega (arith, c .before .before .before .before .before .before .before .pre .size, c .before .mark-of .ensures .1)
 
-print-of-requires : tie.Need-print-of-requires Inv-loop μ-loop
-print-of-requires c κs = search needs
+fingerprint-requires : tie.Need-fingerprint-requires Inv-loop μ-loop
+fingerprint-requires c κs = search needs
 
-printed-requires : tie.Need-printed-requires Inv-loop μ-loop
-printed-requires c κs = search needs
+with-fingerprint-requires : tie.Need-with-fingerprint-requires Inv-loop μ-loop
+with-fingerprint-requires c κs = search needs
 
 put-requires : tie.Need-put-requires Inv-loop μ-loop
-put-requires c κs = (omega (arith, c .before .before .before .before .before .before .before .before .before .before .before .pre .size, c .before .before .before .before .before .mark-of .ensures .1), c .before .printed .ensures .1)
+put-requires c κs = (omega (arith, c .before .before .before .before .before .before .before .before .before .before .before .pre .size, c .before .before .before .before .before .mark-of .ensures .1), c .before .with-fingerprint .ensures .1)
 
 add-i : tie.Need-add-i Inv-loop μ-loop
 add-i c = search needs
@@ -58,9 +58,9 @@ loop-again c = let a = c .before .before .before .before .before .before .before
     let l = c .before .before .before .before .before .before .before .before .before .before .before .before .loop in
     let v = c .before .before .before .before .before .before .before .before .before .read32 in
     let m = c .before .before .before .before .before .before .before .before .mark-of in
-    let r = c .before .before .before .before .printed in
+    let r = c .before .before .before .before .with-fingerprint in
     let room = room-kept (a .table .now) (l .table) (a .n) (a .blocks) (c .before .before .before .before .before .before .before .before .before .before .before .before .before .before .pre) (l .inv .0 .1) in
-    let byte = r .ensures .0 ∙ ap₂ printed (c .before .before .before .before .before .before .read8 .ensures .0) (c .before .before .before .before .before .print-of .ensures .0) in (
+    let byte = r .ensures .0 ∙ ap₂ printed (c .before .before .before .before .before .before .read8 .ensures .0) (c .before .before .before .before .before .fingerprint .ensures .0) in (
       omega arith,
       rw (c .before .before .put .ensures) (
         row-marked (l .table) (a .n) (a .blocks) (l .i) (v .result) (m .result) (r .result) room (c .before .before .before .before .before .before .before .before .before .before .before .loop-test .taken) (v .ensures .is) (m .ensures .0) (m .ensures .1) byte (a .n) (omega arith) ∙ l .inv .1 .0,
@@ -97,8 +97,8 @@ set-marks-spec =
     mark-of-requires
     add-at
     read8-requires
-    print-of-requires
-    printed-requires
+    fingerprint-requires
+    with-fingerprint-requires
     put-requires
     add-i
     loop-less

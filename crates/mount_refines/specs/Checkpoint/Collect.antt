@@ -16,40 +16,40 @@ use Rattle.laws.specs.Counts.{bit}
 use Rattle.laws.specs.Update.{sumBelow}
 use Rattle.page.specs.Page.{Page, page, log, whole, checkpoint}
 use Rattle.page.specs.Limits.{given}
-use Rattle.store.specs.Checkpoint.{Sheet, sheet, collectAt, collect, tariffIn, hasCount, noCount, countLast}
-use Rattle.mount_refines.specs.Checkpoint.Header.{numberIn, noSheet, sheetIn, foreign}
+use Rattle.store.specs.Checkpoint.{CheckpointPage, checkpointPage, collectAt, collect, tariffIn, hasCount, noCount, countLast}
+use Rattle.mount_refines.specs.Checkpoint.Header.{numberIn, noCheckpointPage, checkpointPageIn, foreign}
 
 -- Whether a page opens a checkpoint: it has the tariff.
 abbrev pub opens : Option Page → Bool
-opens x = given (sheetIn x .tariff)
+opens x = given (checkpointPageIn x .tariff)
 
--- A sheet in front of others, where the cell is one.
-abbrev consSheet : Option Page → List Sheet → List Sheet
-consSheet none later = later
-consSheet (some (page s (log es))) later = later
-consSheet (some (page s (whole n x))) later = later
-consSheet (some (page s (checkpoint t ss c))) later = sheet t ss c ∷ later
+-- A checkpoint page in front of others, where the cell is one.
+abbrev consCheckpointPage : Option Page → List CheckpointPage → List CheckpointPage
+consCheckpointPage none later = later
+consCheckpointPage (some (page s (log es))) later = later
+consCheckpointPage (some (page s (whole n x))) later = later
+consCheckpointPage (some (page s (checkpoint t ss c))) later = checkpointPage t ss c ∷ later
 
 clash : {A : Type 0} → true ≡ false → A
 clash e = absurd (let z : _≡_ {A = ℕ} 0 1 = cc in omega arith)
 
 -- one page taken: the first of the set, or one within it
-collect-first : (x : Option Page) (later : List Sheet) (rest : List Sheet → List Sheet) → opens x ≡ true → collectAt x later rest ≡ consSheet x later
+collect-first : (x : Option Page) (later : List CheckpointPage) (rest : List CheckpointPage → List CheckpointPage) → opens x ≡ true → collectAt x later rest ≡ consCheckpointPage x later
 collect-first none later rest e = clash (sym e)
 collect-first (some (page s (log es))) later rest e = clash (sym e)
 collect-first (some (page s (whole n x))) later rest e = clash (sym e)
 collect-first (some (page s (checkpoint none ss c))) later rest e = clash (sym e)
 collect-first (some (page s (checkpoint (some t) ss c))) later rest e = refl
 
-collect-plain : (x : Option Page) (later : List Sheet) (rest : List Sheet → List Sheet) → foreign x ≡ false → opens x ≡ false →
-    collectAt x later rest ≡ rest (consSheet x later)
+collect-plain : (x : Option Page) (later : List CheckpointPage) (rest : List CheckpointPage → List CheckpointPage) → foreign x ≡ false → opens x ≡ false →
+    collectAt x later rest ≡ rest (consCheckpointPage x later)
 collect-plain none later rest f e = refl
 collect-plain (some (page s (log es))) later rest f e = clash f
 collect-plain (some (page s (whole n x))) later rest f e = clash f
 collect-plain (some (page s (checkpoint none ss c))) later rest f e = refl
 collect-plain (some (page s (checkpoint (some t) ss c))) later rest f e = clash e
 
-tariff-cons : (x : Option Page) (later : List Sheet) → opens x ≡ true → tariffIn (consSheet x later) ≡ sheetIn x .tariff
+tariff-cons : (x : Option Page) (later : List CheckpointPage) → opens x ≡ true → tariffIn (consCheckpointPage x later) ≡ checkpointPageIn x .tariff
 tariff-cons none later o = clash (sym o)
 tariff-cons (some (page s (log es))) later o = clash (sym o)
 tariff-cons (some (page s (whole n x))) later o = clash (sym o)
@@ -62,10 +62,10 @@ module _ (at : ℕ → Option Page) where
     pub kind : (j : ℕ) → suc s < j → j ≤ suc (s + k) → foreign (at j) ≡ false
     pub later : (j : ℕ) → suc s < j → j ≤ suc (s + k) → opens (at j) ≡ false
 
-  -- Its sheets, before others.
-  unfoldable pub gathered : ℕ → ℕ → List Sheet → List Sheet
-  gathered s zero later = consSheet (at (suc s)) later
-  gathered s (suc k) later = gathered s k (consSheet (at (suc (s + suc k))) later)
+  -- Its checkpoint pages, before others.
+  unfoldable pub gathered : ℕ → ℕ → List CheckpointPage → List CheckpointPage
+  gathered s zero later = consCheckpointPage (at (suc s)) later
+  gathered s (suc k) later = gathered s k (consCheckpointPage (at (suc (s + suc k))) later)
 
   reach-less : (s k : ℕ) → Reach s (suc k) → Reach s k
   reach-less s k r =
@@ -75,21 +75,21 @@ module _ (at : ℕ → Option Page) where
         later = λ j a b. r .later j a (omega (arith, add-suc s k));
       }
 
-  pub collect-gathered : (s k : ℕ) (later : List Sheet) → Reach s k → collect at (suc (s + k)) later ≡ gathered s k later
+  pub collect-gathered : (s k : ℕ) (later : List CheckpointPage) → Reach s k → collect at (suc (s + k)) later ≡ gathered s k later
   unfolding collect gathered
   collect-gathered s zero later r =
       ap (λ (n : ℕ). collect at (suc n) later) (add-zero s) ∙ collect-first (at (suc s)) later (collect at s) (r .first)
   collect-gathered s (suc k) later r =
       collect-plain (at (suc (s + suc k))) later (collect at (s + suc k))
       (r .kind (suc (s + suc k)) (omega arith) (omega arith)) (r .later (suc (s + suc k)) (omega arith) (omega arith)) ∙
-      ap (λ (n : ℕ). collect at n (consSheet (at (suc (s + suc k))) later)) (add-suc s k) ∙
-      collect-gathered s k (consSheet (at (suc (s + suc k))) later) (reach-less s k r)
+      ap (λ (n : ℕ). collect at n (consCheckpointPage (at (suc (s + suc k))) later)) (add-suc s k) ∙
+      collect-gathered s k (consCheckpointPage (at (suc (s + suc k))) later) (reach-less s k r)
 
-  -- Its first sheet has the tariff.
-  pub tariff-gathered : (s k : ℕ) (later : List Sheet) → opens (at (suc s)) ≡ true → tariffIn (gathered s k later) ≡ sheetIn (at (suc s)) .tariff
+  -- Its first checkpoint page has the tariff.
+  pub tariff-gathered : (s k : ℕ) (later : List CheckpointPage) → opens (at (suc s)) ≡ true → tariffIn (gathered s k later) ≡ checkpointPageIn (at (suc s)) .tariff
   unfolding gathered
   tariff-gathered s zero later o = tariff-cons (at (suc s)) later o
-  tariff-gathered s (suc k) later o = tariff-gathered s k (consSheet (at (suc (s + suc k))) later) o
+  tariff-gathered s (suc k) later o = tariff-gathered s k (consCheckpointPage (at (suc (s + suc k))) later) o
 
   -- Nothing is collected, or the set reaches so far.
   pub record Reached (n : ℕ) : Type 0 where
@@ -134,12 +134,12 @@ module _ (at : ℕ → Option Page) where
           below (inl l) = omega (arith, r .end)
           below (inr l) = absurd (z (omega arith))
 
-  pub collected : (n : ℕ) (later : List Sheet) → (collect at n later ≡ []) ⊎ Reached n
+  pub collected : (n : ℕ) (later : List CheckpointPage) → (collect at n later ≡ []) ⊎ Reached n
   unfolding collect
   collected zero later = inl refl
   collected (suc s) later = go (at (suc s)) refl (λ l. collected s l)
     where
-      go : (x : Option Page) → at (suc s) ≡ x → ((l : List Sheet) → (collect at s l ≡ []) ⊎ Reached s) →
+      go : (x : Option Page) → at (suc s) ≡ x → ((l : List CheckpointPage) → (collect at s l ≡ []) ⊎ Reached s) →
           (collectAt x later (collect at s) ≡ []) ⊎ Reached (suc s)
       go none e r = step (r later)
         where
@@ -148,21 +148,21 @@ module _ (at : ℕ → Option Page) where
           step (inr z) = inr (reach-next s (ap foreign e) (ap opens e) z)
       go (some (page n (log es))) e r = inl refl
       go (some (page n (whole m x))) e r = inl refl
-      go (some (page n (checkpoint none ss c))) e r = step (r (sheet none ss c ∷ later))
+      go (some (page n (checkpoint none ss c))) e r = step (r (checkpointPage none ss c ∷ later))
         where
-          step : (collect at s (sheet none ss c ∷ later) ≡ []) ⊎ Reached s → (collect at s (sheet none ss c ∷ later) ≡ []) ⊎ Reached (suc s)
+          step : (collect at s (checkpointPage none ss c ∷ later) ≡ []) ⊎ Reached s → (collect at s (checkpointPage none ss c ∷ later) ≡ []) ⊎ Reached (suc s)
           step (inl z) = inl z
           step (inr z) = inr (reach-next s (ap foreign e) (ap opens e) z)
       go (some (page n (checkpoint (some t) ss c))) e r = inr (reach-here s (ap opens e))
 
--- ---- sums over sheets
+-- ---- sums over checkpoint pages
 
-abbrev pub sumSheets : (Sheet → ℕ) → List Sheet → ℕ
-sumSheets h [] = 0
-sumSheets h (x ∷ xs) = h x + sumSheets h xs
+abbrev pub sumCheckpointPages : (CheckpointPage → ℕ) → List CheckpointPage → ℕ
+sumCheckpointPages h [] = 0
+sumCheckpointPages h (x ∷ xs) = h x + sumCheckpointPages h xs
 
-module _ (h : Sheet → ℕ) (nothing : h noSheet ≡ 0) where
-  sum-cons : (x : Option Page) (later : List Sheet) → sumSheets h (consSheet x later) ≡ h (sheetIn x) + sumSheets h later
+module _ (h : CheckpointPage → ℕ) (nothing : h noCheckpointPage ≡ 0) where
+  sum-cons : (x : Option Page) (later : List CheckpointPage) → sumCheckpointPages h (consCheckpointPage x later) ≡ h (checkpointPageIn x) + sumCheckpointPages h later
   sum-cons none later = omega (arith, nothing)
   sum-cons (some (page s (log es))) later = omega (arith, nothing)
   sum-cons (some (page s (whole n x))) later = omega (arith, nothing)
@@ -170,33 +170,33 @@ module _ (h : Sheet → ℕ) (nothing : h noSheet ≡ 0) where
 
   -- What a cell adds to a set that begins with a number.
   abbrev pub inSet : ℕ → Option Page → ℕ
-  inSet since x = choose (ltb (numberIn x) since) 0 (h (sheetIn x))
+  inSet since x = choose (ltb (numberIn x) since) 0 (h (checkpointPageIn x))
 
   module _ (at : ℕ → Option Page) (own : (s : ℕ) → (at s ≡ none) ⊎ (numberIn (at s) ≡ s)) where
     before : (since s : ℕ) → s < since → inSet since (at s) ≡ 0
     before since s l = go (own s)
       where
         go : (at s ≡ none) ⊎ (numberIn (at s) ≡ s) → inSet since (at s) ≡ 0
-        go (inl e) = ap (inSet since) e ∙ ap (λ (t : Bool). choose t 0 (h noSheet)) (lt-ltb 0 since (omega arith))
-        go (inr e) = ap (λ (t : Bool). choose t 0 (h (sheetIn (at s)))) (lt-ltb (numberIn (at s)) since (omega arith))
+        go (inl e) = ap (inSet since) e ∙ ap (λ (t : Bool). choose t 0 (h noCheckpointPage)) (lt-ltb 0 since (omega arith))
+        go (inr e) = ap (λ (t : Bool). choose t 0 (h (checkpointPageIn (at s)))) (lt-ltb (numberIn (at s)) since (omega arith))
 
-    pub within : (since s : ℕ) → 1 ≤ since → since ≤ s → inSet since (at s) ≡ h (sheetIn (at s))
+    pub within : (since s : ℕ) → 1 ≤ since → since ≤ s → inSet since (at s) ≡ h (checkpointPageIn (at s))
     within since s o l = go (own s)
       where
-        go : (at s ≡ none) ⊎ (numberIn (at s) ≡ s) → inSet since (at s) ≡ h (sheetIn (at s))
+        go : (at s ≡ none) ⊎ (numberIn (at s) ≡ s) → inSet since (at s) ≡ h (checkpointPageIn (at s))
         go (inl e) =
             ap (inSet since) e ∙
-            ap (λ (t : Bool). choose t 0 (h noSheet)) (lt-ltb 0 since (omega arith)) ∙
-            sym (ap (λ (x : Option Page). h (sheetIn x)) e ∙ nothing)
-        go (inr e) = ap (λ (t : Bool). choose t 0 (h (sheetIn (at s)))) (le-ltb (numberIn (at s)) since (omega arith))
+            ap (λ (t : Bool). choose t 0 (h noCheckpointPage)) (lt-ltb 0 since (omega arith)) ∙
+            sym (ap (λ (x : Option Page). h (checkpointPageIn x)) e ∙ nothing)
+        go (inr e) = ap (λ (t : Bool). choose t 0 (h (checkpointPageIn (at s)))) (le-ltb (numberIn (at s)) since (omega arith))
 
     none-before : (since k : ℕ) → k ≤ since → sumBelow k (λ s. inSet since (at s)) ≡ 0
     none-before since zero l = refl
     none-before since (suc k) l = omega (arith, none-before since k (omega arith), before since k (omega arith))
 
     -- THE SHEETS ADD UP to the sum over the numbers from the first on.
-    pub sum-gathered : (s k : ℕ) (later : List Sheet) →
-        sumSheets h (gathered at s k later) ≡ sumBelow (suc (suc (s + k))) (λ j. inSet (suc s) (at j)) + sumSheets h later
+    pub sum-gathered : (s k : ℕ) (later : List CheckpointPage) →
+        sumCheckpointPages h (gathered at s k later) ≡ sumBelow (suc (suc (s + k))) (λ j. inSet (suc s) (at j)) + sumCheckpointPages h later
     unfolding gathered
     sum-gathered s zero later =
         let e : sumBelow (suc (suc (s + 0))) (λ j. inSet (suc s) (at j)) ≡ sumBelow (suc (suc s)) (λ j. inSet (suc s) (at j)) =
@@ -209,28 +209,28 @@ module _ (h : Sheet → ℕ) (nothing : h noSheet ≡ 0) where
         omega (
           arith,
           e,
-          sum-gathered s k (consSheet (at n) later),
+          sum-gathered s k (consCheckpointPage (at n) later),
           sum-cons (at n) later,
           within (suc s) n (omega arith) (omega arith),
         )
 
--- ---- the node count stands on the last sheet alone
+-- ---- the node count stands on the last checkpoint page alone
 
-abbrev pub countBit : Sheet → ℕ
+abbrev pub countBit : CheckpointPage → ℕ
 countBit x = bit (hasCount (x .count))
 
--- Whether the last sheet has it.
-abbrev pub topCount : List Sheet → Bool
+-- Whether the last checkpoint page has it.
+abbrev pub topCount : List CheckpointPage → Bool
 topCount [] = false
 topCount (x ∷ []) = hasCount (x .count)
 topCount (x ∷ y ∷ xs) = topCount (y ∷ xs)
 
-top-counted : (xs : List Sheet) → bit (topCount xs) ≤ sumSheets countBit xs
+top-counted : (xs : List CheckpointPage) → bit (topCount xs) ≤ sumCheckpointPages countBit xs
 top-counted [] = omega arith
 top-counted (x ∷ []) = omega arith
 top-counted (x ∷ y ∷ xs) = omega (arith, top-counted (y ∷ xs))
 
-pub countLast-is : (xs : List Sheet) → countLast xs ≡ (topCount xs && eqb (sumSheets countBit xs) 1)
+pub countLast-is : (xs : List CheckpointPage) → countLast xs ≡ (topCount xs && eqb (sumCheckpointPages countBit xs) 1)
 countLast-is [] = refl
 countLast-is (x ∷ []) = go (hasCount (x .count))
   where
@@ -240,7 +240,7 @@ countLast-is (x ∷ []) = go (hasCount (x .count))
 countLast-is (x ∷ y ∷ xs) = go (x .count) (topCount (y ∷ xs)) refl (countLast-is (y ∷ xs))
   where
     n : ℕ
-    n = sumSheets countBit (y ∷ xs)
+    n = sumCheckpointPages countBit (y ∷ xs)
 
     zero-more : n ≡ 0 + n
     zero-more = omega arith
@@ -251,38 +251,38 @@ countLast-is (x ∷ y ∷ xs) = go (x .count) (topCount (y ∷ xs)) refl (countL
     go (some m) true e r = rw (e, ne-eqb (1 + n) 1 (λ z. omega (arith, top-counted (y ∷ xs), ap bit e))) refl
     go (some m) false e r = rw e refl
 
--- the last sheet gathered is the newest page's
-top-cons : (c : Option Page) (x : Sheet) (xs : List Sheet) → topCount (consSheet c (x ∷ xs)) ≡ topCount (x ∷ xs)
+-- the last checkpoint page gathered is the newest page's
+top-cons : (c : Option Page) (x : CheckpointPage) (xs : List CheckpointPage) → topCount (consCheckpointPage c (x ∷ xs)) ≡ topCount (x ∷ xs)
 top-cons none x xs = refl
 top-cons (some (page s (log es))) x xs = refl
 top-cons (some (page s (whole n y))) x xs = refl
 top-cons (some (page s (checkpoint t ss c))) x xs = refl
 
 module _ (at : ℕ → Option Page) (s : ℕ) where
-  top-gathered : (k : ℕ) (x : Sheet) (xs : List Sheet) → topCount (gathered at s k (x ∷ xs)) ≡ topCount (x ∷ xs)
+  top-gathered : (k : ℕ) (x : CheckpointPage) (xs : List CheckpointPage) → topCount (gathered at s k (x ∷ xs)) ≡ topCount (x ∷ xs)
   unfolding gathered
   top-gathered zero x xs = top-cons (at (suc s)) x xs
   top-gathered (suc k) x xs = go (at (suc (s + suc k))) (λ y ys. top-gathered k y ys)
     where
-      go : (c : Option Page) → ((y : Sheet) (ys : List Sheet) → topCount (gathered at s k (y ∷ ys)) ≡ topCount (y ∷ ys)) →
-          topCount (gathered at s k (consSheet c (x ∷ xs))) ≡ topCount (x ∷ xs)
+      go : (c : Option Page) → ((y : CheckpointPage) (ys : List CheckpointPage) → topCount (gathered at s k (y ∷ ys)) ≡ topCount (y ∷ ys)) →
+          topCount (gathered at s k (consCheckpointPage c (x ∷ xs))) ≡ topCount (x ∷ xs)
       go none r = r x xs
       go (some (page n (log es))) r = r x xs
       go (some (page n (whole m y))) r = r x xs
-      go (some (page n (checkpoint t ss c))) r = r (sheet t ss c) (x ∷ xs)
+      go (some (page n (checkpoint t ss c))) r = r (checkpointPage t ss c) (x ∷ xs)
 
-  sheet-alone : (x : Option Page) → foreign x ≡ false → (x ≡ none → ⊥) → consSheet x [] ≡ sheetIn x ∷ []
-  sheet-alone none f h = absurd (h refl)
-  sheet-alone (some (page n (log es))) f h = clash f
-  sheet-alone (some (page n (whole m y))) f h = clash f
-  sheet-alone (some (page n (checkpoint t ss c))) f h = refl
+  checkpoint-page-alone : (x : Option Page) → foreign x ≡ false → (x ≡ none → ⊥) → consCheckpointPage x [] ≡ checkpointPageIn x ∷ []
+  checkpoint-page-alone none f h = absurd (h refl)
+  checkpoint-page-alone (some (page n (log es))) f h = clash f
+  checkpoint-page-alone (some (page n (whole m y))) f h = clash f
+  checkpoint-page-alone (some (page n (checkpoint t ss c))) f h = refl
 
   pub top-newest : (k : ℕ) → foreign (at (suc (s + k))) ≡ false → (at (suc (s + k)) ≡ none → ⊥) →
-      topCount (gathered at s k []) ≡ hasCount (sheetIn (at (suc (s + k))) .count)
+      topCount (gathered at s k []) ≡ hasCount (checkpointPageIn (at (suc (s + k))) .count)
   unfolding gathered
   top-newest zero f h =
       let e : s + 0 ≡ s = add-zero s in
-      ap topCount (sheet-alone (at (suc s)) (rw e at f) (λ z. h (rw e z))) ∙ sym (ap (λ (n : ℕ). hasCount (sheetIn (at (suc n)) .count)) e)
+      ap topCount (checkpoint-page-alone (at (suc s)) (rw e at f) (λ z. h (rw e z))) ∙ sym (ap (λ (n : ℕ). hasCount (checkpointPageIn (at (suc n)) .count)) e)
   top-newest (suc k) f h =
-      ap (λ (l : List Sheet). topCount (gathered at s k l)) (sheet-alone (at (suc (s + suc k))) f h) ∙
-      top-gathered k (sheetIn (at (suc (s + suc k)))) []
+      ap (λ (l : List CheckpointPage). topCount (gathered at s k l)) (checkpoint-page-alone (at (suc (s + suc k))) f h) ∙
+      top-gathered k (checkpointPageIn (at (suc (s + suc k)))) []

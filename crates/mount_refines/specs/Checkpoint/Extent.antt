@@ -20,7 +20,7 @@ use Rattle.page_read.specs.Steps.{given-read}
 use Rattle.store.specs.Pool.{pageIn}
 use Rattle.store.specs.Reopen.{Cells, greatestOf}
 use Rattle.flash_blocks.specs.Pages.{pagesOf, pageAt}
-use Rattle.mount_checkpoint_pages.specs.Sheet.{hasTariff}
+use Rattle.mount_checkpoint_pages.specs.CheckpointPage.{hasTariff}
 use Rattle.mount_checkpoint_pages.specs.Extent.{extended, noExtent, extentOf}
 use Rattle.mount_checkpoint_pages.specs.declared.extent.Extent.{Extent}
 use Rattle.mount_refines.specs.Checkpoint.Header.{numberIn, Header}

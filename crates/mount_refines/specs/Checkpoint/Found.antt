@@ -23,8 +23,8 @@ use Rattle.page.specs.Runs.{run-goes, run-stops}
 use Rattle.store.specs.Pool.{pageIn, find}
 use Rattle.store.specs.Store.{Store}
 use Rattle.store.specs.Checkpoint.{
-  Sheet,
-  sheet,
+  CheckpointPage,
+  checkpointPage,
   collectAt,
   collect,
   checkpointOf,
@@ -37,7 +37,7 @@ use Rattle.store.specs.Checkpoint.{
 }
 use Rattle.store.specs.Reopen.{Cells, greatestOf, reopened}
 use Rattle.flash_blocks.specs.Pages.{pagesOf, pageAt}
-use Rattle.mount_checkpoint_pages.specs.Sheet.{numberOf, scoresFrom, scoresOn}
+use Rattle.mount_checkpoint_pages.specs.CheckpointPage.{numberOf, scoresFrom, scoresOn}
 use Rattle.mount_checkpoint_pages.specs.Extent.{extentOf}
 use Rattle.mount_checkpoint_pages.specs.Totals.{totalsOf}
 use Rattle.mount_checkpoint_pages.specs.declared.extent.Extent.{Extent}
@@ -46,7 +46,7 @@ use Rattle.mount_checkpoint.specs.Marks.{coversOf}
 use Rattle.mount_checkpoint.specs.Find.{tariffAt, addsUp, foundBy, totalsIn, checkpointIn}
 use Rattle.mount_checkpoint.specs.declared.find.Checkpoint.{Checkpoint}
 use Rattle.mount_checkpoint.specs.declared.find.Checkpoint.the-variants.{Complete, Incomplete}
-use Rattle.mount_refines.specs.Checkpoint.Header.{numberIn, sheetIn}
+use Rattle.mount_refines.specs.Checkpoint.Header.{numberIn, checkpointPageIn}
 use Rattle.mount_refines.specs.Checkpoint.Written.{pagesIn, numberIn-le}
 use Rattle.mount_refines.specs.Checkpoint.Collect.{opens, Reach, gathered, collect-gathered, tariff-gathered, Reached, collected}
 use Rattle.mount_refines.specs.Checkpoint.Pool.{Judged, length-cells, headers, last-is, find-is, own-number}
@@ -56,17 +56,17 @@ use Rattle.mount_refines.specs.Checkpoint.Marks.{covers-are}
 
 -- ---- the store's pages are those of the cells
 
-collect-ext : (f g : ℕ → Option Page) → ((s : ℕ) → f s ≡ g s) → (n : ℕ) (later : List Sheet) → collect f n later ≡ collect g n later
+collect-ext : (f g : ℕ → Option Page) → ((s : ℕ) → f s ≡ g s) → (n : ℕ) (later : List CheckpointPage) → collect f n later ≡ collect g n later
 unfolding collect
 collect-ext f g h zero later = refl
 collect-ext f g h (suc s) later =
     ap (λ (x : Option Page). collectAt x later (collect f s)) (h (suc s)) ∙ go (g (suc s)) (λ l. collect-ext f g h s l)
   where
-    go : (x : Option Page) → ((l : List Sheet) → collect f s l ≡ collect g s l) → collectAt x later (collect f s) ≡ collectAt x later (collect g s)
+    go : (x : Option Page) → ((l : List CheckpointPage) → collect f s l ≡ collect g s l) → collectAt x later (collect f s) ≡ collectAt x later (collect g s)
     go none r = r later
     go (some (page n (log es))) r = refl
     go (some (page n (whole m y))) r = refl
-    go (some (page n (checkpoint none ss c))) r = r (sheet none ss c ∷ later)
+    go (some (page n (checkpoint none ss c))) r = r (checkpointPage none ss c ∷ later)
     go (some (page n (checkpoint (some t) ss c))) r = refl
 
 -- ---- few scores
@@ -213,7 +213,7 @@ module _ {pool : List ℕ} {blocks : ℕ} {c : Cells} (j : Judged pool blocks c)
     code = addsUp ext tot && coversOf ps n (ext .since) (tot .nodes) width
 
     module _ (sp : Spans c (ext .since)) where
-      abbrev xs : List Sheet
+      abbrev xs : List CheckpointPage
       xs = gathered at (sp .below) (sp .length) []
 
       tot-here : tot ≡ totalsOf ps n (suc (sp .below)) last
@@ -329,8 +329,8 @@ module _ {pool : List ℕ} {blocks : ℕ} {c : Cells} (j : Judged pool blocks c)
         let h = headers j (ext .place) (omega (arith, first-inside c (ext .place) o, length-cells j)) in
         ap tariffIn (spans-collect sp) ∙
         tariff-gathered at (sp .below) (sp .length) [] (sp .reach .first) ∙
-        ap (λ (k : ℕ). sheetIn (at k) .tariff) (sym (sp .begin)) ∙
-        ap (λ (x : Option Page). sheetIn x .tariff) cell ∙
+        ap (λ (k : ℕ). checkpointPageIn (at k) .tariff) (sym (sp .begin)) ∙
+        ap (λ (x : Option Page). checkpointPageIn x .tariff) cell ∙
         sym (h .tariff) ∙
         read-some (payloadAt (pageAt ps (ext .place)) 7 0x13) (ap given (h .tariff) ∙ o)
 

@@ -54,23 +54,23 @@ use Rattle.page.specs.Cases.{
   when-passed,
 }
 use Rattle.page.specs.Runs.{run-stops}
-use Rattle.store.specs.Checkpoint.{Sheet, sheet}
+use Rattle.store.specs.Checkpoint.{CheckpointPage, checkpointPage}
 use Rattle.model.specs.Bytes.{cellFrom}
-use Rattle.mount_checkpoint_pages.specs.Sheet.{numberOf, scoresFrom, scoresOn, countPart}
+use Rattle.mount_checkpoint_pages.specs.CheckpointPage.{numberOf, scoresFrom, scoresOn, countPart}
 
--- The number of a cell's page, its sheet, and whether it is of another kind.
+-- The number of a cell's page, its checkpoint page, and whether it is of another kind.
 abbrev pub numberIn : Option Page → ℕ
 numberIn none = 0
 numberIn (some p) = sequence p
 
-abbrev pub noSheet : Sheet
-noSheet = sheet none [] none
+abbrev pub noCheckpointPage : CheckpointPage
+noCheckpointPage = checkpointPage none [] none
 
-abbrev pub sheetIn : Option Page → Sheet
-sheetIn none = noSheet
-sheetIn (some (page s (log es))) = noSheet
-sheetIn (some (page s (whole n x))) = noSheet
-sheetIn (some (page s (checkpoint t ss c))) = sheet t ss c
+abbrev pub checkpointPageIn : Option Page → CheckpointPage
+checkpointPageIn none = noCheckpointPage
+checkpointPageIn (some (page s (log es))) = noCheckpointPage
+checkpointPageIn (some (page s (whole n x))) = noCheckpointPage
+checkpointPageIn (some (page s (checkpoint t ss c))) = checkpointPage t ss c
 
 abbrev pub foreign : Option Page → Bool
 foreign none = false
@@ -88,9 +88,9 @@ foreignTag b = choose (eqb (getD b 7 0) 0x12) true (eqb (getD b 7 0) 0x11)
 
 pub record Header (b : List ℕ) (x : Option Page) : Type 0 where
   pub seq : numberOf b ≡ numberIn x
-  pub tariff : readIf tariffOf (payloadAt b 7 0x13) ≡ sheetIn x .tariff
-  pub scores : scoresRead b ≡ sheetIn x .scores
-  pub count : readIf number (countPart b) ≡ sheetIn x .count
+  pub tariff : readIf tariffOf (payloadAt b 7 0x13) ≡ checkpointPageIn x .tariff
+  pub scores : scoresRead b ≡ checkpointPageIn x .scores
+  pub count : readIf number (countPart b) ≡ checkpointPageIn x .count
   pub kind : foreignTag b ≡ foreign x
 
 -- ---- no field where another tag stands
@@ -146,13 +146,13 @@ module _ (b : List ℕ) (no13 : getD b 7 0 ≡ 0x13 → ⊥) (no14 : getD b 7 0 
   unfolding scoresRead payloads
   read-nothing = ap (λ (n : ℕ). map scoreOf (payloads 0x14 9 n b (scoresFrom b))) no-scores
 
-  bare : (x : Option Page) → numberOf b ≡ numberIn x → sheetIn x ≡ noSheet → foreignTag b ≡ foreign x → Header b x
+  bare : (x : Option Page) → numberOf b ≡ numberIn x → checkpointPageIn x ≡ noCheckpointPage → foreignTag b ≡ foreign x → Header b x
   bare x en es ek =
       record {
         seq = en;
-        tariff = ap (readIf tariffOf) no-tariff ∙ sym (ap (λ (y : Sheet). y .tariff) es);
-        scores = read-nothing ∙ sym (ap (λ (y : Sheet). y .scores) es);
-        count = ap (readIf number) no-count ∙ sym (ap (λ (y : Sheet). y .count) es);
+        tariff = ap (readIf tariffOf) no-tariff ∙ sym (ap (λ (y : CheckpointPage). y .tariff) es);
+        scores = read-nothing ∙ sym (ap (λ (y : CheckpointPage). y .scores) es);
+        count = ap (readIf number) no-count ∙ sym (ap (λ (y : CheckpointPage). y .count) es);
         kind = ek;
       }
 
@@ -178,10 +178,10 @@ module _ (b : List ℕ) (p : Page) where
       (bare b (λ z. omega arith) (λ z. omega arith) (λ z. omega arith) (some (page (numberOf b) (whole _ _))) refl refl
       (rw (ne-eqb (getD b 7 0) 0x12 (λ z. omega arith), eq-eqb _ _ t) refl))
 
-  sheet-header : (getD b 7 0 ≡ 0x12 → ⊥) → (getD b 7 0 ≡ 0x11 → ⊥) → decodeCheckpoint (numberOf b) (payloadAt b 7 0x13) b ≡ written p →
+  checkpoint-page-header : (getD b 7 0 ≡ 0x12 → ⊥) → (getD b 7 0 ≡ 0x11 → ⊥) → decodeCheckpoint (numberOf b) (payloadAt b 7 0x13) b ≡ written p →
       Header b (some p)
   unfolding decodeCheckpoint decodeCounted decodeScores scoresRead scoresOn scoresFrom countPart
-  sheet-header t u e =
+  checkpoint-page-header t u e =
       page-parts _ p b (when-passed _ _ p e .same)
       (record { seq = refl; tariff = refl; scores = refl; count = refl; kind = rw (ne-eqb _ _ t, ne-eqb _ _ u) refl })
 
@@ -193,7 +193,7 @@ module _ (b : List ℕ) (p : Page) where
       kinds true y f g c = log-header (eqb-true _ _ f) _ (sym (content-log (numberOf b) b (getD b 7 0) (eqb-true _ _ f)) ∙ c)
       kinds false true f g c = node-header (eqb-true _ _ g) (sym (content-node (numberOf b) b (getD b 7 0) (eqb-true _ _ g)) ∙ c)
       kinds false false f g c =
-          sheet-header (eqb-false _ _ f) (eqb-false _ _ g)
+          checkpoint-page-header (eqb-false _ _ f) (eqb-false _ _ g)
           (sym (content-checkpoint (numberOf b) b (getD b 7 0) (eqb-false _ _ f) (eqb-false _ _ g)) ∙ c)
 
       go : (x : Bool) → leb 1 (numberOf b) ≡ x → Header b (some p)

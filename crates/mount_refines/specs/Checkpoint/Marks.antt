@@ -21,17 +21,17 @@ use Rattle.page.specs.Decode as Decode
 use Rattle.page.specs.Decode.{payloads}
 use Rattle.page_read.specs.Value.{scoreValue}
 use Rattle.store.specs.Pool.{pageIn}
-use Rattle.store.specs.Checkpoint.{Sheet, scoresIn, scoreOf, onceBelow}
+use Rattle.store.specs.Checkpoint.{CheckpointPage, scoresIn, scoreOf, onceBelow}
 use Rattle.store.specs.Reopen.{Cells, greatestOf}
 use Rattle.flash_blocks.specs.Pages.{pagesOf, pageAt}
-use Rattle.mount_checkpoint_pages.specs.Sheet.{numberOf, scoresFrom, scoresOn}
+use Rattle.mount_checkpoint_pages.specs.CheckpointPage.{numberOf, scoresFrom, scoresOn}
 use Rattle.mount_checkpoint.specs.EveryFrom.{every-at, every-all}
 use Rattle.mount_checkpoint.specs.Marks.{scoreAt, marked, markScores, markPage, markPages, marksOf, isMarked, windowOf, coversOf}
 use Rattle.mount_refines.specs.Checkpoint.Header.{scoresRead}
 use Rattle.mount_refines.specs.Checkpoint.Written.{pagesIn}
-use Rattle.mount_refines.specs.Checkpoint.Collect.{Reach, gathered, sumSheets}
+use Rattle.mount_refines.specs.Checkpoint.Collect.{Reach, gathered, sumCheckpointPages}
 use Rattle.mount_refines.specs.Checkpoint.Pool.{Judged, headers}
-use Rattle.mount_refines.specs.Checkpoint.Totals.{fromBytes, by-sheets}
+use Rattle.mount_refines.specs.Checkpoint.Totals.{fromBytes, by-checkpoint-pages}
 use Rattle.mount_refines.specs.Checkpoint.Ids.{sumScores, once-at, once-enough}
 
 -- ---- the scores of a page, one by one and as a list
@@ -162,13 +162,13 @@ module _ {pool : List ℕ} {blocks : ℕ} {c : Cells} (j : Judged pool blocks c)
   marked-is width i start l =
       marks-all width i start l ps (32 * blocks) (suc s) ∙
       ap (ltb 0)
-      (by-sheets j s k r end (λ y. count (scoreOf (start + i)) (y .scores)) refl (idCount width i start l)
+      (by-checkpoint-pages j s k r end (λ y. count (scoreOf (start + i)) (y .scores)) refl (idCount width i start l)
       (λ q h. idCount-read width i start l (pageAt ps q) ∙ ap (count (scoreOf (start + i))) (headers j q h .scores)) ∙
-      in-sheets (gathered (λ i. pageIn i (pagesIn c)) s k []))
+      in-checkpoint-pages (gathered (λ i. pageIn i (pagesIn c)) s k []))
     where
-      in-sheets : (ys : List Sheet) → sumSheets (λ y. count (scoreOf (start + i)) (y .scores)) ys ≡ count (scoreOf (start + i)) (scoresIn ys)
-      in-sheets [] = refl
-      in-sheets (y ∷ ys) = omega (arith, in-sheets ys, count-append (scoreOf (start + i)) (y .scores) (scoresIn ys))
+      in-checkpoint-pages : (ys : List CheckpointPage) → sumCheckpointPages (λ y. count (scoreOf (start + i)) (y .scores)) ys ≡ count (scoreOf (start + i)) (scoresIn ys)
+      in-checkpoint-pages [] = refl
+      in-checkpoint-pages (y ∷ ys) = omega (arith, in-checkpoint-pages ys, count-append (scoreOf (start + i)) (y .scores) (scoresIn ys))
 
   module _ (start size width : ℕ) (fit : size ≤ width) where
     window-has : window start size width ≡ true → (i : ℕ) → i < size → 1 ≤ count (scoreOf (start + i)) scores

@@ -23,20 +23,20 @@ use Rattle.flash_rows.specs.Step.{scored}
 use Rattle.flash_rows.specs.declared.Row.{Row}
 use Rattle.page.specs.Page.{Score}
 use Rattle.store.specs.Pool.{pageIn}
-use Rattle.store.specs.Checkpoint.{Sheet, checkpointOf, scoresIn, countIn, countLast, scoreIn, onceBelow, complete}
+use Rattle.store.specs.Checkpoint.{CheckpointPage, checkpointOf, scoresIn, countIn, countLast, scoreIn, onceBelow, complete}
 use Rattle.store.specs.Reopen.{Cells, reopened}
 use Rattle.model.specs.Mount.{scoresBelow}
 use Rattle.flash_blocks.specs.Pages.{pagesOf, pageAt}
-use Rattle.mount_checkpoint_pages.specs.Sheet.{numberOf, scoresOn}
+use Rattle.mount_checkpoint_pages.specs.CheckpointPage.{numberOf, scoresOn}
 use Rattle.mount_checkpoint.specs.EveryFrom.{everyFrom, every-at, every-all}
 use Rattle.mount_checkpoint.specs.Marks.{scoreAt}
 use Rattle.mount_checkpoint.specs.Find.{checkpointIn}
 use Rattle.mount_checkpoint.specs.Scores.{scoreTaken, takeScores, takePage, takePages, isBelow}
 use Rattle.mount_checkpoint.specs.declared.find.Checkpoint.the-variants.{Complete}
 use Rattle.mount_refines.specs.Checkpoint.Written.{pagesIn}
-use Rattle.mount_refines.specs.Checkpoint.Collect.{gathered, sumSheets}
+use Rattle.mount_refines.specs.Checkpoint.Collect.{gathered, sumCheckpointPages}
 use Rattle.mount_refines.specs.Checkpoint.Pool.{Judged, headers}
-use Rattle.mount_refines.specs.Checkpoint.Totals.{fromBytes, by-sheets}
+use Rattle.mount_refines.specs.Checkpoint.Totals.{fromBytes, by-checkpoint-pages}
 use Rattle.mount_refines.specs.Checkpoint.Ids.{
   sumScores,
   ofId,
@@ -212,15 +212,15 @@ module _ {pool : List ℕ} {blocks : ℕ} {c : Cells} (j : Judged pool blocks c)
   own-sum m g =
       ap (λ (s : ℕ). sumFrom (λ q. fromBytes s (λ b. sumFrom (λ k. ofId m g (scoreOn b k)) (scoresOn b) 0) (pageAt ps q)) (32 * blocks) 0)
       (span .begin) ∙
-      by-sheets j (span .below) (span .length) (span .reach) (span .end) (λ y. sumScores (ofId m g) (y .scores)) refl
+      by-checkpoint-pages j (span .below) (span .length) (span .reach) (span .end) (λ y. sumScores (ofId m g) (y .scores)) refl
       (λ b. sumFrom (λ k. ofId m g (scoreOn b k)) (scoresOn b) 0)
       (λ q l. scores-read (ofId m g) (pageAt ps q) ∙ ap (sumScores (ofId m g)) (headers j q l .scores)) ∙
-      in-sheets (gathered (λ s. pageIn s (pagesIn c)) (span .below) (span .length) []) ∙
-      ap (λ (ys : List Sheet). sumScores (ofId m g) (scoresIn ys)) (sym (checkpoint-spans j since span))
+      in-checkpoint-pages (gathered (λ s. pageIn s (pagesIn c)) (span .below) (span .length) []) ∙
+      ap (λ (ys : List CheckpointPage). sumScores (ofId m g) (scoresIn ys)) (sym (checkpoint-spans j since span))
     where
-      in-sheets : (ys : List Sheet) → sumSheets (λ y. sumScores (ofId m g) (y .scores)) ys ≡ sumScores (ofId m g) (scoresIn ys)
-      in-sheets [] = refl
-      in-sheets (y ∷ ys) = omega (arith, in-sheets ys, sumScores-append (ofId m g) (y .scores) (scoresIn ys))
+      in-checkpoint-pages : (ys : List CheckpointPage) → sumCheckpointPages (λ y. sumScores (ofId m g) (y .scores)) ys ≡ sumScores (ofId m g) (scoresIn ys)
+      in-checkpoint-pages [] = refl
+      in-checkpoint-pages (y ∷ ys) = omega (arith, in-checkpoint-pages ys, sumScores-append (ofId m g) (y .scores) (scoresIn ys))
 
   -- THE SCORES IN THE ROWS are the store's, each in its node's row.
   pub scores-taken : (rows : List Row) → nodes ≤ length rows → Scored nodes (scoreIn scores) rows (takePages ps (32 * blocks) since nodes rows)

@@ -1,5 +1,5 @@
--- What the code adds up over places is what the sheets of the set add up to, and every page fits exactly if the node count stands on the
--- last sheet alone. Assumes nothing.
+-- What the code adds up over places is what the checkpoint pages of the set add up to, and every page fits exactly if the node count stands on the
+-- last checkpoint page alone. Assumes nothing.
 use mathlib.Core.Path.{_≡_, refl, sym, ap, ap₂, _∙_}
 use mathlib.Core.Bool.{Bool, true, false, not, _&&_}
 use mathlib.Core.Logic.{_⊎_, inl, inr}
@@ -21,19 +21,19 @@ use Rattle.page.specs.Page.{Page, page, log, whole, checkpoint, sequence}
 use Rattle.page.specs.Decode.{found, readIf, scoreOf, payloads}
 use Rattle.page.specs.Runs.{length-payloads}
 use Rattle.store.specs.Pool.{pageIn}
-use Rattle.store.specs.Checkpoint.{Sheet, scoresIn, countOr, countIn, hasCount, noCount, countLast}
+use Rattle.store.specs.Checkpoint.{CheckpointPage, scoresIn, countOr, countIn, hasCount, noCount, countLast}
 use Rattle.store.specs.Reopen.{Cells, greatestOf}
 use Rattle.flash_blocks.specs.Pages.{pagesOf, pageAt}
-use Rattle.mount_checkpoint_pages.specs.Sheet.{numberOf, scoresFrom, scoresOn, countPart, sheetOf, countFits, fitsIn}
+use Rattle.mount_checkpoint_pages.specs.CheckpointPage.{numberOf, scoresFrom, scoresOn, countPart, checkpointPageOf, countFits, fitsIn}
 use Rattle.mount_checkpoint_pages.specs.Totals.{plus, addPage, nothing, totalsOf}
 use Rattle.mount_checkpoint_pages.specs.declared.totals.Totals.{Totals}
-use Rattle.mount_refines.specs.Checkpoint.Header.{numberIn, noSheet, sheetIn, foreign, foreignTag, scoresRead, Header}
+use Rattle.mount_refines.specs.Checkpoint.Header.{numberIn, noCheckpointPage, checkpointPageIn, foreign, foreignTag, scoresRead, Header}
 use Rattle.mount_refines.specs.Checkpoint.Written.{pagesIn, sum-by-number}
 use Rattle.mount_refines.specs.Checkpoint.Collect.{
   opens,
   Reach,
   gathered,
-  sumSheets,
+  sumCheckpointPages,
   sum-gathered,
   countBit,
   topCount,
@@ -60,35 +60,35 @@ abbrev pub fromBytes : ℕ → (List ℕ → ℕ) → List ℕ → ℕ
 fromBytes since f b = choose (ltb (numberOf b) since) 0 (f b)
 
 module _ (since newest : ℕ) (b : List ℕ) (t : Totals) where
-  added : (part : Totals → ℕ) (f : List ℕ → ℕ) → part (plus (fitsIn newest (sheetOf b .counted) b) (sheetOf b) t) ≡ part t + f b →
+  added : (part : Totals → ℕ) (f : List ℕ → ℕ) → part (plus (fitsIn newest (checkpointPageOf b .counted) b) (checkpointPageOf b) t) ≡ part t + f b →
       part (addPage since newest b t) ≡ part t + fromBytes since f b
   unfolding addPage
   added part f e = go (ltb (numberOf b) since)
     where
-      go : (y : Bool) → part (choose y t (plus (fitsIn newest (sheetOf b .counted) b) (sheetOf b) t)) ≡ part t + choose y 0 (f b)
+      go : (y : Bool) → part (choose y t (plus (fitsIn newest (checkpointPageOf b .counted) b) (checkpointPageOf b) t)) ≡ part t + choose y 0 (f b)
       go true = omega arith
       go false = e
 
 module _ (ps : List (List ℕ)) (n since newest : ℕ) where
   pub misfits-sum : totalsOf ps n since newest .misfits ≡ sumFrom (λ q. fromBytes since (misfitOn newest) (pageAt ps q)) n 0
-  unfolding totalsOf nothing plus sheetOf
+  unfolding totalsOf nothing plus checkpointPageOf
   misfits-sum =
       steps-sum (λ (t : Totals). t .misfits) (λ q. addPage since newest (pageAt ps q)) (λ q. fromBytes since (misfitOn newest) (pageAt ps q))
       (λ i a. added since newest (pageAt ps i) a (λ (t : Totals). t .misfits) (misfitOn newest) refl) n 0 nothing ∙ omega arith
 
   pub scores-sum : totalsOf ps n since newest .scores ≡ sumFrom (λ q. fromBytes since scoresOn (pageAt ps q)) n 0
-  unfolding totalsOf nothing plus sheetOf
+  unfolding totalsOf nothing plus checkpointPageOf
   scores-sum =
       steps-sum (λ (t : Totals). t .scores) (λ q. addPage since newest (pageAt ps q)) (λ q. fromBytes since scoresOn (pageAt ps q))
       (λ i a. added since newest (pageAt ps i) a (λ (t : Totals). t .scores) scoresOn refl) n 0 nothing ∙ omega arith
 
   pub nodes-sum : totalsOf ps n since newest .nodes ≡ sumFrom (λ q. fromBytes since (λ b. number (countPart b)) (pageAt ps q)) n 0
-  unfolding totalsOf nothing plus sheetOf
+  unfolding totalsOf nothing plus checkpointPageOf
   nodes-sum =
       steps-sum (λ (t : Totals). t .nodes) (λ q. addPage since newest (pageAt ps q)) (λ q. fromBytes since (λ b. number (countPart b)) (pageAt ps q))
       (λ i a. added since newest (pageAt ps i) a (λ (t : Totals). t .nodes) (λ b. number (countPart b)) refl) n 0 nothing ∙ omega arith
 
--- ---- what a page adds is what its cell's sheet has
+-- ---- what a page adds is what its cell's checkpoint page has
 
 pub scoresOn-read : (b : List ℕ) → length (scoresRead b) ≡ scoresOn b
 unfolding scoresRead
@@ -102,15 +102,15 @@ found-read : (p : List ℕ) → found p ≡ hasCount (readIf number p)
 found-read [] = refl
 found-read (x ∷ p) = refl
 
-abbrev pub scoreCount : Sheet → ℕ
+abbrev pub scoreCount : CheckpointPage → ℕ
 scoreCount y = length (y .scores)
 
-abbrev pub countOn : Sheet → ℕ
+abbrev pub countOn : CheckpointPage → ℕ
 countOn y = countOr (y .count) 0
 
 -- Whether a cell fits.
 abbrev fits : ℕ → Option Page → Bool
-fits newest x = choose (foreign x) false (countFits (eqb (numberIn x) newest) (hasCount (sheetIn x .count)))
+fits newest x = choose (foreign x) false (countFits (eqb (numberIn x) newest) (hasCount (checkpointPageIn x .count)))
 
 abbrev misfit : ℕ → ℕ → Option Page → ℕ
 misfit since newest x = choose (ltb (numberIn x) since) 0 (bit (not (fits newest x)))
@@ -127,18 +127,18 @@ fitsIn-is newest counted b = go (eqb (getD b 7 0) 0x12)
     go false = refl
 
 module _ (since : ℕ) (b : List ℕ) (x : Option Page) (h : Header b x) where
-  pub adds : (f : List ℕ → ℕ) (g : Sheet → ℕ) → f b ≡ g (sheetIn x) → fromBytes since f b ≡ choose (ltb (numberIn x) since) 0 (g (sheetIn x))
+  pub adds : (f : List ℕ → ℕ) (g : CheckpointPage → ℕ) → f b ≡ g (checkpointPageIn x) → fromBytes since f b ≡ choose (ltb (numberIn x) since) 0 (g (checkpointPageIn x))
   adds f g e = ap₂ (λ (n m : ℕ). choose (ltb n since) 0 m) (h .seq) e
 
-  adds-scores : fromBytes since scoresOn b ≡ choose (ltb (numberIn x) since) 0 (scoreCount (sheetIn x))
+  adds-scores : fromBytes since scoresOn b ≡ choose (ltb (numberIn x) since) 0 (scoreCount (checkpointPageIn x))
   adds-scores = adds scoresOn scoreCount (sym (scoresOn-read b) ∙ ap length (h .scores))
 
-  adds-nodes : fromBytes since (λ p. number (countPart p)) b ≡ choose (ltb (numberIn x) since) 0 (countOn (sheetIn x))
+  adds-nodes : fromBytes since (λ p. number (countPart p)) b ≡ choose (ltb (numberIn x) since) 0 (countOn (checkpointPageIn x))
   adds-nodes = adds (λ p. number (countPart p)) countOn (number-read (countPart b) ∙ ap (λ (o : Option ℕ). countOr o 0) (h .count))
 
   adds-misfit : (newest : ℕ) → fromBytes since (misfitOn newest) b ≡ misfit since newest x
   adds-misfit newest =
-      let counted : found (countPart b) ≡ hasCount (sheetIn x .count) = found-read (countPart b) ∙ ap hasCount (h .count) in
+      let counted : found (countPart b) ≡ hasCount (checkpointPageIn x .count) = found-read (countPart b) ∙ ap hasCount (h .count) in
       let e : fitsIn newest (found (countPart b)) b ≡ fits newest x =
       fitsIn-is newest (found (countPart b)) b ∙
       ap (λ (t : Bool). choose t false (countFits (eqb (numberOf b) newest) (found (countPart b)))) (h .kind) ∙
@@ -181,7 +181,7 @@ module _ {pool : List ℕ} {blocks : ℕ} {c : Cells} (j : Judged pool blocks c)
   abbrev ps : List (List ℕ)
   ps = pagesOf pool
 
-  -- A sum over places of what bytes add, where that is what the cells' sheets have.
+  -- A sum over places of what bytes add, where that is what the cells' checkpoint pages have.
   pub by-number : (f : Option Page → ℕ) → f none ≡ 0 → (g : ℕ → ℕ) → ((q : ℕ) → q < 32 * blocks → g q ≡ f (getD c q none)) →
       sumFrom g (32 * blocks) 0 ≡ sumBelow (suc last) (λ s. f (at s))
   by-number f z g h =
@@ -204,20 +204,20 @@ module _ {pool : List ℕ} {blocks : ℕ} {c : Cells} (j : Judged pool blocks c)
       go true f (inr e) =
           let m : misfit (suc s) last (at i) ≡ 1 =
           ap (λ (t : Bool). choose t 0 (bit (not (fits last (at i))))) (le-ltb (numberIn (at i)) (suc s) (omega arith)) ∙
-          ap (λ (t : Bool). bit (not (choose t false (countFits (eqb (numberIn (at i)) last) (hasCount (sheetIn (at i) .count)))))) f in
+          ap (λ (t : Bool). bit (not (choose t false (countFits (eqb (numberIn (at i)) last) (hasCount (checkpointPageIn (at i) .count)))))) f in
           absurd (omega (arith, m, sumBelow-at (suc last) (λ i. misfit (suc s) last (at i)) i (omega arith), total))
 
   -- The set from suc s to the last number.
   module _ (s k : ℕ) (r : Reach at s k) (end : last ≡ suc (s + k)) where
-    abbrev xs : List Sheet
+    abbrev xs : List CheckpointPage
     xs = gathered at s k []
 
-    pub by-sheets : (h : Sheet → ℕ) → h noSheet ≡ 0 → (f : List ℕ → ℕ) → ((q : ℕ) → q < 32 * blocks → f (pageAt ps q) ≡ h (sheetIn (getD c q none))) →
-        sumFrom (λ q. fromBytes (suc s) f (pageAt ps q)) (32 * blocks) 0 ≡ sumSheets h xs
-    by-sheets h z f e =
-        by-number (λ x. choose (ltb (numberIn x) (suc s)) 0 (h (sheetIn x))) (none-out s (h noSheet)) (λ q. fromBytes (suc s) f (pageAt ps q))
+    pub by-checkpoint-pages : (h : CheckpointPage → ℕ) → h noCheckpointPage ≡ 0 → (f : List ℕ → ℕ) → ((q : ℕ) → q < 32 * blocks → f (pageAt ps q) ≡ h (checkpointPageIn (getD c q none))) →
+        sumFrom (λ q. fromBytes (suc s) f (pageAt ps q)) (32 * blocks) 0 ≡ sumCheckpointPages h xs
+    by-checkpoint-pages h z f e =
+        by-number (λ x. choose (ltb (numberIn x) (suc s)) 0 (h (checkpointPageIn x))) (none-out s (h noCheckpointPage)) (λ q. fromBytes (suc s) f (pageAt ps q))
         (λ q l. adds (suc s) (pageAt ps q) (getD c q none) (headers j q l) f h (e q l)) ∙
-        ap (λ (n : ℕ). sumBelow (suc n) (λ i. choose (ltb (numberIn (at i)) (suc s)) 0 (h (sheetIn (at i))))) end ∙
+        ap (λ (n : ℕ). sumBelow (suc n) (λ i. choose (ltb (numberIn (at i)) (suc s)) 0 (h (checkpointPageIn (at i))))) end ∙
         sym (sum-gathered h z at (own-number c) s k [] ∙ add-zero _)
 
     kind-set : (i : ℕ) → suc s ≤ i → i ≤ last → (i ≡ suc s) ⊎ (i ≡ suc s → ⊥) → foreign (at i) ≡ false
@@ -235,26 +235,26 @@ module _ {pool : List ℕ} {blocks : ℕ} {c : Cells} (j : Judged pool blocks c)
         above (inr l) = l
 
     -- below the newest page a misfit has the node count; the newest is one without it
-    misfit-below : (i : ℕ) → i < last → misfit (suc s) last (at i) ≡ choose (ltb (numberIn (at i)) (suc s)) 0 (countBit (sheetIn (at i)))
+    misfit-below : (i : ℕ) → i < last → misfit (suc s) last (at i) ≡ choose (ltb (numberIn (at i)) (suc s)) 0 (countBit (checkpointPageIn (at i)))
     misfit-below i l = go (own-number c i) (le-or (suc s) i)
       where
         hc : Bool
-        hc = hasCount (sheetIn (at i) .count)
+        hc = hasCount (checkpointPageIn (at i) .count)
 
         twice : (t : Bool) → bit (not (not t)) ≡ bit t
         twice true = refl
         twice false = refl
 
         go : (at i ≡ none) ⊎ (numberIn (at i) ≡ i) → (suc s ≤ i) ⊎ (i < suc s) →
-            misfit (suc s) last (at i) ≡ choose (ltb (numberIn (at i)) (suc s)) 0 (countBit (sheetIn (at i)))
+            misfit (suc s) last (at i) ≡ choose (ltb (numberIn (at i)) (suc s)) 0 (countBit (checkpointPageIn (at i)))
         go (inl e) m = rw e (none-out s _ ∙ sym (none-out s 0))
         go (inr e) (inl m) =
             ap (λ (t : Bool). choose (ltb (numberIn (at i)) (suc s)) 0 (bit (not (choose t false (countFits (eqb (numberIn (at i)) last)
-            (hasCount (sheetIn (at i) .count)))))))
+            (hasCount (checkpointPageIn (at i) .count)))))))
             (kind-set i m (omega arith) (eq-or i (suc s))) ∙
-            ap (λ (t : Bool). choose (ltb (numberIn (at i)) (suc s)) 0 (bit (not (countFits t (hasCount (sheetIn (at i) .count))))))
+            ap (λ (t : Bool). choose (ltb (numberIn (at i)) (suc s)) 0 (bit (not (countFits t (hasCount (checkpointPageIn (at i) .count))))))
             (ne-eqb (numberIn (at i)) last (λ z. omega arith)) ∙
-            ap (λ (n : ℕ). choose (ltb (numberIn (at i)) (suc s)) 0 n) (twice (hasCount (sheetIn (at i) .count)))
+            ap (λ (n : ℕ). choose (ltb (numberIn (at i)) (suc s)) 0 n) (twice (hasCount (checkpointPageIn (at i) .count)))
         go (inr e) (inr m) = rw (lt-ltb (numberIn (at i)) (suc s) (omega arith)) refl
 
     newest-some : at last ≡ none → ⊥
@@ -267,37 +267,37 @@ module _ {pool : List ℕ} {blocks : ℕ} {c : Cells} (j : Judged pool blocks c)
         go (inl e) = absurd (newest-some e)
         go (inr e) = e
 
-    misfit-newest : misfit (suc s) last (at last) ≡ bit (not (hasCount (sheetIn (at last) .count)))
+    misfit-newest : misfit (suc s) last (at last) ≡ bit (not (hasCount (checkpointPageIn (at last) .count)))
     misfit-newest =
         ap (λ (t : Bool). choose t 0 (bit (not (fits last (at last))))) (le-ltb (numberIn (at last)) (suc s) (omega (arith, newest-number))) ∙
-        ap (λ (t : Bool). bit (not (choose t false (countFits (eqb (numberIn (at last)) last) (hasCount (sheetIn (at last) .count))))))
+        ap (λ (t : Bool). bit (not (choose t false (countFits (eqb (numberIn (at last)) last) (hasCount (checkpointPageIn (at last) .count))))))
         (kind-set last (omega arith) (omega arith) (eq-or last (suc s))) ∙
-        ap (λ (t : Bool). bit (not (countFits t (hasCount (sheetIn (at last) .count))))) (eq-eqb (numberIn (at last)) last newest-number)
+        ap (λ (t : Bool). bit (not (countFits t (hasCount (checkpointPageIn (at last) .count))))) (eq-eqb (numberIn (at last)) last newest-number)
 
-    counted-newest : choose (ltb (numberIn (at last)) (suc s)) 0 (countBit (sheetIn (at last))) ≡ bit (hasCount (sheetIn (at last) .count))
-    counted-newest = ap (λ (t : Bool). choose t 0 (countBit (sheetIn (at last)))) (le-ltb (numberIn (at last)) (suc s) (omega (arith, newest-number)))
+    counted-newest : choose (ltb (numberIn (at last)) (suc s)) 0 (countBit (checkpointPageIn (at last))) ≡ bit (hasCount (checkpointPageIn (at last) .count))
+    counted-newest = ap (λ (t : Bool). choose t 0 (countBit (checkpointPageIn (at last)))) (le-ltb (numberIn (at last)) (suc s) (omega (arith, newest-number)))
 
     module _ (t : Totals) (is : t ≡ totalsOf ps (32 * blocks) (suc s) last) where
-      -- AS MANY SCORES as the sheets have
+      -- AS MANY SCORES as the checkpoint pages have
       pub scores-are : t .scores ≡ length (scoresIn xs)
       scores-are =
           ap (λ (y : Totals). y .scores) is ∙ scores-sum ps (32 * blocks) (suc s) last ∙
-          by-sheets scoreCount refl scoresOn (λ q l. let h = headers j q l in sym (scoresOn-read (pageAt ps q)) ∙ ap length (h .scores)) ∙
+          by-checkpoint-pages scoreCount refl scoresOn (λ q l. let h = headers j q l in sym (scoresOn-read (pageAt ps q)) ∙ ap length (h .scores)) ∙
           scoreCount-sum xs
         where
-          scoreCount-sum : (ys : List Sheet) → sumSheets scoreCount ys ≡ length (scoresIn ys)
+          scoreCount-sum : (ys : List CheckpointPage) → sumCheckpointPages scoreCount ys ≡ length (scoresIn ys)
           scoreCount-sum [] = refl
           scoreCount-sum (y ∷ ys) = omega (arith, scoreCount-sum ys, length-append (y .scores) (scoresIn ys))
 
-      -- THE NODE COUNT, where it stands on the last sheet alone
+      -- THE NODE COUNT, where it stands on the last checkpoint page alone
       pub nodes-are : countLast xs ≡ true → t .nodes ≡ countIn xs
       nodes-are e =
           ap (λ (y : Totals). y .nodes) is ∙ nodes-sum ps (32 * blocks) (suc s) last ∙
-          by-sheets countOn refl (λ b. number (countPart b))
+          by-checkpoint-pages countOn refl (λ b. number (countPart b))
           (λ q l. let h = headers j q l in number-read (countPart (pageAt ps q)) ∙ ap (λ (o : Option ℕ). countOr o 0) (h .count)) ∙
           countOn-sum xs e
         where
-          countOn-sum : (ys : List Sheet) → countLast ys ≡ true → sumSheets countOn ys ≡ countIn ys
+          countOn-sum : (ys : List CheckpointPage) → countLast ys ≡ true → sumCheckpointPages countOn ys ≡ countIn ys
           countOn-sum [] f = refl
           countOn-sum (y ∷ []) f = go (y .count)
             where
@@ -307,12 +307,12 @@ module _ {pool : List ℕ} {blocks : ℕ} {c : Cells} (j : Judged pool blocks c)
           countOn-sum (y ∷ z ∷ ys) f = go (y .count) f (λ g. countOn-sum (z ∷ ys) g)
             where
               go : (o : Option ℕ) → (noCount o && countLast (z ∷ ys)) ≡ true →
-                  (countLast (z ∷ ys) ≡ true → sumSheets countOn (z ∷ ys) ≡ countIn (z ∷ ys)) →
-                  countOr o 0 + sumSheets countOn (z ∷ ys) ≡ countOr o (countIn (z ∷ ys))
+                  (countLast (z ∷ ys) ≡ true → sumCheckpointPages countOn (z ∷ ys) ≡ countIn (z ∷ ys)) →
+                  countOr o 0 + sumCheckpointPages countOn (z ∷ ys) ≡ countOr o (countIn (z ∷ ys))
               go none g rest = omega (arith, rest g)
               go (some n) g rest = absurd (test-clash false g refl)
 
-      -- EVERY PAGE FITS exactly if the node count stands on the last sheet alone
+      -- EVERY PAGE FITS exactly if the node count stands on the last checkpoint page alone
       pub fits-are : eqb (t .misfits) 0 ≡ countLast xs
       fits-are =
           let m : t .misfits ≡ a + bit (not hc) =
@@ -320,21 +320,21 @@ module _ {pool : List ℕ} {blocks : ℕ} {c : Cells} (j : Judged pool blocks c)
           by-number (misfit (suc s) last) (none-out s (bit (not (fits last none)))) _ (λ q l. adds-misfit (suc s) (pageAt ps q) (getD c q none)
           (headers j q l) last) ∙
           ap₂ _+_ (sumBelow-ext last (λ i. misfit (suc s) last (at i))
-          (λ i. choose (ltb (numberIn (at i)) (suc s)) 0 (countBit (sheetIn (at i)))) misfit-below) misfit-newest in
-          let n : sumSheets countBit xs ≡ a + bit hc =
+          (λ i. choose (ltb (numberIn (at i)) (suc s)) 0 (countBit (checkpointPageIn (at i)))) misfit-below) misfit-newest in
+          let n : sumCheckpointPages countBit xs ≡ a + bit hc =
           sum-gathered countBit refl at (own-number c) s k [] ∙ add-zero _ ∙
-          ap (λ (i : ℕ). sumBelow (suc i) (λ i. choose (ltb (numberIn (at i)) (suc s)) 0 (countBit (sheetIn (at i))))) (sym end) ∙
+          ap (λ (i : ℕ). sumBelow (suc i) (λ i. choose (ltb (numberIn (at i)) (suc s)) 0 (countBit (checkpointPageIn (at i))))) (sym end) ∙
           ap (λ (i : ℕ). a + i) counted-newest in
           let top : topCount xs ≡ hc =
           top-newest at s k (rw end at (kind-set last (omega arith) (omega arith) (eq-or last (suc s)))) (λ z. newest-some (ap at end ∙ z)) ∙
-          ap (λ (i : ℕ). hasCount (sheetIn (at i) .count)) (sym end) in
+          ap (λ (i : ℕ). hasCount (checkpointPageIn (at i) .count)) (sym end) in
           ap (λ (i : ℕ). eqb i 0) m ∙ tests a hc ∙ sym (countLast-is xs ∙ ap₂ (λ (p : Bool) (i : ℕ). p && eqb i 1) top n)
         where
           a : ℕ
-          a = sumBelow last (λ i. choose (ltb (numberIn (at i)) (suc s)) 0 (countBit (sheetIn (at i))))
+          a = sumBelow last (λ i. choose (ltb (numberIn (at i)) (suc s)) 0 (countBit (checkpointPageIn (at i))))
 
           hc : Bool
-          hc = hasCount (sheetIn (at last) .count)
+          hc = hasCount (checkpointPageIn (at last) .count)
 
           tests : (n : ℕ) (p : Bool) → eqb (n + bit (not p)) 0 ≡ (p && eqb (n + bit p) 1)
           tests n true = go (eq-or n 0)

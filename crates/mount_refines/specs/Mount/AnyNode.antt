@@ -27,7 +27,7 @@ use Rattle.store.specs.Run.{Run}
 use Rattle.store_laws.specs.Versions.{OnPage}
 use Rattle.flash_rows.specs.Step.{byMode}
 use Rattle.flash_allocate.specs.World.{World}
-use Rattle.flash_read.specs.Whole.{wholeOf, wholeAt}
+use Rattle.flash_read.specs.NodePage.{nodeOfPayload, nodePageAt}
 use Rattle.flash_read.specs.Content.{logContent, contentBy, content}
 use Rattle.flash_refines.specs.Store.Mirror.{rowAt, RowMode}
 use Rattle.flash_refines.specs.Store.Follows.{Follows, Writable}
@@ -36,24 +36,24 @@ use Rattle.flash_refines.specs.Read.Content.{log-content, disk-draft, disk-page
 
 -- A node page whose keys do not ascend has no node.
 page-broken : (s id : ℕ) (x : Node) → Fits s (whole id x) → ascends 0 bound32 (pairsOf x) ≡ false →
-    wholeOf (payloadAt (image (page s (whole id x))) 7 0x11) ≡ broken
-unfolding wholeOf nodeOf
-page-broken s id (node kind ps l) h e =
-    let p : List ℕ = wholeBytes id (node kind ps l) in
-    let size : length p ≡ 7 + 8 * length ps = length-wholeBytes id kind ps l in
+    nodeOfPayload (payloadAt (image (page s (whole id x))) 7 0x11) ≡ broken
+unfolding nodeOfPayload nodeOf
+page-broken s id (node shape ps l) h e =
+    let p : List ℕ = wholeBytes id (node shape ps l) in
+    let size : length p ≡ 7 + 8 * length ps = length-wholeBytes id shape ps l in
     let keys : ascends 0 bound32 (pairsFrom (pairsIn p) p 7) ≡ false =
-    ap (λ (y : Node). ascends 0 bound32 (pairsOf y)) (nodeOf-bytes id kind ps l (h .content .node)) ∙ e in
-    ap wholeOf (payload-read s id kind ps l h) ∙
+    ap (λ (y : Node). ascends 0 bound32 (pairsOf y)) (nodeOf-bytes id shape ps l (h .content .node)) ∙ e in
+    ap nodeOfPayload (payload-read s id shape ps l h) ∙
     rw (le-ltb (length p) 7 (omega arith), le-ltb mostKeys (pairsIn p) (omega (arith, h .content .node .few)), keys) refl
 
 page-few : (s id : ℕ) (x : Node) → Fits s (whole id x) → length (pairsOf x) ≤ mostKeys
-page-few s id (node kind ps l) h = h .content .node .few
+page-few s id (node shape ps l) h = h .content .node .few
 
 module _ {B : ℕ} {score : ℕ → ℕ} {w : World} {run : Run} (known : Writable B run) (h : Follows score w run) (n : ℕ) (l : n < run .nodes) where
   abbrev read : Draft → Type 0
   read d = (Store.nodeOf (run .now) n ≡ nodeIn d) ⊎ ((Neat (Store.nodeOf (run .now) n) → ⊥) × (nodeIn d ≡ noNode))
 
-  on-page : (o : OnPage (run .now) n) (b : Bool) → ascends 0 bound32 (pairsOf (o .node)) ≡ b → read (wholeAt (w .pages) (rowAt (w .rows) n .first))
+  on-page : (o : OnPage (run .now) n) (b : Bool) → ascends 0 bound32 (pairsOf (o .node)) ≡ b → read (nodePageAt (w .pages) (rowAt (w .rows) n .first))
   unfolding Store.nodeOf
   on-page o true e =
       let neat : Neat (o .node) =
@@ -72,6 +72,6 @@ module _ {B : ℕ} {score : ℕ → ℕ} {w : World} {run : Run} (known : Writab
   read-as = go (rowAt (w .rows) n .mode) (h .mirrors .rows .mode n (omega (arith, h .nodes)))
     where
       go : (m : Mode) → RowMode m (run .now) n →
-          read (byMode m (logContent (w .pages) (w .state) (rowAt (w .rows) n) n) (wholeAt (w .pages) (rowAt (w .rows) n .first)))
+          read (byMode m (logContent (w .pages) (w .state) (rowAt (w .rows) n) n) (nodePageAt (w .pages) (rowAt (w .rows) n .first)))
       go Log i = inl (ap nodeIn (sym (log-content known h n l i)))
       go Disk o = on-page o (ascends 0 bound32 (pairsOf (o .node))) refl

@@ -41,7 +41,7 @@ pub record Opens (pool : List ℕ) (tableLength blocks : ℕ) (rows : List Row) 
   pub is : mountOf pool ≡ opened t state
   pub runs : Runs blocks (world (pagesOf pool) rows s) state
   pub good : Good (length pool) tableLength s
-  pub noSheet : s .checkpoint ≡ 0
+  pub noCheckpointPage : s .checkpoint ≡ 0
   pub left : s .last ≤ lastSequence
   pub ranged : Ranged t
 
@@ -149,7 +149,7 @@ module _ {pool : List ℕ} {blocks : ℕ} {c : Cells} {t : Tariff} {nodes since 
                 used = omega (arith, few);
                 entries = omega arith;
               };
-          noSheet = refl;
+          noCheckpointPage = refl;
           left = leb-true (s .last) lastSequence (p .numbers);
           ranged = ranged (k .few) mounts;
         }

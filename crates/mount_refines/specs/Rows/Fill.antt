@@ -16,7 +16,7 @@ use Rattle.page_write.specs.Chunks.{chunks}
 use Rattle.store.specs.View.{pages}
 use Rattle.store.specs.Pool.{Blocks, block}
 use Rattle.store.specs.Store.{Store, view}
-use Rattle.store.specs.Live.{carries, noClosing}
+use Rattle.store.specs.Live.{carries, noCheckpoint}
 use Rattle.store.specs.Reopen.{Cells, blocksIn, newest, storeOf, reopened}
 use Rattle.store_laws.specs.Opening.{opened, opened-good}
 use Rattle.model.specs.Mount.{threePages}
@@ -101,7 +101,7 @@ module _ {blocks nodes : ℕ} {score : ℕ → ℕ} {pool : List ℕ} {c : Cells
           pages = λ n l. omega (arith, row-pages g n l, pages-few n l);
         }
 
-    mirrored : (buffer : List ℕ) → Mirrors image (carries (view st)) noClosing (world (pagesOf pool) after (beginning blocks nodes buffer st)) st
+    mirrored : (buffer : List ℕ) → Mirrors image (carries (view st)) noCheckpoint (world (pagesOf pool) after (beginning blocks nodes buffer st)) st
     mirrored buffer =
         record {
           pages =
@@ -123,7 +123,7 @@ module _ {blocks nodes : ℕ} {score : ℕ → ℕ} {pool : List ℕ} {c : Cells
         record {
           table = carried g .long ∙ g .table;
           nodes = refl;
-          noSheet = refl;
+          noCheckpointPage = refl;
           mirrors = mirrored buffer;
           buffer = record { size = size; number = refl; bytes = refl };
           scores = λ n l. told g n l .score ∙ g .scores n l;

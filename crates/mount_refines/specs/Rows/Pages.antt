@@ -154,14 +154,14 @@ module _ (nodes q : ℕ) where
   node-item : (s id : ℕ) (x : Node) → Fits s (whole id x) → (rows : List Row) →
       seenNode nodes q (image (page s (whole id x))) rows ≡ seenAt nodes id s Disk q rows
   unfolding seenNode wholeBytes numberAt part
-  node-item s id (node kind ps l) h rows =
-      let p : List ℕ = wholeBytes id (node kind ps l) in
-      let own : numberAt 2 (wholeBytes id (node kind ps l)) 0 ≡ id = number-bigEndian 2 id (h .content .id) in
+  node-item s id (node shape ps l) h rows =
+      let p : List ℕ = wholeBytes id (node shape ps l) in
+      let own : numberAt 2 (wholeBytes id (node shape ps l)) 0 ≡ id = number-bigEndian 2 id (h .content .id) in
       rw (
-        payload-read s id kind ps l h,
-        le-ltb (length (wholeBytes id (node kind ps l))) 7 (omega (arith, length-wholeBytes id kind ps l)),
+        payload-read s id shape ps l h,
+        le-ltb (length (wholeBytes id (node shape ps l))) 7 (omega (arith, length-wholeBytes id shape ps l)),
         own,
-        sequence-read (page s (whole id (node kind ps l))) h,
+        sequence-read (page s (whole id (node shape ps l))) h,
       )
       refl
 

@@ -27,11 +27,11 @@ returns c = let a = c .before .before .before .before .before .before .before .b
 mark-requires : tie.Need-mark-requires
 mark-requires c κs = search needs
 
-mul-are-apart : tie.Need-mul-are-apart
-mul-are-apart c = search needs
+mul-versions-are-new : tie.Need-mul-versions-are-new
+mul-versions-are-new c = search needs
 
-are-apart-requires : tie.Need-are-apart-requires
-are-apart-requires c κs = let a = c .before .before .before .before .before .before .before .before .before .before .before .before .before .before .args in
+versions-are-new-requires : tie.Need-versions-are-new-requires
+versions-are-new-requires c κs = let a = c .before .before .before .before .before .before .before .before .before .before .before .before .before .before .args in
     let m = c .before .before .before .mark in (
       omega (arith, c .before .before .before .before .before .before .before .before .before .before .before .before .before .before .pre .whole),
       ascending-marked (a .table .now) (c .before .before .before .before .before .before .before .before .before .before .sort .last .0) (a .n) (a .blocks) (c .before .before .before .before .before .before .before .before .before .before .sort .ensures) (m .last .0) (m .ensures),
@@ -44,7 +44,7 @@ same-length-2 c = search needs
 returns-2 : tie.Need-returns-2
 returns-2 c = let a = c .before .before .before .before .before .before .before .before .before .before .before .before .before .before .before .args in
     let m = c .before .before .before .before .mark in
-    c .are-apart .ensures ∙
+    c .versions-are-new .ensures ∙
     numbers-apart (a .table .now) (c .before .before .before .before .before .before .before .before .before .before .before .sort .last .0) (a .n) (a .blocks) (c .before .before .before .before .before .before .before .before .before .before .before .sort .ensures) (m .last .0) (m .ensures) (pagesOf (a .pool .now))
     (sym (c .before .before .before .before .before .before .before .is-strict .ensures) ∙ c .before .before .before .before .before .before .if1 .taken)
 
@@ -58,7 +58,7 @@ numbers-pass-spec =
     same-length
     returns
     mark-requires
-    mul-are-apart
-    are-apart-requires
+    mul-versions-are-new
+    versions-are-new-requires
     same-length-2
     returns-2)

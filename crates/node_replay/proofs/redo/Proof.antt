@@ -12,8 +12,8 @@ redo-put-requires c κs = search needs
 enum-known-change-2 : tie.Need-enum-known-change-2
 enum-known-change-2 c = search needs
 
-redo-remove-requires : tie.Need-redo-remove-requires
-redo-remove-requires c κs = search needs
+redo-delete-requires : tie.Need-redo-delete-requires
+redo-delete-requires c κs = search needs
 
 enum-known-change-3 : tie.Need-enum-known-change-3
 enum-known-change-3 c = search needs
@@ -25,7 +25,7 @@ returns : tie.Need-returns
 returns c = rw (c .before .before .change .given .1) (c .redo-put .ensures)
 
 returns-2 : tie.Need-returns-2
-returns-2 c = rw (c .before .before .change2 .given .1) (c .redo-remove .ensures)
+returns-2 c = rw (c .before .before .change2 .given .1) (c .redo-delete .ensures)
 
 returns-3 : tie.Need-returns-3
 returns-3 c = rw (c .before .before .change3 .given .1) (c .redo-link .ensures)
@@ -37,7 +37,7 @@ redo-spec =
     enum-known-change
     redo-put-requires
     enum-known-change-2
-    redo-remove-requires
+    redo-delete-requires
     enum-known-change-3
     redo-link-requires
     returns

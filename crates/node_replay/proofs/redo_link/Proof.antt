@@ -17,13 +17,13 @@ returns : tie.Need-returns
 returns c =
     let a = c .before .before .before .before .args in
     let state : a .d .state ≡ Unlinked = c .before .enum-told .given .1 in
-    rw state (redone-first (a .d .node) (c .linked .result) (a .kind) (a .to) (c .linked .ensures))
+    rw state (redone-first (a .d .node) (c .linked .result) (a .shape) (a .to) (c .linked .ensures))
 
 enum-told-2 : tie.Need-enum-told-2
 enum-told-2 c = search needs
 
-same-kind-requires : tie.Need-same-kind-requires
-same-kind-requires c κs = search needs
+same-shape-requires : tie.Need-same-shape-requires
+same-shape-requires c κs = search needs
 
 relinked-requires : tie.Need-relinked-requires
 relinked-requires c κs = search needs
@@ -33,8 +33,8 @@ returns-2 c =
     let a = c .before .before .before .before .before .before .args in
     let state : a .d .state ≡ Made = c .before .before .before .enum-told2 .given .1 in
     rw state
-    (redone-again (a .d .node) (c .relinked .result) (a .kind) (a .to) (c .relinked .ensures)
-    (sym (c .before .before .same-kind .ensures) ∙ c .before .if1 .taken))
+    (redone-again (a .d .node) (c .relinked .result) (a .shape) (a .to) (c .relinked .ensures)
+    (sym (c .before .before .same-shape .ensures) ∙ c .before .if1 .taken))
 
 broken-requires : tie.Need-broken-requires
 broken-requires c κs = search needs
@@ -45,7 +45,7 @@ returns-3 c =
     let a = entry .args in
     let state : a .d .state ≡ Made = c .before .before .before .enum-told2 .given .1 in
     rw (c .broken .ensures, state)
-    (redone-other (a .d .node) (a .d .node) (a .kind) (a .to) (entry .pre) (sym (c .before .before .same-kind .ensures) ∙ c .before .if1 .left))
+    (redone-other (a .d .node) (a .d .node) (a .shape) (a .to) (entry .pre) (sym (c .before .before .same-shape .ensures) ∙ c .before .if1 .left))
 
 enum-told-3 : tie.Need-enum-told-3
 enum-told-3 c = search needs
@@ -66,7 +66,7 @@ redo-link-spec =
     linked-requires
     returns
     enum-told-2
-    same-kind-requires
+    same-shape-requires
     relinked-requires
     returns-2
     broken-requires

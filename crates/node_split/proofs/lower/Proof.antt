@@ -8,13 +8,13 @@ use Rattle.node_split.specs.Split.{splits-at, becomes-lower}
 use Rattle.node_split.proofs.lower.Statement.{statement}
 use Rattle.node_split.proofs.lower.Tie as tie
 
-part-requires : tie.Need-part-requires
-part-requires c κs =
+values-from-requires : tie.Need-values-from-requires
+values-from-requires c κs =
     let entry = c .before .before in
     (splits-at (entry .args .v) (entry .args .at) (entry .args .key) (entry .pre), omega arith, omega arith)
 
-part-requires-2 : tie.Need-part-requires-2
-part-requires-2 c κs =
+values-from-requires-2 : tie.Need-values-from-requires-2
+values-from-requires-2 c κs =
     let entry = c .before .before .before in
     (splits-at (entry .args .v) (entry .args .at) (entry .args .key) (entry .pre), omega arith, omega arith)
 
@@ -30,17 +30,17 @@ returns : tie.Need-returns
 returns c =
     let entry = c .before .before .before .before .before .before in
     let a = entry .args in
-    let keys = c .before .before .before .part in
-    let pointers = c .before .before .part2 in
+    let keys = c .before .before .before .values-from in
+    let pointers = c .before .before .values-from2 in
     becomes-lower (a .v) (a .at) (a .key) (a .pointer) (entry .pre) (a .upper) (c .lower-link .result) (keys .result) (pointers .result)
     (search needs)
     (keys .ensures .0)
     (pointers .ensures .0)
     (keys .ensures .1)
     (pointers .ensures .1)
-    (c .lower-link .ensures ∙ ap (λ (x : ℕ). lowerLink (a .v .kind) (a .upper) x) (c .before .value-at .ensures))
+    (c .lower-link .ensures ∙ ap (λ (x : ℕ). lowerLink (a .v .shape) (a .upper) x) (c .before .value-at .ensures))
 
 pub lower-spec : {M : Type 1} → statement M
 lower-spec =
     tie.close
-    (tie.spec part-requires part-requires-2 value-at-requires lower-link-requires returns)
+    (tie.spec values-from-requires values-from-requires-2 value-at-requires lower-link-requires returns)

@@ -11,13 +11,13 @@ upper-from-requires c κs = search needs
 sub-count : tie.Need-sub-count
 sub-count c = search needs
 
-part-requires : tie.Need-part-requires
-part-requires c κs =
+values-from-requires : tie.Need-values-from-requires
+values-from-requires c κs =
     let entry = c .before .before .before in
     (splits-at (entry .args .v) (entry .args .at) (entry .args .key) (entry .pre), omega (arith, c .upper-from .ensures), omega (arith, c .upper-from .ensures))
 
-part-requires-2 : tie.Need-part-requires-2
-part-requires-2 c κs =
+values-from-requires-2 : tie.Need-values-from-requires-2
+values-from-requires-2 c κs =
     let entry = c .before .before .before .before in
     (splits-at (entry .args .v) (entry .args .at) (entry .args .key) (entry .pre), omega (arith, c .before .upper-from .ensures), omega (arith, c .before .upper-from .ensures))
 
@@ -26,8 +26,8 @@ returns c =
     let entry = c .before .before .before .before .before in
     let a = entry .args in
     let from = c .before .before .upper-from in
-    let keys = c .before .part in
-    let pointers = c .part2 in
+    let keys = c .before .values-from in
+    let pointers = c .values-from2 in
     becomes-upper (a .v) (a .at) (a .key) (a .pointer) (entry .pre) (from .result) _ (keys .result) (pointers .result)
     (search needs)
     (from .ensures .0)
@@ -40,4 +40,4 @@ returns c =
 
 pub upper-spec : {M : Type 1} → statement M
 upper-spec =
-    tie.close (tie.spec upper-from-requires sub-count part-requires part-requires-2 returns)
+    tie.close (tie.spec upper-from-requires sub-count values-from-requires values-from-requires-2 returns)

@@ -2,7 +2,7 @@
 use mathlib.Core.Path.{_∙_}
 use borrow.Author.Needs.{needs}
 use Rattle.page_write.specs.Laid.{summed-blank}
-use Rattle.page_checkpoint.specs.Checkpoint.{checkpointPage}
+use Rattle.page_checkpoint.specs.Checkpoint.{recordsPage}
 use Rattle.page_write.specs.Pages.{bodyOf, image-sealed}
 use Rattle.page_checkpoint.proofs.checkpoint_image.Statement.{statement}
 use Rattle.page_checkpoint.proofs.checkpoint_image.Tie as tie
@@ -15,7 +15,7 @@ lay-checkpoint-requires c κs = search needs
 
 returns : tie.Need-returns
 returns c = let a = c .before .before .before .before .args in
-    let p = checkpointPage (a .sequence) (a .first) (a .tariff) (a .n) (a .records .now) (a .last) (a .count) in
+    let p = recordsPage (a .sequence) (a .first) (a .tariff) (a .n) (a .records .now) (a .last) (a .count) in
     c .before .lay-checkpoint .ensures ∙ summed-blank 512 (bodyOf p) ∙ image-sealed p
 
 pub checkpoint-image-spec : {M : Type 1} → statement M

@@ -1,4 +1,4 @@
--- A COMMAND'S NODE REQUESTS, served by the code one after another, agree with the model's command; and the ways down that the code walks
+-- A COMMAND'S NODE REQUESTS, served by the code one after another, agree with the model's command; and the paths down that the code walks
 -- are the model's. Assumes nothing.
 use mathlib.Core.Path.{_≡_, refl, ap, _∙_}
 use mathlib.Core.Bool.{true}
@@ -49,8 +49,8 @@ module _ {blocks : ℕ} {w : World} {s : State} (k : Runs blocks w s) (ps : List
   is-sound = spells-sound limit (bookOf s .count) (bookOf s .table) ps (h .spells) (h .most)
 
   -- THE WAY DOWN that the code walks is the model's.
-  pub way-is : (key : ℕ) → path mostSteps (tableOf (w .pages) (w .rows) (w .state)) key 0 ≡ path (bookOf s .count) (bookOf s .table) key 0
-  way-is key =
+  pub path-is : (key : ℕ) → path mostSteps (tableOf (w .pages) (w .rows) (w .state)) key 0 ≡ path (bookOf s .count) (bookOf s .table) key 0
+  path-is key =
       ap (λ table. path mostSteps table key 0) (table-agrees k) ∙
       path-any limit (bookOf s .count) (bookOf s .table) is-sound (omega (arith, k .few)) key mostSteps (omega arith)
 

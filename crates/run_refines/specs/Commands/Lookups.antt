@@ -10,7 +10,7 @@ use lib.Dec.{ltb}
 use Rattle.layout.specs.Layout.{nodeLimit}
 use Rattle.pairs.specs.Pairs.{Pair, lookup}
 use Rattle.account.specs.declared.Tariff.{Tariff}
-use Rattle.command.specs.declared.Answer.the-variants.{Got, Removed}
+use Rattle.command.specs.declared.Answer.the-variants.{Got, Deleted}
 use Rattle.command.specs.declared.Command.{Command}
 use Rattle.command.specs.declared.Command.the-variants.{Get, Delete, Scan}
 use Rattle.command.specs.Answer.{valueOr}
@@ -18,7 +18,7 @@ use Rattle.node.specs.Node.{pairsOf}
 use Rattle.tree.specs.Table.{Table, path, leafFor}
 use Rattle.tree.specs.NodeRequest.{NodeRequest, read}
 use Rattle.tree.specs.Get.{getAnswer}
-use Rattle.tree.specs.Delete.{removalFor, deleteRequests}
+use Rattle.tree.specs.Delete.{deletionFor, deleteRequests}
 use Rattle.tree.specs.Scan.{leavesAfter, pairsFrom, scanRequests, scanAnswer}
 use Rattle.book.specs.Command.{short, listed, requests, answer}
 use Rattle.store_laws.specs.Numbers.{last}
@@ -28,14 +28,14 @@ use Rattle.demands.specs.Says.{bookOf-count}
 use Rattle.demands.specs.Run.{Holds}
 use Rattle.demands.specs.BatchFits.{mostNumbers}
 use Rattle.flash_allocate.specs.World.{World}
-use Rattle.run_path.specs.Path.{tableIn, wayTo, leafAt}
+use Rattle.run_path.specs.Path.{tableIn, pathTo, leafAt}
 use Rattle.run_path.specs.Reads.{readAll, readCharges}
 use Rattle.run_lookup.specs.Value.{valueIn}
-use Rattle.run_lookup.specs.Delete.{removal, removalCharge, delete, deleteCharge}
+use Rattle.run_lookup.specs.Delete.{deletion, deletionCharge, delete, deleteCharge}
 use Rattle.run_scan.specs.Scan.{scanReads, scanPairs}
 use Rattle.run_refines.specs.Commands.Lists.{servedAll, chargedAll, servedAll-append, chargedAll-append, Runs, Ran}
 use Rattle.run_refines.specs.Commands.Tables.{table-agrees}
-use Rattle.run_refines.specs.Commands.Commands.{reads-served, reads-charged, way-is, leaf-is}
+use Rattle.run_refines.specs.Commands.Commands.{reads-served, reads-charged, path-is, leaf-is}
 
 -- What a command leaves agrees: the run goes on, and the charge is the model's.
 pub record Agreed (blocks : ℕ) (t : Tariff) (c : Command) (s : State) (w′ : World) (paid : ℕ) : Type 0 where
@@ -71,56 +71,56 @@ module _ {blocks : ℕ} {w : World} {s : State} (k : Runs blocks w s) (ps : List
       ap₂ (λ (T : Table) (leaf : ℕ). lookup key (pairsOf (T leaf))) (table-agrees k) (leaf-is k ps h key)
 
   -- GET
-  pub get-world : (t : Tariff) (key : ℕ) → readAll t (wayTo key w) w ≡ servedAll t (requests limit (Get key) (bookOf s)) w
+  pub get-world : (t : Tariff) (key : ℕ) → readAll t (pathTo key w) w ≡ servedAll t (requests limit (Get key) (bookOf s)) w
   unfolding requests
-  get-world t key = ap (λ (ns : List ℕ). readAll t ns w) (way-is k ps h key) ∙ reads-served t (path count table key 0) w
+  get-world t key = ap (λ (ns : List ℕ). readAll t ns w) (path-is k ps h key) ∙ reads-served t (path count table key 0) w
 
-  pub get-charge : (t : Tariff) (key : ℕ) → readCharges t (wayTo key w) w ≡ chargedAll t (requests limit (Get key) (bookOf s)) w
+  pub get-charge : (t : Tariff) (key : ℕ) → readCharges t (pathTo key w) w ≡ chargedAll t (requests limit (Get key) (bookOf s)) w
   unfolding requests
-  get-charge t key = ap (λ (ns : List ℕ). readCharges t ns w) (way-is k ps h key) ∙ reads-charged t (path count table key 0) w
+  get-charge t key = ap (λ (ns : List ℕ). readCharges t ns w) (path-is k ps h key) ∙ reads-charged t (path count table key 0) w
 
   pub get-answer : (key : ℕ) → answer limit (Get key) (bookOf s) ≡ short (valueOr Got (valueIn key w))
   unfolding answer
   get-answer key = ap (λ (o : Option ℕ). short (valueOr Got o)) (sym (value-is key))
 
   -- DELETE
-  removal-served : (t : Tariff) (o : Option ℕ) (leaf key : ℕ) (z : World) → removal t o leaf key z ≡ servedAll t (removalFor o leaf key) z
-  removal-served t none leaf key z = refl
-  removal-served t (some old) leaf key z = refl
+  deletion-served : (t : Tariff) (o : Option ℕ) (leaf key : ℕ) (z : World) → deletion t o leaf key z ≡ servedAll t (deletionFor o leaf key) z
+  deletion-served t none leaf key z = refl
+  deletion-served t (some old) leaf key z = refl
 
-  removal-charged : (t : Tariff) (o : Option ℕ) (leaf key : ℕ) (z : World) → removalCharge t o leaf key z ≡ chargedAll t (removalFor o leaf key) z
-  removal-charged t none leaf key z = refl
-  removal-charged t (some old) leaf key z = omega arith
+  deletion-charged : (t : Tariff) (o : Option ℕ) (leaf key : ℕ) (z : World) → deletionCharge t o leaf key z ≡ chargedAll t (deletionFor o leaf key) z
+  deletion-charged t none leaf key z = refl
+  deletion-charged t (some old) leaf key z = omega arith
 
-  abbrev removals : ℕ → List NodeRequest
-  removals key = removalFor (getAnswer count table key) (leafFor count table key 0) key
+  abbrev deletions : ℕ → List NodeRequest
+  deletions key = deletionFor (getAnswer count table key) (leafFor count table key 0) key
 
-  removed-as : (t : Tariff) (key : ℕ) (z : World) → removal t (valueIn key w) (leafAt key w) key z ≡ servedAll t (removals key) z
+  removed-as : (t : Tariff) (key : ℕ) (z : World) → deletion t (valueIn key w) (leafAt key w) key z ≡ servedAll t (deletions key) z
   removed-as t key z =
-      ap₂ (λ (o : Option ℕ) (leaf : ℕ). removal t o leaf key z) (value-is key) (leaf-is k ps h key) ∙
-      removal-served t (getAnswer count table key) (leafFor count table key 0) key z
+      ap₂ (λ (o : Option ℕ) (leaf : ℕ). deletion t o leaf key z) (value-is key) (leaf-is k ps h key) ∙
+      deletion-served t (getAnswer count table key) (leafFor count table key 0) key z
 
-  removed-charge : (t : Tariff) (key : ℕ) (z : World) → removalCharge t (valueIn key w) (leafAt key w) key z ≡ chargedAll t (removals key) z
+  removed-charge : (t : Tariff) (key : ℕ) (z : World) → deletionCharge t (valueIn key w) (leafAt key w) key z ≡ chargedAll t (deletions key) z
   removed-charge t key z =
-      ap₂ (λ (o : Option ℕ) (leaf : ℕ). removalCharge t o leaf key z) (value-is key) (leaf-is k ps h key) ∙
-      removal-charged t (getAnswer count table key) (leafFor count table key 0) key z
+      ap₂ (λ (o : Option ℕ) (leaf : ℕ). deletionCharge t o leaf key z) (value-is key) (leaf-is k ps h key) ∙
+      deletion-charged t (getAnswer count table key) (leafFor count table key 0) key z
 
   pub delete-world : (t : Tariff) (key : ℕ) → delete t key w ≡ servedAll t (requests limit (Delete key) (bookOf s)) w
   unfolding delete requests deleteRequests
   delete-world t key =
-      removed-as t key (readAll t (wayTo key w) w) ∙
-      ap (servedAll t (removals key)) (get-world t key) ∙
-      sym (servedAll-append t (map read (path count table key 0)) (removals key) w)
+      removed-as t key (readAll t (pathTo key w) w) ∙
+      ap (servedAll t (deletions key)) (get-world t key) ∙
+      sym (servedAll-append t (map read (path count table key 0)) (deletions key) w)
 
   pub delete-charge : (t : Tariff) (key : ℕ) → deleteCharge t key w ≡ chargedAll t (requests limit (Delete key) (bookOf s)) w
   unfolding deleteCharge requests deleteRequests
   delete-charge t key =
-      ap₂ _+_ (get-charge t key) (removed-charge t key (readAll t (wayTo key w) w) ∙ ap (chargedAll t (removals key)) (get-world t key)) ∙
-      sym (chargedAll-append t (map read (path count table key 0)) (removals key) w)
+      ap₂ _+_ (get-charge t key) (removed-charge t key (readAll t (pathTo key w) w) ∙ ap (chargedAll t (deletions key)) (get-world t key)) ∙
+      sym (chargedAll-append t (map read (path count table key 0)) (deletions key) w)
 
-  pub delete-answer : (key : ℕ) → answer limit (Delete key) (bookOf s) ≡ short (valueOr Removed (valueIn key w))
+  pub delete-answer : (key : ℕ) → answer limit (Delete key) (bookOf s) ≡ short (valueOr Deleted (valueIn key w))
   unfolding answer
-  delete-answer key = ap (λ (o : Option ℕ). short (valueOr Removed o)) (sym (value-is key))
+  delete-answer key = ap (λ (o : Option ℕ). short (valueOr Deleted o)) (sym (value-is key))
 
   -- SCAN
   count-is : w .state .nodes ≡ count
@@ -144,11 +144,11 @@ module _ {blocks : ℕ} {w : World} {s : State} (k : Runs blocks w s) (ps : List
   unfolding scanReads
   reads-are low high most = go (ltb high low)
     where
-      found : wayTo low w ++ leavesAfter (w .state .nodes) (tableIn w) low high most (leafAt low w) ≡ visited low high most
-      found = ap₂ {B = List ℕ} _++_ (way-is k ps h low) (leaves-are low high most)
+      found : pathTo low w ++ leavesAfter (w .state .nodes) (tableIn w) low high most (leafAt low w) ≡ visited low high most
+      found = ap₂ {B = List ℕ} _++_ (path-is k ps h low) (leaves-are low high most)
 
       go : (t : Bool) →
-          elim t [ true ↦ [] | false ↦ wayTo low w ++ leavesAfter (w .state .nodes) (tableIn w) low high most (leafAt low w) ] ≡
+          elim t [ true ↦ [] | false ↦ pathTo low w ++ leavesAfter (w .state .nodes) (tableIn w) low high most (leafAt low w) ] ≡
           unlessCrossed t (visited low high most)
       go true = refl
       go false = found

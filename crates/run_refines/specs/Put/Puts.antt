@@ -50,17 +50,17 @@ use Rattle.run_split.specs.declared.fit.Fitting.{Fitting}
 use Rattle.run_split.specs.declared.fit.Fitting.the-variants.{Room, Full}
 use Rattle.run_split.specs.declared.Pending.the-variants.{Nothing}
 use Rattle.run_split.specs.Fit.{byFit, fitOf, full-above}
-use Rattle.run_split.specs.Taking.{Taking, taking}
-use Rattle.run_split.specs.Climb.{climb}
-use Rattle.run_put.specs.Put.{editLeaf, splitWay, Doing, doing, answering, refused, putNew, tableAt, putIn, put}
+use Rattle.run_split.specs.Absorbing.{Absorbing, absorbing}
+use Rattle.run_split.specs.SplitUpwards.{splitUpwards}
+use Rattle.run_put.specs.Put.{readAndEdit, readAndSplit, Doing, doing, answering, refused, putSplitting, tableAt, putIn, put}
 use Rattle.run_refines.specs.Commands.Lists.{servedAll, chargedAll, servedAll-append, chargedAll-append, Runs}
 use Rattle.run_refines.specs.Commands.Commands.{reads-served, reads-charged}
 use Rattle.run_refines.specs.Put.Lists.{Suits, served-together}
 use Rattle.run_refines.specs.Put.Moments.{nodes-are, blocks-are, table-is, Moment, moment}
 use Rattle.run_refines.specs.Put.Sizes.{room-size, pairs-put}
-use Rattle.run_refines.specs.Put.Way.{way-found, path-head}
+use Rattle.run_refines.specs.Put.Paths.{path-found, path-head}
 use Rattle.run_refines.specs.Put.Splits.{Course, fits-behind, countAfterAll-append}
-use Rattle.run_refines.specs.Put.Climbs.{climb-is}
+use Rattle.run_refines.specs.Put.SplitsUpwards.{splitUpwards-is}
 
 -- What the code's put leaves, as the model has it.
 pub record PutAgrees (B : ℕ) (t : Tariff) (key value : ℕ) (s : State) (w : World) (rs : List NodeRequest) : Type 0 where
@@ -83,14 +83,14 @@ module _ (t : Tariff) {B : ℕ} (s : State) (w : World) (a : Runs B w s) (pairs 
   abbrev rs : List NodeRequest
   rs = putRequests limit count table key value
 
-  abbrev way : List ℕ
-  way = path count table key 0
+  abbrev onPath : List ℕ
+  onPath = path count table key 0
 
   abbrev leaf : ℕ
   leaf = leafFor count table key 0
 
   abbrev work-list : List NodeRequest
-  work-list = finish table (work table key (Change.put key value) count way)
+  work-list = finish table (work table key (Change.put key value) count onPath)
 
   within : count ≤ limit
   within = omega (arith, bookOf-count s, a .sound .good .invariant .nodes)
@@ -101,29 +101,29 @@ module _ (t : Tariff) {B : ℕ} (s : State) (w : World) (a : Runs B w s) (pairs 
   sound-here : sound mostNodes count table ≡ true
   sound-here = spells-sound mostNodes count table pairs spells few
 
-  way-is : path mostSteps table key 0 ≡ way
-  way-is = path-any mostNodes count table sound-here (omega arith) key mostSteps (omega arith)
+  path-is : path mostSteps table key 0 ≡ onPath
+  path-is = path-any mostNodes count table sound-here (omega arith) key mostSteps (omega arith)
 
   leaf-is : leafFor mostSteps table key 0 ≡ leaf
   leaf-is = leafFor-any mostNodes count table sound-here (omega arith) key mostSteps (omega arith)
 
-  -- The put on this table, its way and its leaf, by whether the pair fits.
+  -- The put on this table, its path and its leaf, by whether the pair fits.
   put-by : (f : Fitting) → fitOf key (pairsOf (table leaf)) ≡ f →
       put t key value w ≡
-      byFit f (answering (valueOr Replaced (getAnswer count table key)) (editLeaf t way leaf key value w)) (putNew t way (idsNeeded table way) key value w)
+      byFit f (answering (valueOr Replaced (getAnswer count table key)) (readAndEdit t onPath leaf key value w)) (putSplitting t onPath (idsNeeded table onPath) key value w)
   unfolding putIn getAnswer
   put-by f e =
       ap (λ (z : Table). putIn z t key value w) (table-is a) ∙
       ap₂
       (λ (ids : List ℕ) (i : ℕ).
       byFit (fitOf key (pairsOf (table i)))
-      (answering (valueOr Replaced (lookup key (pairsOf (table i)))) (editLeaf t ids i key value w))
-      (putNew t ids (idsNeeded table ids) key value w))
-      way-is leaf-is ∙
+      (answering (valueOr Replaced (lookup key (pairsOf (table i)))) (readAndEdit t ids i key value w))
+      (putSplitting t ids (idsNeeded table ids) key value w))
+      path-is leaf-is ∙
       ap
       (λ (z : Fitting).
-      byFit z (answering (valueOr Replaced (lookup key (pairsOf (table leaf)))) (editLeaf t way leaf key value w))
-      (putNew t way (idsNeeded table way) key value w))
+      byFit z (answering (valueOr Replaced (lookup key (pairsOf (table leaf)))) (readAndEdit t onPath leaf key value w))
+      (putSplitting t onPath (idsNeeded table onPath) key value w))
       e
 
   found : LeafOf (spells .depth) table (spells .tree) key 0 bound32 leaf
@@ -152,7 +152,7 @@ module _ (t : Tariff) {B : ℕ} (s : State) (w : World) (a : Runs B w s) (pairs 
   unfolding answer
   answer-accepted e = rw e refl
 
-  requests-are : putRefused limit count table key ≡ false → rs ≡ map read way ++ work-list
+  requests-are : putRefused limit count table key ≡ false → rs ≡ map read onPath ++ work-list
   requests-are e = put-accepted table count pairs spells key value small limit within e
 
   -- ONE EDIT
@@ -173,21 +173,21 @@ module _ (t : Tariff) {B : ℕ} (s : State) (w : World) (a : Runs B w s) (pairs 
         go true e = absurd (omega (arith, refused-past table count pairs spells key value small limit within e, single .1, within))
         go false e = refl
 
-    edit-is : editLeaf t way leaf key value w ≡ record { now = servedAll t rs w; charge = chargedAll t rs w }
-    unfolding editLeaf
+    edit-is : readAndEdit t onPath leaf key value w ≡ record { now = servedAll t rs w; charge = chargedAll t rs w }
+    unfolding readAndEdit
     edit-is =
-        let reads = map read way in
+        let reads = map read onPath in
         let one = edit leaf (Change.put key value) ∷ [] in
         let list : rs ≡ reads ++ one = requests-are accepted ∙ ap (λ (z : List NodeRequest). reads ++ z) (single .0) in
-        let now : serve t leaf (Store.edit (Change.put key value)) (readAll t way w) ≡ servedAll t rs w =
-        ap (serve t leaf (Store.edit (Change.put key value))) (reads-served t way w) ∙
+        let now : serve t leaf (Store.edit (Change.put key value)) (readAll t onPath w) ≡ servedAll t rs w =
+        ap (serve t leaf (Store.edit (Change.put key value))) (reads-served t onPath w) ∙
         sym (servedAll-append t reads one w) ∙
         ap (λ (z : List NodeRequest). servedAll t z w) (sym list) in
-        let paid : readCharges t way w + charge t leaf (Store.edit (Change.put key value)) (readAll t way w) ≡ chargedAll t rs w =
+        let paid : readCharges t onPath w + charge t leaf (Store.edit (Change.put key value)) (readAll t onPath w) ≡ chargedAll t rs w =
         omega (
           arith,
-          reads-charged t way w,
-          ap (charge t leaf (Store.edit (Change.put key value))) (reads-served t way w),
+          reads-charged t onPath w,
+          ap (charge t leaf (Store.edit (Change.put key value))) (reads-served t onPath w),
           chargedAll-append t reads one w,
           ap (λ (z : List NodeRequest). chargedAll t z w) list,
         ) in
@@ -207,20 +207,20 @@ module _ (t : Tariff) {B : ℕ} (s : State) (w : World) (a : Runs B w s) (pairs 
         lookup-absent key (found .bottom) (found .top) (pairsOf (table leaf)) (rw (found .content) (found .within))
         (above-absent key (pairsOf (table leaf)) at (full-above key (pairsOf (table leaf)) at full .0))
 
-    asked : (b : Bool) → ltb limit (count + idsNeeded table way) ≡ b → putRefused limit count table key ≡ b
+    asked : (b : Bool) → ltb limit (count + idsNeeded table onPath) ≡ b → putRefused limit count table key ≡ b
     unfolding putRefused
     asked b e = rw new-key e
 
-    new-by : (b : Bool) → ltb limit (count + idsNeeded table way) ≡ b →
-        put t key value w ≡ choose b (refused w) (answering Absent (splitWay t way key value w))
-    unfolding putNew
+    new-by : (b : Bool) → ltb limit (count + idsNeeded table onPath) ≡ b →
+        put t key value w ≡ choose b (refused w) (answering Absent (readAndSplit t onPath key value w))
+    unfolding putSplitting
     new-by b e =
         put-by (Full at) full ∙
-        ap (λ (z : Bool). choose z (refused w) (answering Absent (splitWay t way key value w)))
-        (ap₂ (λ (m n : ℕ). ltb (nodeLimit m) (n + idsNeeded table way)) (blocks-are a) (nodes-are a) ∙ e)
+        ap (λ (z : Bool). choose z (refused w) (answering Absent (readAndSplit t onPath key value w)))
+        (ap₂ (λ (m n : ℕ). ltb (nodeLimit m) (n + idsNeeded table onPath)) (blocks-are a) (nodes-are a) ∙ e)
 
     -- refused
-    put-refuses : ltb limit (count + idsNeeded table way) ≡ true → PutAgrees B t key value s w rs
+    put-refuses : ltb limit (count + idsNeeded table onPath) ≡ true → PutAgrees B t key value s w rs
     unfolding answer
     put-refuses e =
         let none-asked : rs ≡ [] = put-refused table count pairs spells key value small limit within (asked true e) in
@@ -231,18 +231,18 @@ module _ (t : Tariff) {B : ℕ} (s : State) (w : World) (a : Runs B w s) (pairs 
         (record { fits = refl; narrow = none; number = omega (arith, number) }))
 
     -- carried out
-    module _ (e : ltb limit (count + idsNeeded table way) ≡ false) where
+    module _ (e : ltb limit (count + idsNeeded table onPath) ≡ false) where
       accepted-new : putRefused limit count table key ≡ false
       accepted-new = asked false e
 
       abbrev reads : List NodeRequest
-      reads = map read way
+      reads = map read onPath
 
       suits-all : Suits B (reads ++ work-list) s (countAfterAll (reads ++ work-list) count)
       suits-all = subst (λ (z : List NodeRequest). Suits B z s (countAfterAll z count)) (requests-are accepted-new) (suits-accepted accepted-new)
 
-      read-here : readAll t way w ≡ servedAll t reads w
-      read-here = reads-served t way w
+      read-here : readAll t onPath w ≡ servedAll t reads w
+      read-here = reads-served t onPath w
 
       -- the requests behind the reads, on the world that the reads leave
       later : (xs more : List NodeRequest) → xs ++ more ≡ work-list → Moment B t table count (servedAll t reads w) xs
@@ -256,12 +256,12 @@ module _ (t : Tariff) {B : ℕ} (s : State) (w : World) (a : Runs B w s) (pairs 
                 ap tableAt (sym same) ∙
                 m .table ∙
                 applyAll-append reads xs table ∙
-                ap (applyAll xs) (applyAll-reads way table);
+                ap (applyAll xs) (applyAll-reads onPath table);
             nodes =
                 ap (λ (z : World). z .state .nodes) (sym same) ∙
                 m .nodes ∙
                 countAfterAll-append reads xs count ∙
-                ap (countAfterAll xs) (count-reads way count);
+                ap (countAfterAll xs) (count-reads onPath count);
             blocks = ap (λ (z : World). z .state .blocks) (sym same) ∙ m .blocks;
           }
 
@@ -270,36 +270,36 @@ module _ (t : Tariff) {B : ℕ} (s : State) (w : World) (a : Runs B w s) (pairs 
           record {
             final = countAfterAll (reads ++ work-list) count;
             fits =
-                subst (λ (z : Table). Fits limit work-list z count (countAfterAll (reads ++ work-list) count)) (applyAll-reads way table)
-                (subst (λ (z : ℕ). Fits limit work-list (applyAll reads table) z (countAfterAll (reads ++ work-list) count)) (count-reads way count)
+                subst (λ (z : Table). Fits limit work-list z count (countAfterAll (reads ++ work-list) count)) (applyAll-reads onPath table)
+                (subst (λ (z : ℕ). Fits limit work-list (applyAll reads table) z (countAfterAll (reads ++ work-list) count)) (count-reads onPath count)
                 (fits-behind limit reads work-list table count (countAfterAll (reads ++ work-list) count) (suits-all .fits)));
             moments = later;
             neat = λ i l. node-neat table count pairs spells i l;
           }
 
-      climbed : climb t key value way (servedAll t reads w) ≡
-          taking (servedAll t work-list (servedAll t reads w)) (chargedAll t work-list (servedAll t reads w)) Nothing
-      climbed =
+      splitUpwards-done : splitUpwards t key value onPath (servedAll t reads w) ≡
+          absorbing (servedAll t work-list (servedAll t reads w)) (chargedAll t work-list (servedAll t reads w)) Nothing
+      splitUpwards-done =
           let head = path-head count table key 0 in
-          ap (λ (ids : List ℕ). climb t key value ids (servedAll t reads w)) (head .1) ∙
-          climb-is course key value (head .0) (rw (head .1) at (way-found table count pairs spells key small))
+          ap (λ (ids : List ℕ). splitUpwards t key value ids (servedAll t reads w)) (head .1) ∙
+          splitUpwards-is course key value (head .0) (rw (head .1) at (path-found table count pairs spells key small))
           (rw (head .1) at (path-found table count pairs spells key small .0))
           (ap (λ (ids : List ℕ). finish table (work table key (Change.put key value) count ids)) (sym (head .1)))
 
-      split-is : splitWay t way key value w ≡ record { now = servedAll t rs w; charge = chargedAll t rs w }
-      unfolding splitWay
+      split-is : readAndSplit t onPath key value w ≡ record { now = servedAll t rs w; charge = chargedAll t rs w }
+      unfolding readAndSplit
       split-is =
           let list = requests-are accepted-new in
-          let whole : climb t key value way (readAll t way w) ≡
-          taking (servedAll t work-list (servedAll t reads w)) (chargedAll t work-list (servedAll t reads w)) Nothing =
-          ap (climb t key value way) read-here ∙ climbed in
-          let now : climb t key value way (readAll t way w) .now ≡ servedAll t rs w =
-          ap (λ (c : Taking). c .now) whole ∙ sym (servedAll-append t reads work-list w) ∙ ap (λ (z : List NodeRequest). servedAll t z w) (sym list) in
-          let paid : readCharges t way w + climb t key value way (readAll t way w) .charge ≡ chargedAll t rs w =
+          let whole : splitUpwards t key value onPath (readAll t onPath w) ≡
+          absorbing (servedAll t work-list (servedAll t reads w)) (chargedAll t work-list (servedAll t reads w)) Nothing =
+          ap (splitUpwards t key value onPath) read-here ∙ splitUpwards-done in
+          let now : splitUpwards t key value onPath (readAll t onPath w) .now ≡ servedAll t rs w =
+          ap (λ (c : Absorbing). c .now) whole ∙ sym (servedAll-append t reads work-list w) ∙ ap (λ (z : List NodeRequest). servedAll t z w) (sym list) in
+          let paid : readCharges t onPath w + splitUpwards t key value onPath (readAll t onPath w) .charge ≡ chargedAll t rs w =
           omega (
             arith,
-            reads-charged t way w,
-            ap (λ (c : Taking). c .charge) whole,
+            reads-charged t onPath w,
+            ap (λ (c : Absorbing). c .charge) whole,
             chargedAll-append t reads work-list w,
             ap (λ (z : List NodeRequest). chargedAll t z w) list,
           ) in
@@ -314,10 +314,10 @@ module _ (t : Tariff) {B : ℕ} (s : State) (w : World) (a : Runs B w s) (pairs 
   pub put-agrees : PutAgrees B t key value s w rs
   put-agrees = go (fitOf key (pairsOf (table leaf))) refl
     where
-      new : (at : ℕ) → fitOf key (pairsOf (table leaf)) ≡ Full at → (b : Bool) → ltb limit (count + idsNeeded table way) ≡ b → PutAgrees B t key value s w rs
+      new : (at : ℕ) → fitOf key (pairsOf (table leaf)) ≡ Full at → (b : Bool) → ltb limit (count + idsNeeded table onPath) ≡ b → PutAgrees B t key value s w rs
       new at f true e = put-refuses at f e
       new at f false e = put-splits at f e
 
       go : (f : Fitting) → fitOf key (pairsOf (table leaf)) ≡ f → PutAgrees B t key value s w rs
       go Room f = put-edits f
-      go (Full at) f = new at f (ltb limit (count + idsNeeded table way)) refl
+      go (Full at) f = new at f (ltb limit (count + idsNeeded table onPath)) refl

@@ -13,7 +13,7 @@ use Rattle.pairs.specs.Pairs.{Pair, lookup, insert, Within}
 use Rattle.pairs.specs.Clauses.{lookup-same, lookup-other, insert-before, insert-same, insert-behind}
 use Rattle.pairs.specs.Sizes.{length-insert}
 use Rattle.pairs.specs.Bounds.{within-insert}
-use Rattle.node.specs.declared.Kind.the-variants.{Branch}
+use Rattle.node.specs.declared.Shape.the-variants.{Branch}
 use Rattle.node.specs.Node.{Node, node, pairsOf}
 use Rattle.node.specs.Change.{put, change}
 use Rattle.node.specs.Splice.{length-insertAt}
@@ -80,7 +80,7 @@ module _ (key value : ℕ) (ps : List Pair) (low high : ℕ) (w : Within low hig
 
 -- The pairs after a put.
 pub pairs-put : (k v : ℕ) (n : Node) → pairsOf (change (put k v) n) ≡ insert k v (pairsOf n)
-pairs-put k v (node kind qs l) = refl
+pairs-put k v (node shape qs l) = refl
 
 -- A branch with both edits of a child's split: the pointer renamed first, as the code has it, or last, as the tree has it.
 module _ (at middle left right : ℕ) (ps : List Pair) (last : ℕ) (w : Within 0 bound32 ps) (size : length ps ≤ mostKeys) where

@@ -7,7 +7,7 @@ use native.Mathlib.Omega.{arith}
 use borrow.Author.Tests.{lt-ltb}
 use Rattle.layout.specs.Layout.{nodeLimit}
 use Rattle.account.specs.declared.Tariff.{Tariff}
-use Rattle.node.specs.declared.Kind.the-variants.{Branch}
+use Rattle.node.specs.declared.Shape.the-variants.{Branch}
 use Rattle.node.specs.Node.{Node, node, Neat}
 use Rattle.node.specs.Halves.{lowerHalf, middleKey, upperHalf}
 use Rattle.tree.specs.Table.{Table}
@@ -17,7 +17,7 @@ use Rattle.store.specs.Serve as Store
 use Rattle.flash_allocate.specs.World.{World}
 use Rattle.run_serve.specs.Serve.{serve, charge}
 use Rattle.run_split.specs.declared.Pending.the-variants.{Nothing, Halves}
-use Rattle.run_split.specs.Taking.{taking, taking-is}
+use Rattle.run_split.specs.Absorbing.{absorbing, absorbing-is}
 use Rattle.run_split.specs.Split.{grow, splitBelow, splitRoot}
 use Rattle.run_refines.specs.Commands.Lists.{servedAll, chargedAll, servedAll-append}
 use Rattle.run_refines.specs.Put.Moments.{Moment}
@@ -66,7 +66,7 @@ module _ {B : ℕ} {t : Tariff} {table : Table} {count : ℕ} {w : World} {all :
 
     -- A NODE BELOW THE ROOT
     pub below-is : (id : ℕ) → (rs ++ below id) ++ more ≡ all →
-        splitBelow t id whole here ≡ taking (servedAll t (rs ++ below id) w) (chargedAll t (below id) here) (Halves (middleKey whole) id n)
+        splitBelow t id whole here ≡ absorbing (servedAll t (rs ++ below id) w) (chargedAll t (below id) here) (Halves (middleKey whole) id n)
     unfolding splitBelow
     below-is id e =
         let lower = rewrite id (lowerHalf whole n) in
@@ -75,7 +75,7 @@ module _ {B : ℕ} {t : Tariff} {table : Table} {count : ℕ} {w : World} {all :
         let grown =
         grow-is (rs ++ (lower ∷ [])) more n (upperHalf whole)
         (append-assoc rs (lower ∷ []) (create n (upperHalf whole) ∷ more) ∙ sym (append-assoc rs (below id) more) ∙ e) in
-        taking-is
+        absorbing-is
         (ap (λ (j : ℕ). grow (upperHalf whole) (serve t id (Store.rewrite (lowerHalf whole j)) here)) nodes ∙
         ap (grow (upperHalf whole)) (sym (servedAll-append t rs (lower ∷ []) w)) ∙
         grown ∙
@@ -84,7 +84,7 @@ module _ {B : ℕ} {t : Tariff} {table : Table} {count : ℕ} {w : World} {all :
         (ap (λ (j : ℕ). Halves (middleKey whole) id j) nodes)
 
     -- THE ROOT
-    pub root-is : (rs ++ rooting) ++ more ≡ all → splitRoot t whole here ≡ taking (servedAll t (rs ++ rooting) w) (chargedAll t rooting here) Nothing
+    pub root-is : (rs ++ rooting) ++ more ≡ all → splitRoot t whole here ≡ absorbing (servedAll t (rs ++ rooting) w) (chargedAll t rooting here) Nothing
     unfolding splitRoot
     root-is e =
         let lower = create n (lowerHalf whole (suc n)) in
@@ -103,6 +103,6 @@ module _ {B : ℕ} {t : Tariff} {table : Table} {count : ℕ} {w : World} {all :
         servedAll-append t rs (lower ∷ upper ∷ []) w in
         let top : node Branch ((middleKey whole, here .state .nodes) ∷ []) (here .state .nodes + 1) ≡ crown =
         ap₂ (λ (i j : ℕ). node Branch ((middleKey whole, i) ∷ []) j) nodes right in
-        taking-is
+        absorbing-is
         (ap₂ (λ (x : Node) (z : World). serve t 0 (Store.rewrite x) z) top grown ∙ sym (servedAll-append t rs rooting w))
         (ap₂ (λ (x : Node) (z : World). charge t 0 (Store.rewrite x) z) top grown ∙ omega arith) refl

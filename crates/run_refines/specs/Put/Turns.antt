@@ -8,8 +8,8 @@ use lib.ListN.{length}
 use Rattle.layout.specs.Layout.{mostKeys}
 use Rattle.account.specs.declared.Tariff.{Tariff}
 use Rattle.pairs.specs.Pairs as Map
-use Rattle.node.specs.declared.Kind.the-variants.{Leaf, Branch}
-use Rattle.node.specs.Node.{Node, node, kindOf, pairsOf, Neat}
+use Rattle.node.specs.declared.Shape.the-variants.{Leaf, Branch}
+use Rattle.node.specs.Node.{Node, node, shapeOf, pairsOf, Neat}
 use Rattle.node.specs.Change.{Change, put, change}
 use Rattle.node.specs.Search.{childPlace}
 use Rattle.node.specs.Repoint.{repoint}
@@ -23,23 +23,23 @@ use Rattle.run_split.specs.declared.Pending.the-variants.{Nothing, Pair, Halves
 use Rattle.run_split.specs.declared.fit.Fitting.{Fitting}
 use Rattle.run_split.specs.declared.fit.Fitting.the-variants.{Room, Full}
 use Rattle.run_split.specs.Fit.{byFit, fitOf}
-use Rattle.run_split.specs.Taking.{taking, taking-is}
+use Rattle.run_split.specs.Absorbing.{absorbing, absorbing-is}
 use Rattle.run_split.specs.Split.{split}
-use Rattle.run_split.specs.Take.{nodeAt, takeEdit, takeEdits, takePair, renaming, takeHalvesIn, takeHalves, take}
+use Rattle.run_split.specs.Absorb.{nodeAt, absorbEdit, absorbEdits, absorbPair, renaming, absorbHalvesIn, absorbHalves, absorb}
 use Rattle.run_refines.specs.Commands.Lists.{servedAll, chargedAll}
 use Rattle.run_refines.specs.Put.Sizes.{full-size, room-size, pairs-put, halves-room, halves-full}
 
--- What a node has still to take, as the edits that the tree has it take.
+-- What a node has still to absorb, as the edits that the tree has it absorb.
 abbrev pub Waits : ℕ → Node → Pending → List Change → Type 0
 Waits k n Nothing edits = ⊥
 Waits k n (Pair key value) edits = edits ≡ put key value ∷ []
-Waits k n (Halves middle left right) edits = (edits ≡ parentEdits k n middle left right) × (kindOf n ≡ Branch)
+Waits k n (Halves middle left right) edits = (edits ≡ parentEdits k n middle left right) × (shapeOf n ≡ Branch)
 
 -- What a turn makes of it.
 pub record Turned (t : Tariff) (k : ℕ) (root : Bool) (id : ℕ) (n : Node) (p : Pending) (edits : List Change) (w : World) : Type 0 where
   pub fits : length (pairsOf (changeAll edits n)) ≤ mostKeys →
-      take t k root id p w ≡ taking (servedAll t (map (edit id) edits) w) (chargedAll t (map (edit id) edits) w) Nothing
-  pub over : mostKeys < length (pairsOf (changeAll edits n)) → take t k root id p w ≡ split t root id (changeAll edits n) w
+      absorb t k root id p w ≡ absorbing (servedAll t (map (edit id) edits) w) (chargedAll t (map (edit id) edits) w) Nothing
+  pub over : mostKeys < length (pairsOf (changeAll edits n)) → absorb t k root id p w ≡ split t root id (changeAll edits n) w
 
 -- The second edit is the code's.
 renamed-is : (k right : ℕ) (ps : List Map.Pair) (last : ℕ) → renamed (slot k ps) ps right ≡ renaming k right (node Branch ps last)
@@ -48,21 +48,21 @@ renamed-is k right ps last = ap (λ (j : ℕ). renamed j ps right) (slot-place k
 
 module _ (t : Tariff) (k : ℕ) (root : Bool) (id : ℕ) (w : World) where
   -- the edits as requests
-  one-request : (c : Change) → takeEdit t id c w ≡ taking (servedAll t (edit id c ∷ []) w) (chargedAll t (edit id c ∷ []) w) Nothing
-  unfolding takeEdit
-  one-request c = taking-is refl (omega arith) refl
+  one-request : (c : Change) → absorbEdit t id c w ≡ absorbing (servedAll t (edit id c ∷ []) w) (chargedAll t (edit id c ∷ []) w) Nothing
+  unfolding absorbEdit
+  one-request c = absorbing-is refl (omega arith) refl
 
-  two-requests : (c d : Change) → takeEdits t id c d w ≡ taking (servedAll t (edit id c ∷ edit id d ∷ []) w) (chargedAll t (edit id c ∷ edit id d ∷ []) w) Nothing
-  unfolding takeEdits
-  two-requests c d = taking-is refl (omega arith) refl
+  two-requests : (c d : Change) → absorbEdits t id c d w ≡ absorbing (servedAll t (edit id c ∷ edit id d ∷ []) w) (chargedAll t (edit id c ∷ edit id d ∷ []) w) Nothing
+  unfolding absorbEdits
+  two-requests c d = absorbing-is refl (omega arith) refl
 
   -- a leaf's pair
   module _ (n : Node) (neat : Neat n) (e : nodeAt id w ≡ n) (key value : ℕ) where
     pair-by : (f : Fitting) → fitOf key (pairsOf n) ≡ f →
-        takePair t root id key value w ≡ byFit f (takeEdit t id (put key value) w) (split t root id (change (put key value) n) w)
-    unfolding takePair
+        absorbPair t root id key value w ≡ byFit f (absorbEdit t id (put key value) w) (split t root id (change (put key value) n) w)
+    unfolding absorbPair
     pair-by f r =
-        ap₂ (λ (z : Fitting) (x : Node). byFit z (takeEdit t id (put key value) w) (split t root id (change (put key value) x) w))
+        ap₂ (λ (z : Fitting) (x : Node). byFit z (absorbEdit t id (put key value) w) (split t root id (change (put key value) x) w))
         (ap (λ (x : Node). fitOf key (pairsOf x)) e ∙ r) e
 
     pair-turned : (f : Fitting) → fitOf key (pairsOf n) ≡ f → Turned t k root id n (Pair key value) (put key value ∷ []) w
@@ -89,11 +89,11 @@ module _ (t : Tariff) (k : ℕ) (root : Bool) (id : ℕ) (w : World) where
     code = change (put middle left) (change (renaming k right n) n)
 
     halves-by : (f : Fitting) → fitOf middle (pairsOf (change (renaming k right n) n)) ≡ f →
-        takeHalves t root id k middle left right w ≡ byFit f (takeEdits t id (put middle left) (renaming k right n) w) (split t root id code w)
-    unfolding takeHalves
+        absorbHalves t root id k middle left right w ≡ byFit f (absorbEdits t id (put middle left) (renaming k right n) w) (split t root id code w)
+    unfolding absorbHalves
     halves-by f r =
-        ap (λ (x : Node). takeHalvesIn x t root id k middle left right w) e ∙
-        ap (λ (z : Fitting). byFit z (takeEdits t id (put middle left) (renaming k right n) w) (split t root id code w)) r
+        ap (λ (x : Node). absorbHalvesIn x t root id k middle left right w) e ∙
+        ap (λ (z : Fitting). byFit z (absorbEdits t id (put middle left) (renaming k right n) w) (split t root id code w)) r
 
     halves-turned : (f : Fitting) → fitOf middle (pairsOf (change (renaming k right n) n)) ≡ f → Turned t k root id n (Halves middle left right) edits w
     halves-turned Room r =

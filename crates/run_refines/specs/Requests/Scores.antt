@@ -80,7 +80,7 @@ module _ {score : ℕ → ℕ} {w : World} {run : Run} (f : Follows score w run)
       record {
         table = length-rescored (w .rows) n new ∙ f .table;
         nodes = f .nodes;
-        noSheet = f .noSheet;
+        noCheckpointPage = f .noCheckpointPage;
         mirrors =
             record {
               pages = m .pages;

@@ -54,7 +54,7 @@ module _ {B : ℕ} {score : ℕ → ℕ} {w : World} {run : Run} (b : Writable B
 -- The state after a request is among those passed, which the relation does not see.
 pub note-follows : {score : ℕ → ℕ} {w : World} {run : Run} → Follows score w run → Follows score w (note run)
 note-follows f =
-    record { table = f .table; nodes = f .nodes; noSheet = f .noSheet; mirrors = f .mirrors; buffer = f .buffer; scores = f .scores }
+    record { table = f .table; nodes = f .nodes; noCheckpointPage = f .noCheckpointPage; mirrors = f .mirrors; buffer = f .buffer; scores = f .scores }
 
 module _ {B : ℕ} {score : ℕ → ℕ} {w : World} {run : Run} (b : Writable B run) (f : Follows score w run) (n : ℕ) (there : n < run .nodes) where
   inside : n < w .state .nodes

@@ -10,7 +10,7 @@ use Rattle.node.specs.Node.{Node, Neat}
 use Rattle.node.specs.Change.{changesOf}
 use Rattle.node.specs.Narrow.{Narrow}
 use Rattle.page.specs.Limits.{bound16}
-use Rattle.store.specs.Live.{noClosing}
+use Rattle.store.specs.Live.{noCheckpoint}
 use Rattle.store.specs.Write.{nodePage}
 use Rattle.store.specs.Run.{Run, write, writeGroup, writeNode}
 use Rattle.store_laws.specs.Contents.{neat-fits}
@@ -63,7 +63,7 @@ module _ {B : ℕ} {run : Run} (b : Writable B run) (n : ℕ) (there : n < run .
 
     page-fits : StoreFits (writeNode n x run .now)
     unfolding write nodePage
-    page-fits = nodePage-fits (b .fits) (omega arith) noClosing (run .nodes) n id x narrow (neat .size)
+    page-fits = nodePage-fits (b .fits) (omega arith) noCheckpoint (run .nodes) n id x narrow (neat .size)
 
     page-nodes : writeNode n x run .nodes ≡ run .nodes
     unfolding write

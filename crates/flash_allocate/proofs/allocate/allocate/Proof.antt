@@ -4,7 +4,7 @@ use native.Mathlib.Omega.{arith}
 use Rattle.flash_rows.specs.Row.{rowsOf}
 use Rattle.flash_blocks.specs.Pages.{pagesOf}
 use Rattle.flash_allocate.specs.World.{world}
-use Rattle.flash_allocate.proofs.Laws.{allocate-room, allocate-next, allocate-compact, good-at}
+use Rattle.flash_allocate.proofs.Laws.{allocate-room, allocate-next, allocate-compact, good-in-block}
 use borrow.Author.Needs.{needs}
 use Rattle.flash_allocate.proofs.allocate.allocate.Statement.{statement}
 use Rattle.flash_allocate.proofs.allocate.allocate.Tie as tie
@@ -19,8 +19,8 @@ next-blank-requires c κs = search needs
 count-blank-requires : tie.Need-count-blank-requires
 count-blank-requires c κs = search needs
 
-at-requires : tie.Need-at-requires
-at-requires c κs = search needs
+in-block-requires : tie.Need-in-block-requires
+in-block-requires c κs = search needs
 
 same-length : tie.Need-same-length
 same-length c = search needs
@@ -30,8 +30,8 @@ returns-2 c = let a = c .before .before .before .before .before .before .before 
     let n = c .before .before .before .before .next-blank in
     let b = c .before .before .count-blank in
     record {
-      is = allocate-next (pagesOf (a .pool .now)) (rowsOf (a .table .now)) (a .state) (n .result) (b .result) (c .before .before .before .before .before .before .if1 .left) (n .ensures .0) (b .ensures) (c .before .if2 .taken) (c .at .result) (c .at .ensures);
-      good = good-at (c .before .before .before .before .before .before .before .before .before .before .pre) refl refl (n .ensures .1) (omega arith) (c .at .ensures);
+      is = allocate-next (pagesOf (a .pool .now)) (rowsOf (a .table .now)) (a .state) (n .result) (b .result) (c .before .before .before .before .before .before .if1 .left) (n .ensures .0) (b .ensures) (c .before .if2 .taken) (c .in-block .result) (c .in-block .ensures);
+      good = good-in-block (c .before .before .before .before .before .before .before .before .before .before .pre) refl refl (n .ensures .1) (omega arith) (c .in-block .ensures);
     }
 
 add-compact : tie.Need-add-compact
@@ -40,8 +40,8 @@ add-compact c = search needs
 compact-requires : tie.Need-compact-requires
 compact-requires c κs = search needs
 
-at-requires-2 : tie.Need-at-requires-2
-at-requires-2 c κs = search needs
+in-block-requires-2 : tie.Need-in-block-requires-2
+in-block-requires-2 c κs = search needs
 
 same-length-2 : tie.Need-same-length-2
 same-length-2 c = search needs
@@ -55,8 +55,8 @@ returns-3 c = let a = c .before .before .before .before .before .before .before 
     let b = c .before .before .before .before .before .before .before .before .before .before .count-blank in
     let m = c .before .before .before .before .before .compact in
     record {
-      is = allocate-compact (pagesOf (a .pool .now)) (rowsOf (a .table .now)) (a .state) (n .result) (b .result) (c .before .before .before .before .before .before .before .before .before .before .before .before .before .before .if1 .left) (n .ensures .0) (b .ensures) (c .before .before .before .before .before .before .before .before .before .if2 .left) (pagesOf (m .last .0)) (rowsOf (m .last .1 .0)) (m .result) (m .ensures .0) (c .at2 .result) (c .at2 .ensures);
-      good = good-at (c .before .before .before .before .before .before .before .before .before .before .before .before .before .before .before .before .before .before .pre) (m .kept .0) (m .kept .1 .0) (n .ensures .1) (m .ensures .1) (c .at2 .ensures);
+      is = allocate-compact (pagesOf (a .pool .now)) (rowsOf (a .table .now)) (a .state) (n .result) (b .result) (c .before .before .before .before .before .before .before .before .before .before .before .before .before .before .if1 .left) (n .ensures .0) (b .ensures) (c .before .before .before .before .before .before .before .before .before .if2 .left) (pagesOf (m .last .0)) (rowsOf (m .last .1 .0)) (m .result) (m .ensures .0) (c .in-block2 .result) (c .in-block2 .ensures);
+      good = good-in-block (c .before .before .before .before .before .before .before .before .before .before .before .before .before .before .before .before .before .before .pre) (m .kept .0) (m .kept .1 .0) (n .ensures .1) (m .ensures .1) (c .in-block2 .ensures);
     }
 
 pub allocate-spec : {M : Type 1} → statement M
@@ -66,12 +66,12 @@ allocate-spec =
     returns
     next-blank-requires
     count-blank-requires
-    at-requires
+    in-block-requires
     same-length
     returns-2
     add-compact
     compact-requires
-    at-requires-2
+    in-block-requires-2
     same-length-2
     same-length-3
     returns-3)

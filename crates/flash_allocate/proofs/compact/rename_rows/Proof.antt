@@ -20,14 +20,14 @@ loop-holds : tie.Need-loop-holds Inv-loop μ-loop
 loop-holds c = let a = c .before .args in
     (omega arith, steps-begin (renameRow (a .base) (a .places .now)) (a .used) (rowsOf (a .table .now)))
 
-load-requires : tie.Need-load-requires Inv-loop μ-loop
-load-requires c κs = omega arith
+read-row-requires : tie.Need-read-row-requires Inv-loop μ-loop
+read-row-requires c κs = omega arith
 
 moved-requires : tie.Need-moved-requires Inv-loop μ-loop
 moved-requires c κs = search needs
 
-store-requires : tie.Need-store-requires Inv-loop μ-loop
-store-requires c κs = omega arith
+write-row-requires : tie.Need-write-row-requires Inv-loop μ-loop
+write-row-requires c κs = omega arith
 
 add-n : tie.Need-add-n Inv-loop μ-loop
 add-n c = omega arith
@@ -39,7 +39,7 @@ loop-again : tie.Need-loop-again Inv-loop μ-loop
 unfolding renameRow
 loop-again c = let l = c .before .before .before .before .before .before .before .before .loop in
     let a = c .before .before .before .before .before .before .before .before .before .before .args in
-    (omega arith, rw (c .before .before .store .ensures, c .before .before .before .moved .ensures, c .before .before .before .before .before .load .ensures) (steps-more (renameRow (a .base) (a .places .now)) (a .used) (l .n) (rowsOf (l .table)) (omega arith) ∙ l .inv .1))
+    (omega arith, rw (c .before .before .write-row .ensures, c .before .before .before .moved .ensures, c .before .before .before .before .before .read-row .ensures) (steps-more (renameRow (a .base) (a .places .now)) (a .used) (l .n) (rowsOf (l .table)) (omega arith) ∙ l .inv .1))
 
 same-length : tie.Need-same-length Inv-loop μ-loop
 same-length c = omega arith
@@ -57,9 +57,9 @@ rename-rows-spec =
     Inv-loop
     μ-loop
     loop-holds
-    load-requires
+    read-row-requires
     moved-requires
-    store-requires
+    write-row-requires
     add-n
     loop-less
     loop-again

@@ -23,14 +23,14 @@ add-read32 c = search needs
 read32-requires : tie.Need-read32-requires
 read32-requires c κs = search needs
 
-load-requires : tie.Need-load-requires
-load-requires c κs = search needs
+read-row-requires : tie.Need-read-row-requires
+read-row-requires c κs = search needs
 
 claim-requires : tie.Need-claim-requires
 claim-requires c κs = search needs
 
-settle-requires : tie.Need-settle-requires
-settle-requires c κs = search needs
+store-claim-requires : tie.Need-store-claim-requires
+store-claim-requires c κs = search needs
 
 same-length : tie.Need-same-length
 same-length c = search needs
@@ -39,9 +39,9 @@ returns : tie.Need-returns
 returns c = let a = c .before .before .before .before .before .before .before .before .before .before .before .before .before .args in
     let i = c .before .before .before .before .before .before .before .before .before .before .read16 in
     let v = c .before .before .before .before .before .before .before .before .read32 in
-    let l = c .before .before .before .before .before .load in
+    let l = c .before .before .before .before .before .read-row in
     let x = c .before .before .before .claim in
-    claim-in (a .buffer .now) (a .nodes) (a .page) (a .k) (rowsOf (a .table .now)) (rowsOf (c .before .before .settle .last .0)) (i .result) (v .result) (l .result) (x .result) (i .ensures .is) (v .ensures .is) (c .before .before .before .before .before .before .before .if1 .taken) (l .ensures) (x .ensures) (c .before .before .settle .ensures)
+    claim-in (a .buffer .now) (a .nodes) (a .page) (a .k) (rowsOf (a .table .now)) (rowsOf (c .before .before .store-claim .last .0)) (i .result) (v .result) (l .result) (x .result) (i .ensures .is) (v .ensures .is) (c .before .before .before .before .before .before .before .if1 .taken) (l .ensures) (x .ensures) (c .before .before .store-claim .ensures)
 
 returns-2 : tie.Need-returns-2
 returns-2 c = let a = c .before .before .before .before .before .before .args in
@@ -57,9 +57,9 @@ claim-entry-spec =
     mul-read32
     add-read32
     read32-requires
-    load-requires
+    read-row-requires
     claim-requires
-    settle-requires
+    store-claim-requires
     same-length
     returns
     returns-2)

@@ -12,8 +12,8 @@ mul-page c = search needs
 add-page : tie.Need-add-page
 add-page c = search needs
 
-next-number-requires : tie.Need-next-number-requires
-next-number-requires c κs = search needs
+next-sequence-requires : tie.Need-next-sequence-requires
+next-sequence-requires c κs = search needs
 
 put-log-requires : tie.Need-put-log-requires
 put-log-requires c κs = search needs
@@ -27,8 +27,8 @@ claim-entries-requires c κs = search needs
 advance-requires : tie.Need-advance-requires
 advance-requires c κs = search needs
 
-empty-requires : tie.Need-empty-requires
-empty-requires c κs = search needs
+without-entries-requires : tie.Need-without-entries-requires
+without-entries-requires c κs = search needs
 
 same-length : tie.Need-same-length
 same-length c = search needs
@@ -39,10 +39,10 @@ same-length-2 c = search needs
 returns : tie.Need-returns
 returns c = let a = c .before .before .before .before .before .before .before .before .before .before .before .before .before .before .before .before .before .before .args in
     let p = c .before .before .before .before .before .before .before .before .before .before .before .before .before .before .before .before .before .before .pre in
-    let n = c .before .before .before .before .before .before .before .before .before .before .before .before .before .next-number in
+    let n = c .before .before .before .before .before .before .before .before .before .before .before .before .before .next-sequence in
     let w = c .before .before .before .before .before .before .before .before .before .put-log in
     let k = c .before .before .before .before .claim-entries in
-    buffer-written (pagesOf (a .pool .now)) (pagesOf (w .last .0)) (rowsOf (a .table .now)) (rowsOf (k .last .0)) (a .state) (c .before .advance .result) (c .empty .result) (n .result) (p .0) (w .kept .0) (k .kept .0) (p .1) (n .ensures) (w .ensures) (k .ensures) (c .before .advance .ensures) (c .empty .ensures)
+    buffer-written (pagesOf (a .pool .now)) (pagesOf (w .last .0)) (rowsOf (a .table .now)) (rowsOf (k .last .0)) (a .state) (c .before .advance .result) (c .without-entries .result) (n .result) (p .0) (w .kept .0) (k .kept .0) (p .1) (n .ensures) (w .ensures) (k .ensures) (c .before .advance .ensures) (c .without-entries .ensures)
 
 pub write-buffer-spec : {M : Type 1} → statement M
 write-buffer-spec =
@@ -50,12 +50,12 @@ write-buffer-spec =
     (tie.spec
     mul-page
     add-page
-    next-number-requires
+    next-sequence-requires
     put-log-requires
     cast-claim-entries
     claim-entries-requires
     advance-requires
-    empty-requires
+    without-entries-requires
     same-length
     same-length-2
     returns)

@@ -18,14 +18,14 @@ returns c =
     rw (tableOf-in (pagesOf (a .pool .now)) (rowsOf (a .table .now)) (a .state) (a .n) (c .before .before .if1 .taken), ← c .before .content .ensures .is)
     (c .node-in .ensures)
 
-empty-requires : tie.Need-empty-requires
-empty-requires c κs = search needs
+empty-node-requires : tie.Need-empty-node-requires
+empty-node-requires c κs = search needs
 
 returns-2 : tie.Need-returns-2
 returns-2 c =
     let a = c .before .before .before .before .before .args in
-    rw (tableOf-out (pagesOf (a .pool .now)) (rowsOf (a .table .now)) (a .state) (a .n) (c .before .if1 .left)) (c .empty .ensures)
+    rw (tableOf-out (pagesOf (a .pool .now)) (rowsOf (a .table .now)) (a .state) (a .n) (c .before .if1 .left)) (c .empty-node .ensures)
 
 pub node-at-spec : {M : Type 1} → statement M
 node-at-spec =
-    tie.close (tie.spec content-requires node-in-requires returns empty-requires returns-2)
+    tie.close (tie.spec content-requires node-in-requires returns empty-node-requires returns-2)

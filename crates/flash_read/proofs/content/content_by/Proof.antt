@@ -14,8 +14,8 @@ log-content-requires c κs = search needs
 enum-told-2 : tie.Need-enum-told-2
 enum-told-2 c = search needs
 
-whole-at-requires : tie.Need-whole-at-requires
-whole-at-requires c κs = search needs
+node-page-at-requires : tie.Need-node-page-at-requires
+node-page-at-requires c κs = search needs
 
 returns : tie.Need-returns
 returns c = let a = c .before .before .before .before .args in
@@ -23,9 +23,9 @@ returns c = let a = c .before .before .before .before .args in
 
 returns-2 : tie.Need-returns-2
 returns-2 c = let a = c .before .before .before .before .args in
-    redone-is (c .whole-at .result) _ _ (c .whole-at .ensures) (content-disk (pagesOf (a .pool .now)) (a .state) (a .row) (a .n) (c .before .enum-told2 .given .1))
+    redone-is (c .node-page-at .result) _ _ (c .node-page-at .ensures) (content-disk (pagesOf (a .pool .now)) (a .state) (a .row) (a .n) (c .before .enum-told2 .given .1))
 
 pub content-by-spec : {M : Type 1} → statement M
 content-by-spec =
     tie.close
-    (tie.spec enum-told log-content-requires enum-told-2 whole-at-requires returns returns-2)
+    (tie.spec enum-told log-content-requires enum-told-2 node-page-at-requires returns returns-2)

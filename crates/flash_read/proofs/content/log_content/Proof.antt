@@ -4,8 +4,8 @@ use borrow.Author.Needs.{needs}
 use Rattle.flash_read.proofs.content.log_content.Statement.{statement}
 use Rattle.flash_read.proofs.content.log_content.Tie as tie
 
-nothing-requires : tie.Need-nothing-requires
-nothing-requires c κs = search needs
+empty-draft-requires : tie.Need-empty-draft-requires
+empty-draft-requires c κs = search needs
 
 redo-pages-requires : tie.Need-redo-pages-requires
 redo-pages-requires c κs = search needs
@@ -15,8 +15,8 @@ redo-buffer-requires c κs = search needs
 
 returns : tie.Need-returns
 unfolding logContent
-returns c = rw (← c .before .before .before .before .nothing .ensures .is, ← c .before .before .before .redo-pages .ensures .is) (c .redo-buffer .ensures)
+returns c = rw (← c .before .before .before .before .empty-draft .ensures .is, ← c .before .before .before .redo-pages .ensures .is) (c .redo-buffer .ensures)
 
 pub log-content-spec : {M : Type 1} → statement M
 log-content-spec =
-    tie.close (tie.spec nothing-requires redo-pages-requires redo-buffer-requires returns)
+    tie.close (tie.spec empty-draft-requires redo-pages-requires redo-buffer-requires returns)

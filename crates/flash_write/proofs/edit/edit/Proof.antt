@@ -9,11 +9,11 @@ use borrow.Author.Needs.{needs}
 use Rattle.flash_write.proofs.edit.edit.Statement.{statement}
 use Rattle.flash_write.proofs.edit.edit.Tie as tie
 
-room-requires : tie.Need-room-requires
-room-requires c κs = search needs
+make-room-requires : tie.Need-make-room-requires
+make-room-requires c κs = search needs
 
-load-requires : tie.Need-load-requires
-load-requires c κs = search needs
+read-row-requires : tie.Need-read-row-requires
+read-row-requires c κs = search needs
 
 append-requires : tie.Need-append-requires
 append-requires c κs = search needs
@@ -26,8 +26,8 @@ same-length-2 c = search needs
 
 returns : tie.Need-returns
 returns c = let a = c .before .before .before .before .before .before .before .before .before .before .before .before .before .before .args in
-    let m = c .before .before .before .before .before .before .before .before .before .room in
-    let l = c .before .before .before .load in
+    let m = c .before .before .before .before .before .before .before .before .before .make-room in
+    let l = c .before .before .before .read-row in
     edit-entry (a .n) (changeOf (a .change)) (nodeOf (a .edited)) (world (pagesOf (a .pool .now)) (rowsOf (a .table .now)) (a .state)) (world (pagesOf (m .last .0)) (rowsOf (m .last .1 .0)) (m .result)) (m .ensures) (l .result) (l .ensures) (c .append .result) (c .before .if1 .taken) (c .append .ensures)
 
 group-requires : tie.Need-group-requires
@@ -41,10 +41,10 @@ same-length-4 c = search needs
 
 returns-2 : tie.Need-returns-2
 returns-2 c = let a = c .before .before .before .before .before .before .before .before .before .before .before .before .before .before .before .before .before .before .before .before .args in
-    let m = c .before .before .before .before .before .before .before .before .before .before .before .before .before .before .before .room in
-    let l = c .before .before .before .before .before .before .before .before .before .load in
+    let m = c .before .before .before .before .before .before .before .before .before .before .before .before .before .before .before .make-room in
+    let l = c .before .before .before .before .before .before .before .before .before .read-row in
     let g = c .before .before .before .before .group in
     edit-group (a .n) (changeOf (a .change)) (nodeOf (a .edited)) (world (pagesOf (a .pool .now)) (rowsOf (a .table .now)) (a .state)) (world (pagesOf (m .last .0)) (rowsOf (m .last .1 .0)) (m .result)) (m .ensures) (l .result) (l .ensures) (world (pagesOf (g .last .0)) (rowsOf (g .last .1 .0)) (g .result)) (c .before .before .before .before .before .before .before .if1 .left) (g .ensures)
 
 pub edit-spec : {M : Type 1} → statement M
-edit-spec = tie.close (tie.spec room-requires load-requires append-requires same-length same-length-2 returns group-requires same-length-3 same-length-4 returns-2)
+edit-spec = tie.close (tie.spec make-room-requires read-row-requires append-requires same-length same-length-2 returns group-requires same-length-3 same-length-4 returns-2)

@@ -10,14 +10,14 @@ use borrow.Author.Needs.{needs}
 use Rattle.flash_write.proofs.group.create.Statement.{statement}
 use Rattle.flash_write.proofs.group.create.Tie as tie
 
-add-room : tie.Need-add-room
-add-room c = search needs
+add-make-room : tie.Need-add-make-room
+add-make-room c = search needs
 
-room-requires : tie.Need-room-requires
-room-requires c κs = search needs
+make-room-requires : tie.Need-make-room-requires
+make-room-requires c κs = search needs
 
-next-number-requires : tie.Need-next-number-requires
-next-number-requires c κs = search needs
+next-sequence-requires : tie.Need-next-sequence-requires
+next-sequence-requires c κs = search needs
 
 no-row-requires : tie.Need-no-row-requires
 no-row-requires c κs = search needs
@@ -40,11 +40,11 @@ same-length-2 c = search needs
 returns : tie.Need-returns
 returns c = let a = c .before .before .before .before .before .before .before .before .before .before .before .before .before .before .before .before .before .before .args in
     let p = c .before .before .before .before .before .before .before .before .before .before .before .before .before .before .before .before .before .before .pre in
-    let m = c .before .before .before .before .before .before .before .before .before .before .before .before .room in
-    let n = c .before .before .before .before .before .before .before .next-number in
+    let m = c .before .before .before .before .before .before .before .before .before .before .before .before .make-room in
+    let n = c .before .before .before .before .before .before .before .next-sequence in
     let r = c .before .before .before .before .before .before .no-row in
     let t = c .before .before .before .before .start in
     create-made (nodeOf (a .v)) (world (pagesOf (a .pool .now)) (rowsOf (a .table .now)) (a .state)) (world (pagesOf (m .last .0)) (rowsOf (m .last .1 .0)) (m .result)) (a .v .count + 1) (ap (λ (k : ℕ). k + 1) (sym (length-pairsIn (a .v) (p .2)))) (m .ensures) (t .kept .0) (n .result) (n .ensures) (r .result) (rowsOf (t .last .0)) (t .result) (c .with-nodes .result) (r .ensures) (t .ensures) (c .with-nodes .ensures) (p .1)
 
 pub create-spec : {M : Type 1} → statement M
-create-spec = tie.close (tie.spec add-room room-requires next-number-requires no-row-requires start-requires add-with-nodes with-nodes-requires same-length same-length-2 returns)
+create-spec = tie.close (tie.spec add-make-room make-room-requires next-sequence-requires no-row-requires start-requires add-with-nodes with-nodes-requires same-length same-length-2 returns)

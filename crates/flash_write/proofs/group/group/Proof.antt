@@ -10,17 +10,17 @@ use borrow.Author.Needs.{needs}
 use Rattle.flash_write.proofs.group.group.Statement.{statement}
 use Rattle.flash_write.proofs.group.group.Tie as tie
 
-add-room : tie.Need-add-room
-add-room c = search needs
+add-make-room : tie.Need-add-make-room
+add-make-room c = search needs
 
-room-requires : tie.Need-room-requires
-room-requires c κs = search needs
+make-room-requires : tie.Need-make-room-requires
+make-room-requires c κs = search needs
 
-next-number-requires : tie.Need-next-number-requires
-next-number-requires c κs = search needs
+next-sequence-requires : tie.Need-next-sequence-requires
+next-sequence-requires c κs = search needs
 
-load-requires : tie.Need-load-requires
-load-requires c κs = search needs
+read-row-requires : tie.Need-read-row-requires
+read-row-requires c κs = search needs
 
 start-requires : tie.Need-start-requires
 start-requires c κs = search needs
@@ -33,11 +33,11 @@ same-length-2 c = search needs
 
 returns : tie.Need-returns
 returns c = let a = c .before .before .before .before .before .before .before .before .before .before .before .before .before .before .before .before .before .args in
-    let m = c .before .before .before .before .before .before .before .before .before .before .before .room in
-    let n = c .before .before .before .before .before .before .next-number in
-    let l = c .before .before .before .before .load in
+    let m = c .before .before .before .before .before .before .before .before .before .before .before .make-room in
+    let n = c .before .before .before .before .before .before .next-sequence in
+    let l = c .before .before .before .before .read-row in
     let t = c .before .before .start in
     group-made (nodeOf (a .v)) (world (pagesOf (a .pool .now)) (rowsOf (a .table .now)) (a .state)) (world (pagesOf (m .last .0)) (rowsOf (m .last .1 .0)) (m .result)) (a .v .count + 1) (ap (λ (k : ℕ). k + 1) (sym (length-pairsIn (a .v) (c .before .before .before .before .before .before .before .before .before .before .before .before .before .before .before .before .before .pre .2)))) (m .ensures) (t .kept .0) (n .result) (n .ensures) (a .n) (l .result) (rowsOf (t .last .0)) (t .result) (l .ensures) (t .ensures)
 
 pub group-spec : {M : Type 1} → statement M
-group-spec = tie.close (tie.spec add-room room-requires next-number-requires load-requires start-requires same-length same-length-2 returns)
+group-spec = tie.close (tie.spec add-make-room make-room-requires next-sequence-requires read-row-requires start-requires same-length same-length-2 returns)

@@ -6,11 +6,11 @@ use Rattle.flash_write.proofs.group.start.Tie as tie
 fresh-requires : tie.Need-fresh-requires
 fresh-requires c κs = search needs
 
-store-requires : tie.Need-store-requires
-store-requires c κs = search needs
+write-row-requires : tie.Need-write-row-requires
+write-row-requires c κs = search needs
 
-number-requires : tie.Need-number-requires
-number-requires c κs = search needs
+with-sequence-requires : tie.Need-with-sequence-requires
+with-sequence-requires c κs = search needs
 
 append-node-requires : tie.Need-append-node-requires
 append-node-requires c κs = search needs
@@ -19,7 +19,7 @@ same-length : tie.Need-same-length
 same-length c = search needs
 
 returns : tie.Need-returns
-returns c = record { rows = rw (← c .before .before .before .before .before .fresh .ensures) (c .before .before .before .before .store .ensures); state = rw (← c .before .number .ensures) (c .append-node .ensures) }
+returns c = record { rows = rw (← c .before .before .before .before .before .fresh .ensures) (c .before .before .before .before .write-row .ensures); state = rw (← c .before .with-sequence .ensures) (c .append-node .ensures) }
 
 pub start-spec : {M : Type 1} → statement M
-start-spec = tie.close (tie.spec fresh-requires store-requires number-requires append-node-requires same-length returns)
+start-spec = tie.close (tie.spec fresh-requires write-row-requires with-sequence-requires append-node-requires same-length returns)

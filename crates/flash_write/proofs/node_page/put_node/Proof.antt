@@ -33,9 +33,9 @@ same-length c = search needs
 returns : tie.Need-returns
 unfolding nodePage
 returns c = let a = c .before .before .before .before .before .before .before .before .before .before .args in
-    let i : c .before .before .before .before .node-image .result ≡ image (page (a .number) (whole (a .id) (nodeOf (a .v)))) =
+    let i : c .before .before .before .before .node-image .result ≡ image (page (a .with-sequence) (whole (a .id) (nodeOf (a .v)))) =
     c .before .before .before .before .node-image .ensures ∙
-    ap (λ (ps : List Pair). image (page (a .number) (whole (a .id) (node (a .v .kind) ps (a .v .link))))) (pairs-first (a .v) (c .before .before .before .before .before .before .before .before .before .before .pre .2)) in
+    ap (λ (ps : List Pair). image (page (a .with-sequence) (whole (a .id) (node (a .v .shape) ps (a .v .link))))) (pairs-first (a .v) (c .before .before .before .before .before .before .before .before .before .before .pre .2)) in
     rw (← i) (c .before .before .put-image .ensures)
 
 pub put-node-spec : {M : Type 1} → statement M

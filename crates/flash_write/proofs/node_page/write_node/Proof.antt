@@ -13,17 +13,17 @@ mul-at c = search needs
 add-at : tie.Need-add-at
 add-at c = search needs
 
-next-number-requires : tie.Need-next-number-requires
-next-number-requires c κs = search needs
+next-sequence-requires : tie.Need-next-sequence-requires
+next-sequence-requires c κs = search needs
 
 put-node-requires : tie.Need-put-node-requires
 put-node-requires c κs = search needs
 
-cast-disk-row : tie.Need-cast-disk-row
-cast-disk-row c = search needs
+cast-node-page-row : tie.Need-cast-node-page-row
+cast-node-page-row c = search needs
 
-disk-row-requires : tie.Need-disk-row-requires
-disk-row-requires c κs = search needs
+node-page-row-requires : tie.Need-node-page-row-requires
+node-page-row-requires c κs = search needs
 
 advance-requires : tie.Need-advance-requires
 advance-requires c κs = search needs
@@ -37,9 +37,9 @@ same-length-2 c = search needs
 returns : tie.Need-returns
 returns c = let a = c .before .before .before .before .before .before .before .before .before .before .before .before .before .before .args in
     let p = c .before .before .before .before .before .before .before .before .before .before .before .before .before .before .pre in
-    let n = c .before .before .before .before .before .before .before .before .before .next-number in
+    let n = c .before .before .before .before .before .before .before .before .before .next-sequence in
     let w = c .before .before .before .before .before .before .before .put-node in
-    let d = c .before .before .before .disk-row in
+    let d = c .before .before .before .node-page-row in
     node-written (a .n) (nodeOf (a .v)) (pagesOf (a .pool .now)) (pagesOf (w .last .0)) (rowsOf (a .table .now)) (rowsOf (d .last .0)) (a .state) (c .advance .result) (n .result) (p .0) (w .kept .0) (d .kept .0) (p .1) (n .ensures) (w .ensures) (d .ensures) (c .advance .ensures)
 
 pub write-node-spec : {M : Type 1} → statement M
@@ -48,10 +48,10 @@ write-node-spec =
     (tie.spec
     mul-at
     add-at
-    next-number-requires
+    next-sequence-requires
     put-node-requires
-    cast-disk-row
-    disk-row-requires
+    cast-node-page-row
+    node-page-row-requires
     advance-requires
     same-length
     same-length-2

@@ -5,15 +5,15 @@ use Rattle.mount_checkpoint.specs.Scores.{isBelow}
 use Rattle.mount_checkpoint.proofs.scores.is_below.Statement.{statement}
 use Rattle.mount_checkpoint.proofs.scores.is_below.Tie as tie
 
-load-requires : tie.Need-load-requires
-load-requires c κs = search needs
+read-row-requires : tie.Need-read-row-requires
+read-row-requires c κs = search needs
 
 cast-score : tie.Need-cast-score
 cast-score c = search needs
 
 returns : tie.Need-returns
 unfolding isBelow
-returns c = rw (← c .before .load .ensures) refl
+returns c = rw (← c .before .read-row .ensures) refl
 
 pub is-below-spec : {M : Type 1} → statement M
-is-below-spec = tie.close (tie.spec load-requires cast-score returns)
+is-below-spec = tie.close (tie.spec read-row-requires cast-score returns)

@@ -5,14 +5,14 @@ use Rattle.mount_checkpoint.proofs.Laws.{score-in, score-out}
 use Rattle.mount_checkpoint.proofs.scores.take_score.Statement.{statement}
 use Rattle.mount_checkpoint.proofs.scores.take_score.Tie as tie
 
-load-requires : tie.Need-load-requires
-load-requires c κs = search needs
+read-row-requires : tie.Need-read-row-requires
+read-row-requires c κs = search needs
 
 scored-requires : tie.Need-scored-requires
 scored-requires c κs = search needs
 
-store-requires : tie.Need-store-requires
-store-requires c κs = search needs
+write-row-requires : tie.Need-write-row-requires
+write-row-requires c κs = search needs
 
 same-length : tie.Need-same-length
 same-length c = search needs
@@ -20,9 +20,9 @@ same-length c = search needs
 returns : tie.Need-returns
 returns c = let a = c .before .before .before .before .before .before .before .before .before .args in
     score-in (a .nodes) (a .id) (a .score) (rowsOf (a .table .now)) (c .before .before .before .before .before .before .before .if1 .taken)
-    (c .before .before .before .before .before .load .result) (c .before .before .before .scored .result)
-    (rowsOf (c .before .before .store .last .0)) (c .before .before .before .before .before .load .ensures)
-    (c .before .before .before .scored .ensures) (c .before .before .store .ensures)
+    (c .before .before .before .before .before .read-row .result) (c .before .before .before .scored .result)
+    (rowsOf (c .before .before .write-row .last .0)) (c .before .before .before .before .before .read-row .ensures)
+    (c .before .before .before .scored .ensures) (c .before .before .write-row .ensures)
 
 returns-2 : tie.Need-returns-2
 returns-2 c = let a = c .before .before .args in
@@ -30,4 +30,4 @@ returns-2 c = let a = c .before .before .args in
 
 pub take-score-spec : {M : Type 1} → statement M
 take-score-spec =
-    tie.close (tie.spec load-requires scored-requires store-requires same-length returns returns-2)
+    tie.close (tie.spec read-row-requires scored-requires write-row-requires same-length returns returns-2)

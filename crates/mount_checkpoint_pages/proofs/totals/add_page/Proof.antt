@@ -12,8 +12,8 @@ returns : tie.Need-returns
 returns c = let a = c .before .before .before .args in
     add-below (a .since) (a .newest) (a .page .now) (a .t) (c .before .sequence .result) (c .before .sequence .ensures) (c .if1 .taken)
 
-sheet-of-requires : tie.Need-sheet-of-requires
-sheet-of-requires c κs = search needs
+checkpoint-page-of-requires : tie.Need-checkpoint-page-of-requires
+checkpoint-page-of-requires c κs = search needs
 
 add-scores : tie.Need-add-scores
 add-scores c = search needs
@@ -29,8 +29,8 @@ returns-2 c = let a = c .before .before .before .before .before .before .before 
     add-fit (a .since) (a .newest) (a .page .now) (a .t) (c .before .before .before .before .before .before .before .before .sequence .result)
     (c .before .before .before .before .before .before .before .before .sequence .ensures)
     (c .before .before .before .before .before .before .before .if1 .left)
-    (c .before .before .before .before .before .before .sheet-of .result)
-    (c .before .before .before .before .before .before .sheet-of .ensures) (sym (c .if2 .taken) ∙ c .before .fits2 .ensures)
+    (c .before .before .before .before .before .before .checkpoint-page-of .result)
+    (c .before .before .before .before .before .before .checkpoint-page-of .ensures) (sym (c .if2 .taken) ∙ c .before .fits2 .ensures)
 
 add-t11 : tie.Need-add-t11
 add-t11 c = search needs
@@ -41,8 +41,8 @@ returns-3 c = let a = c .before .before .before .before .before .before .before 
     (c .before .before .before .before .before .before .before .before .before .sequence .result)
     (c .before .before .before .before .before .before .before .before .before .sequence .ensures)
     (c .before .before .before .before .before .before .before .before .if1 .left)
-    (c .before .before .before .before .before .before .before .sheet-of .result)
-    (c .before .before .before .before .before .before .before .sheet-of .ensures)
+    (c .before .before .before .before .before .before .before .checkpoint-page-of .result)
+    (c .before .before .before .before .before .before .before .checkpoint-page-of .ensures)
     (sym (c .before .if2 .left) ∙ c .before .before .fits2 .ensures)
 
 pub add-page-spec : {M : Type 1} → statement M
@@ -51,7 +51,7 @@ add-page-spec =
     (tie.spec
     sequence-requires
     returns
-    sheet-of-requires
+    checkpoint-page-of-requires
     add-scores
     add-nodes
     fits-requires

@@ -20,13 +20,13 @@ loop-holds c = (omega arith, refl)
 sub-left : tie.Need-sub-left Inv-loop μ-loop
 sub-left c = omega arith
 
-load-requires : tie.Need-load-requires Inv-loop μ-loop
-load-requires c κs = omega arith
+read-row-requires : tie.Need-read-row-requires Inv-loop μ-loop
+read-row-requires c κs = omega arith
 
 returns : tie.Need-returns Inv-loop μ-loop
 returns c = let a = c .before .before .before .before .before .before .args in
     let l = c .before .before .before .before .loop in
-    let x = c .before .before .load in
+    let x = c .before .before .read-row in
     sym (three-stop (rowsOf (a .table .now)) (l .left) (x .result) (c .before .before .before .loop-test .taken) (x .ensures) (c .if1 .taken)) ∙ l .inv .1
 
 loop-less : tie.Need-loop-less Inv-loop μ-loop
@@ -35,7 +35,7 @@ loop-less c = omega arith
 loop-again : tie.Need-loop-again Inv-loop μ-loop
 loop-again c = let a = c .before .before .before .before .before .before .args in
     let l = c .before .before .before .before .loop in
-    let x = c .before .before .load in
+    let x = c .before .before .read-row in
     (omega arith, three-more (rowsOf (a .table .now)) (l .left) (x .result) (c .before .before .before .loop-test .taken) (x .ensures) (c .if1 .left) ∙ l .inv .1)
 
 returns-2 : tie.Need-returns-2 Inv-loop μ-loop
@@ -51,7 +51,7 @@ within-three-spec =
     μ-loop
     loop-holds
     sub-left
-    load-requires
+    read-row-requires
     returns
     loop-less
     loop-again

@@ -9,7 +9,7 @@ use Rattle.node.specs.Value.{pairsIn}
 use Rattle.tree.specs.Sound.{leftmost}
 use Rattle.flash_read.specs.NodeTable.{tableOf}
 use Rattle.mount_tree.specs.FirstLeaf.{searchFrom, search-start, search-end, search-leaf, search-branch}
-use Rattle.flash_read.specs.Kinds.{is-leaf, is-branch}
+use Rattle.flash_read.specs.Shapes.{is-leaf, is-branch}
 use Rattle.mount_tree.proofs.first_leaf.first_leaf.Statement.{statement}
 use Rattle.mount_tree.proofs.first_leaf.first_leaf.Tie as tie
 
@@ -27,8 +27,8 @@ loop-holds c = (omega arith, search-start _)
 node-at-requires : tie.Need-node-at-requires Inv-loop μ-loop
 node-at-requires c κs = search needs
 
-same-kind-requires : tie.Need-same-kind-requires Inv-loop μ-loop
-same-kind-requires c κs = search needs
+same-shape-requires : tie.Need-same-shape-requires Inv-loop μ-loop
+same-shape-requires c κs = search needs
 
 returns : tie.Need-returns Inv-loop μ-loop
 returns c =
@@ -38,7 +38,7 @@ returns c =
     let read = c .before .before .node-at in
     sym
     (search-leaf nodes (turn .depth) (turn .leaf) (pairsIn (read .result)) (read .result .link)
-    (is-leaf (read .result) (nodes (turn .leaf)) (read .ensures .is) (c .before .same-kind .result) (c .before .same-kind .ensures) (c .if1 .taken))) ∙
+    (is-leaf (read .result) (nodes (turn .leaf)) (read .ensures .is) (c .before .same-shape .result) (c .before .same-shape .ensures) (c .if1 .taken))) ∙
     turn .inv .1
 
 pointer-requires : tie.Need-pointer-requires Inv-loop μ-loop
@@ -59,12 +59,12 @@ loop-again c =
     let nodes = tableOf (pagesOf (a .pool .now)) (rowsOf (a .table .now)) (a .state) in
     let turn = c .before .before .before .before .before .loop in
     let read = c .before .before .before .node-at in
-    let kind = c .before .before .same-kind in (
+    let shape = c .before .before .same-shape in (
       omega arith,
       ap (searchFrom nodes (turn .depth + 1)) (c .pointer .ensures) ∙
           sym
           (search-branch nodes (turn .depth) (turn .leaf) (pairsIn (read .result)) (read .result .link) (c .before .before .before .before .loop-test .taken)
-          (is-branch (read .result) (nodes (turn .leaf)) (read .ensures .is) (kind .result) (kind .ensures) (c .before .if1 .left))) ∙
+          (is-branch (read .result) (nodes (turn .leaf)) (read .ensures .is) (shape .result) (shape .ensures) (c .before .if1 .left))) ∙
           turn .inv .1,
     )
 
@@ -81,7 +81,7 @@ first-leaf-spec =
     μ-loop
     loop-holds
     node-at-requires
-    same-kind-requires
+    same-shape-requires
     returns
     pointer-requires
     cast-leaf

@@ -5,8 +5,8 @@ use Rattle.mount_tree.specs.Nodes.{no-branch, branch-out, inside, branch
 use Rattle.mount_tree.proofs.walk.enter_branch.Statement.{statement}
 use Rattle.mount_tree.proofs.walk.enter_branch.Tie as tie
 
-same-kind-requires : tie.Need-same-kind-requires
-same-kind-requires c κs = search needs
+same-shape-requires : tie.Need-same-shape-requires
+same-shape-requires c κs = search needs
 
 failed-requires : tie.Need-failed-requires
 failed-requires c κs = search needs
@@ -15,8 +15,8 @@ returns : tie.Need-returns
 returns c =
     let entry = c .before .before .before in
     let a = entry .args in
-    let kind = c .before .before .same-kind in
-    no-branch (a .v) (a .id) (a .nodes) (a .low) (a .high) (a .w) (entry .pre) (kind .result) (kind .ensures) (c .failed .result)
+    let shape = c .before .before .same-shape in
+    no-branch (a .v) (a .id) (a .nodes) (a .low) (a .high) (a .w) (entry .pre) (shape .result) (shape .ensures) (c .failed .result)
     (c .before .if1 .taken) (c .failed .ensures)
 
 in-order-requires : tie.Need-in-order-requires
@@ -29,9 +29,9 @@ returns-2 : tie.Need-returns-2
 returns-2 c =
     let entry = c .before .before .before .before .before .before .before in
     let a = entry .args in
-    let kind = c .before .before .before .before .before .before .same-kind in
+    let shape = c .before .before .before .before .before .before .same-shape in
     let order = c .before .before .before .before .in-order in
-    branch-keyless (a .v) (a .id) (a .nodes) (a .low) (a .high) (a .w) (entry .pre) (kind .result) (kind .ensures) (c .failed2 .result)
+    branch-keyless (a .v) (a .id) (a .nodes) (a .low) (a .high) (a .w) (entry .pre) (shape .result) (shape .ensures) (c .failed2 .result)
     (order .result) (order .ensures) (c .before .before .before .if2 .taken) (c .before .before .before .before .before .if1 .left)
     (c .before .if3 .taken) (c .failed2 .ensures)
 
@@ -39,10 +39,10 @@ marked-requires : tie.Need-marked-requires
 marked-requires c κs =
     let entry = c .before .before .before .before .before .before in
     let a = entry .args in
-    let kind = c .before .before .before .before .before .same-kind in
+    let shape = c .before .before .before .before .before .same-shape in
     let order = c .before .before .before .in-order in
     let reached =
-    inside (a .v) (a .id) (a .nodes) (a .low) (a .high) (a .w) (entry .pre) (kind .result) (kind .ensures) (a .w)
+    inside (a .v) (a .id) (a .nodes) (a .low) (a .high) (a .w) (entry .pre) (shape .result) (shape .ensures) (a .w)
     (order .result) (order .ensures) (c .before .before .if2 .taken) in
     (entry .pre .kept, omega (arith, entry .pre .few))
 
@@ -50,9 +50,9 @@ returns-3 : tie.Need-returns-3
 returns-3 c =
     let entry = c .before .before .before .before .before .before .before in
     let a = entry .args in
-    let kind = c .before .before .before .before .before .before .same-kind in
+    let shape = c .before .before .before .before .before .before .same-shape in
     let order = c .before .before .before .before .in-order in
-    branch-keyed (a .v) (a .id) (a .nodes) (a .low) (a .high) (a .w) (entry .pre) (kind .result) (kind .ensures) (c .marked .result)
+    branch-keyed (a .v) (a .id) (a .nodes) (a .low) (a .high) (a .w) (entry .pre) (shape .result) (shape .ensures) (c .marked .result)
     (order .result) (order .ensures) (c .before .before .before .if2 .taken) (c .before .before .before .before .before .if1 .left)
     (c .before .if3 .left) (c .marked .ensures)
 
@@ -63,16 +63,16 @@ returns-4 : tie.Need-returns-4
 returns-4 c =
     let entry = c .before .before .before .before .before in
     let a = entry .args in
-    let kind = c .before .before .before .before .same-kind in
+    let shape = c .before .before .before .before .same-shape in
     let order = c .before .before .in-order in
-    branch-out (a .v) (a .id) (a .nodes) (a .low) (a .high) (a .w) (entry .pre) (kind .result) (kind .ensures) (c .failed3 .result)
+    branch-out (a .v) (a .id) (a .nodes) (a .low) (a .high) (a .w) (entry .pre) (shape .result) (shape .ensures) (c .failed3 .result)
     (order .result) (order .ensures) (c .before .before .before .if1 .left) (c .before .if2 .left) (c .failed3 .ensures)
 
 pub enter-branch-spec : {M : Type 1} → statement M
 enter-branch-spec =
     tie.close
     (tie.spec
-    same-kind-requires
+    same-shape-requires
     failed-requires
     returns
     in-order-requires

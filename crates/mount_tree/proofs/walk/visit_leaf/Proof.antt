@@ -5,8 +5,8 @@ use Rattle.mount_tree.specs.Nodes.{no-leaf, leaf-out, inside, leaf-unawa
 use Rattle.mount_tree.proofs.walk.visit_leaf.Statement.{statement}
 use Rattle.mount_tree.proofs.walk.visit_leaf.Tie as tie
 
-same-kind-requires : tie.Need-same-kind-requires
-same-kind-requires c κs = search needs
+same-shape-requires : tie.Need-same-shape-requires
+same-shape-requires c κs = search needs
 
 in-order-requires : tie.Need-in-order-requires
 in-order-requires c κs = search needs
@@ -18,10 +18,10 @@ marked-requires : tie.Need-marked-requires
 marked-requires c κs =
     let entry = c .before .before .before .before .before .before .before in
     let a = entry .args in
-    let kind = c .before .before .before .before .before .before .same-kind in
+    let shape = c .before .before .before .before .before .before .same-shape in
     let order = c .before .before .before .before .in-order in
     let reached =
-    inside (a .v) (a .id) (a .nodes) (a .low) (a .high) (a .w) (entry .pre) (kind .result) (kind .ensures) (a .w)
+    inside (a .v) (a .id) (a .nodes) (a .low) (a .high) (a .w) (entry .pre) (shape .result) (shape .ensures) (a .w)
     (order .result) (order .ensures) (c .before .before .before .if2 .taken) in
     (entry .pre .kept, omega (arith, entry .pre .few))
 
@@ -29,9 +29,9 @@ returns : tie.Need-returns
 returns c =
     let entry = c .before .before .before .before .before .before .before .before in
     let a = entry .args in
-    let kind = c .before .before .before .before .before .before .before .same-kind in
+    let shape = c .before .before .before .before .before .before .before .same-shape in
     let order = c .before .before .before .before .before .in-order in
-    leaf-awaited (a .v) (a .id) (a .nodes) (a .low) (a .high) (a .w) (entry .pre) (kind .result) (kind .ensures) (c .marked .result)
+    leaf-awaited (a .v) (a .id) (a .nodes) (a .low) (a .high) (a .w) (entry .pre) (shape .result) (shape .ensures) (c .marked .result)
     (order .result) (order .ensures) (c .before .before .before .before .if2 .taken) (c .before .before .before .before .before .before .if1 .taken)
     (c .before .before .if3 .taken) (c .marked .ensures)
 
@@ -42,9 +42,9 @@ returns-2 : tie.Need-returns-2
 returns-2 c =
     let entry = c .before .before .before .before .before .before .before in
     let a = entry .args in
-    let kind = c .before .before .before .before .before .before .same-kind in
+    let shape = c .before .before .before .before .before .before .same-shape in
     let order = c .before .before .before .before .in-order in
-    leaf-unawaited (a .v) (a .id) (a .nodes) (a .low) (a .high) (a .w) (entry .pre) (kind .result) (kind .ensures) (c .failed .result)
+    leaf-unawaited (a .v) (a .id) (a .nodes) (a .low) (a .high) (a .w) (entry .pre) (shape .result) (shape .ensures) (c .failed .result)
     (order .result) (order .ensures) (c .before .before .before .if2 .taken) (c .before .before .before .before .before .if1 .taken)
     (c .before .if3 .left) (c .failed .ensures)
 
@@ -55,9 +55,9 @@ returns-3 : tie.Need-returns-3
 returns-3 c =
     let entry = c .before .before .before .before .before in
     let a = entry .args in
-    let kind = c .before .before .before .before .same-kind in
+    let shape = c .before .before .before .before .same-shape in
     let order = c .before .before .in-order in
-    leaf-out (a .v) (a .id) (a .nodes) (a .low) (a .high) (a .w) (entry .pre) (kind .result) (kind .ensures) (c .failed2 .result)
+    leaf-out (a .v) (a .id) (a .nodes) (a .low) (a .high) (a .w) (entry .pre) (shape .result) (shape .ensures) (c .failed2 .result)
     (order .result) (order .ensures) (c .before .before .before .if1 .taken) (c .before .if2 .left) (c .failed2 .ensures)
 
 failed-requires-3 : tie.Need-failed-requires-3
@@ -67,15 +67,15 @@ returns-4 : tie.Need-returns-4
 returns-4 c =
     let entry = c .before .before .before in
     let a = entry .args in
-    let kind = c .before .before .same-kind in
-    no-leaf (a .v) (a .id) (a .nodes) (a .low) (a .high) (a .w) (entry .pre) (kind .result) (kind .ensures) (c .failed3 .result)
+    let shape = c .before .before .same-shape in
+    no-leaf (a .v) (a .id) (a .nodes) (a .low) (a .high) (a .w) (entry .pre) (shape .result) (shape .ensures) (c .failed3 .result)
     (c .before .if1 .left) (c .failed3 .ensures)
 
 pub visit-leaf-spec : {M : Type 1} → statement M
 visit-leaf-spec =
     tie.close
     (tie.spec
-    same-kind-requires
+    same-shape-requires
     in-order-requires
     cast-marked
     marked-requires

@@ -6,7 +6,7 @@ use Rattle.node.proofs.edit.linked.Tie as tie
 returns : tie.Need-returns
 returns c =
     let entry = c .before .before in
-    becomes-linked (entry .args .v) (entry .pre) (entry .args .kind) (entry .args .to)
+    becomes-linked (entry .args .v) (entry .pre) (entry .args .shape) (entry .args .to)
 
 pub linked-spec : {M : Type 1} → statement M
 linked-spec = tie.close (tie.spec returns)

@@ -10,15 +10,15 @@ use lib.ListN.{length, getD}
 use borrow.Author.Needs.{needs}
 use Rattle.laws.specs.BigEndian.{numberAt}
 use Rattle.wire.specs.Field.{payloadAt}
-use Rattle.page.specs.Decode.{sealedAt, taken, kindOfNumber, pairsIn}
-use Rattle.page_read.specs.declared.view.PageView.the-variants.{Whole}
+use Rattle.page.specs.Decode.{sealedAt, taken, shapeOfNumber, pairsIn}
+use Rattle.page_read.specs.declared.view.PageView.the-variants.{NodePage}
 use Rattle.page_read.specs.Payload.{found-true, found-false, taken-some, node-short}
 use Rattle.page_read.specs.Steps.{node-none, node-other, node-unsealed, node-sealed}
 use Rattle.page_read.proofs.view.view_node.Statement.{statement}
 use Rattle.page_read.proofs.view.view_node.Tie as tie
 
-abbrev is-a-kind : List ℕ → Bool
-is-a-kind x = eqb (getD x 2 0) 3 || eqb (getD x 2 0) 4
+abbrev is-a-shape : List ℕ → Bool
+is-a-shape x = eqb (getD x 2 0) 3 || eqb (getD x 2 0) 4
 
 payload-requires : tie.Need-payload-requires
 payload-requires c κs = search needs
@@ -31,15 +31,15 @@ returns c = let b = c .before .before .before .args .page .now in
 shared-slice-read-number : tie.Need-shared-slice-read-number
 shared-slice-read-number c = search needs
 
-is-kind-requires : tie.Need-is-kind-requires
-is-kind-requires c κs = search needs
+is-shape-requires : tie.Need-is-shape-requires
+is-shape-requires c κs = search needs
 
 returns-2 : tie.Need-returns-2
 returns-2 c = let b = c .before .before .before .before .before .before .args .page .now in
     let q = c .before .before .before .before .payload .ensures in
     let l : 1 ≤ length (payloadAt b 7 0x11) = omega (arith, ap length q) in
     node-other (c .before .before .before .before .before .before .args .sequence) (payloadAt b 7 0x11) b (found-true (payloadAt b 7 0x11) l)
-    (ap is-a-kind (sym q) ∙ sym (c .before .is-kind .ensures) ∙ c .if2 .left)
+    (ap is-a-shape (sym q) ∙ sym (c .before .is-shape .ensures) ∙ c .if2 .left)
 
 add-is-sealed : tie.Need-add-is-sealed
 add-is-sealed c = search needs
@@ -50,8 +50,8 @@ is-sealed-requires c κs = search needs
 read16-requires : tie.Need-read16-requires
 read16-requires c κs = search needs
 
-kind-of-requires : tie.Need-kind-of-requires
-kind-of-requires c κs = search needs
+shape-of-requires : tie.Need-shape-of-requires
+shape-of-requires c κs = search needs
 
 returns-3 : tie.Need-returns-3
 returns-3 c = let b = c .before .before .before .before .before .before .before .before .before .before .args .page .now in
@@ -60,9 +60,9 @@ returns-3 c = let b = c .before .before .before .before .before .before .before 
     let p = payloadAt b 7 0x11 in
     let l : 1 ≤ length p = omega (arith, ap length q) in
     let e : 7 + taken p ≡ 10 + length (c .before .before .before .before .before .before .before .before .payload .result .now) = omega (arith, taken-some p l, ap length q) in
-    rw (c .before .read16 .ensures .is, c .kind-of .ensures)
-    (ap (λ (x : List ℕ). Whole s (numberAt 2 x 0) (kindOfNumber (getD x 2 0)) (pairsIn x)) q ∙
-    node-sealed s p b (found-true p l) (ap is-a-kind (sym q) ∙ sym (c .before .before .before .before .before .is-kind .ensures) ∙ c .before .before .before .before .if2 .taken)
+    rw (c .before .read16 .ensures .is, c .shape-of .ensures)
+    (ap (λ (x : List ℕ). NodePage s (numberAt 2 x 0) (shapeOfNumber (getD x 2 0)) (pairsIn x)) q ∙
+    node-sealed s p b (found-true p l) (ap is-a-shape (sym q) ∙ sym (c .before .before .before .before .before .is-shape .ensures) ∙ c .before .before .before .before .if2 .taken)
     (ap (sealedAt b) e ∙ sym (c .before .before .before .is-sealed .ensures) ∙ c .before .before .if3 .taken))
 
 returns-4 : tie.Need-returns-4
@@ -71,7 +71,7 @@ returns-4 c = let b = c .before .before .before .before .before .before .before 
     let p = payloadAt b 7 0x11 in
     let l : 1 ≤ length p = omega (arith, ap length q) in
     let e : 7 + taken p ≡ 10 + length (c .before .before .before .before .before .before .payload .result .now) = omega (arith, taken-some p l, ap length q) in
-    node-unsealed (c .before .before .before .before .before .before .before .before .args .sequence) p b (found-true p l) (ap is-a-kind (sym q) ∙ sym (c .before .before .before .is-kind .ensures) ∙ c .before .before .if2 .taken)
+    node-unsealed (c .before .before .before .before .before .before .before .before .args .sequence) p b (found-true p l) (ap is-a-shape (sym q) ∙ sym (c .before .before .before .is-shape .ensures) ∙ c .before .before .if2 .taken)
     (ap (sealedAt b) e ∙ sym (c .before .is-sealed .ensures) ∙ c .if3 .left)
 
 pub view-node-spec : {M : Type 1} → statement M
@@ -81,11 +81,11 @@ view-node-spec =
     payload-requires
     returns
     shared-slice-read-number
-    is-kind-requires
+    is-shape-requires
     returns-2
     add-is-sealed
     is-sealed-requires
     read16-requires
-    kind-of-requires
+    shape-of-requires
     returns-3
     returns-4)

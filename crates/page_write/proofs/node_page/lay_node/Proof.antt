@@ -34,13 +34,13 @@ same-length c = search needs
 
 returns : tie.Need-returns
 returns c = let a = c .before .before .before .before .before .before .before .before .before .before .before .before .before .before .before .before .before .before .before .args in
-    let body = bodyOf (nodePage (a .sequence) (a .id) (a .kind) (a .n) (a .keys .now) (a .pointers .now) (a .link)) in
+    let body = bodyOf (nodePage (a .sequence) (a .id) (a .shape) (a .n) (a .keys .now) (a .pointers .now) (a .link)) in
     let e : c .before .before .before .before .before .before .lay-pairs .last .0 ≡ lay (a .p .now) 0 body =
     c .before .before .before .before .before .before .lay-pairs .ensures ∙
     rw (c .before .before .before .before .before .before .before .before .before .before .lay-node-head .ensures, c .before .before .before .before .before .before .before .before .before .before .before .before .before .before .lay-sequence .ensures)
-    (node-laid (a .p .now) (a .sequence) (a .id) (a .kind) (a .n) (a .keys .now) (a .pointers .now) (a .link) (omega (arith, c .before .before .before .before .before .before .before .before .before .before .before .before .before .before .before .before .before .before .before .pre))) in
+    (node-laid (a .p .now) (a .sequence) (a .id) (a .shape) (a .n) (a .keys .now) (a .pointers .now) (a .link) (omega (arith, c .before .before .before .before .before .before .before .before .before .before .before .before .before .before .before .before .before .before .before .pre))) in
     c .before .before .lay-sums .ensures ∙
-    rw e (summed-laid (a .p .now) body (17 + 8 * a .n) (length-nodeBody (a .sequence) (a .id) (a .kind) (a .n) (a .keys .now) (a .pointers .now) (a .link)))
+    rw e (summed-laid (a .p .now) body (17 + 8 * a .n) (length-nodeBody (a .sequence) (a .id) (a .shape) (a .n) (a .keys .now) (a .pointers .now) (a .link)))
 
 pub lay-node-spec : {M : Type 1} → statement M
 lay-node-spec =

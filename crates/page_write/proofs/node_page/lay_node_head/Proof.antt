@@ -15,8 +15,8 @@ add-bytes c = search needs
 cast-bytes : tie.Need-cast-bytes
 cast-bytes c = search needs
 
-kind-number-requires : tie.Need-kind-number-requires
-kind-number-requires c κs = search needs
+shape-number-requires : tie.Need-shape-number-requires
+shape-number-requires c κs = search needs
 
 lay-head-requires : tie.Need-lay-head-requires
 lay-head-requires c κs = search needs
@@ -46,7 +46,7 @@ returns : tie.Need-returns
 returns c = let a = c .before .before .before .before .before .before .before .before .before .before .before .before .before .before .before .before .before .before .args in
     c .before .before .write32 .ensures ∙
     rw (c .before .before .before .before .before .before .lay-byte .ensures, c .before .before .before .before .before .before .before .before .before .before .write16 .ensures, c .before .before .before .before .before .before .before .before .before .before .before .before .before .before .lay-head .ensures)
-    (nodeHead-laid (a .p .now) (a .at) (a .id) (c .before .before .before .before .before .before .before .before .before .before .before .before .before .before .before .before .kind-number .result) (a .kind) (a .link) (a .n) (omega arith) (c .before .before .before .before .before .before .before .before .before .before .before .before .before .before .before .before .kind-number .ensures))
+    (nodeHead-laid (a .p .now) (a .at) (a .id) (c .before .before .before .before .before .before .before .before .before .before .before .before .before .before .before .before .shape-number .result) (a .shape) (a .link) (a .n) (omega arith) (c .before .before .before .before .before .before .before .before .before .before .before .before .before .before .before .before .shape-number .ensures))
 
 pub lay-node-head-spec : {M : Type 1} → statement M
 lay-node-head-spec =
@@ -55,7 +55,7 @@ lay-node-head-spec =
     mul-bytes
     add-bytes
     cast-bytes
-    kind-number-requires
+    shape-number-requires
     lay-head-requires
     add-write16
     write16-requires

@@ -14,7 +14,7 @@ lay-node-requires c κs = search needs
 
 returns : tie.Need-returns
 returns c = let a = c .before .before .before .before .before .args in
-    let p = nodePage (a .sequence) (a .id) (a .kind) (a .n) (a .keys .now) (a .pointers .now) (a .link) in
+    let p = nodePage (a .sequence) (a .id) (a .shape) (a .n) (a .keys .now) (a .pointers .now) (a .link) in
     c .before .lay-node .ensures ∙ summed-blank 512 (bodyOf p) ∙ image-sealed p
 
 pub node-image-spec : {M : Type 1} → statement M

@@ -1,12 +1,12 @@
--- `delete::delete` meets its contract: the way read, then the leaf at its end edited where the key was there. Assumes nothing.
+-- `delete::delete` meets its contract: the path read, then the leaf at its end edited where the key was there. Assumes nothing.
 use Rattle.flash_rows.specs.Row.{rowsOf}
 use Rattle.flash_blocks.specs.Pages.{pagesOf}
 use Rattle.flash_allocate.specs.World.{world}
 use mathlib.Core.Path.{ap, _∙_}
 use native.Mathlib.Omega.{arith}
 use Rattle.run_lookup.specs.Value.{valueOf}
-use Rattle.run_lookup.specs.Finding.{value-in, way-read}
-use Rattle.run_lookup.specs.Removal.{deleted-none, deleted-one}
+use Rattle.run_lookup.specs.Finding.{value-in, path-read}
+use Rattle.run_lookup.specs.Deletion.{deleted-none, deleted-one}
 use borrow.Author.Needs.{needs}
 use Rattle.run_lookup.proofs.delete.delete.Statement.{statement}
 use Rattle.run_lookup.proofs.delete.delete.Tie as tie
@@ -50,10 +50,10 @@ same-length-2 c = search needs
 returns : tie.Need-returns
 returns c = let a = c .before .before .before .before .before .before .before .before .before .before .before .before .before .before .before .before .before .before .before .before .before .before .before .before .before .before .before .before .before .before .args in
     let w = world (pagesOf (a .pool .now)) (rowsOf (a .table .now)) (a .state) in
-    let way = c .before .before .before .before .before .before .before .before .before .before .before .before .before .before .before .before .before .before .before .before .before .before .before .before .before .path-to .ensures in
+    let path = c .before .before .before .before .before .before .before .before .before .before .before .before .before .before .before .before .before .before .before .before .before .before .before .before .before .path-to .ensures in
     let value = c .before .before .before .before .before .before .before .before .before .before .before .before .before .before .before .before .before .before .before .before .before .value-at in
-    deleted-one (way .few) (way-read w way (c .before .before .before .before .before .before .before .before .before .before .before .before .before .before .before .before .before .before .serve-reads .ensures)) _ _ (way .end)
-    (value-in w way (valueOf (value .result)) (value .ensures) ∙ ap valueOf (c .before .before .before .before .before .before .before .before .before .before .before .value .given .1)) (c .before .before .before .before .before .before .before .serve-edit .ensures)
+    deleted-one (path .few) (path-read w path (c .before .before .before .before .before .before .before .before .before .before .before .before .before .before .before .before .before .before .serve-reads .ensures)) _ _ (path .end)
+    (value-in w path (valueOf (value .result)) (value .ensures) ∙ ap valueOf (c .before .before .before .before .before .before .before .before .before .before .before .value .given .1)) (c .before .before .before .before .before .before .before .serve-edit .ensures)
 
 same-length-3 : tie.Need-same-length-3
 same-length-3 c = search needs
@@ -64,10 +64,10 @@ same-length-4 c = search needs
 returns-2 : tie.Need-returns-2
 returns-2 c = let a = c .before .before .before .before .before .before .before .before .before .before .before .before .before .before .before .before .before .before .before .args in
     let w = world (pagesOf (a .pool .now)) (rowsOf (a .table .now)) (a .state) in
-    let way = c .before .before .before .before .before .before .before .before .before .before .before .before .before .before .path-to .ensures in
+    let path = c .before .before .before .before .before .before .before .before .before .before .before .before .before .before .path-to .ensures in
     let value = c .before .before .before .before .before .before .before .before .before .before .value-at in
-    deleted-none (way .few) (way-read w way (c .before .before .before .before .before .before .before .serve-reads .ensures))
-    (value-in w way (valueOf (value .result)) (value .ensures) ∙ ap valueOf (c .enum-told .given .1))
+    deleted-none (path .few) (path-read w path (c .before .before .before .before .before .before .before .serve-reads .ensures))
+    (value-in w path (valueOf (value .result)) (value .ensures) ∙ ap valueOf (c .enum-told .given .1))
 
 pub delete-spec : {M : Type 1} → statement M
 delete-spec =

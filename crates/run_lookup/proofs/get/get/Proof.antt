@@ -1,4 +1,4 @@
--- `get::get` meets its contract: the value is looked up before the way is read. Assumes nothing.
+-- `get::get` meets its contract: the value is looked up before the path is read. Assumes nothing.
 use Rattle.flash_rows.specs.Row.{rowsOf}
 use Rattle.flash_blocks.specs.Pages.{pagesOf}
 use Rattle.flash_allocate.specs.World.{world}
@@ -13,8 +13,8 @@ path-to-requires c κs = search needs
 value-at-requires : tie.Need-value-at-requires
 value-at-requires c κs = search needs
 
-got-requires : tie.Need-got-requires
-got-requires c κs = search needs
+get-answer-requires : tie.Need-get-answer-requires
+get-answer-requires c κs = search needs
 
 serve-reads-requires : tie.Need-serve-reads-requires
 serve-reads-requires c κs = search needs
@@ -27,7 +27,7 @@ same-length-2 c = search needs
 
 returns : tie.Need-returns
 returns c = let a = c .before .before .before .before .before .before .before .before .before .before .before .before .before .before .before .before .before .args in
-    got-as (world (pagesOf (a .pool .now)) (rowsOf (a .table .now)) (a .state)) (c .before .before .before .before .before .before .before .before .before .before .before .before .path-to .ensures) (c .before .before .before .before .before .serve-reads .ensures) (c .before .before .before .before .before .before .before .before .before .before .value-at .result) (c .before .before .before .before .before .before .before .before .before .before .value-at .ensures) (c .before .before .before .before .before .before .before .before .before .got .result) (c .before .before .before .before .before .before .before .before .before .got .ensures)
+    got-as (world (pagesOf (a .pool .now)) (rowsOf (a .table .now)) (a .state)) (c .before .before .before .before .before .before .before .before .before .before .before .before .path-to .ensures) (c .before .before .before .before .before .serve-reads .ensures) (c .before .before .before .before .before .before .before .before .before .before .value-at .result) (c .before .before .before .before .before .before .before .before .before .before .value-at .ensures) (c .before .before .before .before .before .before .before .before .before .get-answer .result) (c .before .before .before .before .before .before .before .before .before .get-answer .ensures)
 
 pub get-spec : {M : Type 1} → statement M
 get-spec =
@@ -35,7 +35,7 @@ get-spec =
     (tie.spec
     path-to-requires
     value-at-requires
-    got-requires
+    get-answer-requires
     serve-reads-requires
     same-length
     same-length-2

@@ -1,4 +1,4 @@
--- `path::path_to` meets its contract: what is left of the way gives the whole. Assumes nothing.
+-- `path::path_to` meets its contract: what is left of the path gives the whole. Assumes nothing.
 use mathlib.Core.Path.{sym, subst}
 use Prim.Native.Nat.{ℕ, _+_, _-_}
 use native.Mathlib.Omega.{arith}
@@ -8,7 +8,7 @@ use Rattle.flash_blocks.specs.Pages.{pagesOf}
 use Rattle.flash_rows.specs.Row.{rowsOf}
 use Rattle.node.specs.Value.{pairsIn}
 use Rattle.flash_read.specs.NodeTable.{tableOf}
-use Rattle.flash_read.specs.Kinds.{is-leaf, is-branch}
+use Rattle.flash_read.specs.Shapes.{is-leaf, is-branch}
 use Rattle.run_path.specs.Steps.{Down, down-start, down-more, down-leaf, down-last}
 use Rattle.run_path.proofs.path.path_to.Statement.{statement}
 use Rattle.run_path.proofs.path.path_to.Tie as tie
@@ -31,8 +31,8 @@ array-write-ids c = let d = c .before .loop .inv in omega (arith, d .long, d .st
 node-at-requires : tie.Need-node-at-requires Inv-loop μ-loop
 node-at-requires c κs = search needs
 
-same-kind-requires : tie.Need-same-kind-requires Inv-loop μ-loop
-same-kind-requires c κs = search needs
+same-shape-requires : tie.Need-same-shape-requires Inv-loop μ-loop
+same-shape-requires c κs = search needs
 
 add-t18 : tie.Need-add-t18 Inv-loop μ-loop
 add-t18 c = omega arith
@@ -43,7 +43,7 @@ returns c = let a = c .before .before .before .before .before .before .before .a
     let turn = c .before .before .before .before .loop in
     let read = c .before .before .node-at in
     down-leaf (turn .inv) (pairsIn (read .result)) (read .result .link)
-    (is-leaf (read .result) (nodes (turn .id)) (read .ensures .is) (c .before .same-kind .result) (c .before .same-kind .ensures) (c .if1 .taken)) (read .result) (read .ensures)
+    (is-leaf (read .result) (nodes (turn .id)) (read .ensures .is) (c .before .same-shape .result) (c .before .same-shape .ensures) (c .if1 .taken)) (read .result) (read .ensures)
 
 child-requires : tie.Need-child-requires Inv-loop μ-loop
 child-requires c κs = c .before .before .node-at .ensures .held
@@ -62,10 +62,10 @@ loop-again c = let a = c .before .before .before .before .before .before .before
     let nodes = tableOf (pagesOf (a .pool .now)) (rowsOf (a .table .now)) (a .state) in
     let turn = c .before .before .before .before .before .loop in
     let read = c .before .before .before .node-at in
-    let kind = c .before .before .same-kind in
+    let shape = c .before .before .same-shape in
     subst (λ (next : ℕ). Down nodes (a .key) (set (turn .ids) (turn .i) (turn .id)) next (turn .i + 1)) (sym (c .child .ensures))
     (down-more (turn .inv) (c .before .before .before .before .loop-test .taken) (pairsIn (read .result)) (read .result .link)
-    (is-branch (read .result) (nodes (turn .id)) (read .ensures .is) (kind .result) (kind .ensures) (c .before .if1 .left)))
+    (is-branch (read .result) (nodes (turn .id)) (read .ensures .is) (shape .result) (shape .ensures) (c .before .if1 .left)))
 
 array-write-ids-2 : tie.Need-array-write-ids-2 Inv-loop μ-loop
 array-write-ids-2 c = let d = c .before .loop .inv in omega (arith, d .long)
@@ -86,7 +86,7 @@ path-to-spec =
     mul-ids
     array-write-ids
     node-at-requires
-    same-kind-requires
+    same-shape-requires
     add-t18
     returns
     child-requires

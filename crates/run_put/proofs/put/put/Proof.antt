@@ -17,11 +17,11 @@ fit-requires c κs = c .before .before .path-to .ensures .leaf .held
 enum-told : tie.Need-enum-told
 enum-told c = search needs
 
-old-value-requires : tie.Need-old-value-requires
-old-value-requires c κs = c .before .before .before .before .before .path-to .ensures .leaf .held
+replaced-answer-requires : tie.Need-replaced-answer-requires
+replaced-answer-requires c κs = c .before .before .before .before .before .path-to .ensures .leaf .held
 
-edit-leaf-requires : tie.Need-edit-leaf-requires
-edit-leaf-requires c κs = (c .before .before .before .before .before .before .before .before .before .before .before .before .before .pre .0, c .before .before .before .before .before .before .before .before .before .before .before .before .before .pre .1, c .before .before .before .before .before .before .before .before .path-to .ensures .some, c .before .before .before .before .before .before .before .before .path-to .ensures .few)
+read-and-edit-requires : tie.Need-read-and-edit-requires
+read-and-edit-requires c κs = (c .before .before .before .before .before .before .before .before .before .before .before .before .before .pre .0, c .before .before .before .before .before .before .before .before .before .before .before .before .before .pre .1, c .before .before .before .before .before .before .before .before .path-to .ensures .some, c .before .before .before .before .before .before .before .before .path-to .ensures .few)
 
 same-length : tie.Need-same-length
 same-length c = search needs
@@ -34,14 +34,14 @@ returns c =
     let a = c .before .before .before .before .before .before .before .before .before .before .before .before .before .before .before .before .before .before .before .args in
     let p = c .before .before .before .before .before .before .before .before .before .before .before .before .before .before .path-to in
     let f = c .before .before .before .before .before .before .before .before .before .before .before .fit in
-    let x = c .before .before .before .before .before .edit-leaf in
-    put-edit (a .tariff) (a .key) (a .value) (world (pagesOf (a .pool .now)) (rowsOf (a .table .now)) (a .state)) (p .result) (p .ensures) (f .result) (f .ensures) (pagesOf (x .last .0)) (rowsOf (x .last .1 .0)) (c .before .before .before .before .before .before .before .before .old-value .result) (x .result) (c .before .before .before .before .before .before .before .before .before .enum-told .given .1) (c .before .before .before .before .before .before .before .before .old-value .ensures) (x .ensures)
+    let x = c .before .before .before .before .before .read-and-edit in
+    put-edit (a .tariff) (a .key) (a .value) (world (pagesOf (a .pool .now)) (rowsOf (a .table .now)) (a .state)) (p .result) (p .ensures) (f .result) (f .ensures) (pagesOf (x .last .0)) (rowsOf (x .last .1 .0)) (c .before .before .before .before .before .before .before .before .replaced-answer .result) (x .result) (c .before .before .before .before .before .before .before .before .before .enum-told .given .1) (c .before .before .before .before .before .before .before .before .replaced-answer .ensures) (x .ensures)
 
 enum-told-2 : tie.Need-enum-told-2
 enum-told-2 c = search needs
 
-put-new-requires : tie.Need-put-new-requires
-put-new-requires c κs =
+put-splitting-requires : tie.Need-put-splitting-requires
+put-splitting-requires c κs =
     let a = c .before .before .before .before .before .before .before .before .before .before .before .before .args in
     let p = c .before .before .before .before .before .before .before .path-to in
     let f = c .before .before .before .before .fit in
@@ -58,7 +58,7 @@ returns-2 c =
     let a = c .before .before .before .before .before .before .before .before .before .before .before .before .before .before .before .before .before .args in
     let p = c .before .before .before .before .before .before .before .before .before .before .before .before .path-to in
     let f = c .before .before .before .before .before .before .before .before .before .fit in
-    done-is (c .before .before .before .before .put-new .ensures) (put-new (a .tariff) (a .key) (a .value) (world (pagesOf (a .pool .now)) (rowsOf (a .table .now)) (a .state)) (p .result) (p .ensures) (f .result) (f .ensures) _ (c .before .before .before .before .before .before .before .enum-told2 .given .1))
+    done-is (c .before .before .before .before .put-splitting .ensures) (put-new (a .tariff) (a .key) (a .value) (world (pagesOf (a .pool .now)) (rowsOf (a .table .now)) (a .state)) (p .result) (p .ensures) (f .result) (f .ensures) _ (c .before .before .before .before .before .before .before .enum-told2 .given .1))
 
 pub put-spec : {M : Type 1} → statement M
-put-spec = tie.close (tie.spec path-to-requires fit-requires enum-told old-value-requires edit-leaf-requires same-length same-length-2 returns enum-told-2 put-new-requires same-length-3 same-length-4 returns-2)
+put-spec = tie.close (tie.spec path-to-requires fit-requires enum-told replaced-answer-requires read-and-edit-requires same-length same-length-2 returns enum-told-2 put-splitting-requires same-length-3 same-length-4 returns-2)

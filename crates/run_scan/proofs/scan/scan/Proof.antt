@@ -1,4 +1,4 @@
--- `scan::scan` meets its contract: the pairs and the leaves gathered, then the way and the leaves read. Assumes nothing.
+-- `scan::scan` meets its contract: the pairs and the leaves gathered, then the path and the leaves read. Assumes nothing.
 use Prim.Native.Nat.{_≤_}
 use native.Mathlib.Nat.{sub-zero}
 use native.Mathlib.Omega.{arith}

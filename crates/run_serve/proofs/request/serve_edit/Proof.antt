@@ -10,8 +10,8 @@ use borrow.Author.Needs.{needs}
 use Rattle.run_serve.proofs.request.serve_edit.Statement.{statement}
 use Rattle.run_serve.proofs.request.serve_edit.Tie as tie
 
-edited-requires : tie.Need-edited-requires
-edited-requires c κs = search needs
+edited-content-requires : tie.Need-edited-content-requires
+edited-content-requires c κs = search needs
 
 settle-requires : tie.Need-settle-requires
 settle-requires c κs = search needs
@@ -29,7 +29,7 @@ returns : tie.Need-returns
 returns c = let a = c .before .before .before .before .before .before .before .before .before .before .before .before .before .before .before .before .before .before .before .before .before .before .args in
     let x = c .before .before .before .before .before .before .before .before .before .before .before .before .settle in
     let y = c .before .before .before .before .write-edit in
-    let v = c .before .before .before .before .before .before .before .before .before .before .before .before .before .before .before .edited in
+    let v = c .before .before .before .before .before .before .before .before .before .before .before .before .before .before .before .edited-content in
     served-there (a .tariff) (a .n) (edit (changeOf (a .change))) (world (pagesOf (a .pool .now)) (rowsOf (a .table .now)) (a .state)) (c .before .before .before .before .before .before .before .before .before .before .before .before .before .before .before .before .before .before .if1 .taken) (pagesOf (x .last .0)) (rowsOf (x .last .1 .0)) (x .result) (x .ensures) (nodeOf (v .result)) (v .ensures .is) (pagesOf (y .last .0)) (rowsOf (y .last .1 .0)) (y .result) (y .ensures)
 
 returns-2 : tie.Need-returns-2
@@ -40,7 +40,7 @@ pub serve-edit-spec : {M : Type 1} → statement M
 serve-edit-spec =
     tie.close
     (tie.spec
-    edited-requires
+    edited-content-requires
     settle-requires
     write-edit-requires
     same-length

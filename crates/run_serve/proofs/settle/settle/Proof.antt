@@ -7,8 +7,8 @@ use borrow.Author.Needs.{needs}
 use Rattle.run_serve.proofs.settle.settle.Statement.{statement}
 use Rattle.run_serve.proofs.settle.settle.Tie as tie
 
-load-requires : tie.Need-load-requires
-load-requires c κs = search needs
+read-row-requires : tie.Need-read-row-requires
+read-row-requires c κs = search needs
 
 account-in-requires : tie.Need-account-in-requires
 account-in-requires c κs = search needs
@@ -32,13 +32,13 @@ returns : tie.Need-returns
 returns c = let a = c .before .before .before .before .before .before .before .before .before .before .before .before .before .before .before .before .before .before .args in
     let x = c .before .before .before .before .before .before .before .before .switch in
     let y = c .before .before .rescore in
-    settled (a .tariff) (a .request) (a .n) (world (pagesOf (a .pool .now)) (rowsOf (a .table .now)) (a .state)) (world (pagesOf (x .last .0)) (rowsOf (x .last .1 .0)) (x .result)) (c .before .before .before .before .before .before .before .before .before .before .before .before .before .before .load .result) (c .before .before .before .before .before .before .before .before .before .before .before .before .before .account-in .result) (c .before .before .before .before .before .before .before .before .before .before .before .before .serve .result) (rowsOf (y .last .0)) (c .before .before .before .before .before .before .before .before .before .before .before .before .before .before .load .ensures) (c .before .before .before .before .before .before .before .before .before .before .before .before .before .account-in .ensures) (c .before .before .before .before .before .before .before .before .before .before .before .before .serve .ensures) (x .ensures) (y .ensures) (y .kept .0)
+    settled (a .tariff) (a .request) (a .n) (world (pagesOf (a .pool .now)) (rowsOf (a .table .now)) (a .state)) (world (pagesOf (x .last .0)) (rowsOf (x .last .1 .0)) (x .result)) (c .before .before .before .before .before .before .before .before .before .before .before .before .before .before .read-row .result) (c .before .before .before .before .before .before .before .before .before .before .before .before .before .account-in .result) (c .before .before .before .before .before .before .before .before .before .before .before .before .serve .result) (rowsOf (y .last .0)) (c .before .before .before .before .before .before .before .before .before .before .before .before .before .before .read-row .ensures) (c .before .before .before .before .before .before .before .before .before .before .before .before .before .account-in .ensures) (c .before .before .before .before .before .before .before .before .before .before .before .before .serve .ensures) (x .ensures) (y .ensures) (y .kept .0)
 
 pub settle-spec : {M : Type 1} → statement M
 settle-spec =
     tie.close
     (tie.spec
-    load-requires
+    read-row-requires
     account-in-requires
     serve-requires
     switch-requires

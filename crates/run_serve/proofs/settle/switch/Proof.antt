@@ -16,8 +16,8 @@ returns : tie.Need-returns
 returns c = let a = c .before .before .before .before .args in
     switch-none (a .from) (a .to) (a .n) (world (pagesOf (a .pool .now)) (rowsOf (a .table .now)) (a .state)) (sym (c .before .same-mode .ensures) ∙ c .if1 .taken) (c .before .before .before .before .pre .0)
 
-current-requires : tie.Need-current-requires
-current-requires c κs = search needs
+content-of-requires : tie.Need-content-of-requires
+content-of-requires c κs = search needs
 
 write-whole-requires : tie.Need-write-whole-requires
 write-whole-requires c κs = search needs
@@ -31,7 +31,7 @@ same-length-2 c = search needs
 returns-2 : tie.Need-returns-2
 returns-2 c = let a = c .before .before .before .before .before .before .before .before .before .before .before .before .before .before .args in
     let g = c .before .before .before .before .write-whole in
-    switch-whole (a .from) (a .to) (a .n) (world (pagesOf (a .pool .now)) (rowsOf (a .table .now)) (a .state)) (nodeOf (c .before .before .before .before .before .before .before .current .result)) (world (pagesOf (g .last .0)) (rowsOf (g .last .1 .0)) (g .result)) (sym (c .before .before .before .before .before .before .before .before .before .before .before .same-mode .ensures) ∙ c .before .before .before .before .before .before .before .before .before .before .if1 .left) (c .before .before .before .before .before .before .before .current .ensures .is) (g .ensures)
+    switch-whole (a .from) (a .to) (a .n) (world (pagesOf (a .pool .now)) (rowsOf (a .table .now)) (a .state)) (nodeOf (c .before .before .before .before .before .before .before .content-of .result)) (world (pagesOf (g .last .0)) (rowsOf (g .last .1 .0)) (g .result)) (sym (c .before .before .before .before .before .before .before .before .before .before .before .same-mode .ensures) ∙ c .before .before .before .before .before .before .before .before .before .before .if1 .left) (c .before .before .before .before .before .before .before .content-of .ensures .is) (g .ensures)
 
 pub switch-spec : {M : Type 1} → statement M
 switch-spec =
@@ -39,7 +39,7 @@ switch-spec =
     (tie.spec
     same-mode-requires
     returns
-    current-requires
+    content-of-requires
     write-whole-requires
     same-length
     same-length-2

@@ -25,7 +25,7 @@ same-length-2 c = search needs
 
 returns : tie.Need-returns
 returns c = let a = c .before .before .before .before .before .before .before .before .before .before .before .args in
-    kept-mode (λ (m : Mode). writeEdit m (a .n) (changeOf (a .change)) (nodeOf (a .edited)) (world (pagesOf (a .pool .now)) (rowsOf (a .table .now)) (a .state))) (c .before .before .before .before .before .before .before .enum-told .given .1) (c .before .before .before .before .edit .ensures)
+    kept-mode (λ (m : Mode). writeEdit m (a .n) (changeOf (a .change)) (nodeOf (a .edited-content)) (world (pagesOf (a .pool .now)) (rowsOf (a .table .now)) (a .state))) (c .before .before .before .before .before .before .before .enum-told .given .1) (c .before .before .before .before .edit .ensures)
 
 enum-told-2 : tie.Need-enum-told-2
 enum-told-2 c = search needs
@@ -41,7 +41,7 @@ same-length-4 c = search needs
 
 returns-2 : tie.Need-returns-2
 returns-2 c = let a = c .before .before .before .before .before .before .before .before .before .before .before .args in
-    kept-mode (λ (m : Mode). writeEdit m (a .n) (changeOf (a .change)) (nodeOf (a .edited)) (world (pagesOf (a .pool .now)) (rowsOf (a .table .now)) (a .state))) (c .before .before .before .before .before .before .before .enum-told2 .given .1) (c .before .before .before .before .node-page .ensures)
+    kept-mode (λ (m : Mode). writeEdit m (a .n) (changeOf (a .change)) (nodeOf (a .edited-content)) (world (pagesOf (a .pool .now)) (rowsOf (a .table .now)) (a .state))) (c .before .before .before .before .before .before .before .enum-told2 .given .1) (c .before .before .before .before .node-page .ensures)
 
 pub write-edit-spec : {M : Type 1} → statement M
 write-edit-spec =

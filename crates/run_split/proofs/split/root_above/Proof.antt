@@ -4,14 +4,14 @@ use borrow.Author.Needs.{needs}
 use Rattle.run_split.proofs.split.root_above.Statement.{statement}
 use Rattle.run_split.proofs.split.root_above.Tie as tie
 
-empty-requires : tie.Need-empty-requires
-empty-requires c κs = search needs
+empty-node-requires : tie.Need-empty-node-requires
+empty-node-requires c κs = search needs
 
 put-requires : tie.Need-put-requires
-put-requires c κs = (c .empty .ensures .held, put-room _ _ _ _ (c .empty .ensures .is))
+put-requires c κs = (c .empty-node .ensures .held, put-room _ _ _ _ (c .empty-node .ensures .is))
 
 returns : tie.Need-returns
-returns c = one-pair _ _ _ _ _ (c .before .empty .ensures .is) (c .put .ensures)
+returns c = one-pair _ _ _ _ _ (c .before .empty-node .ensures .is) (c .put .ensures)
 
 pub root-above-spec : {M : Type 1} → statement M
-root-above-spec = tie.close (tie.spec empty-requires put-requires returns)
+root-above-spec = tie.close (tie.spec empty-node-requires put-requires returns)

@@ -4,7 +4,7 @@ use Rattle.flash_blocks.specs.Pages.{pagesOf}
 use Rattle.node.specs.Change.{change, put}
 use Rattle.node.specs.Value.{nodeOf}
 use Rattle.flash_allocate.specs.World.{world}
-use Rattle.run_split.proofs.Laws.{taken-is, split-as-root, split-as-below}
+use Rattle.run_split.proofs.Laws.{absorbed-is, split-as-root, split-as-below}
 use borrow.Author.Needs.{needs}
 use Rattle.run_split.proofs.split.split.Statement.{statement}
 use Rattle.run_split.proofs.split.split.Tie as tie
@@ -21,7 +21,7 @@ same-length-2 c = search needs
 returns : tie.Need-returns
 returns c =
     let a = c .before .before .before .before .before .before .before .before .before .before .args in
-    taken-is (c .before .before .before .before .split-root .ensures) (split-as-root (a .tariff) (change (put (a .key) (a .pointer)) (nodeOf (a .v))) (world (pagesOf (a .pool .now)) (rowsOf (a .table .now)) (a .state)) (a .root) (a .id) (c .before .before .before .before .before .before .before .if1 .taken))
+    absorbed-is (c .before .before .before .before .split-root .ensures) (split-as-root (a .tariff) (change (put (a .key) (a .pointer)) (nodeOf (a .v))) (world (pagesOf (a .pool .now)) (rowsOf (a .table .now)) (a .state)) (a .root) (a .id) (c .before .before .before .before .before .before .before .if1 .taken))
 
 split-below-requires : tie.Need-split-below-requires
 split-below-requires c κs = c .before .before .before .before .before .pre
@@ -35,7 +35,7 @@ same-length-4 c = search needs
 returns-2 : tie.Need-returns-2
 returns-2 c =
     let a = c .before .before .before .before .before .before .before .before .before .before .args in
-    taken-is (c .before .before .before .before .split-below .ensures) (split-as-below (a .tariff) (change (put (a .key) (a .pointer)) (nodeOf (a .v))) (world (pagesOf (a .pool .now)) (rowsOf (a .table .now)) (a .state)) (a .root) (a .id) (c .before .before .before .before .before .before .before .if1 .left))
+    absorbed-is (c .before .before .before .before .split-below .ensures) (split-as-below (a .tariff) (change (put (a .key) (a .pointer)) (nodeOf (a .v))) (world (pagesOf (a .pool .now)) (rowsOf (a .table .now)) (a .state)) (a .root) (a .id) (c .before .before .before .before .before .before .before .if1 .left))
 
 pub split-spec : {M : Type 1} → statement M
 split-spec = tie.close (tie.spec split-root-requires same-length same-length-2 returns split-below-requires same-length-3 same-length-4 returns-2)

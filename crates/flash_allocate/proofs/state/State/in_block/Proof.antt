@@ -1,0 +1,12 @@
+-- `State::in_block` meets its contract: two fields are others. Assumes nothing.
+use mathlib.Core.Path.{refl}
+use Rattle.flash_allocate.specs.Allocate.{inBlock}
+use Rattle.flash_allocate.proofs.state.State.in_block.Statement.{statement}
+use Rattle.flash_allocate.proofs.state.State.in_block.Tie as tie
+
+returns : tie.Need-returns
+unfolding inBlock
+returns c = refl
+
+pub in-block-spec : {M : Type 1} → statement M
+in-block-spec = tie.close (tie.spec returns)

@@ -1,0 +1,55 @@
+-- `checkpoint_page` meets its contract: an allocation, and the checkpoint page written where it left room. Assumes nothing.
+use Rattle.flash_rows.specs.Row.{rowsOf}
+use Rattle.flash_blocks.specs.Pages.{pagesOf}
+use Rattle.flash_allocate.specs.World.{world}
+use Rattle.flash_log.proofs.Laws.{allocated}
+use Rattle.flash_checkpoint.specs.CheckpointPages.{writeCheckpointPage}
+use Rattle.flash_checkpoint.proofs.Laws.{closing-beside, checkpoint-page-room, checkpoint-page-stuck}
+use borrow.Author.Needs.{needs}
+use Rattle.flash_checkpoint.proofs.checkpoint_page.Statement.{statement}
+use Rattle.flash_checkpoint.proofs.checkpoint_page.Tie as tie
+
+allocate-requires : tie.Need-allocate-requires
+allocate-requires c κs = search needs
+
+write-checkpoint-page-requires : tie.Need-write-checkpoint-page-requires
+write-checkpoint-page-requires c κs = let a = c .before .before .before .before .before .before .before .before .before .before .before .before .before .args in
+    let x = c .before .before .before .before .before .before .before .before .allocate in
+    let b = allocated (writeCheckpointPage (a .tariff) (a .k)) (world (pagesOf (a .pool .now)) (rowsOf (a .table .now)) (a .state)) (world (pagesOf (x .last .0)) (rowsOf (x .last .1 .0)) (x .result)) (x .ensures) in
+    (x .ensures .good, closing-beside (a .k) (a .state) (x .result) b (c .before .before .before .before .before .before .before .before .before .before .before .before .before .pre .1), c .before .before .if1 .taken)
+
+same-length : tie.Need-same-length
+same-length c = search needs
+
+same-length-2 : tie.Need-same-length-2
+same-length-2 c = search needs
+
+returns : tie.Need-returns
+returns c = let a = c .before .before .before .before .before .before .before .before .before .before .before .before .before .before .before .before .before .before .args in
+    let x = c .before .before .before .before .before .before .before .before .before .before .before .before .before .allocate in
+    let y = c .before .before .before .before .write-checkpoint-page in
+    checkpoint-page-room (a .tariff) (a .k) (world (pagesOf (a .pool .now)) (rowsOf (a .table .now)) (a .state)) (world (pagesOf (x .last .0)) (rowsOf (x .last .1 .0)) (x .result)) (x .ensures) (world (pagesOf (y .last .0)) (rowsOf (y .last .1 .0)) (y .result)) (c .before .before .before .before .before .before .before .if1 .taken) (y .ensures)
+
+same-length-3 : tie.Need-same-length-3
+same-length-3 c = search needs
+
+same-length-4 : tie.Need-same-length-4
+same-length-4 c = search needs
+
+returns-2 : tie.Need-returns-2
+returns-2 c = let a = c .before .before .before .before .before .before .before .before .before .before .before .args in
+    let x = c .before .before .before .before .before .before .allocate in
+    checkpoint-page-stuck (a .tariff) (a .k) (world (pagesOf (a .pool .now)) (rowsOf (a .table .now)) (a .state)) (world (pagesOf (x .last .0)) (rowsOf (x .last .1 .0)) (x .result)) (x .ensures) (c .if1 .left)
+
+pub checkpoint-page-spec : {M : Type 1} → statement M
+checkpoint-page-spec =
+    tie.close
+    (tie.spec
+    allocate-requires
+    write-checkpoint-page-requires
+    same-length
+    same-length-2
+    returns
+    same-length-3
+    same-length-4
+    returns-2)

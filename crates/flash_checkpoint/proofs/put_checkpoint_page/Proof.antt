@@ -1,0 +1,64 @@
+-- `put_checkpoint_page` meets its contract: the records of its nodes' scores, their image, the page. Assumes nothing.
+use native.Mathlib.Omega.{arith}
+use Rattle.flash_rows.specs.Row.{rowsOf}
+use Rattle.flash_blocks.specs.Pages.{pagesOf}
+use Rattle.flash_checkpoint.proofs.Laws.{checkpoint-page-put}
+use borrow.Author.Needs.{needs}
+use Rattle.flash_checkpoint.proofs.put_checkpoint_page.Statement.{statement}
+use Rattle.flash_checkpoint.proofs.put_checkpoint_page.Tie as tie
+
+scores-before-requires : tie.Need-scores-before-requires
+scores-before-requires c κs = omega arith
+
+scores-on-requires : tie.Need-scores-on-requires
+scores-on-requires c κs = (omega arith, omega arith)
+
+score-records-requires : tie.Need-score-records-requires
+score-records-requires c κs = search needs
+
+add-last : tie.Need-add-last
+add-last c = search needs
+
+page-count-requires : tie.Need-page-count-requires
+page-count-requires c κs = search needs
+
+slice-aggregate-checkpoint-image : tie.Need-slice-aggregate-checkpoint-image
+slice-aggregate-checkpoint-image c = search needs
+
+cast-checkpoint-image : tie.Need-cast-checkpoint-image
+cast-checkpoint-image c = search needs
+
+checkpoint-image-requires : tie.Need-checkpoint-image-requires
+checkpoint-image-requires c κs = search needs
+
+put-image-requires : tie.Need-put-image-requires
+put-image-requires c κs = search needs
+
+same-length : tie.Need-same-length
+same-length c = search needs
+
+returns : tie.Need-returns
+returns c = let a = c .before .before .before .before .before .before .before .before .before .before .before .before .args in
+    let f = c .before .before .before .before .before .before .before .before .before .scores-before in
+    let n = c .before .before .before .before .before .before .before .before .scores-on in
+    let r = c .before .before .before .before .before .before .before .score-records in
+    let m = c .before .before .before .before .before .before .page-count in
+    let i = c .before .before .before .before .checkpoint-image in
+    let w = c .before .before .put-image in
+    checkpoint-page-put (a .number) (a .tariff) (a .k) (a .nodes) (rowsOf (a .table .now)) (f .result) (n .result) (m .result) (r .result) (i .result) (pagesOf (a .pool .now)) (pagesOf (w .last .0)) (a .at) (f .ensures) (n .ensures .is) (m .ensures) (r .ensures) (i .ensures) (w .ensures)
+
+pub put-checkpoint-page-spec : {M : Type 1} → statement M
+put-checkpoint-page-spec =
+    tie.close
+    (tie.spec
+    scores-before-requires
+    scores-on-requires
+    score-records-requires
+    add-last
+    page-count-requires
+    slice-aggregate-checkpoint-image
+    cast-checkpoint-image
+    checkpoint-image-requires
+    put-image-requires
+    same-length
+    returns)

@@ -1,0 +1,27 @@
+-- `store_checkpoint_page` meets its contract: a row from nothing, in disk mode, with one page. Assumes nothing.
+use Rattle.flash_checkpoint.specs.CheckpointPages.{checkpointRow}
+use borrow.Author.Needs.{needs}
+use Rattle.flash_checkpoint.proofs.store_checkpoint_page.Statement.{statement}
+use Rattle.flash_checkpoint.proofs.store_checkpoint_page.Tie as tie
+
+no-row-requires : tie.Need-no-row-requires
+no-row-requires c κs = search needs
+
+fresh-requires : tie.Need-fresh-requires
+fresh-requires c κs = search needs
+
+note-requires : tie.Need-note-requires
+note-requires c κs = search needs
+
+write-row-requires : tie.Need-write-row-requires
+write-row-requires c κs = search needs
+
+same-length : tie.Need-same-length
+same-length c = search needs
+
+returns : tie.Need-returns
+unfolding checkpointRow
+returns c = rw (← c .before .before .before .before .before .before .no-row .ensures, ← c .before .before .before .before .before .fresh .ensures, ← c .before .before .before .note .ensures) (c .before .before .write-row .ensures)
+
+pub store-checkpoint-page-spec : {M : Type 1} → statement M
+store-checkpoint-page-spec = tie.close (tie.spec no-row-requires fresh-requires note-requires write-row-requires same-length returns)

@@ -1,0 +1,65 @@
+-- `node_page::node_of_payload` meets its contract: too short, too long, a node, or keys that do not ascend. Assumes nothing.
+use mathlib.Core.Path.{refl, sym, _∙_}
+use Prim.Native.Nat.{_-_, _/_}
+use lib.ListN.{length}
+use Rattle.flash_read.proofs.Laws.{redone-is, whole-short, whole-long, whole-made, whole-loose}
+use borrow.Author.Needs.{needs}
+use Rattle.flash_read.proofs.node_page.node_of_payload.Statement.{statement}
+use Rattle.flash_read.proofs.node_page.node_of_payload.Tie as tie
+
+no-node-requires : tie.Need-no-node-requires
+no-node-requires c κs = search needs
+
+returns : tie.Need-returns
+returns c = redone-is (c .no-node .result) _ _ (c .no-node .ensures) (whole-short (c .before .before .before .args .p .now) (c .before .if1 .taken))
+
+no-node-requires-2 : tie.Need-no-node-requires-2
+no-node-requires-2 c κs = search needs
+
+returns-2 : tie.Need-returns-2
+returns-2 c = let p = c .before .before .before .before .args .p .now in
+    redone-is (c .no-node2 .result) _ _ (c .no-node2 .ensures) (whole-long p (c .before .before .if1 .left) ((length p - 7) / 8) refl (c .before .if2 .taken))
+
+shared-slice-read-shape-of : tie.Need-shared-slice-read-shape-of
+shared-slice-read-shape-of c = search needs
+
+shape-of-requires : tie.Need-shape-of-requires
+shape-of-requires c κs = search needs
+
+read32-requires : tie.Need-read32-requires
+read32-requires c κs = search needs
+
+read-pairs-requires : tie.Need-read-pairs-requires
+read-pairs-requires c κs = search needs
+
+ascends-requires : tie.Need-ascends-requires
+ascends-requires c κs = search needs
+
+returns-3 : tie.Need-returns-3
+returns-3 c = let p = c .before .before .before .before .before .before .before .before .before .args .p .now in
+    whole-made p (c .before .before .before .before .before .before .before .if1 .left) ((length p - 7) / 8) refl (c .before .before .before .before .before .before .if2 .left) (c .before .before .read-pairs .result) (c .before .before .before .before .shape-of .result) (c .before .before .before .read32 .result) (c .before .before .before .before .shape-of .ensures) (c .before .before .before .read32 .ensures .is) (c .before .before .read-pairs .ensures) (sym (c .before .ascends .ensures) ∙ c .if3 .taken)
+
+no-node-requires-3 : tie.Need-no-node-requires-3
+no-node-requires-3 c κs = search needs
+
+returns-4 : tie.Need-returns-4
+returns-4 c = let p = c .before .before .before .before .before .before .before .before .before .before .args .p .now in
+    redone-is (c .no-node3 .result) _ _ (c .no-node3 .ensures)
+    (whole-loose p (c .before .before .before .before .before .before .before .before .if1 .left) ((length p - 7) / 8) refl (c .before .before .before .before .before .before .before .if2 .left) (c .before .before .before .read-pairs .result) (c .before .before .before .before .before .shape-of .result) (c .before .before .before .before .read32 .result) (c .before .before .before .before .before .shape-of .ensures) (c .before .before .before .before .read32 .ensures .is) (c .before .before .before .read-pairs .ensures) (sym (c .before .before .ascends .ensures) ∙ c .before .if3 .left))
+
+pub node-of-payload-spec : {M : Type 1} → statement M
+node-of-payload-spec =
+    tie.close
+    (tie.spec
+    no-node-requires
+    returns
+    no-node-requires-2
+    returns-2
+    shared-slice-read-shape-of
+    shape-of-requires
+    read32-requires
+    read-pairs-requires
+    ascends-requires
+    returns-3
+    no-node-requires-3
+    returns-4)

@@ -1,0 +1,109 @@
+// A node read from its node page.
+ghost use mathlib.Core.Path.{_≡_};
+ghost use Prim.Native.Nat.{_+_, _*_, _≤_};
+ghost use lib.ListN.{length};
+ghost use Rattle.flash_blocks.specs.Pages.{pagesOf};
+ghost use Rattle.node.specs.Node.{node};
+ghost use Rattle.node.specs.Replay.{broken};
+ghost use Rattle.node.specs.Value.{Stands};
+ghost use Rattle.node.specs.Drafts.{Redone};
+ghost use Rattle.wire.specs.Field.{payloadAt};
+ghost use Rattle.page.specs.Decode as decode;
+ghost use Rattle.flash_read.specs.NodePage.{nodeOfPayload, nodePageAt};
+use node::DraftState;
+use node::DraftValue;
+use node::NodeValue;
+use node::Shape;
+use node::search::ascends;
+use node_replay::empty_node;
+use wire::field::payload;
+use wire::number::read32;
+
+// No node.
+fn no_node() -> DraftValue
+    ensures { λ r. ⌜ Redone r broken ⌝ }
+{
+    let node = empty_node(Shape::Leaf, 0);
+    DraftValue {
+        state: DraftState::Broken,
+        node,
+    }
+}
+
+// The shape that a number says.
+fn shape_of(number: u8) -> Shape
+    ensures { λ r. ⌜ r ≡ decode.shapeOfNumber number ⌝ }
+{
+    if number == 3 {
+        return Shape::Leaf;
+    }
+    Shape::Branch
+}
+
+// A node of the first n pairs of a payload.
+fn read_pairs(p: &[u8], n: usize, shape: Shape, link: u32) -> NodeValue
+    requires { ⌜ (n ≤ 24) × (7 + 8 * n ≤ length (now p)) ⌝ }
+    ensures { λ r. ⌜ Stands r (node shape (decode.pairsFrom n (now (p .entry)) 7) link) ⌝ }
+{
+    let mut keys = [0u32; 24];
+    let mut pointers = [0u32; 24];
+    let mut i: usize = 0;
+    while i < n {
+        let key = read32(p, 7 + 8 * i);
+        let pointer = read32(p, 11 + 8 * i);
+        keys[i] = key;
+        pointers[i] = pointer;
+        i += 1;
+    }
+    NodeValue {
+        shape,
+        count: n,
+        keys,
+        pointers,
+        link,
+    }
+}
+
+// The node of a payload of field 11; none where it is too short or too long, or its keys do not ascend.
+fn node_of_payload(p: &[u8]) -> DraftValue
+    ensures { λ r. ⌜ Redone r (nodeOfPayload (now (p .entry))) ⌝ }
+{
+    let bytes = p.len();
+    if bytes < 7 {
+        return no_node();
+    }
+    let n = (bytes - 7) / 8;
+    if 24 < n {
+        return no_node();
+    }
+    let shape = shape_of(p[2]);
+    let link = read32(p, 3);
+    let v = read_pairs(p, n, shape, link);
+    if ascends(v, 0, 4294967296) {
+        return DraftValue {
+            state: DraftState::Made,
+            node: v,
+        };
+    }
+    no_node()
+}
+
+// The node of a page's field 11.
+fn read_node(page: &[u8]) -> DraftValue
+    ensures { λ r. ⌜ Redone r (nodeOfPayload (payloadAt (now (page .entry)) 7 0x11)) ⌝ }
+{
+    let p = payload(page, 7, 0x11);
+    node_of_payload(p)
+}
+
+// The node of a page of the pool; none behind its end.
+pub fn node_page_at(pool: &[u8], page: u16) -> DraftValue
+    ensures { λ r. ⌜ Redone r (nodePageAt (pagesOf (now (pool .entry))) page) ⌝ }
+{
+    let from = 512 * (page as usize);
+    let to = from + 512;
+    if to <= pool.len() {
+        return read_node(&pool[from..to]);
+    }
+    no_node()
+}

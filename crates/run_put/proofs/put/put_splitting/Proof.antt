@@ -1,0 +1,56 @@
+-- `put::put_splitting` meets its contract: the ids counted, then a refusal or the splits. Assumes nothing.
+use native.Mathlib.Omega.{arith}
+use lib.ListN.{take}
+use Rattle.flash_rows.specs.Row.{rowsOf}
+use Rattle.flash_blocks.specs.Pages.{pagesOf}
+use Rattle.tree.specs.Put.{idsNeeded}
+use Rattle.flash_allocate.specs.World.{world}
+use Rattle.flash_read.specs.NodeTable.{tableOf}
+use Rattle.run_split.specs.Growing.{readable}
+use Rattle.run_put.proofs.Laws.{new-refused, new-split}
+use borrow.Author.Needs.{needs}
+use Rattle.run_put.proofs.put.put_splitting.Statement.{statement}
+use Rattle.run_put.proofs.put.put_splitting.Tie as tie
+
+ids-needed-requires : tie.Need-ids-needed-requires
+ids-needed-requires c κs = (readable (c .before .before .before .before .pre .0), c .before .before .before .before .pre .2, c .before .before .before .before .pre .3, c .before .before .before .before .pre .4)
+
+sub-if1 : tie.Need-sub-if1
+sub-if1 c = omega (arith, c .before .before .before .before .before .before .pre .0 .good .few)
+
+mul-if1 : tie.Need-mul-if1
+mul-if1 c = omega (arith, c .before .before .before .before .before .before .pre .0 .good .most)
+
+add-if1 : tie.Need-add-if1
+add-if1 c = omega (arith, c .before .before .before .before .before .before .before .pre .0 .limited, c .before .before .before .before .before .before .before .pre .0 .good .most, c .before .before .ids-needed .ensures .1)
+
+same-length : tie.Need-same-length
+same-length c = search needs
+
+same-length-2 : tie.Need-same-length-2
+same-length-2 c = search needs
+
+returns : tie.Need-returns
+returns c =
+    let a = c .before .before .before .before .before .before .before .before .args in
+    let x = c .before .before .before .ids-needed in
+    new-refused (a .tariff) (take (a .n) (a .ids)) (x .result) (idsNeeded (tableOf (pagesOf (a .pool .now)) (rowsOf (a .table .now)) (a .state)) (take (a .n) (a .ids))) (a .key) (a .value) (world (pagesOf (a .pool .now)) (rowsOf (a .table .now)) (a .state)) (x .ensures .0) (c .if1 .taken) (c .before .before .before .before .before .before .before .before .pre .0)
+
+read-and-split-requires : tie.Need-read-and-split-requires
+read-and-split-requires c κs = (c .before .before .before .before .before .before .before .before .before .before .pre .0, c .before .before .before .before .before .before .before .before .before .before .pre .1, c .before .before .before .before .before .before .before .before .before .before .pre .2, c .before .before .before .before .before .before .before .before .before .before .pre .3)
+
+same-length-3 : tie.Need-same-length-3
+same-length-3 c = search needs
+
+same-length-4 : tie.Need-same-length-4
+same-length-4 c = search needs
+
+returns-2 : tie.Need-returns-2
+returns-2 c =
+    let a = c .before .before .before .before .before .before .before .before .before .before .before .before .before .before .before .before .args in
+    let x = c .before .before .before .before .before .before .before .before .before .before .before .ids-needed in
+    let y = c .before .before .before .before .before .read-and-split in
+    new-split (a .tariff) (take (a .n) (a .ids)) (x .result) (idsNeeded (tableOf (pagesOf (a .pool .now)) (rowsOf (a .table .now)) (a .state)) (take (a .n) (a .ids))) (a .key) (a .value) (world (pagesOf (a .pool .now)) (rowsOf (a .table .now)) (a .state)) (x .ensures .0) (pagesOf (y .last .0)) (rowsOf (y .last .1 .0)) (y .result) (c .before .before .before .before .before .before .before .before .if1 .left) (y .ensures)
+
+pub put-splitting-spec : {M : Type 1} → statement M
+put-splitting-spec = tie.close (tie.spec ids-needed-requires sub-if1 mul-if1 add-if1 same-length same-length-2 returns read-and-split-requires same-length-3 same-length-4 returns-2)

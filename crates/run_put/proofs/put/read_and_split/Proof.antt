@@ -1,0 +1,36 @@
+-- `put::read_and_split` meets its contract: the reads, then the splits. Assumes nothing.
+use native.Mathlib.Omega.{arith}
+use lib.ListN.{take}
+use Rattle.flash_rows.specs.Row.{rowsOf}
+use Rattle.flash_blocks.specs.Pages.{pagesOf}
+use Rattle.flash_allocate.specs.World.{world}
+use Rattle.run_split.specs.Growing.{growing-kept}
+use Rattle.run_put.proofs.Laws.{then-split}
+use borrow.Author.Needs.{needs}
+use Rattle.run_put.proofs.put.read_and_split.Statement.{statement}
+use Rattle.run_put.proofs.put.read_and_split.Tie as tie
+
+serve-reads-requires : tie.Need-serve-reads-requires
+serve-reads-requires c κs = (c .before .before .before .before .pre .0 .good, c .before .before .before .before .pre .1, c .before .before .before .before .pre .3)
+
+split-upwards-requires : tie.Need-split-upwards-requires
+split-upwards-requires c κs = (growing-kept (c .before .before .before .before .before .before .before .before .before .before .before .before .pre .0) (c .before .before .before .before .before .before .before .serve-reads .ensures .kept), c .before .before .before .before .before .before .before .before .before .before .before .before .pre .1, c .before .before .before .before .before .before .before .before .before .before .before .before .pre .2, c .before .before .before .before .before .before .before .before .before .before .before .before .pre .3)
+
+add-t21 : tie.Need-add-t21
+add-t21 c = omega (arith, c .before .before .before .before .before .before .before .before .before .before .before .before .before .before .before .serve-reads .ensures .most, c .before .before .before .before .before .before .before .split-upwards .ensures .most, c .before .before .before .before .before .before .before .before .before .before .before .before .before .before .before .before .before .before .before .before .pre .3)
+
+same-length : tie.Need-same-length
+same-length c = search needs
+
+same-length-2 : tie.Need-same-length-2
+same-length-2 c = search needs
+
+returns : tie.Need-returns
+returns c =
+    let a = c .before .before .before .before .before .before .before .before .before .before .before .before .before .before .before .before .before .before .before .before .args in
+    let x = c .before .before .before .before .before .before .before .before .before .before .before .before .before .before .before .serve-reads in
+    let y = c .before .before .before .before .before .before .before .split-upwards in
+    then-split (a .tariff) (a .key) (a .value) (a .n) (take (a .n) (a .ids)) (world (pagesOf (a .pool .now)) (rowsOf (a .table .now)) (a .state)) (c .before .before .before .before .before .before .before .before .before .before .before .before .before .before .before .before .before .before .before .before .pre .0) (c .before .before .before .before .before .before .before .before .before .before .before .before .before .before .before .before .before .before .before .before .pre .3) (pagesOf (x .last .0)) (rowsOf (x .last .1 .0)) (x .result) (x .ensures) (pagesOf (y .last .0)) (rowsOf (y .last .1 .0)) (y .result) (y .ensures)
+
+pub read-and-split-spec : {M : Type 1} → statement M
+read-and-split-spec = tie.close (tie.spec serve-reads-requires split-upwards-requires add-t21 same-length same-length-2 returns)

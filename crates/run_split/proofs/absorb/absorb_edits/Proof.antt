@@ -1,0 +1,35 @@
+-- `take::absorb_edits` meets its contract: two requests. Assumes nothing.
+use native.Mathlib.Omega.{arith}
+use Rattle.flash_rows.specs.Row.{rowsOf}
+use Rattle.flash_blocks.specs.Pages.{pagesOf}
+use Rattle.node.specs.Drafts.{changeOf}
+use Rattle.flash_allocate.specs.World.{world}
+use Rattle.run_split.proofs.Laws.{two-edits}
+use borrow.Author.Needs.{needs}
+use Rattle.run_split.proofs.absorb.absorb_edits.Statement.{statement}
+use Rattle.run_split.proofs.absorb.absorb_edits.Tie as tie
+
+serve-edit-requires : tie.Need-serve-edit-requires
+serve-edit-requires c κs = (c .before .before .before .before .pre .0 .good, c .before .before .before .before .pre .1)
+
+serve-edit-requires-2 : tie.Need-serve-edit-requires-2
+serve-edit-requires-2 c κs = (c .before .before .before .before .before .before .before .serve-edit .ensures .kept .good, c .before .before .before .before .before .before .before .before .before .before .before .before .pre .1)
+
+add-t21 : tie.Need-add-t21
+add-t21 c = omega (arith, c .before .before .before .before .before .before .before .before .before .before .before .before .before .before .before .serve-edit .ensures .most, c .before .before .before .before .before .before .before .serve-edit2 .ensures .most)
+
+same-length : tie.Need-same-length
+same-length c = search needs
+
+same-length-2 : tie.Need-same-length-2
+same-length-2 c = search needs
+
+returns : tie.Need-returns
+returns c =
+    let a = c .before .before .before .before .before .before .before .before .before .before .before .before .before .before .before .before .before .before .before .before .args in
+    let x = c .before .before .before .before .before .before .before .before .before .before .before .before .before .before .before .serve-edit in
+    let y = c .before .before .before .before .before .before .before .serve-edit2 in
+    two-edits (a .tariff) (a .id) (world (pagesOf (a .pool .now)) (rowsOf (a .table .now)) (a .state)) (c .before .before .before .before .before .before .before .before .before .before .before .before .before .before .before .before .before .before .before .before .pre .0) (changeOf (a .first)) (changeOf (a .second)) (pagesOf (x .last .0)) (rowsOf (x .last .1 .0)) (x .result) (x .ensures) (pagesOf (y .last .0)) (rowsOf (y .last .1 .0)) (y .result) (y .ensures)
+
+pub absorb-edits-spec : {M : Type 1} → statement M
+absorb-edits-spec = tie.close (tie.spec serve-edit-requires serve-edit-requires-2 add-t21 same-length same-length-2 returns)

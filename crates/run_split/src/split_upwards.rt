@@ -1,0 +1,47 @@
+// A pair put into the leaf of a path: "the work goes in the order given, leaf upwards".
+ghost use Prim.Native.Nat.{_≤_};
+ghost use lib.ListN.{length, take};
+ghost use Rattle.account.specs.Range.{Ranged};
+ghost use Rattle.flash_rows.specs.Row.{rowsOf};
+ghost use Rattle.flash_blocks.specs.Pages.{pagesOf};
+ghost use Rattle.flash_allocate.specs.World.{world};
+ghost use Rattle.run_split.specs.Growing.{Growing};
+ghost use Rattle.run_split.specs.SplitUpwards.{SplitUpwardsAs};
+use super::Pending;
+use super::absorb::absorb;
+use account::Tariff;
+use flash_allocate::state::State;
+use run_serve::request::Charged;
+
+// The leaf takes the pair, then each node of the path what the one below it left, and the root last.
+pub fn split_upwards(
+    pool: &mut [u8],
+    table: &mut [u8],
+    state: State,
+    tariff: Tariff,
+    ids: [usize; 9],
+    n: usize,
+    key: u32,
+    value: u32,
+) -> Charged
+    requires { ⌜ (Growing (length (now pool)) (length (now table)) state) × (Ranged tariff) × (1 ≤ n) × (n ≤ 9) ⌝ }
+    ensures { λ r. ⌜ SplitUpwardsAs (length (now (pool .exit))) (length (now (table .exit))) (pagesOf (now (pool .exit))) (rowsOf (now (table .exit))) r tariff key value (take n ids) (world (pagesOf (now (pool .entry))) (rowsOf (now (table .entry))) state) ⌝ }
+{
+    let mut s = state;
+    let mut charge: u64 = 0;
+    let mut pending = Pending::Pair { key, value };
+    let mut i = n;
+    while 1 < i {
+        i -= 1;
+        let taken = absorb(pool, table, s, tariff, false, ids[i], key, pending);
+        s = taken.state;
+        charge += taken.charge;
+        pending = taken.pending;
+    }
+    let last = absorb(pool, table, s, tariff, true, 0, key, pending);
+    let t = last.state;
+    Charged {
+        state: t,
+        charge: charge + last.charge,
+    }
+}
