@@ -5,6 +5,9 @@ use Prim.Native.Nat.{ℕ, _+_, _*_, _≤_, _<_}
 use Rattle.layout.specs.Layout.{fewestBlocks, mostBlocks, blockBytes, tableBytes, pagesInBlock, mostEntries}
 use Rattle.flash_rows.specs.declared.Row.{Row}
 use Rattle.flash_allocate.specs.declared.state.State.{State}
+use Rattle.flash_blocks.specs.Pages.{pagesOf}
+use Rattle.flash_rows.specs.Row.{rowsOf}
+use lib.ListN.{length}
 
 pub record World : Type 0 where
   pub pages : List (List ℕ)
@@ -13,6 +16,10 @@ pub record World : Type 0 where
 
 abbrev pub world : List (List ℕ) → List Row → State → World
 world pages rows state = record { pages = pages; rows = rows; state = state }
+
+-- The world of a pool and a table, as bytes, and a state.
+abbrev pub worldIn : List ℕ → List ℕ → State → World
+worldIn pool table state = world (pagesOf pool) (rowsOf table) state
 
 -- The rows in use: one a node, then one for each checkpoint page being written.
 abbrev pub used : State → ℕ
@@ -37,3 +44,7 @@ pub record Good (poolLength tableLength : ℕ) (s : State) : Type 0 where
 pub record Made (poolLength tableLength : ℕ) (made right : World) : Type 0 where
   pub is : made ≡ right
   pub good : Good poolLength tableLength (made .state)
+
+-- The same of a pool and a table, as bytes.
+abbrev pub MadeIn : List ℕ → List ℕ → State → World → Type 0
+MadeIn pool table r right = Made (length pool) (length table) (worldIn pool table r) right

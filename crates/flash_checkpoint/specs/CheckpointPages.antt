@@ -4,7 +4,7 @@ use mathlib.Core.Path.{_≡_}
 use mathlib.Core.List.{List}
 use Prim.Native.Nat.{ℕ, _+_, _-_, _*_, _/_, _≤_, _<_}
 use lib.Dec.{eqb, leb}
-use lib.ListN.{set}
+use lib.ListN.{set, length}
 use Rattle.laws.specs.Tests.{choose}
 use Rattle.laws.specs.Loops.{steps}
 use Rattle.layout.specs.Layout.{firstScores, otherScores, nodeLimit}
@@ -18,7 +18,7 @@ use Rattle.page.specs.Page as p
 use Rattle.page.specs.Image.{image}
 use Rattle.page.specs.Decode.{mostScores}
 use Rattle.page_checkpoint.specs.Checkpoint.{onlyIf}
-use Rattle.flash_allocate.specs.World.{World, world, spot, used, Good}
+use Rattle.flash_allocate.specs.World.{World, world, spot, used, Good, worldIn}
 use Rattle.flash_allocate.specs.Allocate.{allocate}
 use Rattle.flash_allocate.specs.declared.state.State.{State}
 use Rattle.flash_log.specs.Flush.{nextSequence, ifRoom, flush}
@@ -106,6 +106,10 @@ pub record Ended (poolLength tableLength : ℕ) (before : State) (made right : W
   pub blocks : made .state .blocks ≡ before .blocks
   pub nodes : made .state .nodes ≡ before .nodes
 
+-- The same of a pool and a table, as bytes.
+abbrev pub EndedIn : List ℕ → List ℕ → State → State → World → Type 0
+EndedIn pool table before r right = Ended (length pool) (length table) before (worldIn pool table r) right
+
 -- A checkpoint page's result: the world asked for, still good, with one checkpoint page more at most.
 pub record CheckpointPageWritten (poolLength tableLength : ℕ) (before : State) (made right : World) : Type 0 where
   pub is : made ≡ right
@@ -113,3 +117,7 @@ pub record CheckpointPageWritten (poolLength tableLength : ℕ) (before : State)
   pub blocks : made .state .blocks ≡ before .blocks
   pub nodes : made .state .nodes ≡ before .nodes
   pub checkpoint : made .state .checkpoint ≤ before .checkpoint + 1
+
+-- The same of a pool and a table, as bytes.
+abbrev pub CheckpointPageIn : List ℕ → List ℕ → State → State → World → Type 0
+CheckpointPageIn pool table before r right = CheckpointPageWritten (length pool) (length table) before (worldIn pool table r) right

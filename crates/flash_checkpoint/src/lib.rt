@@ -7,11 +7,11 @@ ghost use Rattle.layout.specs.Layout.{nodeLimit};
 ghost use Rattle.flash_rows.specs.Row.{rowsOf};
 ghost use Rattle.flash_blocks.specs.Pages.{pagesOf};
 ghost use Rattle.page.specs.Image.{scoreBytes};
-ghost use Rattle.flash_allocate.specs.World.{Good, world};
-ghost use Rattle.flash_log.specs.Flush.{Kept};
+ghost use Rattle.flash_allocate.specs.World.{Good, worldIn};
+ghost use Rattle.flash_log.specs.Flush.{KeptIn};
 ghost use Rattle.flash_checkpoint.specs.Scores.{scoreOf, scoresOf, scoresBytes};
 ghost use Rattle.flash_checkpoint.specs.CheckpointPages as def;
-ghost use Rattle.flash_checkpoint.specs.CheckpointPages.{scoresBefore, ScoresOfPage, pageCount, checkpointImage, checkpointRow, pageCounted, writeCheckpointPage, CheckpointPageWritten, Closing, Ended};
+ghost use Rattle.flash_checkpoint.specs.CheckpointPages.{scoresBefore, ScoresOfPage, pageCount, checkpointImage, checkpointRow, pageCounted, writeCheckpointPage, CheckpointPageIn, Closing, EndedIn};
 use account::Mode;
 use account::Tariff;
 use flash_allocate::allocate::allocate;
@@ -131,7 +131,7 @@ fn write_checkpoint_page(
     k: usize,
 ) -> State
     requires { ⌜ (Good (length (now pool)) (length (now table)) state) × (Closing k state) × (state .fill < 32) ⌝ }
-    ensures { λ r. ⌜ CheckpointPageWritten (length (now (pool .exit))) (length (now (table .exit))) state (world (pagesOf (now (pool .exit))) (rowsOf (now (table .exit))) r) (writeCheckpointPage tariff k (world (pagesOf (now (pool .entry))) (rowsOf (now (table .entry))) state)) ⌝ }
+    ensures { λ r. ⌜ CheckpointPageIn (now (pool .exit)) (now (table .exit)) state r (writeCheckpointPage tariff k (worldIn (now (pool .entry)) (now (table .entry)) state)) ⌝ }
 {
     let at = 32 * state.current + state.fill;
     let number = next_sequence(state.last);
@@ -149,7 +149,7 @@ fn checkpoint_page(
     k: usize,
 ) -> State
     requires { ⌜ (Good (length (now pool)) (length (now table)) state) × (Closing k state) ⌝ }
-    ensures { λ r. ⌜ CheckpointPageWritten (length (now (pool .exit))) (length (now (table .exit))) state (world (pagesOf (now (pool .exit))) (rowsOf (now (table .exit))) r) (def.checkpointPage tariff k (world (pagesOf (now (pool .entry))) (rowsOf (now (table .entry))) state)) ⌝ }
+    ensures { λ r. ⌜ CheckpointPageIn (now (pool .exit)) (now (table .exit)) state r (def.checkpointPage tariff k (worldIn (now (pool .entry)) (now (table .entry)) state)) ⌝ }
 {
     let s = allocate(pool, table, state);
     if s.fill < 32 {
@@ -161,7 +161,7 @@ fn checkpoint_page(
 // The buffer written out where it is not empty.
 fn drain(pool: &mut [u8], table: &mut [u8], state: State) -> State
     requires { ⌜ Good (length (now pool)) (length (now table)) state ⌝ }
-    ensures { λ r. ⌜ Kept (length (now (pool .exit))) (length (now (table .exit))) state (world (pagesOf (now (pool .exit))) (rowsOf (now (table .exit))) r) (def.drain (world (pagesOf (now (pool .entry))) (rowsOf (now (table .entry))) state)) ⌝ }
+    ensures { λ r. ⌜ KeptIn (now (pool .exit)) (now (table .exit)) state r (def.drain (worldIn (now (pool .entry)) (now (table .entry)) state)) ⌝ }
 {
     if state.entries == 0 {
         return state;
@@ -172,7 +172,7 @@ fn drain(pool: &mut [u8], table: &mut [u8], state: State) -> State
 // All checkpoint pages, one after another.
 fn checkpoint_pages(pool: &mut [u8], table: &mut [u8], state: State, tariff: Tariff) -> State
     requires { ⌜ (Good (length (now pool)) (length (now table)) state) × (state .nodes ≤ nodeLimit (state .blocks)) × (state .checkpoint ≡ 0) ⌝ }
-    ensures { λ r. ⌜ Ended (length (now (pool .exit))) (length (now (table .exit))) state (world (pagesOf (now (pool .exit))) (rowsOf (now (table .exit))) r) (def.checkpointPages tariff (world (pagesOf (now (pool .entry))) (rowsOf (now (table .entry))) state)) ⌝ }
+    ensures { λ r. ⌜ EndedIn (now (pool .exit)) (now (table .exit)) state r (def.checkpointPages tariff (worldIn (now (pool .entry)) (now (table .entry)) state)) ⌝ }
 {
     let count = page_count(state.nodes);
     let mut s = state;
@@ -187,7 +187,7 @@ fn checkpoint_pages(pool: &mut [u8], table: &mut [u8], state: State, tariff: Tar
 // The end of a batch.
 pub fn checkpoint(pool: &mut [u8], table: &mut [u8], state: State, tariff: Tariff) -> State
     requires { ⌜ (Good (length (now pool)) (length (now table)) state) × (state .nodes ≤ nodeLimit (state .blocks)) × (state .checkpoint ≡ 0) ⌝ }
-    ensures { λ r. ⌜ Ended (length (now (pool .exit))) (length (now (table .exit))) state (world (pagesOf (now (pool .exit))) (rowsOf (now (table .exit))) r) (def.checkpoint tariff (world (pagesOf (now (pool .entry))) (rowsOf (now (table .entry))) state)) ⌝ }
+    ensures { λ r. ⌜ EndedIn (now (pool .exit)) (now (table .exit)) state r (def.checkpoint tariff (worldIn (now (pool .entry)) (now (table .entry)) state)) ⌝ }
 {
     let s = drain(pool, table, state);
     checkpoint_pages(pool, table, s, tariff)

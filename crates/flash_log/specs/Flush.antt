@@ -2,15 +2,16 @@
 use mathlib.Core.Path.{_≡_}
 use Prim.Native.Nat.{ℕ, _+_}
 use lib.Dec.{ltb}
-use lib.ListN.{set}
+use lib.ListN.{set, length}
 use Rattle.laws.specs.Tests.{choose}
 use Rattle.layout.specs.Layout.{pagesInBlock, mostEntries}
-use Rattle.flash_allocate.specs.World.{World, world, spot, Good}
+use Rattle.flash_allocate.specs.World.{World, world, spot, Good, worldIn}
 use Rattle.flash_allocate.specs.Allocate.{allocate}
 use Rattle.flash_allocate.specs.declared.state.State.{State}
 use Rattle.page_write.specs.Pages.{logImage}
 use Rattle.flash_log.specs.Entry.{holding}
 use Rattle.flash_log.specs.Claim.{claimEntries}
+use mathlib.Core.List.{List}
 
 -- "Each new page takes the next" stamp; a 32-bit number stays the greatest, which no run reaches.
 unfoldable pub nextSequence : ℕ → ℕ
@@ -61,3 +62,7 @@ pub record Kept (poolLength tableLength : ℕ) (before : State) (made right : Wo
   pub blocks : made .state .blocks ≡ before .blocks
   pub nodes : made .state .nodes ≡ before .nodes
   pub checkpoint : made .state .checkpoint ≡ before .checkpoint
+
+-- The same of a pool and a table, as bytes.
+abbrev pub KeptIn : List ℕ → List ℕ → State → State → World → Type 0
+KeptIn pool table before r right = Kept (length pool) (length table) before (worldIn pool table r) right

@@ -2,12 +2,11 @@
 ghost use mathlib.Core.Path.{_≡_};
 ghost use Prim.Native.Nat.{_+_, _*_, _≤_, _<_};
 ghost use lib.ListN.{length, set};
-ghost use Rattle.flash_rows.specs.Row.{rowsOf};
 ghost use Rattle.flash_blocks.specs.Pages.{pagesOf};
-ghost use Rattle.flash_allocate.specs.World.{Good, world};
+ghost use Rattle.flash_allocate.specs.World.{Good, worldIn};
 ghost use Rattle.page_write.specs.Pages.{logImage};
 ghost use Rattle.flash_log.specs.Flush as def;
-ghost use Rattle.flash_log.specs.Flush.{Kept, nextSequence, advanced, emptied, writeBuffer};
+ghost use Rattle.flash_log.specs.Flush.{KeptIn, nextSequence, advanced, emptied, writeBuffer};
 use super::claim::claim_entries;
 use flash_allocate::allocate::allocate;
 use flash_allocate::state::State;
@@ -64,7 +63,7 @@ fn put_log(pool: &mut [u8], page: usize, number: u32, buffer: &[u8; 405], n: usi
 // The buffer as the next page, in a block that has room.
 fn write_buffer(pool: &mut [u8], table: &mut [u8], state: State) -> State
     requires { ⌜ (Good (length (now pool)) (length (now table)) state) × (state .fill < 32) ⌝ }
-    ensures { λ r. ⌜ Kept (length (now (pool .exit))) (length (now (table .exit))) state (world (pagesOf (now (pool .exit))) (rowsOf (now (table .exit))) r) (writeBuffer (world (pagesOf (now (pool .entry))) (rowsOf (now (table .entry))) state)) ⌝ }
+    ensures { λ r. ⌜ KeptIn (now (pool .exit)) (now (table .exit)) state r (writeBuffer (worldIn (now (pool .entry)) (now (table .entry)) state)) ⌝ }
 {
     let page = 32 * state.current + state.fill;
     let number = next_sequence(state.last);
@@ -77,7 +76,7 @@ fn write_buffer(pool: &mut [u8], table: &mut [u8], state: State) -> State
 // A place, then the buffer as a page there.
 pub fn flush(pool: &mut [u8], table: &mut [u8], state: State) -> State
     requires { ⌜ Good (length (now pool)) (length (now table)) state ⌝ }
-    ensures { λ r. ⌜ Kept (length (now (pool .exit))) (length (now (table .exit))) state (world (pagesOf (now (pool .exit))) (rowsOf (now (table .exit))) r) (def.flush (world (pagesOf (now (pool .entry))) (rowsOf (now (table .entry))) state)) ⌝ }
+    ensures { λ r. ⌜ KeptIn (now (pool .exit)) (now (table .exit)) state r (def.flush (worldIn (now (pool .entry)) (now (table .entry)) state)) ⌝ }
 {
     let s = allocate(pool, table, state);
     if s.fill < 32 {
@@ -89,7 +88,7 @@ pub fn flush(pool: &mut [u8], table: &mut [u8], state: State) -> State
 // Room for k entries in the buffer.
 pub fn make_room(pool: &mut [u8], table: &mut [u8], state: State, k: usize) -> State
     requires { ⌜ (Good (length (now pool)) (length (now table)) state) × (k ≤ 27) ⌝ }
-    ensures { λ r. ⌜ Kept (length (now (pool .exit))) (length (now (table .exit))) state (world (pagesOf (now (pool .exit))) (rowsOf (now (table .exit))) r) (def.room k (world (pagesOf (now (pool .entry))) (rowsOf (now (table .entry))) state)) ⌝ }
+    ensures { λ r. ⌜ KeptIn (now (pool .exit)) (now (table .exit)) state r (def.room k (worldIn (now (pool .entry)) (now (table .entry)) state)) ⌝ }
 {
     if 27 < k + state.entries {
         return flush(pool, table, state);

@@ -1,12 +1,10 @@
 // An edit of a node in log mode.
 ghost use Prim.Native.Nat.{_<_};
 ghost use lib.ListN.{length};
-ghost use Rattle.flash_rows.specs.Row.{rowsOf};
-ghost use Rattle.flash_blocks.specs.Pages.{pagesOf};
 ghost use Rattle.node.specs.Value.{nodeOf, Sized};
 ghost use Rattle.node.specs.Drafts.{changeOf};
-ghost use Rattle.flash_allocate.specs.World.{Good, world};
-ghost use Rattle.flash_log.specs.Flush.{Kept};
+ghost use Rattle.flash_allocate.specs.World.{Good, worldIn};
+ghost use Rattle.flash_log.specs.Flush.{KeptIn};
 ghost use Rattle.flash_write.specs.Edit as def;
 use super::group::group;
 use flash_allocate::state::State;
@@ -25,7 +23,7 @@ pub fn edit(
     edited: NodeValue,
 ) -> State
     requires { ⌜ (Good (length (now pool)) (length (now table)) state) × (n < state .nodes) × (Sized edited) ⌝ }
-    ensures { λ r. ⌜ Kept (length (now (pool .exit))) (length (now (table .exit))) state (world (pagesOf (now (pool .exit))) (rowsOf (now (table .exit))) r) (def.edit n (changeOf change) (nodeOf edited) (world (pagesOf (now (pool .entry))) (rowsOf (now (table .entry))) state)) ⌝ }
+    ensures { λ r. ⌜ KeptIn (now (pool .exit)) (now (table .exit)) state r (def.edit n (changeOf change) (nodeOf edited) (worldIn (now (pool .entry)) (now (table .entry)) state)) ⌝ }
 {
     let s = make_room(pool, table, state, 1);
     let row = flash_rows::read_row(table, n);

@@ -3,14 +3,13 @@ ghost use mathlib.Core.Path.{_≡_};
 ghost use Prim.Native.Nat.{_+_, _*_, _≤_, _<_};
 ghost use lib.ListN.{length};
 ghost use Rattle.flash_rows.specs.Row.{rowsOf};
-ghost use Rattle.flash_blocks.specs.Pages.{pagesOf};
 ghost use Rattle.node.specs.Change.{puts, changesOf};
 ghost use Rattle.node.specs.Value.{pairsIn, nodeOf, Sized};
-ghost use Rattle.flash_allocate.specs.World.{Good, world};
+ghost use Rattle.flash_allocate.specs.World.{Good, worldIn};
 ghost use Rattle.flash_log.specs.Entry.{appendAll};
-ghost use Rattle.flash_log.specs.Flush.{Kept};
+ghost use Rattle.flash_log.specs.Flush.{KeptIn};
 ghost use Rattle.flash_write.specs.Group as def;
-ghost use Rattle.flash_write.specs.Group.{numbered, withNodes, Started, Grown};
+ghost use Rattle.flash_write.specs.Group.{numbered, withNodes, Started, GrownIn};
 use account::Mode;
 use flash_allocate::state::State;
 use flash_log::claim::no_row;
@@ -85,7 +84,7 @@ fn start(table: &mut [u8], state: State, n: usize, row: Row, version: u32, v: No
 // The whole content of a node under a new version. A page that it forces out takes its sequence number before.
 pub fn group(pool: &mut [u8], table: &mut [u8], state: State, n: usize, v: NodeValue) -> State
     requires { ⌜ (Good (length (now pool)) (length (now table)) state) × (n < state .nodes) × (Sized v) ⌝ }
-    ensures { λ r. ⌜ Kept (length (now (pool .exit))) (length (now (table .exit))) state (world (pagesOf (now (pool .exit))) (rowsOf (now (table .exit))) r) (def.group n (nodeOf v) (world (pagesOf (now (pool .entry))) (rowsOf (now (table .entry))) state)) ⌝ }
+    ensures { λ r. ⌜ KeptIn (now (pool .exit)) (now (table .exit)) state r (def.group n (nodeOf v) (worldIn (now (pool .entry)) (now (table .entry)) state)) ⌝ }
 {
     let s = make_room(pool, table, state, v.count + 1);
     let version = next_sequence(s.last);
@@ -96,7 +95,7 @@ pub fn group(pool: &mut [u8], table: &mut [u8], state: State, n: usize, v: NodeV
 // A new node, the next one, in log mode with score 0.
 pub fn create(pool: &mut [u8], table: &mut [u8], state: State, v: NodeValue) -> State
     requires { ⌜ (Good (length (now pool)) (length (now table)) state) × (state .nodes + state .checkpoint < 64 * state .blocks) × (Sized v) ⌝ }
-    ensures { λ r. ⌜ Grown (length (now (pool .exit))) (length (now (table .exit))) state (world (pagesOf (now (pool .exit))) (rowsOf (now (table .exit))) r) (def.create (nodeOf v) (world (pagesOf (now (pool .entry))) (rowsOf (now (table .entry))) state)) ⌝ }
+    ensures { λ r. ⌜ GrownIn (now (pool .exit)) (now (table .exit)) state r (def.create (nodeOf v) (worldIn (now (pool .entry)) (now (table .entry)) state)) ⌝ }
 {
     let s = make_room(pool, table, state, v.count + 1);
     let version = next_sequence(s.last);

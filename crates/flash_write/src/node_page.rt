@@ -7,8 +7,8 @@ ghost use Rattle.flash_blocks.specs.Pages.{pagesOf};
 ghost use Rattle.node.specs.Value.{nodeOf, Sized};
 ghost use Rattle.page.specs.Page.{page, whole};
 ghost use Rattle.page.specs.Image.{image};
-ghost use Rattle.flash_allocate.specs.World.{Good, world};
-ghost use Rattle.flash_log.specs.Flush.{Kept};
+ghost use Rattle.flash_allocate.specs.World.{Good, worldIn};
+ghost use Rattle.flash_log.specs.Flush.{KeptIn};
 ghost use Rattle.flash_write.specs.NodePage as def;
 ghost use Rattle.flash_write.specs.NodePage.{diskRow, writeNode};
 use account::Mode;
@@ -44,7 +44,7 @@ fn node_page_row(table: &mut [u8], n: usize, number: u32, at: u16)
 // A node page as the next page, in a block that has room.
 fn write_node(pool: &mut [u8], table: &mut [u8], state: State, n: usize, v: NodeValue) -> State
     requires { ⌜ (Good (length (now pool)) (length (now table)) state) × (state .fill < 32) × (n < state .nodes) × (Sized v) ⌝ }
-    ensures { λ r. ⌜ Kept (length (now (pool .exit))) (length (now (table .exit))) state (world (pagesOf (now (pool .exit))) (rowsOf (now (table .exit))) r) (writeNode n (nodeOf v) (world (pagesOf (now (pool .entry))) (rowsOf (now (table .entry))) state)) ⌝ }
+    ensures { λ r. ⌜ KeptIn (now (pool .exit)) (now (table .exit)) state r (writeNode n (nodeOf v) (worldIn (now (pool .entry)) (now (table .entry)) state)) ⌝ }
 {
     let at = 32 * state.current + state.fill;
     let number = next_sequence(state.last);
@@ -56,7 +56,7 @@ fn write_node(pool: &mut [u8], table: &mut [u8], state: State, n: usize, v: Node
 // A place, then the node page there.
 pub fn node_page(pool: &mut [u8], table: &mut [u8], state: State, n: usize, v: NodeValue) -> State
     requires { ⌜ (Good (length (now pool)) (length (now table)) state) × (n < state .nodes) × (Sized v) ⌝ }
-    ensures { λ r. ⌜ Kept (length (now (pool .exit))) (length (now (table .exit))) state (world (pagesOf (now (pool .exit))) (rowsOf (now (table .exit))) r) (def.nodePage n (nodeOf v) (world (pagesOf (now (pool .entry))) (rowsOf (now (table .entry))) state)) ⌝ }
+    ensures { λ r. ⌜ KeptIn (now (pool .exit)) (now (table .exit)) state r (def.nodePage n (nodeOf v) (worldIn (now (pool .entry)) (now (table .entry)) state)) ⌝ }
 {
     let s = allocate(pool, table, state);
     if s.fill < 32 {

@@ -24,6 +24,8 @@ use Rattle.run_scan.specs.Scan.{scanReads, scanPairs}
 use Rattle.run_split.specs.Growing.{Growing}
 use Rattle.run_put.specs.Put.{put}
 use Rattle.run.specs.declared.Progress.{Progress}
+use Rattle.flash_blocks.specs.Pages.{pagesOf}
+use Rattle.flash_rows.specs.Row.{rowsOf}
 
 -- One command: the world after it, its charge, its reply.
 abbrev pub commandWorld : Tariff → Command → World → World
@@ -78,6 +80,10 @@ pub record CommandAs (poolLength tableLength : ℕ) (pages : List (List ℕ)) (r
   pub answers : after ≡ lay before at (replyBytes (commandReply t c w))
   pub behind : r .at ≡ at + length (replyBytes (commandReply t c w))
 
+-- The same of a pool and a table, as bytes.
+abbrev pub CommandIn : List ℕ → List ℕ → List ℕ → List ℕ → Progress → Tariff → Command → ℕ → World → Type 0
+CommandIn pool table before after r t c at w = CommandAs (length pool) (length table) (pagesOf pool) (rowsOf table) before after r t c at w
+
 -- What the code of a whole batch leaves.
 pub record RunAs (poolLength tableLength : ℕ) (pages : List (List ℕ)) (rows : List Row) (before after : List ℕ) (r : Progress) (t : Tariff) (cs : List Command) (w : World) : Type 0 where
   pub is : world pages rows (r .state) ≡ runWorld t cs w
@@ -86,3 +92,7 @@ pub record RunAs (poolLength tableLength : ℕ) (pages : List (List ℕ)) (rows 
   pub charge : r .charge ≡ runCharge t cs w
   pub answers : after ≡ lay before 0 (repliesBytes (runReplies t cs w))
   pub behind : r .at ≡ length (repliesBytes (runReplies t cs w))
+
+-- The same of a pool and a table, as bytes.
+abbrev pub RunIn : List ℕ → List ℕ → List ℕ → List ℕ → Progress → Tariff → List Command → World → Type 0
+RunIn pool table before after r t cs w = RunAs (length pool) (length table) (pagesOf pool) (rowsOf table) before after r t cs w

@@ -2,11 +2,9 @@
 ghost use Prim.Native.Nat.{_+_, _*_, _≤_};
 ghost use lib.ListN.{length};
 ghost use Rattle.account.specs.Range.{Ranged};
-ghost use Rattle.flash_rows.specs.Row.{rowsOf};
-ghost use Rattle.flash_blocks.specs.Pages.{pagesOf};
-ghost use Rattle.flash_allocate.specs.World.{world};
+ghost use Rattle.flash_allocate.specs.World.{worldIn};
 ghost use Rattle.run_split.specs.Growing.{Growing};
-ghost use Rattle.run.specs.Run.{CommandAs};
+ghost use Rattle.run.specs.Run.{CommandIn};
 use super::Progress;
 use account::Tariff;
 use command::Command;
@@ -29,7 +27,7 @@ pub fn run_get(
     at: usize,
 ) -> Progress
     requires { ⌜ (Growing (length (now pool)) (length (now table)) state) × (Ranged tariff) × (at + 7 ≤ length (now answers)) ⌝ }
-    ensures { λ r. ⌜ CommandAs (length (now (pool .exit))) (length (now (table .exit))) (pagesOf (now (pool .exit))) (rowsOf (now (table .exit))) (now (answers .entry)) (now (answers .exit)) r tariff (Command.Get key) at (world (pagesOf (now (pool .entry))) (rowsOf (now (table .entry))) state) ⌝ }
+    ensures { λ r. ⌜ CommandIn (now (pool .exit)) (now (table .exit)) (now (answers .entry)) (now (answers .exit)) r tariff (Command.Get key) at (worldIn (now (pool .entry)) (now (table .entry)) state) ⌝ }
 {
     let done = get(pool, table, state, tariff, key);
     let s = done.state;
@@ -54,7 +52,7 @@ pub fn run_put(
     at: usize,
 ) -> Progress
     requires { ⌜ (Growing (length (now pool)) (length (now table)) state) × (Ranged tariff) × (at + 7 ≤ length (now answers)) ⌝ }
-    ensures { λ r. ⌜ CommandAs (length (now (pool .exit))) (length (now (table .exit))) (pagesOf (now (pool .exit))) (rowsOf (now (table .exit))) (now (answers .entry)) (now (answers .exit)) r tariff (Command.Put key value) at (world (pagesOf (now (pool .entry))) (rowsOf (now (table .entry))) state) ⌝ }
+    ensures { λ r. ⌜ CommandIn (now (pool .exit)) (now (table .exit)) (now (answers .entry)) (now (answers .exit)) r tariff (Command.Put key value) at (worldIn (now (pool .entry)) (now (table .entry)) state) ⌝ }
 {
     let done = put(pool, table, state, tariff, key, value);
     let s = done.state;
@@ -78,7 +76,7 @@ pub fn run_delete(
     at: usize,
 ) -> Progress
     requires { ⌜ (Growing (length (now pool)) (length (now table)) state) × (Ranged tariff) × (at + 7 ≤ length (now answers)) ⌝ }
-    ensures { λ r. ⌜ CommandAs (length (now (pool .exit))) (length (now (table .exit))) (pagesOf (now (pool .exit))) (rowsOf (now (table .exit))) (now (answers .entry)) (now (answers .exit)) r tariff (Command.Delete key) at (world (pagesOf (now (pool .entry))) (rowsOf (now (table .entry))) state) ⌝ }
+    ensures { λ r. ⌜ CommandIn (now (pool .exit)) (now (table .exit)) (now (answers .entry)) (now (answers .exit)) r tariff (Command.Delete key) at (worldIn (now (pool .entry)) (now (table .entry)) state) ⌝ }
 {
     let done = delete(pool, table, state, tariff, key);
     let s = done.state;
@@ -104,7 +102,7 @@ pub fn run_scan(
     at: usize,
 ) -> Progress
     requires { ⌜ (Growing (length (now pool)) (length (now table)) state) × (Ranged tariff) × (1 ≤ most) × (most ≤ 32) × (at + (3 + 8 * most) ≤ length (now answers)) ⌝ }
-    ensures { λ r. ⌜ CommandAs (length (now (pool .exit))) (length (now (table .exit))) (pagesOf (now (pool .exit))) (rowsOf (now (table .exit))) (now (answers .entry)) (now (answers .exit)) r tariff (Command.Scan low high most) at (world (pagesOf (now (pool .entry))) (rowsOf (now (table .entry))) state) ⌝ }
+    ensures { λ r. ⌜ CommandIn (now (pool .exit)) (now (table .exit)) (now (answers .entry)) (now (answers .exit)) r tariff (Command.Scan low high most) at (worldIn (now (pool .entry)) (now (table .entry)) state) ⌝ }
 {
     let done = scan(pool, table, state, tariff, low, high, most);
     let s = done.state;

@@ -3,11 +3,9 @@ ghost use Prim.Native.Nat.{_+_, _≤_};
 ghost use lib.ListN.{length};
 ghost use Rattle.account.specs.Range.{Ranged};
 ghost use Rattle.command.specs.Batch.{roomFor};
-ghost use Rattle.flash_rows.specs.Row.{rowsOf};
-ghost use Rattle.flash_blocks.specs.Pages.{pagesOf};
-ghost use Rattle.flash_allocate.specs.World.{world};
+ghost use Rattle.flash_allocate.specs.World.{worldIn};
 ghost use Rattle.run_split.specs.Growing.{Growing};
-ghost use Rattle.run.specs.Run.{InRange, CommandAs, RunAs};
+ghost use Rattle.run.specs.Run.{InRange, CommandIn, RunIn};
 ghost use Rattle.run.specs.Valid.{commandsIn, Fits};
 use super::Progress;
 use super::one::run_delete;
@@ -31,7 +29,7 @@ pub fn run_command(
     at: usize,
 ) -> Progress
     requires { ⌜ (Growing (length (now pool)) (length (now table)) state) × (Ranged tariff) × (InRange command) × (at + roomFor command ≤ length (now answers)) ⌝ }
-    ensures { λ r. ⌜ CommandAs (length (now (pool .exit))) (length (now (table .exit))) (pagesOf (now (pool .exit))) (rowsOf (now (table .exit))) (now (answers .entry)) (now (answers .exit)) r tariff command at (world (pagesOf (now (pool .entry))) (rowsOf (now (table .entry))) state) ⌝ }
+    ensures { λ r. ⌜ CommandIn (now (pool .exit)) (now (table .exit)) (now (answers .entry)) (now (answers .exit)) r tariff command at (worldIn (now (pool .entry)) (now (table .entry)) state) ⌝ }
 {
     match command {
         Command::Get { key } => {
@@ -59,7 +57,7 @@ pub fn run_commands(
     tariff: Tariff,
 ) -> Progress
     requires { ⌜ (Growing (length (now pool)) (length (now table)) state) × (Ranged tariff) × (Fits (now batch) (length (now answers))) ⌝ }
-    ensures { λ r. ⌜ RunAs (length (now (pool .exit))) (length (now (table .exit))) (pagesOf (now (pool .exit))) (rowsOf (now (table .exit))) (now (answers .entry)) (now (answers .exit)) r tariff (commandsIn (now (batch .entry))) (world (pagesOf (now (pool .entry))) (rowsOf (now (table .entry))) state) ⌝ }
+    ensures { λ r. ⌜ RunIn (now (pool .exit)) (now (table .exit)) (now (answers .entry)) (now (answers .exit)) r tariff (commandsIn (now (batch .entry))) (worldIn (now (pool .entry)) (now (table .entry)) state) ⌝ }
 {
     let mut s = state;
     let mut charge: u64 = 0;

@@ -17,6 +17,9 @@ use Rattle.run_path.specs.Path.{pathTo, leafAt}
 use Rattle.run_path.specs.Reads.{readAll, readCharges}
 use Rattle.run_lookup.specs.declared.Done.{Done}
 use Rattle.run_lookup.specs.Value.{valueIn}
+use lib.ListN.{length}
+use Rattle.flash_blocks.specs.Pages.{pagesOf}
+use Rattle.flash_rows.specs.Row.{rowsOf}
 
 -- The edit of a leaf for a key with this value there, and its charge.
 abbrev pub deletion : Tariff → Option ℕ → ℕ → ℕ → World → World
@@ -40,3 +43,7 @@ pub record DeletedAs (poolLength tableLength : ℕ) (pages : List (List ℕ)) (r
   pub charge : r .charge ≡ deleteCharge t k w
   pub most : r .charge ≤ mostCharge * 10
   pub answer : r .answer ≡ valueOr Deleted (valueIn k w)
+
+-- The same of a pool and a table, as bytes.
+abbrev pub DeletedIn : List ℕ → List ℕ → Done → Tariff → ℕ → World → Type 0
+DeletedIn pool table r t k w = DeletedAs (length pool) (length table) (pagesOf pool) (rowsOf table) r t k w

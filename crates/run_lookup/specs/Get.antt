@@ -13,6 +13,9 @@ use Rattle.run_path.specs.Path.{pathTo}
 use Rattle.run_path.specs.Reads.{readAll, readCharges}
 use Rattle.run_lookup.specs.declared.Done.{Done}
 use Rattle.run_lookup.specs.Value.{valueIn}
+use lib.ListN.{length}
+use Rattle.flash_blocks.specs.Pages.{pagesOf}
+use Rattle.flash_rows.specs.Row.{rowsOf}
 
 -- What the code of a get leaves: the nodes from root to leaf read, what that is charged, and "answer 81 with the card word", or 80.
 pub record GotAs (poolLength tableLength : ℕ) (pages : List (List ℕ)) (rows : List Row) (r : Done) (t : Tariff) (k : ℕ) (w : World) : Type 0 where
@@ -20,3 +23,7 @@ pub record GotAs (poolLength tableLength : ℕ) (pages : List (List ℕ)) (rows 
   pub charge : r .charge ≡ readCharges t (pathTo k w) w
   pub most : r .charge ≤ mostCharge * 9
   pub answer : r .answer ≡ valueOr Got (valueIn k w)
+
+-- The same of a pool and a table, as bytes.
+abbrev pub GotIn : List ℕ → List ℕ → Done → Tariff → ℕ → World → Type 0
+GotIn pool table r t k w = GotAs (length pool) (length table) (pagesOf pool) (rowsOf table) r t k w

@@ -3,10 +3,8 @@ ghost use Prim.Native.Nat.{_≤_};
 ghost use lib.ListN.{length};
 ghost use Rattle.layout.specs.Layout.{nodeLimit, mostBlocks};
 ghost use Rattle.account.specs.Range.{Ranged};
-ghost use Rattle.flash_rows.specs.Row.{rowsOf};
-ghost use Rattle.flash_blocks.specs.Pages.{pagesOf};
-ghost use Rattle.flash_allocate.specs.World.{Good, world};
-ghost use Rattle.run_lookup.specs.Delete.{DeletedAs};
+ghost use Rattle.flash_allocate.specs.World.{Good, worldIn};
+ghost use Rattle.run_lookup.specs.Delete.{DeletedIn};
 use super::Done;
 use super::value::Value;
 use super::value::value_at;
@@ -21,7 +19,7 @@ use run_serve::request::serve_edit;
 // The reads to the leaf, then one edit of it where the key is there.
 pub fn delete(pool: &mut [u8], table: &mut [u8], state: State, tariff: Tariff, key: u32) -> Done
     requires { ⌜ (Good (length (now pool)) (length (now table)) state) × (Ranged tariff) × (state .nodes ≤ nodeLimit mostBlocks) ⌝ }
-    ensures { λ r. ⌜ DeletedAs (length (now (pool .exit))) (length (now (table .exit))) (pagesOf (now (pool .exit))) (rowsOf (now (table .exit))) r tariff key (world (pagesOf (now (pool .entry))) (rowsOf (now (table .entry))) state) ⌝ }
+    ensures { λ r. ⌜ DeletedIn (now (pool .exit)) (now (table .exit)) r tariff key (worldIn (now (pool .entry)) (now (table .entry)) state) ⌝ }
 {
     let path = path_to(pool, table, state, key);
     let leaf = path.leaf;

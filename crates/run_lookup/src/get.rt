@@ -3,10 +3,8 @@ ghost use Prim.Native.Nat.{_≤_};
 ghost use lib.ListN.{length};
 ghost use Rattle.layout.specs.Layout.{nodeLimit, mostBlocks};
 ghost use Rattle.account.specs.Range.{Ranged};
-ghost use Rattle.flash_rows.specs.Row.{rowsOf};
-ghost use Rattle.flash_blocks.specs.Pages.{pagesOf};
-ghost use Rattle.flash_allocate.specs.World.{Good, world};
-ghost use Rattle.run_lookup.specs.Get.{GotAs};
+ghost use Rattle.flash_allocate.specs.World.{Good, worldIn};
+ghost use Rattle.run_lookup.specs.Get.{GotIn};
 use super::Done;
 use super::value::get_answer;
 use super::value::value_at;
@@ -18,7 +16,7 @@ use run_path::reads::serve_reads;
 // The value at a key: the answer is that of the nodes before they are read as requests.
 pub fn get(pool: &mut [u8], table: &mut [u8], state: State, tariff: Tariff, key: u32) -> Done
     requires { ⌜ (Good (length (now pool)) (length (now table)) state) × (Ranged tariff) × (state .nodes ≤ nodeLimit mostBlocks) ⌝ }
-    ensures { λ r. ⌜ GotAs (length (now (pool .exit))) (length (now (table .exit))) (pagesOf (now (pool .exit))) (rowsOf (now (table .exit))) r tariff key (world (pagesOf (now (pool .entry))) (rowsOf (now (table .entry))) state) ⌝ }
+    ensures { λ r. ⌜ GotIn (now (pool .exit)) (now (table .exit)) r tariff key (worldIn (now (pool .entry)) (now (table .entry)) state) ⌝ }
 {
     let path = path_to(pool, table, state, key);
     let leaf = path.leaf;

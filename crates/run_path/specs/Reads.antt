@@ -10,6 +10,9 @@ use Rattle.flash_allocate.specs.World.{World, world}
 use Rattle.flash_log.specs.Flush.{Kept}
 use Rattle.run_serve.specs.Serve.{serve, charge}
 use Rattle.run_serve.specs.declared.request.Charged.{Charged}
+use lib.ListN.{length}
+use Rattle.flash_blocks.specs.Pages.{pagesOf}
+use Rattle.flash_rows.specs.Row.{rowsOf}
 
 -- The world after reads of these nodes, and what they are charged.
 abbrev pub readAll : Tariff → List ℕ → World → World
@@ -25,3 +28,7 @@ pub record ReadAs (poolLength tableLength : ℕ) (pages : List (List ℕ)) (rows
   pub kept : Kept poolLength tableLength (w .state) (world pages rows (r .state)) (readAll t ns w)
   pub charge : r .charge ≡ readCharges t ns w
   pub most : r .charge ≤ mostCharge * requests
+
+-- The same of a pool and a table, as bytes.
+abbrev pub ReadIn : List ℕ → List ℕ → Charged → Tariff → ℕ → List ℕ → World → Type 0
+ReadIn pool table r t requests ns w = ReadAs (length pool) (length table) (pagesOf pool) (rowsOf table) r t requests ns w

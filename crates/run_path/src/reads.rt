@@ -3,10 +3,8 @@ ghost use Prim.Native.Nat.{_≤_};
 ghost use lib.ListN.{length, take};
 ghost use Rattle.layout.specs.Layout.{nodeLimit, mostBlocks};
 ghost use Rattle.account.specs.Range.{Ranged};
-ghost use Rattle.flash_rows.specs.Row.{rowsOf};
-ghost use Rattle.flash_blocks.specs.Pages.{pagesOf};
-ghost use Rattle.flash_allocate.specs.World.{Good, world};
-ghost use Rattle.run_path.specs.Reads.{ReadAs};
+ghost use Rattle.flash_allocate.specs.World.{Good, worldIn};
+ghost use Rattle.run_path.specs.Reads.{ReadIn};
 use account::Tariff;
 use flash_allocate::state::State;
 use run_serve::request::Charged;
@@ -21,7 +19,7 @@ pub fn read_nodes(
     ids: &[usize],
 ) -> Charged
     requires { ⌜ (Good (length (now pool)) (length (now table)) state) × (Ranged tariff) × (length (now ids) ≤ nodeLimit mostBlocks) ⌝ }
-    ensures { λ r. ⌜ ReadAs (length (now (pool .exit))) (length (now (table .exit))) (pagesOf (now (pool .exit))) (rowsOf (now (table .exit))) r tariff (length (now (ids .entry))) (now (ids .entry)) (world (pagesOf (now (pool .entry))) (rowsOf (now (table .entry))) state) ⌝ }
+    ensures { λ r. ⌜ ReadIn (now (pool .exit)) (now (table .exit)) r tariff (length (now (ids .entry))) (now (ids .entry)) (worldIn (now (pool .entry)) (now (table .entry)) state) ⌝ }
 {
     let mut s = state;
     let mut charge: u64 = 0;
@@ -45,7 +43,7 @@ pub fn serve_reads(
     n: usize,
 ) -> Charged
     requires { ⌜ (Good (length (now pool)) (length (now table)) state) × (Ranged tariff) × (n ≤ 9) ⌝ }
-    ensures { λ r. ⌜ ReadAs (length (now (pool .exit))) (length (now (table .exit))) (pagesOf (now (pool .exit))) (rowsOf (now (table .exit))) r tariff n (take n ids) (world (pagesOf (now (pool .entry))) (rowsOf (now (table .entry))) state) ⌝ }
+    ensures { λ r. ⌜ ReadIn (now (pool .exit)) (now (table .exit)) r tariff n (take n ids) (worldIn (now (pool .entry)) (now (table .entry)) state) ⌝ }
 {
     read_nodes(pool, table, state, tariff, &ids[0..n])
 }

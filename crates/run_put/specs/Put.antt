@@ -4,7 +4,7 @@ use mathlib.Core.Path.{_≡_}
 use mathlib.Core.List.{List}
 use Prim.Native.Nat.{ℕ, _+_, _-_, _*_, _≤_}
 use lib.Dec.{ltb}
-use lib.ListN.{getD}
+use lib.ListN.{getD, length}
 use Rattle.laws.specs.Tests.{choose}
 use Rattle.layout.specs.Layout.{nodeLimit}
 use Rattle.account.specs.declared.Tariff.{Tariff}
@@ -31,6 +31,8 @@ use Rattle.run_split.specs.Fit.{byFit, fitOf}
 use Rattle.run_split.specs.Growing.{Growing}
 use Rattle.run_split.specs.SplitUpwards.{splitUpwards}
 use Rattle.run_put.specs.declared.put.Done.{Done}
+use Rattle.flash_blocks.specs.Pages.{pagesOf}
+use Rattle.flash_rows.specs.Row.{rowsOf}
 
 -- Requests that were served: the world after them, and what they were charged.
 pub record Requests : Type 0 where
@@ -98,9 +100,17 @@ pub record RequestsAs (poolLength tableLength : ℕ) (pages : List (List ℕ)) (
   pub blocks : r .state .blocks ≡ before .blocks
   pub most : r .charge ≤ mostCharge * 27
 
+-- The same of a pool and a table, as bytes.
+abbrev pub RequestsIn : List ℕ → List ℕ → Charged → State → Requests → Type 0
+RequestsIn pool table r before right = RequestsAs (length pool) (length table) (pagesOf pool) (rowsOf table) r before right
+
 -- What the code of a command leaves: the world, the charge and the answer of the definition.
 pub record DoneAs (poolLength tableLength : ℕ) (pages : List (List ℕ)) (rows : List Row) (r : Done) (before : State) (right : Doing) : Type 0 where
   pub is : doing (world pages rows (r .state)) (r .charge) (r .answer) ≡ right
   pub growing : Growing poolLength tableLength (r .state)
   pub blocks : r .state .blocks ≡ before .blocks
   pub most : r .charge ≤ mostCharge * 27
+
+-- The same of a pool and a table, as bytes.
+abbrev pub DoneIn : List ℕ → List ℕ → Done → State → Doing → Type 0
+DoneIn pool table r before right = DoneAs (length pool) (length table) (pagesOf pool) (rowsOf table) r before right

@@ -11,11 +11,11 @@ ghost use Rattle.flash_blocks.specs.Pages.{pagesOf};
 ghost use Rattle.node.specs.Value.{pairsIn, Held};
 ghost use Rattle.tree.specs.Put.{idsNeeded};
 ghost use Rattle.tree_laws.specs.IdsNeeded.{sizeAt};
-ghost use Rattle.flash_allocate.specs.World.{world};
+ghost use Rattle.flash_allocate.specs.World.{worldIn};
 ghost use Rattle.flash_read.specs.NodeTable.{tableOf};
 ghost use Rattle.run_split.specs.Growing.{Growing};
 ghost use Rattle.run_put.specs.Put as def;
-ghost use Rattle.run_put.specs.Put.{RequestsAs, DoneAs};
+ghost use Rattle.run_put.specs.Put.{RequestsIn, DoneIn};
 use super::ids::ids_needed;
 use account::Tariff;
 use command::Answer;
@@ -67,7 +67,7 @@ fn read_and_edit(
     value: u32,
 ) -> Charged
     requires { ⌜ (Growing (length (now pool)) (length (now table)) state) × (Ranged tariff) × (1 ≤ n) × (n ≤ 9) ⌝ }
-    ensures { λ r. ⌜ RequestsAs (length (now (pool .exit))) (length (now (table .exit))) (pagesOf (now (pool .exit))) (rowsOf (now (table .exit))) r state (def.readAndEdit tariff (take n ids) (def.lastOf n ids) key value (world (pagesOf (now (pool .entry))) (rowsOf (now (table .entry))) state)) ⌝ }
+    ensures { λ r. ⌜ RequestsIn (now (pool .exit)) (now (table .exit)) r state (def.readAndEdit tariff (take n ids) (def.lastOf n ids) key value (worldIn (now (pool .entry)) (now (table .entry)) state)) ⌝ }
 {
     let reads = serve_reads(pool, table, state, tariff, ids, n);
     let s = reads.state;
@@ -95,7 +95,7 @@ fn read_and_split(
     value: u32,
 ) -> Charged
     requires { ⌜ (Growing (length (now pool)) (length (now table)) state) × (Ranged tariff) × (1 ≤ n) × (n ≤ 9) ⌝ }
-    ensures { λ r. ⌜ RequestsAs (length (now (pool .exit))) (length (now (table .exit))) (pagesOf (now (pool .exit))) (rowsOf (now (table .exit))) r state (def.readAndSplit tariff (take n ids) key value (world (pagesOf (now (pool .entry))) (rowsOf (now (table .entry))) state)) ⌝ }
+    ensures { λ r. ⌜ RequestsIn (now (pool .exit)) (now (table .exit)) r state (def.readAndSplit tariff (take n ids) key value (worldIn (now (pool .entry)) (now (table .entry)) state)) ⌝ }
 {
     let reads = serve_reads(pool, table, state, tariff, ids, n);
     let s = reads.state;
@@ -119,7 +119,7 @@ fn put_splitting(
     value: u32,
 ) -> Done
     requires { ⌜ (Growing (length (now pool)) (length (now table)) state) × (Ranged tariff) × (1 ≤ n) × (n ≤ 9) × (mostKeys ≤ sizeAt (tableOf (pagesOf (now pool)) (rowsOf (now table)) state) (def.lastOf n ids)) ⌝ }
-    ensures { λ r. ⌜ DoneAs (length (now (pool .exit))) (length (now (table .exit))) (pagesOf (now (pool .exit))) (rowsOf (now (table .exit))) r state (def.putSplitting tariff (take n ids) (idsNeeded (tableOf (pagesOf (now (pool .entry))) (rowsOf (now (table .entry))) state) (take n ids)) key value (world (pagesOf (now (pool .entry))) (rowsOf (now (table .entry))) state)) ⌝ }
+    ensures { λ r. ⌜ DoneIn (now (pool .exit)) (now (table .exit)) r state (def.putSplitting tariff (take n ids) (idsNeeded (tableOf (pagesOf (now (pool .entry))) (rowsOf (now (table .entry))) state) (take n ids)) key value (worldIn (now (pool .entry)) (now (table .entry)) state)) ⌝ }
 {
     let needed = ids_needed(pool, table, state, ids, n);
     if 10 * (state.blocks - 2) < state.nodes + needed {
@@ -150,7 +150,7 @@ pub fn put(
     value: u32,
 ) -> Done
     requires { ⌜ (Growing (length (now pool)) (length (now table)) state) × (Ranged tariff) ⌝ }
-    ensures { λ r. ⌜ DoneAs (length (now (pool .exit))) (length (now (table .exit))) (pagesOf (now (pool .exit))) (rowsOf (now (table .exit))) r state (def.put tariff key value (world (pagesOf (now (pool .entry))) (rowsOf (now (table .entry))) state)) ⌝ }
+    ensures { λ r. ⌜ DoneIn (now (pool .exit)) (now (table .exit)) r state (def.put tariff key value (worldIn (now (pool .entry)) (now (table .entry)) state)) ⌝ }
 {
     let path = path_to(pool, table, state, key);
     let leaf = path.leaf;

@@ -25,6 +25,8 @@ use Rattle.run_scan.specs.declared.gather.Gathered.{Gathered}
 use Rattle.run_scan.specs.declared.scan.Scanned.{Scanned}
 use Rattle.run_scan.specs.Pairs.{pairsOf, Sized}
 use Rattle.run_scan.specs.Gathered.{GatheredAs}
+use Rattle.flash_blocks.specs.Pages.{pagesOf}
+use Rattle.flash_rows.specs.Row.{rowsOf}
 
 -- The nodes that a scan reads: those to the leaf of the low key, then the leaves behind it; "low above high: no node read".
 unfoldable pub scanReads : ℕ → ℕ → ℕ → World → List ℕ
@@ -50,6 +52,10 @@ pub record ScannedAs (poolLength tableLength : ℕ) (pages : List (List ℕ)) (r
   pub pairs : pairsOf (r .pairs) ≡ scanPairs low high wanted w
   pub sized : Sized (r .pairs)
   pub count : r .pairs .count ≤ wanted
+
+-- The same of a pool and a table, as bytes.
+abbrev pub ScannedIn : List ℕ → List ℕ → Scanned → Tariff → ℕ → ℕ → ℕ → World → Type 0
+ScannedIn pool table r t low high wanted w = ScannedAs (length pool) (length table) (pagesOf pool) (rowsOf table) r t low high wanted w
 
 module _ (t : Tariff) (low high most : ℕ) (w : World) where
   -- low above high

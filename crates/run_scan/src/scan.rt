@@ -3,10 +3,8 @@ ghost use Prim.Native.Nat.{_≤_};
 ghost use lib.ListN.{length};
 ghost use Rattle.layout.specs.Layout.{nodeLimit, mostBlocks};
 ghost use Rattle.account.specs.Range.{Ranged};
-ghost use Rattle.flash_rows.specs.Row.{rowsOf};
-ghost use Rattle.flash_blocks.specs.Pages.{pagesOf};
-ghost use Rattle.flash_allocate.specs.World.{Good, world};
-ghost use Rattle.run_scan.specs.Scan.{ScannedAs};
+ghost use Rattle.flash_allocate.specs.World.{Good, worldIn};
+ghost use Rattle.run_scan.specs.Scan.{ScannedIn};
 use super::Pairs;
 use super::gather::gather;
 use account::Tariff;
@@ -33,7 +31,7 @@ pub fn scan(
     most: u32,
 ) -> Scanned
     requires { ⌜ (Good (length (now pool)) (length (now table)) state) × (Ranged tariff) × (state .nodes ≤ nodeLimit mostBlocks) × (1 ≤ most) × (most ≤ 32) ⌝ }
-    ensures { λ r. ⌜ ScannedAs (length (now (pool .exit))) (length (now (table .exit))) (pagesOf (now (pool .exit))) (rowsOf (now (table .exit))) r tariff low high most (world (pagesOf (now (pool .entry))) (rowsOf (now (table .entry))) state) ⌝ }
+    ensures { λ r. ⌜ ScannedIn (now (pool .exit)) (now (table .exit)) r tariff low high most (worldIn (now (pool .entry)) (now (table .entry)) state) ⌝ }
 {
     if high < low {
         let pairs = Pairs {

@@ -16,6 +16,9 @@ use Rattle.run_serve.specs.declared.request.Charged.{Charged}
 use Rattle.run_serve.specs.Content.{contentAfter}
 use Rattle.run_serve.specs.Write.{write}
 use Rattle.run_serve.specs.Settle.{servedAt, settle}
+use lib.ListN.{length}
+use Rattle.flash_blocks.specs.Pages.{pagesOf}
+use Rattle.flash_rows.specs.Row.{rowsOf}
 
 -- What Account calls it.
 abbrev pub requestOf : Work → Request
@@ -40,3 +43,7 @@ pub record ServedAs (poolLength tableLength : ℕ) (pages : List (List ℕ)) (ro
   pub kept : Kept poolLength tableLength (w .state) (world pages rows (r .state)) (serve t n work w)
   pub charge : r .charge ≡ charge t n work w
   pub most : r .charge ≤ mostCharge
+
+-- The same of a pool and a table, as bytes.
+abbrev pub ServedIn : List ℕ → List ℕ → Charged → Tariff → ℕ → Work → World → Type 0
+ServedIn pool table r t n work w = ServedAs (length pool) (length table) (pagesOf pool) (rowsOf table) r t n work w

@@ -1,11 +1,9 @@
 // The content of a node as a request finds it, and as an edit leaves it.
 ghost use Prim.Native.Nat.{_+_, _*_, _≤_};
 ghost use lib.ListN.{length};
-ghost use Rattle.flash_rows.specs.Row.{rowsOf};
-ghost use Rattle.flash_blocks.specs.Pages.{pagesOf};
 ghost use Rattle.node.specs.Value.{Becomes};
 ghost use Rattle.node.specs.Drafts.{changeOf};
-ghost use Rattle.flash_allocate.specs.World.{world};
+ghost use Rattle.flash_allocate.specs.World.{worldIn};
 ghost use Rattle.run_serve.specs.Content.{contentOf, editedOf};
 use flash_allocate::state::State;
 use flash_read::by_id::node_in;
@@ -17,7 +15,7 @@ use node_replay::redo;
 // The content of node n.
 pub fn content_of<'a>(pool: &'a [u8], table: &'a [u8], state: State, n: usize) -> NodeValue
     requires { ⌜ (state .entries ≤ 27) × (16 * n + 16 ≤ length (now table)) ⌝ }
-    ensures { λ r. ⌜ Becomes r (contentOf n (world (pagesOf (now (pool .entry))) (rowsOf (now (table .entry))) state)) ⌝ }
+    ensures { λ r. ⌜ Becomes r (contentOf n (worldIn (now (pool .entry)) (now (table .entry)) state)) ⌝ }
 {
     let d = content(pool, table, state, n);
     node_in(d)
@@ -32,7 +30,7 @@ pub fn edited_content<'a>(
     change: ChangeValue,
 ) -> NodeValue
     requires { ⌜ (state .entries ≤ 27) × (16 * n + 16 ≤ length (now table)) ⌝ }
-    ensures { λ r. ⌜ Becomes r (editedOf (changeOf change) n (world (pagesOf (now (pool .entry))) (rowsOf (now (table .entry))) state)) ⌝ }
+    ensures { λ r. ⌜ Becomes r (editedOf (changeOf change) n (worldIn (now (pool .entry)) (now (table .entry)) state)) ⌝ }
 {
     let d = content(pool, table, state, n);
     let e = redo(d, change);

@@ -1,13 +1,11 @@
 // The node requests: a read, an edit, a rewrite. Of a node that is not there nothing is served and nothing charged.
 ghost use lib.ListN.{length};
 ghost use Rattle.account.specs.Range.{Ranged};
-ghost use Rattle.flash_rows.specs.Row.{rowsOf};
-ghost use Rattle.flash_blocks.specs.Pages.{pagesOf};
 ghost use Rattle.node.specs.Value.{nodeOf, Sized};
 ghost use Rattle.node.specs.Drafts.{changeOf};
 ghost use Rattle.store.specs.Serve as work;
-ghost use Rattle.flash_allocate.specs.World.{Good, world};
-ghost use Rattle.run_serve.specs.Serve.{ServedAs};
+ghost use Rattle.flash_allocate.specs.World.{Good, worldIn};
+ghost use Rattle.run_serve.specs.Serve.{ServedIn};
 use super::content::edited_content;
 use super::settle::settle;
 use super::write::write_edit;
@@ -33,7 +31,7 @@ pub fn serve_read(
     n: usize,
 ) -> Charged
     requires { ⌜ (Good (length (now pool)) (length (now table)) state) × (Ranged tariff) ⌝ }
-    ensures { λ r. ⌜ ServedAs (length (now (pool .exit))) (length (now (table .exit))) (pagesOf (now (pool .exit))) (rowsOf (now (table .exit))) r tariff n work.read (world (pagesOf (now (pool .entry))) (rowsOf (now (table .entry))) state) ⌝ }
+    ensures { λ r. ⌜ ServedIn (now (pool .exit)) (now (table .exit)) r tariff n work.read (worldIn (now (pool .entry)) (now (table .entry)) state) ⌝ }
 {
     if n < state.nodes {
         let settled = settle(pool, table, state, tariff, n, Request::Read);
@@ -56,7 +54,7 @@ pub fn serve_edit(
     change: ChangeValue,
 ) -> Charged
     requires { ⌜ (Good (length (now pool)) (length (now table)) state) × (Ranged tariff) ⌝ }
-    ensures { λ r. ⌜ ServedAs (length (now (pool .exit))) (length (now (table .exit))) (pagesOf (now (pool .exit))) (rowsOf (now (table .exit))) r tariff n (work.edit (changeOf change)) (world (pagesOf (now (pool .entry))) (rowsOf (now (table .entry))) state) ⌝ }
+    ensures { λ r. ⌜ ServedIn (now (pool .exit)) (now (table .exit)) r tariff n (work.edit (changeOf change)) (worldIn (now (pool .entry)) (now (table .entry)) state) ⌝ }
 {
     if n < state.nodes {
         let new = edited_content(pool, table, state, n, change);
@@ -82,7 +80,7 @@ pub fn serve_rewrite(
     v: NodeValue,
 ) -> Charged
     requires { ⌜ (Good (length (now pool)) (length (now table)) state) × (Ranged tariff) × (Sized v) ⌝ }
-    ensures { λ r. ⌜ ServedAs (length (now (pool .exit))) (length (now (table .exit))) (pagesOf (now (pool .exit))) (rowsOf (now (table .exit))) r tariff n (work.rewrite (nodeOf v)) (world (pagesOf (now (pool .entry))) (rowsOf (now (table .entry))) state) ⌝ }
+    ensures { λ r. ⌜ ServedIn (now (pool .exit)) (now (table .exit)) r tariff n (work.rewrite (nodeOf v)) (worldIn (now (pool .entry)) (now (table .entry)) state) ⌝ }
 {
     if n < state.nodes {
         let settled = settle(pool, table, state, tariff, n, Request::Rewrite);

@@ -4,11 +4,10 @@ ghost use Prim.Native.Nat.{_+_, _*_, _≤_, _<_};
 ghost use lib.ListN.{length};
 ghost use Rattle.account.specs.Range.{Ranged};
 ghost use Rattle.flash_rows.specs.Row.{rowsOf};
-ghost use Rattle.flash_blocks.specs.Pages.{pagesOf};
-ghost use Rattle.flash_allocate.specs.World.{Good, world};
-ghost use Rattle.flash_log.specs.Flush.{Kept};
+ghost use Rattle.flash_allocate.specs.World.{Good, worldIn};
+ghost use Rattle.flash_log.specs.Flush.{KeptIn};
 ghost use Rattle.run_serve.specs.Settle as def;
-ghost use Rattle.run_serve.specs.Settle.{accountIn, sameMode, rescored, SettledAs};
+ghost use Rattle.run_serve.specs.Settle.{accountIn, sameMode, rescored, SettledIn};
 use super::content::content_of;
 use super::write::write_whole;
 use account::Account;
@@ -64,7 +63,7 @@ fn rescore(table: &mut [u8], n: usize, score: u32)
 // A switch where the modes differ: the content that the node has, whole in the other mode.
 fn switch(pool: &mut [u8], table: &mut [u8], state: State, n: usize, from: Mode, to: Mode) -> State
     requires { ⌜ (Good (length (now pool)) (length (now table)) state) × (n < state .nodes) ⌝ }
-    ensures { λ r. ⌜ Kept (length (now (pool .exit))) (length (now (table .exit))) state (world (pagesOf (now (pool .exit))) (rowsOf (now (table .exit))) r) (def.switch from to n (world (pagesOf (now (pool .entry))) (rowsOf (now (table .entry))) state)) ⌝ }
+    ensures { λ r. ⌜ KeptIn (now (pool .exit)) (now (table .exit)) state r (def.switch from to n (worldIn (now (pool .entry)) (now (table .entry)) state)) ⌝ }
 {
     if same_mode(from, to) {
         return state;
@@ -83,7 +82,7 @@ pub fn settle(
     request: Request,
 ) -> Settled
     requires { ⌜ (Good (length (now pool)) (length (now table)) state) × (n < state .nodes) × (Ranged tariff) ⌝ }
-    ensures { λ r. ⌜ SettledAs (length (now (pool .exit))) (length (now (table .exit))) (pagesOf (now (pool .exit))) (rowsOf (now (table .exit))) r tariff request n (world (pagesOf (now (pool .entry))) (rowsOf (now (table .entry))) state) ⌝ }
+    ensures { λ r. ⌜ SettledIn (now (pool .exit)) (now (table .exit)) r tariff request n (worldIn (now (pool .entry)) (now (table .entry)) state) ⌝ }
 {
     let row = flash_rows::read_row(table, n);
     let account = account_in(row);

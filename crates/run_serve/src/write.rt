@@ -1,12 +1,10 @@
 // What a request writes of its node, by the mode that the node is in then.
 ghost use Prim.Native.Nat.{_<_};
 ghost use lib.ListN.{length};
-ghost use Rattle.flash_rows.specs.Row.{rowsOf};
-ghost use Rattle.flash_blocks.specs.Pages.{pagesOf};
 ghost use Rattle.node.specs.Value.{nodeOf, Sized};
 ghost use Rattle.node.specs.Drafts.{changeOf};
-ghost use Rattle.flash_allocate.specs.World.{Good, world};
-ghost use Rattle.flash_log.specs.Flush.{Kept};
+ghost use Rattle.flash_allocate.specs.World.{Good, worldIn};
+ghost use Rattle.flash_log.specs.Flush.{KeptIn};
 ghost use Rattle.run_serve.specs.Write.{writeWhole, writeEdit};
 use account::Mode;
 use flash_allocate::state::State;
@@ -26,7 +24,7 @@ pub fn write_whole(
     v: NodeValue,
 ) -> State
     requires { ⌜ (Good (length (now pool)) (length (now table)) state) × (n < state .nodes) × (Sized v) ⌝ }
-    ensures { λ r. ⌜ Kept (length (now (pool .exit))) (length (now (table .exit))) state (world (pagesOf (now (pool .exit))) (rowsOf (now (table .exit))) r) (writeWhole mode n (nodeOf v) (world (pagesOf (now (pool .entry))) (rowsOf (now (table .entry))) state)) ⌝ }
+    ensures { λ r. ⌜ KeptIn (now (pool .exit)) (now (table .exit)) state r (writeWhole mode n (nodeOf v) (worldIn (now (pool .entry)) (now (table .entry)) state)) ⌝ }
 {
     match mode {
         Mode::Log => {
@@ -49,7 +47,7 @@ pub fn write_edit(
     edited: NodeValue,
 ) -> State
     requires { ⌜ (Good (length (now pool)) (length (now table)) state) × (n < state .nodes) × (Sized edited) ⌝ }
-    ensures { λ r. ⌜ Kept (length (now (pool .exit))) (length (now (table .exit))) state (world (pagesOf (now (pool .exit))) (rowsOf (now (table .exit))) r) (writeEdit mode n (changeOf change) (nodeOf edited) (world (pagesOf (now (pool .entry))) (rowsOf (now (table .entry))) state)) ⌝ }
+    ensures { λ r. ⌜ KeptIn (now (pool .exit)) (now (table .exit)) state r (writeEdit mode n (changeOf change) (nodeOf edited) (worldIn (now (pool .entry)) (now (table .entry)) state)) ⌝ }
 {
     match mode {
         Mode::Log => {

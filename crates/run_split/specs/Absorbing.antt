@@ -9,6 +9,9 @@ use Rattle.flash_allocate.specs.World.{World, world}
 use Rattle.run_split.specs.declared.Pending.{Pending}
 use Rattle.run_split.specs.declared.Absorbed.{Absorbed}
 use Rattle.run_split.specs.Growing.{Growing}
+use lib.ListN.{length}
+use Rattle.flash_blocks.specs.Pages.{pagesOf}
+use Rattle.flash_rows.specs.Row.{rowsOf}
 
 -- The world, what was charged, and what the node above has still to take.
 pub record Absorbing : Type 0 where
@@ -29,3 +32,7 @@ pub record AbsorbedAs (poolLength tableLength : ℕ) (pages : List (List ℕ)) (
   pub growing : Growing poolLength tableLength (r .state)
   pub blocks : r .state .blocks ≡ before .blocks
   pub most : r .charge ≤ mostCharge * 2
+
+-- The same of a pool and a table, as bytes.
+abbrev pub AbsorbedIn : List ℕ → List ℕ → Absorbed → State → Absorbing → Type 0
+AbsorbedIn pool table r before right = AbsorbedAs (length pool) (length table) (pagesOf pool) (rowsOf table) r before right

@@ -6,7 +6,7 @@ use native.Mathlib.Omega.{arith}
 use lib.ListN.{length}
 use Rattle.layout.specs.Layout.{nodeLimit}
 use Rattle.flash_allocate.specs.declared.state.State.{State}
-use Rattle.flash_allocate.specs.World.{World, Good}
+use Rattle.flash_allocate.specs.World.{World, Good, worldIn}
 use Rattle.flash_log.specs.Flush.{Kept}
 use Rattle.flash_read.specs.NodeTable.{Readable}
 
@@ -21,6 +21,10 @@ pub record Grew (poolLength tableLength : ℕ) (before : State) (made right : Wo
   pub is : made ≡ right
   pub growing : Growing poolLength tableLength (made .state)
   pub blocks : made .state .blocks ≡ before .blocks
+
+-- The same of a pool and a table, as bytes.
+abbrev pub GrewIn : List ℕ → List ℕ → State → State → World → Type 0
+GrewIn pool table before r right = Grew (length pool) (length table) before (worldIn pool table r) right
 
 -- Requests of nodes that are there keep it.
 pub growing-kept : {P T P₀ T₀ : ℕ} {s : State} {made right : World} → Growing P₀ T₀ s → Kept P T s made right → Growing P T (made .state)

@@ -3,7 +3,7 @@ use mathlib.Core.Path.{_≡_}
 use mathlib.Core.Bool.{Bool, true, false}
 use mathlib.Core.List.{List, [], _∷_}
 use Prim.Native.Nat.{ℕ, _+_, _*_, _≤_}
-use lib.ListN.{drop}
+use lib.ListN.{drop, length}
 use Rattle.account.specs.declared.Tariff.{Tariff}
 use Rattle.account.specs.Fair.{mostCharge}
 use Rattle.flash_rows.specs.declared.Row.{Row}
@@ -13,6 +13,8 @@ use Rattle.run_split.specs.declared.Pending.the-variants.{Pair}
 use Rattle.run_split.specs.Growing.{Growing}
 use Rattle.run_split.specs.Absorbing.{Absorbing, absorbing}
 use Rattle.run_split.specs.Absorb.{absorb}
+use Rattle.flash_blocks.specs.Pages.{pagesOf}
+use Rattle.flash_rows.specs.Row.{rowsOf}
 
 -- One node more, above those that are done.
 abbrev pub afterIt : ℕ → Absorbing → Absorbing
@@ -37,3 +39,7 @@ pub record SplitUpwardsAs (poolLength tableLength : ℕ) (pages : List (List ℕ
   pub growing : Growing poolLength tableLength (r .state)
   pub blocks : r .state .blocks ≡ w .state .blocks
   pub most : r .charge ≤ mostCharge * 18
+
+-- The same of a pool and a table, as bytes.
+abbrev pub SplitUpwardsIn : List ℕ → List ℕ → Charged → Tariff → ℕ → ℕ → List ℕ → World → Type 0
+SplitUpwardsIn pool table r t key value ids w = SplitUpwardsAs (length pool) (length table) (pagesOf pool) (rowsOf table) r t key value ids w

@@ -2,14 +2,12 @@
 ghost use mathlib.Core.Path.{_≡_};
 ghost use lib.ListN.{length};
 ghost use Rattle.account.specs.Range.{Ranged};
-ghost use Rattle.flash_rows.specs.Row.{rowsOf};
-ghost use Rattle.flash_blocks.specs.Pages.{pagesOf};
 ghost use Rattle.node.specs.Drafts.{changeOf};
 ghost use Rattle.node.specs.Repoint.{repoint};
 ghost use Rattle.node.specs.Value.{nodeOf, Held};
-ghost use Rattle.flash_allocate.specs.World.{world};
+ghost use Rattle.flash_allocate.specs.World.{worldIn};
 ghost use Rattle.run_split.specs.Growing.{Growing};
-ghost use Rattle.run_split.specs.Absorbing.{AbsorbedAs};
+ghost use Rattle.run_split.specs.Absorbing.{AbsorbedIn};
 ghost use Rattle.run_split.specs.Absorb as def;
 use super::Absorbed;
 use super::Pending;
@@ -51,7 +49,7 @@ fn absorb_edit(
     edit: ChangeValue,
 ) -> Absorbed
     requires { ⌜ (Growing (length (now pool)) (length (now table)) state) × (Ranged tariff) ⌝ }
-    ensures { λ r. ⌜ AbsorbedAs (length (now (pool .exit))) (length (now (table .exit))) (pagesOf (now (pool .exit))) (rowsOf (now (table .exit))) r state (def.absorbEdit tariff id (changeOf edit) (world (pagesOf (now (pool .entry))) (rowsOf (now (table .entry))) state)) ⌝ }
+    ensures { λ r. ⌜ AbsorbedIn (now (pool .exit)) (now (table .exit)) r state (def.absorbEdit tariff id (changeOf edit) (worldIn (now (pool .entry)) (now (table .entry)) state)) ⌝ }
 {
     let served = serve_edit(pool, table, state, tariff, id, edit);
     let s = served.state;
@@ -74,7 +72,7 @@ fn absorb_edits(
     second: ChangeValue,
 ) -> Absorbed
     requires { ⌜ (Growing (length (now pool)) (length (now table)) state) × (Ranged tariff) ⌝ }
-    ensures { λ r. ⌜ AbsorbedAs (length (now (pool .exit))) (length (now (table .exit))) (pagesOf (now (pool .exit))) (rowsOf (now (table .exit))) r state (def.absorbEdits tariff id (changeOf first) (changeOf second) (world (pagesOf (now (pool .entry))) (rowsOf (now (table .entry))) state)) ⌝ }
+    ensures { λ r. ⌜ AbsorbedIn (now (pool .exit)) (now (table .exit)) r state (def.absorbEdits tariff id (changeOf first) (changeOf second) (worldIn (now (pool .entry)) (now (table .entry)) state)) ⌝ }
 {
     let one = serve_edit(pool, table, state, tariff, id, first);
     let s = one.state;
@@ -100,7 +98,7 @@ fn absorb_pair(
     value: u32,
 ) -> Absorbed
     requires { ⌜ (Growing (length (now pool)) (length (now table)) state) × (Ranged tariff) ⌝ }
-    ensures { λ r. ⌜ AbsorbedAs (length (now (pool .exit))) (length (now (table .exit))) (pagesOf (now (pool .exit))) (rowsOf (now (table .exit))) r state (def.absorbPair tariff root id key value (world (pagesOf (now (pool .entry))) (rowsOf (now (table .entry))) state)) ⌝ }
+    ensures { λ r. ⌜ AbsorbedIn (now (pool .exit)) (now (table .exit)) r state (def.absorbPair tariff root id key value (worldIn (now (pool .entry)) (now (table .entry)) state)) ⌝ }
 {
     let v = node_at(pool, table, state, id);
     let found = fit(v, key);
@@ -133,7 +131,7 @@ fn absorb_halves(
     right: u32,
 ) -> Absorbed
     requires { ⌜ (Growing (length (now pool)) (length (now table)) state) × (Ranged tariff) ⌝ }
-    ensures { λ r. ⌜ AbsorbedAs (length (now (pool .exit))) (length (now (table .exit))) (pagesOf (now (pool .exit))) (rowsOf (now (table .exit))) r state (def.absorbHalves tariff root id wanted middle left right (world (pagesOf (now (pool .entry))) (rowsOf (now (table .entry))) state)) ⌝ }
+    ensures { λ r. ⌜ AbsorbedIn (now (pool .exit)) (now (table .exit)) r state (def.absorbHalves tariff root id wanted middle left right (worldIn (now (pool .entry)) (now (table .entry)) state)) ⌝ }
 {
     let v = node_at(pool, table, state, id);
     let child = child_place(v, wanted);
@@ -177,7 +175,7 @@ pub fn absorb(
     pending: Pending,
 ) -> Absorbed
     requires { ⌜ (Growing (length (now pool)) (length (now table)) state) × (Ranged tariff) ⌝ }
-    ensures { λ r. ⌜ AbsorbedAs (length (now (pool .exit))) (length (now (table .exit))) (pagesOf (now (pool .exit))) (rowsOf (now (table .exit))) r state (def.absorb tariff wanted root id pending (world (pagesOf (now (pool .entry))) (rowsOf (now (table .entry))) state)) ⌝ }
+    ensures { λ r. ⌜ AbsorbedIn (now (pool .exit)) (now (table .exit)) r state (def.absorb tariff wanted root id pending (worldIn (now (pool .entry)) (now (table .entry)) state)) ⌝ }
 {
     match pending {
         Pending::Nothing => {

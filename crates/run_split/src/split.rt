@@ -3,16 +3,14 @@ ghost use mathlib.Core.List.{[], _∷_};
 ghost use Prim.Native.Nat.{_<_};
 ghost use lib.ListN.{length};
 ghost use Rattle.account.specs.Range.{Ranged};
-ghost use Rattle.flash_rows.specs.Row.{rowsOf};
-ghost use Rattle.flash_blocks.specs.Pages.{pagesOf};
 ghost use Rattle.node.specs.declared.Shape.the-variants.{Branch};
 ghost use Rattle.node.specs.Node.{node};
 ghost use Rattle.node.specs.Change.{change, put};
 ghost use Rattle.node.specs.Value.{nodeOf, Sized, Becomes};
 ghost use Rattle.node_split.specs.Split.{Splits};
-ghost use Rattle.flash_allocate.specs.World.{world};
-ghost use Rattle.run_split.specs.Growing.{Growing, Grew};
-ghost use Rattle.run_split.specs.Absorbing.{AbsorbedAs};
+ghost use Rattle.flash_allocate.specs.World.{worldIn};
+ghost use Rattle.run_split.specs.Growing.{Growing, GrewIn};
+ghost use Rattle.run_split.specs.Absorbing.{AbsorbedIn};
 ghost use Rattle.run_split.specs.Split as def;
 use super::Absorbed;
 use super::Pending;
@@ -31,7 +29,7 @@ use run_serve::request::serve_rewrite;
 // A node more, where the limit leaves an id for it.
 fn grow(pool: &mut [u8], table: &mut [u8], state: State, v: NodeValue) -> State
     requires { ⌜ (Growing (length (now pool)) (length (now table)) state) × (Sized v) ⌝ }
-    ensures { λ r. ⌜ Grew (length (now (pool .exit))) (length (now (table .exit))) state (world (pagesOf (now (pool .exit))) (rowsOf (now (table .exit))) r) (def.grow (nodeOf v) (world (pagesOf (now (pool .entry))) (rowsOf (now (table .entry))) state)) ⌝ }
+    ensures { λ r. ⌜ GrewIn (now (pool .exit)) (now (table .exit)) state r (def.grow (nodeOf v) (worldIn (now (pool .entry)) (now (table .entry)) state)) ⌝ }
 {
     if state.nodes < 10 * (state.blocks - 2) {
         return create(pool, table, state, v);
@@ -60,7 +58,7 @@ fn split_below(
     pointer: u32,
 ) -> Absorbed
     requires { ⌜ (Growing (length (now pool)) (length (now table)) state) × (Ranged tariff) × (id < state .nodes) × (Splits v at key) ⌝ }
-    ensures { λ r. ⌜ AbsorbedAs (length (now (pool .exit))) (length (now (table .exit))) (pagesOf (now (pool .exit))) (rowsOf (now (table .exit))) r state (def.splitBelow tariff id (change (put key pointer) (nodeOf v)) (world (pagesOf (now (pool .entry))) (rowsOf (now (table .entry))) state)) ⌝ }
+    ensures { λ r. ⌜ AbsorbedIn (now (pool .exit)) (now (table .exit)) r state (def.splitBelow tariff id (change (put key pointer) (nodeOf v)) (worldIn (now (pool .entry)) (now (table .entry)) state)) ⌝ }
 {
     let next = state.nodes as u32;
     let left = id as u32;
@@ -94,7 +92,7 @@ fn split_root(
     pointer: u32,
 ) -> Absorbed
     requires { ⌜ (Growing (length (now pool)) (length (now table)) state) × (Ranged tariff) × (Splits v at key) ⌝ }
-    ensures { λ r. ⌜ AbsorbedAs (length (now (pool .exit))) (length (now (table .exit))) (pagesOf (now (pool .exit))) (rowsOf (now (table .exit))) r state (def.splitRoot tariff (change (put key pointer) (nodeOf v)) (world (pagesOf (now (pool .entry))) (rowsOf (now (table .entry))) state)) ⌝ }
+    ensures { λ r. ⌜ AbsorbedIn (now (pool .exit)) (now (table .exit)) r state (def.splitRoot tariff (change (put key pointer) (nodeOf v)) (worldIn (now (pool .entry)) (now (table .entry)) state)) ⌝ }
 {
     let left = state.nodes as u32;
     let right = left + 1;
@@ -128,7 +126,7 @@ pub fn split(
     pointer: u32,
 ) -> Absorbed
     requires { ⌜ (Growing (length (now pool)) (length (now table)) state) × (Ranged tariff) × (id < state .nodes) × (Splits v at key) ⌝ }
-    ensures { λ r. ⌜ AbsorbedAs (length (now (pool .exit))) (length (now (table .exit))) (pagesOf (now (pool .exit))) (rowsOf (now (table .exit))) r state (def.split tariff root id (change (put key pointer) (nodeOf v)) (world (pagesOf (now (pool .entry))) (rowsOf (now (table .entry))) state)) ⌝ }
+    ensures { λ r. ⌜ AbsorbedIn (now (pool .exit)) (now (table .exit)) r state (def.split tariff root id (change (put key pointer) (nodeOf v)) (worldIn (now (pool .entry)) (now (table .entry)) state)) ⌝ }
 {
     if root {
         return split_root(pool, table, state, tariff, v, at, key, pointer);
