@@ -26,7 +26,8 @@ unfolding wiped
 lent-zero table bytes part e =
     lay-lent 0 bytes table part (omega arith) (ap length e ∙ length-zeros bytes ∙ sym (sub-zero bytes)) ∙ ap (lay table 0) e
 
-pub lent-filled : (table : List ℕ) (bytes : ℕ) (part : List ℕ) → bytes ≤ length table → part ≡ zeros (length (take (bytes - 0) (drop 0 table))) →
+pub lent-filled : (table : List ℕ) (bytes : ℕ) (part : List ℕ) → bytes ≤ length table → part ≡ zeros
+    (length (take (bytes - 0) (drop 0 table))) →
     putMid 0 (bytes - 0) table part ≡ wiped bytes table
 lent-filled table bytes part l e =
     lent-zero table bytes part (e ∙ ap zeros (length-take-le (bytes - 0) (drop 0 table) (rw sub-zero l) ∙ sub-zero bytes))
@@ -41,7 +42,8 @@ widened (opened t s) cs pool part table answers r left rest replies h whole e =
     record { number = h .number; pool = h .pool; cleared = e; replies = h .replies; long = h .long; charge = h .charge }
 
 -- A call that leaves this refusal.
-pub left-as : {right : Model.Outcome} {r r′ : Outcome} {left table answers : List ℕ} → r ≡ r′ → Leaves right r′ left table answers → Leaves right r left table answers
+pub left-as : {right : Model.Outcome} {r r′ : Outcome} {left table answers : List ℕ} → r ≡ r′ → Leaves right r′ left
+    table answers → Leaves right r left table answers
 left-as {right} {r} {r′} {left} {table} {answers} e h = subst (λ (o : Outcome). Leaves right o left table answers) (sym e) h
 
 table-cleared : (m : Mounted) (cs : List Command) (pool part answers : List ℕ) → batchMounted m cs pool part answers .table ≡ cleared (blocksOf pool) part
@@ -49,7 +51,8 @@ table-cleared (refused n) cs pool part answers = refl
 table-cleared (opened t s) cs pool part answers = refl
 
 -- The work done in the part that is lent is the work done in the whole table.
-pub lent-work : (m : Mounted) (cs : List Command) (pool table answers : List ℕ) (bytes : ℕ) → bytes ≡ tableBytes (blocksOf pool) → bytes ≤ length table →
+pub lent-work : (m : Mounted) (cs : List Command) (pool table answers : List ℕ) (bytes : ℕ) → bytes ≡ tableBytes
+    (blocksOf pool) → bytes ≤ length table →
     {r : Outcome} {left rest replies : List ℕ} →
     Leaves (batchMounted m cs pool (take (bytes - 0) (drop 0 table)) answers) r left rest replies →
     Leaves (batchMounted m cs pool table answers) r left (putMid 0 (bytes - 0) table rest) replies

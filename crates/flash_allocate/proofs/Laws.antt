@@ -17,7 +17,8 @@ use Rattle.flash_allocate.specs.declared.state.State.{State}
 -- Live map, choice, copies, new names, erasure: in this order they are the compaction.
 pub compact-steps : (n blocks to : ℕ) (pages : List (List ℕ)) (rows : List Row) (live : List ℕ) (block : ℕ) →
     live ≡ liveMap n rows → block ≡ victim blocks pages live →
-    (pages₁ : List (List ℕ)) (places : List ℕ) (fill : ℕ) → copying pages₁ places fill ≡ copyBlock live (32 * block) (32 * to) (copying pages (replicate 32 0) 0) →
+    (pages₁ : List (List ℕ)) (places : List ℕ) (fill : ℕ) → copying pages₁ places fill ≡ copyBlock live (32 * block)
+    (32 * to) (copying pages (replicate 32 0) 0) →
     (rows₂ : List Row) → rows₂ ≡ renameRows n (32 * block) places rows →
     (pages₃ : List (List ℕ)) → pages₃ ≡ erased block pages₁ → compacted pages₃ rows₂ fill ≡ compact n blocks to pages rows
 unfolding compact compactBlock emptied
@@ -43,7 +44,8 @@ module _ (pages : List (List ℕ)) (rows : List Row) (s : State) (to blank : ℕ
   allocate-compact k pages′ rows′ fill c s′ e = rw (le-ltb (s .fill) 32 h, ← t, ← b, lt-leb 2 blank k, e) (ap (behind to s) c)
 
 -- A good state with another current block is good.
-pub good-in-block : {P T P′ T′ to fill : ℕ} {s s′ : State} → Good P T s → P′ ≡ P → T′ ≡ T → to < s .blocks → fill ≤ 32 → s′ ≡ inBlock to fill s → Good P′ T′ s′
+pub good-in-block : {P T P′ T′ to fill : ℕ} {s s′ : State} → Good P T s → P′ ≡ P → T′ ≡ T → to < s .blocks → fill ≤
+    32 → s′ ≡ inBlock to fill s → Good P′ T′ s′
 unfolding inBlock
 good-in-block g p t i f e =
     rw e

@@ -27,12 +27,14 @@ module _ (pool : List ℕ) (q : ℕ) (h : 512 * q + 512 ≤ length pool) where
   lay-pages bytes e = lay-chunks 512 pool q bytes e (omega arith) h
 
   -- a page's part of the pool that was lent, and came back with other bytes
-  pub lent-pages : (bytes : List ℕ) → length bytes ≡ 512 → (from to : ℕ) → from ≡ 512 * q → to ≡ from + 512 → pagesOf (putMid from (to - from) pool bytes) ≡ set (pagesOf pool) q bytes
+  pub lent-pages : (bytes : List ℕ) → length bytes ≡ 512 → (from to : ℕ) → from ≡ 512 * q → to ≡ from + 512 → pagesOf
+      (putMid from (to - from) pool bytes) ≡ set (pagesOf pool) q bytes
   unfolding pagesOf
   lent-pages bytes e from to a b = lent-chunks 512 pool q bytes e (omega arith) h from to a b
 
   -- a page read into a buffer of its size
-  pub read-pages : (buffer : List ℕ) → length buffer ≡ 512 → (n : ℕ) → n ≡ 512 → lay buffer 0 (take n (drop (512 * q) pool)) ≡ pageAt (pagesOf pool) q
+  pub read-pages : (buffer : List ℕ) → length buffer ≡ 512 → (n : ℕ) → n ≡ 512 → lay buffer 0
+      (take n (drop (512 * q) pool)) ≡ pageAt (pagesOf pool) q
   unfolding part
   read-pages buffer e n f =
       let l : length (take n (drop (512 * q) pool)) ≡ n = length-take-le n (drop (512 * q) pool) (rw (length-drop (512 * q) pool) (omega arith)) in

@@ -53,11 +53,13 @@ every-score (s ∷ ss) = both (length-scoreBytes s, bytes-scoreBytes s) (every-s
 
 -- The start, a turn and the end of the loop that lays records.
 module _ (rows : List Row) (from n : ℕ) where
-  pub records-begin : (records : List ℕ) → lay records (6 * 0) (scoresBytes (scoresOf rows (from + 0) (n - 0))) ≡ lay records 0 (scoresBytes (scoresOf rows from n))
+  pub records-begin : (records : List ℕ) → lay records (6 * 0) (scoresBytes (scoresOf rows (from + 0) (n - 0))) ≡ lay
+      records 0 (scoresBytes (scoresOf rows from n))
   records-begin records = ap₂ (λ (i k : ℕ). lay records 0 (scoresBytes (scoresOf rows i k))) (add-zero from) (sub-zero n)
 
   pub records-more : (records : List ℕ) (i : ℕ) → i < n → 6 * i ≤ length records →
-      lay (lay records (6 * i) (scoreBytes (scoreOf (from + i) (getD rows (from + i) noRow .score)))) (6 * (i + 1)) (scoresBytes (scoresOf rows (from + (i + 1)) (n - (i + 1)))) ≡
+      lay (lay records (6 * i) (scoreBytes (scoreOf (from + i) (getD rows (from + i) noRow .score)))) (6 * (i + 1))
+      (scoresBytes (scoresOf rows (from + (i + 1)) (n - (i + 1)))) ≡
       lay records (6 * i) (scoresBytes (scoresOf rows (from + i) (n - i)))
   unfolding scoresOf scoresBytes
   records-more records i h l =
@@ -88,7 +90,8 @@ chunks-scores (s ∷ ss) front rest =
     ap (λ (l : List ℕ). part l 0 6) (append-assoc (scoreBytes s) (scoresBytes ss) rest) ∙
     part-front (scoreBytes s) (scoresBytes ss ++ rest) 6 (length-scoreBytes s) in
     let same : whole ≡ (front ++ scoreBytes s) ++ (scoresBytes ss ++ rest) = simp append-assoc in
-    let at : length front + 6 ≡ length (front ++ scoreBytes s) = sym (length-append front (scoreBytes s) ∙ ap (λ (k : ℕ). length front + k) (length-scoreBytes s)) in
+    let at : length front + 6 ≡ length (front ++ scoreBytes s) = sym
+    (length-append front (scoreBytes s) ∙ ap (λ (k : ℕ). length front + k) (length-scoreBytes s)) in
     ap₂ _∷_ one
     (ap₂ (λ (l : List ℕ) (i : ℕ). chunks 6 (length ss) l i) same at ∙ chunks-scores ss (front ++ scoreBytes s) rest)
 
@@ -103,7 +106,9 @@ image-records : (number : ℕ) (first last : Bool) (t : Tariff) (ss : List Score
     image (recordsPage number first t n (lay base 0 (scoresBytes ss)) last count) ≡ image (page number (p.checkpoint (onlyIf first t) ss (onlyIf last count)))
 unfolding recordsPage scoresIn image contentBytes
 image-records number first last t ss n e base count =
-    ap (λ (ps : List (List ℕ)). sealed pageBytes (numbered number (fieldIf 0x13 tariffBytes (onlyIf first t) ++ (fields 0x14 ps ++ fieldIf 0x15 countBytes (onlyIf last count)))))
+    ap (λ (ps : List (List ℕ)). sealed pageBytes
+    (numbered number (fieldIf 0x13 tariffBytes (onlyIf first t) ++
+    (fields 0x14 ps ++ fieldIf 0x15 countBytes (onlyIf last count)))))
     (ap (λ (ps : List (List ℕ)). map scoreBytes (map decode.scoreOf ps)) (chunks-records ss n e base) ∙
     map-back decode.scoreOf scoreBytes (λ b f. scoreBytes-of b (f .1) (f .0)) (map scoreBytes ss) (every-score ss))
 
@@ -134,8 +139,10 @@ module _ (k nodes start : ℕ) (e : start ≡ scoresBefore k) (h : scoresBefore 
         first = most-scores k _ (λ z. omega arith) (omega arith);
       }
 
-pub checkpoint-page-put : (number : ℕ) (t : Tariff) (k nodes : ℕ) (rows : List Row) (from n count : ℕ) (records bytes : List ℕ) (pages pages′ : List (List ℕ)) (at : ℕ) →
-    from ≡ scoresBefore k → n ≡ scoresOfPage k nodes → count ≡ pageCount nodes → records ≡ lay (replicate 324 0) 0 (scoresBytes (scoresOf rows from n)) →
+pub checkpoint-page-put : (number : ℕ) (t : Tariff) (k nodes : ℕ) (rows : List Row) (from n count : ℕ)
+    (records bytes : List ℕ) (pages pages′ : List (List ℕ)) (at : ℕ) →
+    from ≡ scoresBefore k → n ≡ scoresOfPage k nodes → count ≡ pageCount nodes → records ≡ lay (replicate 324 0) 0
+    (scoresBytes (scoresOf rows from n)) →
     bytes ≡ image (recordsPage number (eqb k 0) t n records (eqb (k + 1) count) nodes) → pages′ ≡ set pages at bytes →
     pages′ ≡ set pages at (checkpointImage number t k nodes rows)
 unfolding checkpointImage
@@ -146,12 +153,16 @@ checkpoint-page-put number t k nodes rows from n count records bytes pages pages
     ap (λ (l : List ℕ). image (recordsPage number (eqb k 0) t n l (eqb (k + 1) count) nodes)) r ∙
     image-records number (eqb k 0) (eqb (k + 1) count) t (scoresOf rows from n) n (length-scoresOf rows from n) (replicate 324 0) nodes ∙
     ap₂ (λ (i m : ℕ). image (page number (p.checkpoint (onlyIf (eqb k 0) t) (scoresOf rows i m) (onlyIf (eqb (k + 1) count) nodes)))) f s ∙
-    ap (λ (m : ℕ). image (page number (p.checkpoint (onlyIf (eqb k 0) t) (scoresOf rows (scoresBefore k) (scoresOfPage k nodes)) (onlyIf (eqb (k + 1) m) nodes)))) c)
+    ap (λ (m : ℕ). image (page number
+    (p.checkpoint (onlyIf (eqb k 0) t) (scoresOf rows (scoresBefore k) (scoresOfPage k nodes))
+    (onlyIf (eqb (k + 1) m) nodes)))) c)
 
 -- The page, the row and the state of a checkpoint page put together.
-pub checkpoint-page-written : {P T P′ T′ : ℕ} (t : Tariff) (k : ℕ) (pages pages′ : List (List ℕ)) (rows rows′ : List Row) (s s₁ : State) (number : ℕ) →
+pub checkpoint-page-written : {P T P′ T′ : ℕ} (t : Tariff) (k : ℕ) (pages pages′ : List (List ℕ))
+    (rows rows′ : List Row) (s s₁ : State) (number : ℕ) →
     Good P T s → Closing k s → P′ ≡ P → T′ ≡ T → s .fill < 32 → number ≡ nextSequence (s .last) →
-    pages′ ≡ set pages (spot s) (checkpointImage number t k (s .nodes) rows) → rows′ ≡ set rows (used s) (checkpointRow number (spot s)) → s₁ ≡ pageCounted number s →
+    pages′ ≡ set pages (spot s) (checkpointImage number t k (s .nodes) rows) → rows′ ≡ set rows (used s)
+    (checkpointRow number (spot s)) → s₁ ≡ pageCounted number s →
     CheckpointPageWritten P′ T′ s (world pages′ rows′ s₁) (writeCheckpointPage t k (world pages rows s))
 unfolding writeCheckpointPage pageCounted
 checkpoint-page-written t k pages pages′ rows rows′ s s₁ number g w pl tl h e f r a =
@@ -185,7 +196,8 @@ closing-beside k s s′ b w =
 
 -- An allocation and a checkpoint page where it left room.
 module _ {P T : ℕ} (t : Tariff) (k : ℕ) (w w₁ : World) (m : Made P T w₁ (allocate w)) where
-  pub checkpoint-page-room : {P′ T′ : ℕ} (w₂ : World) → w₁ .state .fill < 32 → CheckpointPageWritten P′ T′ (w₁ .state) w₂ (writeCheckpointPage t k w₁) → CheckpointPageWritten P′ T′ (w .state) w₂ (checkpointPage t k w)
+  pub checkpoint-page-room : {P′ T′ : ℕ} (w₂ : World) → w₁ .state .fill < 32 → CheckpointPageWritten P′ T′
+      (w₁ .state) w₂ (writeCheckpointPage t k w₁) → CheckpointPageWritten P′ T′ (w .state) w₂ (checkpointPage t k w)
   unfolding checkpointPage
   checkpoint-page-room w₂ h x =
       let b = allocated (writeCheckpointPage t k) w w₁ m in
@@ -242,7 +254,8 @@ between-closing s₀ s k count b e l h =
       before = b .written;
     }
 
-pub between-more : {P T P₀ T₀ P′ T′ : ℕ} (s₀ s : State) (k count : ℕ) (made right : World) → Between P T P₀ T₀ s₀ s k count → k < count → P′ ≡ P → T′ ≡ T →
+pub between-more : {P T P₀ T₀ P′ T′ : ℕ} (s₀ s : State) (k count : ℕ) (made right : World) → Between P T P₀ T₀ s₀ s k
+    count → k < count → P′ ≡ P → T′ ≡ T →
     CheckpointPageWritten P′ T′ s made right → Between P′ T′ P₀ T₀ s₀ (made .state) (k + 1) count
 between-more s₀ s k count made right b h p t x =
     record {
@@ -256,7 +269,8 @@ between-more s₀ s k count made right b h p t x =
     }
 
 -- The buffer drained, then the checkpoint pages.
-pub checkpoint-made : {P T P′ T′ : ℕ} (t : Tariff) (w w₁ w₂ : World) → Kept P T (w .state) w₁ (drain w) → Ended P′ T′ (w₁ .state) w₂ (checkpointPages t w₁) → Ended P′ T′ (w .state) w₂ (checkpoint t w)
+pub checkpoint-made : {P T P′ T′ : ℕ} (t : Tariff) (w w₁ w₂ : World) → Kept P T (w .state) w₁ (drain w) → Ended P′ T′
+    (w₁ .state) w₂ (checkpointPages t w₁) → Ended P′ T′ (w .state) w₂ (checkpoint t w)
 unfolding checkpoint
 checkpoint-made t w w₁ w₂ d m =
     record {

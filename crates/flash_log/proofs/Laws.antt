@@ -27,7 +27,8 @@ use Rattle.flash_log.specs.Flush.{nextSequence, advanced, emptied, write
 
 -- An entry more, where the buffer has room.
 pub append-in : (id version : ℕ) (c : Change) (s : State) (bytes buffer : List ℕ) → s .entries < 27 →
-    bytes ≡ entryBytes (entryOf id version c) → buffer ≡ lay (s .buffer) (15 * s .entries) bytes → holding (s .entries + 1) buffer s ≡ append id version c s
+    bytes ≡ entryBytes (entryOf id version c) → buffer ≡ lay (s .buffer) (15 * s .entries) bytes → holding
+    (s .entries + 1) buffer s ≡ append id version c s
 unfolding append entered
 append-in id version c s bytes buffer h e f = rw (lt-ltb (s .entries) 27 h, f, e) refl
 
@@ -37,12 +38,14 @@ append-full id version c s h = rw (le-ltb (s .entries) 27 h) refl
 
 -- The claim of an entry whose node exists, and of one whose node does not.
 pub claim-in : (buffer : List ℕ) (nodes page k : ℕ) (rows rows′ : List Row) (id version : ℕ) (r : Row) (x : Claim) →
-    id ≡ idAt buffer k → version ≡ versionAt buffer k → id < nodes → r ≡ getD rows id noRow → x ≡ claim version page r → rows′ ≡ settled x id rows →
+    id ≡ idAt buffer k → version ≡ versionAt buffer k → id < nodes → r ≡ getD rows id noRow → x ≡ claim version page
+    r → rows′ ≡ settled x id rows →
     rows′ ≡ claimEntry buffer nodes page k rows
 unfolding claimEntry claimRow
 claim-in buffer nodes page k rows rows′ id version r x i v h l m e = rw (← i, ← v, lt-ltb id nodes h, ← l, ← m) e
 
-pub claim-out : (buffer : List ℕ) (nodes page k : ℕ) (rows : List Row) (id : ℕ) → id ≡ idAt buffer k → nodes ≤ id → rows ≡ claimEntry buffer nodes page k rows
+pub claim-out : (buffer : List ℕ) (nodes page k : ℕ) (rows : List Row) (id : ℕ) → id ≡ idAt buffer k → nodes ≤ id →
+    rows ≡ claimEntry buffer nodes page k rows
 unfolding claimEntry
 claim-out buffer nodes page k rows id i h = rw (← i, le-ltb id nodes h) refl
 
@@ -51,7 +54,8 @@ pub good-append : {P T : ℕ} (id version : ℕ) (c : Change) (s : State) → Go
 unfolding append entered
 good-append {P} {T} id version c s g = go (ltb (s .entries) 27) refl
   where
-    go : (b : Bool) → ltb (s .entries) 27 ≡ b → Good P T (choose b (holding (s .entries + 1) (lay (s .buffer) (15 * s .entries) (entryBytes (entryOf id version c))) s) s)
+    go : (b : Bool) → ltb (s .entries) 27 ≡ b → Good P T
+    (choose b (holding (s .entries + 1) (lay (s .buffer) (15 * s .entries) (entryBytes (entryOf id version c))) s) s)
     go true e =
         record {
           few = g .few;
@@ -123,7 +127,8 @@ module _ {P T : ℕ} (step : World → World) (w w₁ : World) (m : Made P T w�
   pub allocated : Beside (w .state) (w₁ .state)
   allocated = found
 
-  pub kept-room : {P′ T′ : ℕ} (w₂ : World) → w₁ .state .fill < 32 → Kept P′ T′ (w₁ .state) w₂ (step w₁) → Kept P′ T′ (w .state) w₂ (ifRoom step (allocate w))
+  pub kept-room : {P′ T′ : ℕ} (w₂ : World) → w₁ .state .fill < 32 → Kept P′ T′ (w₁ .state) w₂ (step w₁) → Kept P′ T′
+      (w .state) w₂ (ifRoom step (allocate w))
   kept-room w₂ h k =
       record {
         is = k .is ∙ room-yes step w₁ h ∙ ap (ifRoom step) (m .is);
@@ -144,7 +149,8 @@ module _ {P T : ℕ} (step : World → World) (w w₁ : World) (m : Made P T w�
       }
 
 -- A page written leaves a good state.
-pub good-advanced : {P T P′ T′ : ℕ} (number : ℕ) (s : State) → Good P T s → P′ ≡ P → T′ ≡ T → s .fill < 32 → Good P′ T′ (advanced number s)
+pub good-advanced : {P T P′ T′ : ℕ} (number : ℕ) (s : State) → Good P T s → P′ ≡ P → T′ ≡ T → s .fill < 32 → Good P′
+    T′ (advanced number s)
 unfolding advanced
 good-advanced number s g p t h =
     record {
@@ -161,7 +167,8 @@ good-advanced number s g p t h =
 -- The page, the claims and the state of a flush put together.
 pub buffer-written : {P T P′ T′ : ℕ} (pages pages′ : List (List ℕ)) (rows rows′ : List Row) (s s₁ s₂ : State) (number : ℕ) →
     Good P T s → P′ ≡ P → T′ ≡ T → s .fill < 32 → number ≡ nextSequence (s .last) →
-    pages′ ≡ set pages (spot s) (logImage number (s .entries) (s .buffer)) → rows′ ≡ claimEntries (s .buffer) (s .nodes) (spot s) (s .entries) rows →
+    pages′ ≡ set pages (spot s) (logImage number (s .entries) (s .buffer)) → rows′ ≡ claimEntries (s .buffer)
+    (s .nodes) (spot s) (s .entries) rows →
     s₁ ≡ advanced number s → s₂ ≡ emptied s₁ → Kept P′ T′ s (world pages′ rows′ s₂) (writeBuffer (world pages rows s))
 unfolding writeBuffer advanced emptied
 buffer-written pages pages′ rows rows′ s s₁ s₂ number g p t h n e f a b =

@@ -112,7 +112,8 @@ module _ (pool : List ℕ) (q : ℕ) where
   unfolding pageAt
   page-behind h = List·getD-eq-default (pagesOf pool) blankPage (omega (arith, length-pages pool))
 
-  pub sequence-in : (n : ℕ) → 512 * q + 512 ≤ length pool → n ≡ 512 → number (payloadAt (take n (drop (512 * q) pool)) 0 0x10) ≡ sequenceAt (pagesOf pool) q
+  pub sequence-in : (n : ℕ) → 512 * q + 512 ≤ length pool → n ≡ 512 → number
+      (payloadAt (take n (drop (512 * q) pool)) 0 0x10) ≡ sequenceAt (pagesOf pool) q
   unfolding sequenceAt
   sequence-in n h e = ap (λ (b : List ℕ). number (payloadAt b 0 0x10)) (page-part n h e)
 
@@ -181,7 +182,8 @@ module _ (p : List ℕ) (n : ℕ) where
       let la : length a ≡ i = length-take-le i keys (omega arith) in
       let lb : length b ≡ i = length-take-le i pointers (omega arith) in
       let tk : take (i + 1) (set keys i k) ≡ a ++ (k ∷ []) = ap (λ (j : ℕ). take j (set keys i k)) (add-one i) ∙ take-suc-set keys i k (omega arith) in
-      let tp : take (i + 1) (set pointers i q) ≡ b ++ (q ∷ []) = ap (λ (j : ℕ). take j (set pointers i q)) (add-one i) ∙ take-suc-set pointers i q (omega arith) in
+      let tp : take (i + 1) (set pointers i q) ≡ b ++ (q ∷ []) = ap (λ (j : ℕ). take j (set pointers i q))
+      (add-one i) ∙ take-suc-set pointers i q (omega arith) in
       let one : Pair = (numberAt 4 p (7 + 8 * i), numberAt 4 p (7 + 8 * i + 4)) in
       let pair : (k, q) ≡ one = ap₂ {C = Pair} (λ (x y : ℕ). (x, y)) ek (eq ∙ ap (numberAt 4 p) (sym behind)) in
       let rest : List Pair = decode.pairsFrom (n - (i + 1)) p (7 + 8 * (i + 1)) in
@@ -241,7 +243,8 @@ pub whole-behind : (pool : List ℕ) (q : ℕ) → length pool < 512 * q + 512 �
 unfolding nodePageAt
 whole-behind pool q h =
     whole-short [] (omega arith) ∙
-    sym (ap (λ (b : List ℕ). nodeOfPayload (payloadAt b 7 0x11)) (page-behind pool q h) ∙ ap nodeOfPayload (payload-blank 7 0x11 (omega arith) (λ e. omega arith)))
+    sym (ap (λ (b : List ℕ). nodeOfPayload (payloadAt b 7 0x11)) (page-behind pool q h) ∙ ap nodeOfPayload
+    (payload-blank 7 0x11 (omega arith) (λ e. omega arith)))
 
 -- A node by its mode.
 module _ (pages : List (List ℕ)) (s : State) (row : Row) (n : ℕ) where

@@ -41,7 +41,8 @@ unfolding modeFrom
 mode-back Log = refl
 mode-back Disk = refl
 
-row-same : {v v′ s s′ n n′ a a′ b b′ c c′ : ℕ} {m m′ : Mode} → v ≡ v′ → s ≡ s′ → m ≡ m′ → n ≡ n′ → a ≡ a′ → b ≡ b′ → c ≡ c′ →
+row-same : {v v′ s s′ n n′ a a′ b b′ c c′ : ℕ} {m m′ : Mode} → v ≡ v′ → s ≡ s′ → m ≡ m′ → n ≡ n′ → a ≡ a′ → b ≡ b′ →
+    c ≡ c′ →
     _≡_ {A = Row}
     (record { version = v; score = s; mode = m; pages = n; first = a; second = b; third = c })
     (record { version = v′; score = s′; mode = m′; pages = n′; first = a′; second = b′; third = c′ })
@@ -71,7 +72,8 @@ pub get-rows : (table : List ℕ) (n : ℕ) → 16 * n + 16 ≤ length table →
 unfolding rowsOf noRow
 get-rows table n h = List·getD-map decode (chunks 16 table) n _ ∙ ap decode (get-chunks 16 table n _ (omega arith))
 
-pub lay-rows : (table : List ℕ) (n : ℕ) (r : Row) → Fits r → 16 * n + 16 ≤ length table → rowsOf (lay table (16 * n) (encode r)) ≡ set (rowsOf table) n r
+pub lay-rows : (table : List ℕ) (n : ℕ) (r : Row) → Fits r → 16 * n + 16 ≤ length table → rowsOf
+    (lay table (16 * n) (encode r)) ≡ set (rowsOf table) n r
 unfolding rowsOf
 lay-rows table n r f h =
     ap (map decode) (lay-chunks 16 table n (encode r) (length-encode r) (omega arith) h) ∙
@@ -79,6 +81,7 @@ lay-rows table n r f h =
     ap (set (map decode (chunks 16 table)) n) (decode-encode r f)
 
 -- A row read from its part of the table.
-pub part-rows : (table : List ℕ) (n size : ℕ) → size ≡ 16 → 16 * n + 16 ≤ length table → decode (take size (drop (16 * n) table)) ≡ getD (rowsOf table) n noRow
+pub part-rows : (table : List ℕ) (n size : ℕ) → size ≡ 16 → 16 * n + 16 ≤ length table → decode
+    (take size (drop (16 * n) table)) ≡ getD (rowsOf table) n noRow
 unfolding part
 part-rows table n size e h = ap (λ (k : ℕ). decode (take k (drop (16 * n) table))) e ∙ sym (get-rows table n h)

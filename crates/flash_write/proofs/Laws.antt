@@ -38,7 +38,8 @@ zip-first (suc n) i keys pointers h l =
     let b : i < length pointers = omega arith in
     rw (drop-cons keys i 0 a, drop-cons pointers i 0 b)
     (ap (λ (ps : List Pair). (getD keys i 0, getD pointers i 0) ∷ ps)
-    (ap₂ (λ (x y : List ℕ). zip (take n x) (take n y)) (ap (λ (j : ℕ). drop j keys) (sym (add-one i))) (ap (λ (j : ℕ). drop j pointers) (sym (add-one i))) ∙
+    (ap₂ (λ (x y : List ℕ). zip (take n x) (take n y)) (ap (λ (j : ℕ). drop j keys) (sym (add-one i)))
+    (ap (λ (j : ℕ). drop j pointers) (sym (add-one i))) ∙
     zip-first n (i + 1) keys pointers (omega arith) (omega arith)))
 
 pub pairs-first : (v : NodeValue) → Sized v → firstPairs (v .count) (v .keys) (v .pointers) 0 ≡ pairsIn v
@@ -48,7 +49,8 @@ pairs-first v s =
 
 -- A turn of the loop over the pairs, its start and its end.
 module _ (id version : ℕ) (keys pointers : List ℕ) (n : ℕ) where
-  pub entries-begin : (s : State) → appendAll id version (puts (firstPairs (n - 0) keys pointers 0)) s ≡ appendAll id version (puts (firstPairs n keys pointers 0)) s
+  pub entries-begin : (s : State) → appendAll id version (puts (firstPairs (n - 0) keys pointers 0)) s ≡ appendAll id
+      version (puts (firstPairs n keys pointers 0)) s
   entries-begin s = rw sub-zero refl
 
   pub entries-more : (i : ℕ) (s : State) → i < n →
@@ -67,7 +69,8 @@ module _ (id version : ℕ) (keys pointers : List ℕ) (n : ℕ) where
 
 module _ (id version : ℕ) where
   -- one entry behind others
-  pub appendAll-last : (cs : List Change) (c : Change) (s : State) → append id version c (appendAll id version cs s) ≡ appendAll id version (cs ++ (c ∷ [])) s
+  pub appendAll-last : (cs : List Change) (c : Change) (s : State) → append id version c
+      (appendAll id version cs s) ≡ appendAll id version (cs ++ (c ∷ [])) s
   unfolding appendAll
   appendAll-last [] c s = refl
   appendAll-last (x ∷ cs) c s = appendAll-last cs c (append id version x s)
@@ -115,7 +118,8 @@ module _ (n version : ℕ) (x : Node) (s : State) where
 -- Room, then the fresh start.
 module _ {P T T′ : ℕ} (x : Node) (w w₁ : World) (k : ℕ) (e : k ≡ length (pairsOf x) + 1) (m : Kept P T (w .state) w₁ (room k w)) (t : T′ ≡ T)
     (version : ℕ) (v : version ≡ nextSequence (w₁ .state .last)) where
-  started : (n : ℕ) (row row′ : Row) (rows₂ : List Row) (s₂ : State) → row ≡ row′ → Started (w₁ .rows) (w₁ .state) n row version x rows₂ s₂ →
+  started : (n : ℕ) (row row′ : Row) (rows₂ : List Row) (s₂ : State) → row ≡ row′ → Started (w₁ .rows) (w₁ .state) n
+      row version x rows₂ s₂ →
       world (w₁ .pages) rows₂ s₂ ≡ start n row′ x w₁
   unfolding start
   started n row row′ rows₂ s₂ r st = rw (st .rows, st .state, r, v) refl
@@ -123,7 +127,8 @@ module _ {P T T′ : ℕ} (x : Node) (w w₁ : World) (k : ℕ) (e : k ≡ lengt
   roomed : w₁ ≡ roomFor x w
   roomed = m .is ∙ ap (λ (j : ℕ). room j w) e
 
-  pub group-made : (n : ℕ) (row : Row) (rows₂ : List Row) (s₂ : State) → row ≡ getD (w₁ .rows) n noRow → Started (w₁ .rows) (w₁ .state) n row version x rows₂ s₂ →
+  pub group-made : (n : ℕ) (row : Row) (rows₂ : List Row) (s₂ : State) → row ≡ getD (w₁ .rows) n noRow → Started
+      (w₁ .rows) (w₁ .state) n row version x rows₂ s₂ →
       Kept P T′ (w .state) (world (w₁ .pages) rows₂ s₂) (group n x w)
   unfolding group
   group-made n row rows₂ s₂ r st =
@@ -136,7 +141,8 @@ module _ {P T T′ : ℕ} (x : Node) (w w₁ : World) (k : ℕ) (e : k ≡ lengt
         checkpoint = ap (λ (s : State). s .checkpoint) (st .state) ∙ b .checkpoint ∙ m .checkpoint;
       }
 
-  pub create-made : (row : Row) (rows₂ : List Row) (s₂ s₃ : State) → row ≡ noRow → Started (w₁ .rows) (w₁ .state) (w₁ .state .nodes) row version x rows₂ s₂ →
+  pub create-made : (row : Row) (rows₂ : List Row) (s₂ s₃ : State) → row ≡ noRow → Started (w₁ .rows) (w₁ .state)
+      (w₁ .state .nodes) row version x rows₂ s₂ →
       s₃ ≡ withNodes (w₁ .state .nodes + 1) s₂ → w .state .nodes + w .state .checkpoint < 64 * w .state .blocks →
       Grown P T′ (w .state) (world (w₁ .pages) rows₂ s₃) (create x w)
   unfolding create withNodes
@@ -149,7 +155,8 @@ module _ {P T T′ : ℕ} (x : Node) (w w₁ : World) (k : ℕ) (e : k ≡ lengt
       record {
         is =
             ap (λ (s : State). world (w₁ .pages) rows₂ s) f ∙
-            ap (λ (y : World). world (y .pages) (y .rows) (withNodes (w₁ .state .nodes + 1) (y .state))) (started (w₁ .state .nodes) row noRow rows₂ s₂ r st) ∙
+            ap (λ (y : World). world (y .pages) (y .rows) (withNodes (w₁ .state .nodes + 1) (y .state)))
+            (started (w₁ .state .nodes) row noRow rows₂ s₂ r st) ∙
             ap (startNext x) roomed;
         good =
             rw f
@@ -187,8 +194,10 @@ node-written n x pages pages′ rows rows′ s s₁ number g p t h e f r a =
     same = record { blocks = refl; nodes = refl; checkpoint = refl }
 
 -- An edit, once there is room for its entry.
-module _ {P T : ℕ} (n : ℕ) (c : Change) (x : Node) (w w₁ : World) (m : Kept P T (w .state) w₁ (room 1 w)) (row : Row) (r : row ≡ getD (w₁ .rows) n noRow) where
-  pub edit-entry : (s₂ : State) → row .pages < 3 → s₂ ≡ append n (row .version) c (w₁ .state) → Kept P T (w .state) (world (w₁ .pages) (w₁ .rows) s₂) (edit n c x w)
+module _ {P T : ℕ} (n : ℕ) (c : Change) (x : Node) (w w₁ : World) (m : Kept P T (w .state) w₁ (room 1 w)) (row : Row)
+    (r : row ≡ getD (w₁ .rows) n noRow) where
+  pub edit-entry : (s₂ : State) → row .pages < 3 → s₂ ≡ append n (row .version) c (w₁ .state) → Kept P T (w .state)
+      (world (w₁ .pages) (w₁ .rows) s₂) (edit n c x w)
   unfolding edit editBy
   edit-entry s₂ h e =
       let b = beside-append n (row .version) c (w₁ .state) in
@@ -203,7 +212,8 @@ module _ {P T : ℕ} (n : ℕ) (c : Change) (x : Node) (w w₁ : World) (m : Kep
       entry : world (w₁ .pages) (w₁ .rows) s₂ ≡ editIn n c x w₁
       entry = rw (← r, lt-ltb (row .pages) 3 h, e) refl
 
-  pub edit-group : {P′ T′ : ℕ} (w₂ : World) → 3 ≤ row .pages → Kept P′ T′ (w₁ .state) w₂ (group n x w₁) → Kept P′ T′ (w .state) w₂ (edit n c x w)
+  pub edit-group : {P′ T′ : ℕ} (w₂ : World) → 3 ≤ row .pages → Kept P′ T′ (w₁ .state) w₂ (group n x w₁) → Kept P′ T′
+      (w .state) w₂ (edit n c x w)
   unfolding edit editBy
   edit-group w₂ h k =
       record {

@@ -93,7 +93,9 @@ module _ (since nodes : ℕ) (b : List ℕ) (rows : List Row) (n : ℕ) (own : n
   page-taken h k e = rw (← own, le-ltb n since h, ← e) refl
 
 -- The tariff of no bytes.
-pub tariff-none : _≡_ {A = Tariff} (record { log = record { read = 0; edit = 0; rewrite = 0; enter = 0 }; disk = record { read = 0; edit = 0; rewrite = 0; enter = 0 } }) (tariffOf [])
+pub tariff-none : _≡_ {A = Tariff}
+    (record { log = record { read = 0; edit = 0; rewrite = 0; enter = 0 }; disk = record
+    { read = 0; edit = 0; rewrite = 0; enter = 0 } }) (tariffOf [])
 unfolding tariffOf numberAt part
 tariff-none = refl
 
@@ -139,7 +141,8 @@ module _ (ps : List (List ℕ)) (n since nodes width : ℕ) (marks : List ℕ) w
 -- ---- the questions one after another
 
 module _ (ps : List (List ℕ)) (blocks : ℕ) (scratch : List ℕ) (e : Extent) (he : e ≡ extentOf ps (32 * blocks)) where
-  found-by : (t : Totals) → t ≡ totalsOf ps (32 * blocks) (e .since) (e .newest) → (left : List ℕ) → left ≡ scratchBy ps (32 * blocks) scratch e t →
+  found-by : (t : Totals) → t ≡ totalsOf ps (32 * blocks) (e .since) (e .newest) → (left : List ℕ) → left ≡ scratchBy
+      ps (32 * blocks) scratch e t →
       (r : Checkpoint) → r ≡ foundBy ps (32 * blocks) (length scratch) e t → Found ps blocks scratch left r
   unfolding checkpointIn scratchLeft totalsIn
   found-by t ht left el r er =

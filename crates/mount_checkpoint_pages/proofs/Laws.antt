@@ -70,7 +70,8 @@ module _ (b : List ℕ) (s : Scores) (h : Standing b s) where
       let e : countPart b ≡ [] = sym count-place ∙ z in
       record { is = rw (e, h .count) refl; few = h .few; small = omega arith }
 
-  pub checkpoint-page-counted : (p : List ℕ) → p ≡ payloadAt b (s .from + 9 * s .count) 0x15 → length p ≡ 2 → (n : ℕ) → n ≡ number p → n < 65536 →
+  pub checkpoint-page-counted : (p : List ℕ) → p ≡ payloadAt b (s .from + 9 * s .count) 0x15 → length p ≡ 2 →
+      (n : ℕ) → n ≡ number p → n < 65536 →
       Read b (record { scores = s .count; counted = true; nodes = n })
   unfolding checkpointPageOf
   checkpoint-page-counted p e l n en small =

@@ -80,7 +80,8 @@ module _
       all-found u = surveyed-found pool bytes blocks size sequences e (rw (t, u) refl)
 
 -- The answer field by field.
-pub found-is : (blocks : ℕ) (pages : List (List ℕ)) (s current fill : ℕ) → current ≡ blockOf blocks pages s → fill ≡ fillIn blocks pages current →
+pub found-is : (blocks : ℕ) (pages : List (List ℕ)) (s current fill : ℕ) → current ≡ blockOf blocks pages s → fill ≡
+    fillIn blocks pages current →
     record { ok = true; newest = s; current = current; fill = fill } ≡ found blocks pages s
 unfolding found
 found-is blocks pages s current fill e f =

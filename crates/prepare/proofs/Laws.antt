@@ -42,7 +42,8 @@ unfolding Writer.recordsPage scoresIn chunks scoreOf numberAt part
 checkpoint-page t = refl
 
 -- The bytes erased, then one page and the other.
-pub first-written : (bytes : ℕ) (a b erased one two : List ℕ) → erased ≡ replicate bytes 255 → one ≡ lay erased 0 a → two ≡ lay one 512 b → two ≡ firstBytes bytes a b
+pub first-written : (bytes : ℕ) (a b erased one two : List ℕ) → erased ≡ replicate bytes 255 → one ≡ lay erased 0 a →
+    two ≡ lay one 512 b → two ≡ firstBytes bytes a b
 unfolding firstBytes
 first-written bytes a b erased one two e f g = g ∙ ap (λ (s : List ℕ). lay s 512 b) (f ∙ ap (λ (s : List ℕ). lay s 0 a) e)
 
@@ -57,7 +58,8 @@ module _ (pool : List ℕ) (t : Tariff) where
     unfolding prepareOf
     refused-tariff e = rw (h .question, e) (record { number = refl; pool = refl })
 
-    pub prepared-pool : inRange t ≡ true → (a b left : List ℕ) → a ≡ image rootPage → b ≡ image (checkpointPage t) → length a ≡ pageBytes → length b ≡ pageBytes →
+    pub prepared-pool : inRange t ≡ true → (a b left : List ℕ) → a ≡ image rootPage → b ≡ image (checkpointPage t) →
+    length a ≡ pageBytes → length b ≡ pageBytes →
         left ≡ firstBytes (length pool) a b → Leaves (prepareOf pool t) 0 left
     unfolding prepareOf
     prepared-pool e a b left ea eb la lb is =

@@ -41,7 +41,8 @@ use Rattle.run_put.specs.Put.{requests, lastOf, readAndEdit, readAndSpli
 
 -- The old value, by what the search found.
 module _ (v : NodeValue) (h : Held v) (key : ℕ) where
-  pub old-there : (i old : ℕ) → found key (pairsIn v) ≡ At i → old ≡ pointerAt (pairsIn v) (v .link) i → Replaced old ≡ valueOr Replaced (lookup key (pairsIn v))
+  pub old-there : (i old : ℕ) → found key (pairsIn v) ≡ At i → old ≡ pointerAt (pairsIn v) (v .link) i → Replaced
+      old ≡ valueOr Replaced (lookup key (pairsIn v))
   old-there i old e f =
       let there : lookup key (pairsIn v) ≡ some old =
       lookup-present key (v .link) (pairsIn v) (at-present key (pairsIn v) i e) ∙
@@ -57,7 +58,8 @@ requests-is {b = b} {m = m} e f = ap (λ (z : World). requests z m) e ∙ ap (λ
 
 -- The reads, then the edit or the splits.
 module _ {P₀ T₀ P₁ T₁ : ℕ} (t : Tariff) (key value n : ℕ) (onPath : List ℕ) (w : World) (g : Growing P₀ T₀ (w .state)) (few : n ≤ 9)
-    (pages₁ : List (List ℕ)) (rows₁ : List Row) (one : Charged) (r : ReadAs P₁ T₁ pages₁ rows₁ one t n onPath w) (pages : List (List ℕ)) (rows : List Row) (two : Charged) where
+    (pages₁ : List (List ℕ)) (rows₁ : List Row) (one : Charged) (r : ReadAs P₁ T₁ pages₁ rows₁ one t n onPath w)
+    (pages : List (List ℕ)) (rows : List Row) (two : Charged) where
   pub then-edit : {P T : ℕ} (leaf : ℕ) → ServedAs P T pages rows two t leaf (edit (Change.put key value)) (world pages₁ rows₁ (one .state)) →
       RequestsAs P T pages rows (record { state = two .state; charge = one .charge + two .charge }) (w .state) (readAndEdit t onPath leaf key value w)
   unfolding readAndEdit
@@ -109,7 +111,8 @@ module _ (t : Tariff) (onPath : List ℕ) (needed counted key value : ℕ) (w : 
         most = k .most;
       }
 
-pub done-is : {P T : ℕ} {pages : List (List ℕ)} {rows : List Row} {r : Done} {s : State} {a b : Doing} → DoneAs P T pages rows r s a → a ≡ b → DoneAs P T pages rows r s b
+pub done-is : {P T : ℕ} {pages : List (List ℕ)} {rows : List Row} {r : Done} {s : State} {a b : Doing} → DoneAs P T
+    pages rows r s a → a ≡ b → DoneAs P T pages rows r s b
 done-is k e = record { is = k .is ∙ e; growing = k .growing; blocks = k .blocks; most = k .most }
 
 -- The put, by what its leaf says.
@@ -139,7 +142,8 @@ module _ (t : Tariff) (key value : ℕ) (w : World) (p : Path) (to : PathTo (tab
       record {
         is =
             ap (answering answer) (k .is ∙ ap₂ (λ (ids : List ℕ) (id : ℕ). readAndEdit t ids id key value w) (to .ids) (to .end)) ∙
-            ap (λ (a : Answer). answering a (readAndEdit t onPath leaf key value w)) (said ∙ ap (λ (ps : _). valueOr Replaced (lookup key ps)) pairs-are) ∙
+            ap (λ (a : Answer). answering a (readAndEdit t onPath leaf key value w))
+            (said ∙ ap (λ (ps : _). valueOr Replaced (lookup key ps)) pairs-are) ∙
             rw (fit-is ∙ room) refl;
         growing = k .growing;
         blocks = k .blocks;

@@ -39,7 +39,8 @@ becomes-is b e = record { is = b .is ∙ e; held = b .held }
 pub kept-is : {P T : ℕ} {s : State} {made a b : World} → Kept P T s made a → a ≡ b → Kept P T s made b
 kept-is k e = record { is = k .is ∙ e; good = k .good; blocks = k .blocks; nodes = k .nodes; checkpoint = k .checkpoint }
 
-pub kept-mode : {P T : ℕ} {s : State} {made : World} (by : Mode → World) {m m′ : Mode} → m ≡ m′ → Kept P T s made (by m′) → Kept P T s made (by m)
+pub kept-mode : {P T : ℕ} {s : State} {made : World} (by : Mode → World) {m m′ : Mode} → m ≡ m′ → Kept P T s made
+    (by m′) → Kept P T s made (by m)
 kept-mode by e k = kept-is k (ap by (sym e))
 
 -- Nothing done, and two steps one after the other.
@@ -75,7 +76,8 @@ module _ {P T : ℕ} (from to : Mode) (n : ℕ) (w : World) where
 -- The row loaded, its account served, the switch, and the score in the row that the switch leaves.
 module _ {P T T′ : ℕ} (t : Tariff) (q : Request) (n : ℕ) (w w₁ : World) (row : Row) (account : Account) (served : Served) (rows₂ : List Row)
     (r : row ≡ getD (w .rows) n noRow) (a : account ≡ accountIn row) (f : Fair t account q served)
-    (k : Kept P T (w .state) w₁ (switch (row .mode) (served .account .mode) n w)) (e : rows₂ ≡ rescored n (served .account .score) (w₁ .rows)) (l : T′ ≡ T) where
+    (k : Kept P T (w .state) w₁ (switch (row .mode) (served .account .mode) n w))
+    (e : rows₂ ≡ rescored n (served .account .score) (w₁ .rows)) (l : T′ ≡ T) where
   is-served : served ≡ servedAt t q n w
   is-served = f .is ∙ ap (λ (z : Account). serveOf t z q) (a ∙ ap accountIn r)
 
@@ -103,7 +105,8 @@ module _ {P T T′ : ℕ} (t : Tariff) (q : Request) (n : ℕ) (w w₁ : World) 
       }
 
 -- A request of a node that is there: the account settled, then the own change with the content that the request leaves.
-module _ {P T P′ T′ : ℕ} (t : Tariff) (n : ℕ) (work : Work) (w : World) (there : n < w .state .nodes) (pages₁ : List (List ℕ)) (rows₁ : List Row) (r : Settled)
+module _ {P T P′ T′ : ℕ} (t : Tariff) (n : ℕ) (work : Work) (w : World) (there : n < w .state .nodes)
+    (pages₁ : List (List ℕ)) (rows₁ : List Row) (r : Settled)
     (s : SettledAs P T pages₁ rows₁ r t (requestOf work) n w) (x : Node) (e : x ≡ contentAfter work n w) where
   pub served-there : (pages₂ : List (List ℕ)) (rows₂ : List Row) (s₂ : State) →
       Kept P′ T′ (r .state) (world pages₂ rows₂ s₂) (write (r .mode) n work x (world pages₁ rows₁ (r .state))) →

@@ -41,13 +41,15 @@ use Rattle.run_split.specs.Split.{grow, splitBelow, splitRoot, split}
 use Rattle.run_split.specs.Absorb.{nodeAt, absorbEdit, absorbEdits, absorbPair, renaming, absorbHalves, absorb}
 
 -- A turn's result said otherwise.
-pub absorbed-is : {P T : ℕ} {pages : List (List ℕ)} {rows : List Row} {r : Absorbed} {s : State} {a b : Absorbing} → AbsorbedAs P T pages rows r s a → a ≡ b →
+pub absorbed-is : {P T : ℕ} {pages : List (List ℕ)} {rows : List Row} {r : Absorbed} {s : State} {a b : Absorbing} →
+    AbsorbedAs P T pages rows r s a → a ≡ b →
     AbsorbedAs P T pages rows r s b
 absorbed-is k e = record { is = k .is ∙ e; growing = k .growing; blocks = k .blocks; most = k .most }
 
 -- A node more, or none where the limit is reached.
 module _ {P T P₀ T₀ : ℕ} (x : Node) (w : World) (g : Growing P₀ T₀ (w .state)) where
-  pub grow-made : (made : World) → w .state .nodes < nodeLimit (w .state .blocks) → Grown P T (w .state) made (create x w) → Grew P T (w .state) made (grow x w)
+  pub grow-made : (made : World) → w .state .nodes < nodeLimit (w .state .blocks) → Grown P T (w .state) made
+      (create x w) → Grew P T (w .state) made (grow x w)
   unfolding grow
   grow-made made l k =
       record {
@@ -56,7 +58,8 @@ module _ {P T P₀ T₀ : ℕ} (x : Node) (w : World) (g : Growing P₀ T₀ (w 
         blocks = k .blocks;
       }
 
-pub grow-none : {P T : ℕ} (x : Node) (w : World) → Growing P T (w .state) → nodeLimit (w .state .blocks) ≤ w .state .nodes → Grew P T (w .state) w (grow x w)
+pub grow-none : {P T : ℕ} (x : Node) (w : World) → Growing P T (w .state) → nodeLimit (w .state .blocks) ≤
+    w .state .nodes → Grew P T (w .state) w (grow x w)
 unfolding grow
 grow-none x w g l = record { is = rw (le-ltb (w .state .nodes) (nodeLimit (w .state .blocks)) l) refl; growing = g; blocks = refl }
 
@@ -65,8 +68,11 @@ module _ (t : Tariff) (whole : Node) (w : World) where
   pub below-split : {P T P₁ T₁ : ℕ} (id : ℕ) (low high : Node) (middle : ℕ) →
       low ≡ lowerHalf whole (w .state .nodes) → high ≡ upperHalf whole → middle ≡ middleKey whole →
       (pages₁ : List (List ℕ)) (rows₁ : List Row) (r : Charged) → ServedAs P₁ T₁ pages₁ rows₁ r t id (rewrite low) w →
-      (pages₂ : List (List ℕ)) (rows₂ : List Row) (s₂ : State) → Grew P T (r .state) (world pages₂ rows₂ s₂) (grow high (world pages₁ rows₁ (r .state))) →
-      AbsorbedAs P T pages₂ rows₂ (record { state = s₂; charge = r .charge; pending = Halves middle id (w .state .nodes) }) (w .state) (splitBelow t id whole w)
+      (pages₂ : List (List ℕ)) (rows₂ : List Row) (s₂ : State) → Grew P T (r .state) (world pages₂ rows₂ s₂)
+      (grow high (world pages₁ rows₁ (r .state))) →
+      AbsorbedAs P T pages₂ rows₂ (record
+      { state = s₂; charge = r .charge; pending = Halves middle id (w .state .nodes) }) (w .state)
+      (splitBelow t id whole w)
   unfolding splitBelow
   below-split id low high middle e f m pages₁ rows₁ r s pages₂ rows₂ s₂ k =
       record {
@@ -121,7 +127,9 @@ module _ {P₀ T₀ : ℕ} (t : Tariff) (id : ℕ) (w : World) (g : Growing P₀
   pub two-edits : {P T P₁ T₁ : ℕ} (first second : Change) (pages₁ : List (List ℕ)) (rows₁ : List Row) (one : Charged) →
       ServedAs P₁ T₁ pages₁ rows₁ one t id (edit first) w →
       (pages : List (List ℕ)) (rows : List Row) (two : Charged) → ServedAs P T pages rows two t id (edit second) (world pages₁ rows₁ (one .state)) →
-      AbsorbedAs P T pages rows (record { state = two .state; charge = one .charge + two .charge; pending = Nothing }) (w .state) (absorbEdits t id first second w)
+      AbsorbedAs P T pages rows (record
+      { state = two .state; charge = one .charge + two .charge; pending = Nothing }) (w .state)
+      (absorbEdits t id first second w)
   unfolding absorbEdits
   two-edits first second pages₁ rows₁ one s pages rows two s′ =
       record {
@@ -145,7 +153,8 @@ full-none : (v : NodeValue) (at key : ℕ) → Splits v at key → pairsIn v ≡
 full-none v at key s e = omega (arith, ap length e, length-pairsIn v (s .held .sized), s .full)
 
 -- A pair for a node, read as it is now.
-module _ (t : Tariff) (root : Bool) (id key value : ℕ) (w : World) (v : NodeValue) (is : nodeOf v ≡ nodeAt id w) (f : Fitting) (e : f ≡ fitOf key (pairsIn v)) where
+module _ (t : Tariff) (root : Bool) (id key value : ℕ) (w : World) (v : NodeValue) (is : nodeOf v ≡ nodeAt id w)
+    (f : Fitting) (e : f ≡ fitOf key (pairsIn v)) where
   fit-is : fitOf key (pairsOf (nodeAt id w)) ≡ f
   fit-is = ap (λ (n : Node). fitOf key (pairsOf n)) (sym is) ∙ sym e
 
@@ -171,7 +180,8 @@ unfolding repoint
 none-renamed wanted right = rw (le-ltb (childPlace wanted []) 0 (omega arith), repoint) refl
 
 -- The halves of a child for a node, read as it is now, its pointer renamed.
-module _ (t : Tariff) (root : Bool) (id wanted middle left right : ℕ) (w : World) (v : NodeValue) (is : nodeOf v ≡ nodeAt id w) (child : ℕ) (c : child ≡ childPlace wanted (pairsIn v))
+module _ (t : Tariff) (root : Bool) (id wanted middle left right : ℕ) (w : World) (v : NodeValue)
+    (is : nodeOf v ≡ nodeAt id w) (child : ℕ) (c : child ≡ childPlace wanted (pairsIn v))
     (u : NodeValue) (renamed : nodeOf u ≡ change (repoint child right (nodeOf v)) (nodeOf v)) (f : Fitting) (e : f ≡ fitOf middle (pairsIn u)) where
   abbrev renamedIn : Node → Node
   renamedIn n = change (renaming wanted right n) n
@@ -209,7 +219,8 @@ pub absorb-nothing : {P T : ℕ} (t : Tariff) (wanted : ℕ) (root : Bool) (id :
     AbsorbedAs P T (w .pages) (w .rows) (record { state = w .state; charge = 0; pending = p }) (w .state) (absorb t wanted root id p w)
 absorb-nothing t wanted root id p w e g = rw e (record { is = refl; growing = g; blocks = refl; most = omega arith })
 
-pub absorb-known : (t : Tariff) (wanted : ℕ) (root : Bool) (id : ℕ) (p q : Pending) (w : World) → p ≡ q → absorb t wanted root id q w ≡ absorb t wanted root id p w
+pub absorb-known : (t : Tariff) (wanted : ℕ) (root : Bool) (id : ℕ) (p q : Pending) (w : World) → p ≡ q → absorb t
+    wanted root id q w ≡ absorb t wanted root id p w
 absorb-known t wanted root id p q w e = ap (λ (z : Pending). absorb t wanted root id z w) (sym e)
 
 -- One pair in an empty branch.
@@ -217,7 +228,8 @@ pub put-room : (v : NodeValue) (k p to : ℕ) → nodeOf v ≡ node Branch [] to
 unfolding insert
 put-room v k p to e = rw (ap pairsOf e) (omega arith)
 
-pub one-pair : (v r : NodeValue) (k p to : ℕ) → nodeOf v ≡ node Branch [] to → Becomes r (change (put k p) (nodeOf v)) → Becomes r (node Branch ((k, p) ∷ []) to)
+pub one-pair : (v r : NodeValue) (k p to : ℕ) → nodeOf v ≡ node Branch [] to → Becomes r
+    (change (put k p) (nodeOf v)) → Becomes r (node Branch ((k, p) ∷ []) to)
 unfolding insert
 one-pair v r k p to e b = record { is = b .is ∙ ap (change (put k p)) e; held = b .held }
 

@@ -39,11 +39,15 @@ refused-requires-2 c κs = search needs
 
 returns-2 : tie.Need-returns-2
 returns-2 c =
-    let a = c .before .before .before .before .before .before .before .before .args in
-    let b = c .before .before .before .pool-blocks in
-    let h = a-pool (a .pool .now) (b .result) (b .ensures) (c .before .before .if1 .left) in
+    let c1 = c .before in
+    let c2 = c1 .before in
+    let c3 = c2 .before in
+    let c8 = c3 .before .before .before .before .before in
+    let a = c8 .args in
+    let b = c3 .pool-blocks in
+    let h = a-pool (a .pool .now) (b .result) (b .ensures) (c2 .if1 .left) in
     left-as (c .refused2 .ensures)
-    (refused-two (a .pool .now) (a .table .now) (a .commands .now) (a .answers .now) h (omega (arith, b .ensures, h .blocks, c .before .if2 .taken)))
+    (refused-two (a .pool .now) (a .table .now) (a .commands .now) (a .answers .now) h (omega (arith, b .ensures, h .blocks, c1 .if2 .taken)))
 
 asked-requires : tie.Need-asked-requires
 asked-requires c κs = search needs
@@ -62,13 +66,20 @@ same-length c = search needs
 
 returns-3 : tie.Need-returns-3
 returns-3 c =
-    let a = c .before .before .before .before .before .before .before .before .before .before .before .before .before .before .before .args in
-    let b = c .before .before .before .before .before .before .before .before .before .before .pool-blocks in
-    let h = a-pool (a .pool .now) (b .result) (b .ensures) (c .before .before .before .before .before .before .before .before .before .if1 .left) in
+    let c3 = c .before .before .before in
+    let c5 = c3 .before .before in
+    let c7 = c5 .before .before in
+    let c8 = c7 .before in
+    let c9 = c8 .before in
+    let c10 = c9 .before in
+    let c15 = c10 .before .before .before .before .before in
+    let a = c15 .args in
+    let b = c10 .pool-blocks in
+    let h = a-pool (a .pool .now) (b .result) (b .ensures) (c9 .if1 .left) in
     left-as (c .refused3 .ensures)
-    (refused-three (a .pool .now) (a .table .now) (a .commands .now) (a .answers .now) h (omega (arith, b .ensures, h .blocks, c .before .before .before .before .before .before .before .before .if2 .left))
-    (not-valid (a .commands .now) (sym (c .before .before .before .before .before .enum-told .given .1) ∙ c .before .before .before .before .before .before .before .asked .ensures)) (c .before .before .before .wipe .last .0)
-    (c .before .before .before .wipe .ensures ∙ ap (λ (n : ℕ). wiped (tableBytes n) (a .table .now)) (b .ensures ∙ h .blocks)))
+    (refused-three (a .pool .now) (a .table .now) (a .commands .now) (a .answers .now) h (omega (arith, b .ensures, h .blocks, c8 .if2 .left))
+    (not-valid (a .commands .now) (sym (c5 .enum-told .given .1) ∙ c7 .asked .ensures)) (c3 .wipe .last .0)
+    (c3 .wipe .ensures ∙ ap (λ (n : ℕ). wiped (tableBytes n) (a .table .now)) (b .ensures ∙ h .blocks)))
 
 enum-known-room : tie.Need-enum-known-room
 enum-known-room c = search needs
@@ -84,15 +95,23 @@ same-length-2 c = search needs
 
 returns-4 : tie.Need-returns-4
 returns-4 c =
-    let a = c .before .before .before .before .before .before .before .before .before .before .before .before .before .before .before .before .before .args in
-    let b = c .before .before .before .before .before .before .before .before .before .before .before .before .pool-blocks in
-    let h = a-pool (a .pool .now) (b .result) (b .ensures) (c .before .before .before .before .before .before .before .before .before .before .before .if1 .left) in
-    let told = c .before .before .before .before .before .before .before .room .given in
-    let asks = asks-for (a .commands .now) (told .0 .0) (sym (told .1) ∙ c .before .before .before .before .before .before .before .before .before .asked .ensures) in
+    let c3 = c .before .before .before in
+    let c5 = c3 .before .before in
+    let c7 = c5 .before .before in
+    let c9 = c7 .before .before in
+    let c10 = c9 .before in
+    let c11 = c10 .before in
+    let c12 = c11 .before in
+    let c17 = c12 .before .before .before .before .before in
+    let a = c17 .args in
+    let b = c12 .pool-blocks in
+    let h = a-pool (a .pool .now) (b .result) (b .ensures) (c11 .if1 .left) in
+    let told = c7 .room .given in
+    let asks = asks-for (a .commands .now) (told .0 .0) (sym (told .1) ∙ c9 .asked .ensures) in
     left-as (c .refused4 .ensures)
-    (refused-four (a .pool .now) (a .table .now) (a .commands .now) (a .answers .now) h (omega (arith, b .ensures, h .blocks, c .before .before .before .before .before .before .before .before .before .before .if2 .left))
-    (asks .0) (asks .1) (omega (arith, asks .2, c .before .before .before .before .before .if3 .taken)) (c .before .before .before .wipe2 .last .0)
-    (c .before .before .before .wipe2 .ensures ∙ ap (λ (n : ℕ). wiped (tableBytes n) (a .table .now)) (b .ensures ∙ h .blocks)))
+    (refused-four (a .pool .now) (a .table .now) (a .commands .now) (a .answers .now) h (omega (arith, b .ensures, h .blocks, c10 .if2 .left))
+    (asks .0) (asks .1) (omega (arith, asks .2, c5 .if3 .taken)) (c3 .wipe2 .last .0)
+    (c3 .wipe2 .ensures ∙ ap (λ (n : ℕ). wiped (tableBytes n) (a .table .now)) (b .ensures ∙ h .blocks)))
 
 sub-work : tie.Need-sub-work
 sub-work c = search needs
@@ -131,16 +150,28 @@ same-length-5 c = search needs
 
 returns-5 : tie.Need-returns-5
 returns-5 c =
-    let a = c .before .before .before .before .before .before .before .before .before .before .before .before .before .before .before .before .before .before .before .before .before .before .args in
-    let b = c .before .before .before .before .before .before .before .before .before .before .before .before .before .before .before .before .before .pool-blocks in
-    let h = a-pool (a .pool .now) (b .result) (b .ensures) (c .before .before .before .before .before .before .before .before .before .before .before .before .before .before .before .before .if1 .left) in
-    let told = c .before .before .before .before .before .before .before .before .before .before .before .before .room .given in
-    let asks = asks-for (a .commands .now) (told .0 .0) (sym (told .1) ∙ c .before .before .before .before .before .before .before .before .before .before .before .before .before .before .asked .ensures) in
-    let w = c .before .before .before .before .before .before .work in
+    let c6 = c .before .before .before .before .before .before in
+    let c10 = c6 .before .before .before .before in
+    let c12 = c10 .before .before in
+    let c14 = c12 .before .before in
+    let c15 = c14 .before in
+    let c16 = c15 .before in
+    let c17 = c16 .before in
+    let c22 = c17 .before .before .before .before .before in
+    let a = c22 .args in
+    let b = c17 .pool-blocks in
+    let h = a-pool (a .pool .now) (b .result) (b .ensures) (c16 .if1 .left) in
+    let told = c12 .room .given in
+    let asks = asks-for (a .commands .now) (told .0 .0) (sym (told .1) ∙ c14 .asked .ensures) in
+    let w = c6 .work in
     let bytes : tableBytes (b .result) ≡ tableBytes (Model.blocksOf (a .pool .now)) = ap tableBytes (b .ensures ∙ h .blocks) in
-    subst (λ (right : Model.Outcome). Leaves right (w .result) (w .last .0) (putMid 0 (tableBytes (b .result) - 0) (a .table .now) (w .last .1 .0)) (w .last .1 .1 .1 .0))
-    (sym (passed-four (a .pool .now) (a .table .now) (a .commands .now) (a .answers .now) h (omega (arith, b .ensures, h .blocks, c .before .before .before .before .before .before .before .before .before .before .before .before .before .before .before .if2 .left)) (asks .0) (asks .1) (omega (arith, asks .2, c .before .before .before .before .before .before .before .before .before .before .if3 .left))))
-    (lent-work (mountOf (a .pool .now)) (asks .0) (a .pool .now) (a .table .now) (a .answers .now) (tableBytes (b .result)) bytes (omega (arith, c .before .before .before .before .before .before .before .before .before .before .before .before .before .before .before .if2 .left))
+    subst (λ (right : Model.Outcome). Leaves right (w .result) (w .last .0)
+    (putMid 0 (tableBytes (b .result) - 0) (a .table .now) (w .last .1 .0)) (w .last .1 .1 .1 .0))
+    (sym (passed-four (a .pool .now) (a .table .now) (a .commands .now) (a .answers .now) h
+    (omega (arith, b .ensures, h .blocks, c15 .if2 .left)) (asks .0) (asks .1)
+    (omega (arith, asks .2, c10 .if3 .left))))
+    (lent-work (mountOf (a .pool .now)) (asks .0) (a .pool .now) (a .table .now) (a .answers .now)
+    (tableBytes (b .result)) bytes (omega (arith, c15 .if2 .left))
     (w .ensures .leaves (asks .0) (asks .1)))
 
 pub batch-spec : {M : Type 1} → statement M

@@ -20,8 +20,11 @@ same-length : tie.Need-same-length
 same-length c = search needs
 
 returns : tie.Need-returns
-returns c = let a = c .before .before .before .before .before .args in
-    lent-filled (a .table .now) (a .bytes) (c .before .before .fill .last .0) (c .before .before .before .before .before .pre) (c .before .before .fill .ensures)
+returns c =
+    let c2 = c .before .before in
+    let c5 = c2 .before .before .before in
+    let a = c5 .args in
+    lent-filled (a .table .now) (a .bytes) (c2 .fill .last .0) (c5 .pre) (c2 .fill .ensures)
 
 pub wipe-spec : {M : Type 1} → statement M
 wipe-spec =

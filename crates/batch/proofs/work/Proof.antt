@@ -27,18 +27,26 @@ same-length-2 c = search needs
 
 returns : tie.Need-returns
 returns c =
-    let a = c .before .before .before .before .before .before .before .before .before .before .before .before .before .before .before .before .args in
-    let m = c .before .before .before .before .before .before .before .before .before .mount in
-    let f = c .before .before .before .fill in
-    subst (λ (r : Outcome). Worked (a .pool .now) (a .pool .now) (a .table .now) (f .last .0) (a .commands .now) (a .answers .now) (a .answers .now) r) (sym (c .refused .ensures))
-    (worked-refused (a .pool .now) (a .table .now) (a .commands .now) (a .answers .now) (c .before .before .before .before .before .before .before .before .before .before .before .before .before .before .before .before .pre) (f .last .0) (f .ensures ∙ ap zeros (m .kept .1 .0))
-    (m .result .refused) (m .ensures .refused (c .before .before .before .before .before .if1 .left)))
+    let c3 = c .before .before .before in
+    let c5 = c3 .before .before in
+    let c9 = c5 .before .before .before .before in
+    let c16 = c9 .before .before .before .before .before .before .before in
+    let a = c16 .args in
+    let m = c9 .mount in
+    let f = c3 .fill in
+    subst (λ (r : Outcome). Worked (a .pool .now) (a .pool .now) (a .table .now) (f .last .0) (a .commands .now)
+    (a .answers .now) (a .answers .now) r) (sym (c .refused .ensures))
+    (worked-refused (a .pool .now) (a .table .now) (a .commands .now) (a .answers .now) (c16 .pre) (f .last .0) (f .ensures ∙ ap zeros (m .kept .1 .0))
+    (m .result .refused) (m .ensures .refused (c5 .if1 .left)))
 
 run-commands-requires : tie.Need-run-commands-requires
 run-commands-requires c κs =
-    let a = c .before .before .before .before .before .before .before .before .before .before .before .before .before .before .before .before .args in
-    let pre = c .before .before .before .before .before .before .before .before .before .before .before .before .before .before .before .before .pre in
-    let o = c .before .before .before .before .before .before .before .before .before .mount .ensures .opened (c .before .before .before .before .before .if1 .taken) in
+    let c5 = c .before .before .before .before .before in
+    let c9 = c5 .before .before .before .before in
+    let c16 = c9 .before .before .before .before .before .before .before in
+    let a = c16 .args in
+    let pre = c16 .pre in
+    let o = c9 .mount .ensures .opened (c5 .if1 .taken) in
     (grows o, o .ranged, valid-fits (a .commands .now) (pre .commands) (pre .are) (length (a .answers .now)) (pre .enough))
 
 checkpoint-requires : tie.Need-checkpoint-requires
@@ -51,19 +59,31 @@ same-length-3 : tie.Need-same-length-3
 same-length-3 c = search needs
 
 same-length-4 : tie.Need-same-length-4
-same-length-4 c = c .before .before .fill2 .kept .0 ∙ c .before .before .before .before .before .before .before .before .checkpoint .kept .1 .0 ∙ c .before .before .before .before .before .before .before .before .before .before .before .before .before .before .before .before .before .before .run-commands .kept .1 .0 ∙ c .before .before .before .before .before .before .before .before .before .before .before .before .before .before .before .before .before .before .before .before .before .before .before .before .before .before .before .before .mount .kept .1 .0
+same-length-4 c =
+    let c2 = c .before .before in
+    let c8 = c2 .before .before .before .before .before .before in
+    let c18 = c8 .before .before .before .before .before .before .before .before .before .before in
+    let c28 = c18 .before .before .before .before .before .before .before .before .before .before in
+    c2 .fill2 .kept .0 ∙ c8 .checkpoint .kept .1 .0 ∙ c18 .run-commands .kept .1 .0 ∙ c28 .mount .kept .1 .0
 
 same-length-5 : tie.Need-same-length-5
 same-length-5 c = search needs
 
 returns-2 : tie.Need-returns-2
 returns-2 c =
-    let a = c .before .before .before .before .before .before .before .before .before .before .before .before .before .before .before .before .before .before .before .before .before .before .before .before .before .before .before .before .before .before .before .before .before .before .before .args in
-    let m = c .before .before .before .before .before .before .before .before .before .before .before .before .before .before .before .before .before .before .before .before .before .before .before .before .before .before .before .before .mount in
-    let r = c .before .before .before .before .before .before .before .before .before .before .before .before .before .before .before .before .before .before .run-commands in
-    let e = c .before .before .before .before .before .before .before .before .checkpoint in
-    worked-by (c .before .before .before .before .before .before .before .before .before .before .before .before .before .before .before .before .before .before .before .before .before .before .before .before .before .before .before .before .before .before .before .before .before .before .before .pre) (c .before .before .fill2 .last .0) (c .before .before .fill2 .ensures ∙ ap zeros (e .kept .1 .0 ∙ r .kept .1 .0 ∙ m .kept .1 .0))
-    (bytes-getD (a .commands .now) (λ i. c .before .before .before .before .before .before .before .before .before .before .before .before .before .before .before .before .before .before .before .before .before .before .before .before .before .before .before .before .before .before .before .before .shared-slice-known .given i .fits)) (m .ensures .opened (c .before .before .before .before .before .before .before .before .before .before .before .before .before .before .before .before .before .before .before .before .before .before .before .before .if1 .taken)) (r .ensures) (e .last .0) (e .ensures)
+    let c2 = c .before .before in
+    let c8 = c2 .before .before .before .before .before .before in
+    let c18 = c8 .before .before .before .before .before .before .before .before .before .before in
+    let c24 = c18 .before .before .before .before .before .before in
+    let c28 = c24 .before .before .before .before in
+    let c32 = c28 .before .before .before .before in
+    let c35 = c32 .before .before .before in
+    let a = c35 .args in
+    let m = c28 .mount in
+    let r = c18 .run-commands in
+    let e = c8 .checkpoint in
+    worked-by (c35 .pre) (c2 .fill2 .last .0) (c2 .fill2 .ensures ∙ ap zeros (e .kept .1 .0 ∙ r .kept .1 .0 ∙ m .kept .1 .0))
+    (bytes-getD (a .commands .now) (λ i. c32 .shared-slice-known .given i .fits)) (m .ensures .opened (c24 .if1 .taken)) (r .ensures) (e .last .0) (e .ensures)
     (e .kept .0 ∙ r .kept .0)
 
 pub work-spec : {M : Type 1} → statement M

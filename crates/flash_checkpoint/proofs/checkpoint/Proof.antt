@@ -20,10 +20,16 @@ same-length-2 : tie.Need-same-length-2
 same-length-2 c = search needs
 
 returns : tie.Need-returns
-returns c = let a = c .before .before .before .before .before .before .before .before .before .before .before .before .before .before .before .before .args in
-    let d = c .before .before .before .before .before .before .before .before .before .before .before .drain in
-    let s = c .before .before .before .before .checkpoint-pages in
-    checkpoint-made (a .tariff) (world (pagesOf (a .pool .now)) (rowsOf (a .table .now)) (a .state)) (world (pagesOf (d .last .0)) (rowsOf (d .last .1 .0)) (d .result)) (world (pagesOf (s .last .0)) (rowsOf (s .last .1 .0)) (s .result)) (d .ensures) (s .ensures)
+returns c =
+    let c4 = c .before .before .before .before in
+    let c11 = c4 .before .before .before .before .before .before .before in
+    let c16 = c11 .before .before .before .before .before in
+    let a = c16 .args in
+    let d = c11 .drain in
+    let s = c4 .checkpoint-pages in
+    checkpoint-made (a .tariff) (world (pagesOf (a .pool .now)) (rowsOf (a .table .now)) (a .state))
+    (world (pagesOf (d .last .0)) (rowsOf (d .last .1 .0)) (d .result))
+    (world (pagesOf (s .last .0)) (rowsOf (s .last .1 .0)) (s .result)) (d .ensures) (s .ensures)
 
 pub checkpoint-spec : {M : Type 1} → statement M
 checkpoint-spec =

@@ -13,7 +13,10 @@ use Rattle.flash_checkpoint.proofs.checkpoint_pages.Statement.{statemen
 use Rattle.flash_checkpoint.proofs.checkpoint_pages.Tie as tie
 
 abbrev Inv-loop : tie.InvT-loop
-Inv-loop pool₀ table₀ tariff count s₀ k₀ pool table s k = (Between (length pool) (length table) (length pool₀) (length table₀) s₀ s k count) × (steps (checkpointPage tariff) (count - k) k (world (pagesOf pool) (rowsOf table) s) ≡ steps (checkpointPage tariff) count 0 (world (pagesOf pool₀) (rowsOf table₀) s₀))
+Inv-loop pool₀ table₀ tariff count s₀ k₀ pool table s k =
+    (Between (length pool) (length table) (length pool₀) (length table₀) s₀ s k count) ×
+    (steps (checkpointPage tariff) (count - k) k (world (pagesOf pool) (rowsOf table) s) ≡ steps
+    (checkpointPage tariff) count 0 (world (pagesOf pool₀) (rowsOf table₀) s₀))
 
 abbrev μ-loop : tie.MeasureT-loop
 μ-loop pool₀ table₀ tariff count s₀ k₀ pool table s k = count - k
@@ -22,13 +25,23 @@ page-count-requires : tie.Need-page-count-requires Inv-loop μ-loop
 page-count-requires c κs = omega arith
 
 loop-holds : tie.Need-loop-holds Inv-loop μ-loop
-loop-holds c = let a = c .before .before .before .args in
-    (between-begin (a .state) (c .page-count .result) (c .before .before .before .pre .0) (c .before .before .before .pre .2), steps-begin (checkpointPage (a .tariff)) (c .page-count .result) (world (pagesOf (a .pool .now)) (rowsOf (a .table .now)) (a .state)))
+loop-holds c =
+    let c3 = c .before .before .before in
+    let a = c3 .args in
+    (between-begin (a .state) (c .page-count .result) (c3 .pre .0) (c3 .pre .2), steps-begin
+    (checkpointPage (a .tariff)) (c .page-count .result)
+    (world (pagesOf (a .pool .now)) (rowsOf (a .table .now)) (a .state)))
 
 checkpoint-page-requires : tie.Need-checkpoint-page-requires Inv-loop μ-loop
-checkpoint-page-requires c κs = let a = c .before .before .before .before .before .before .before .args in
-    let l = c .before .before .before .loop in
-    (l .inv .0 .good, between-closing (a .state) (l .s) (l .k) (c .before .before .before .before .page-count .result) (l .inv .0) (c .before .before .before .before .page-count .ensures) (c .before .before .before .before .before .before .before .pre .1) (c .before .before .loop-test .taken))
+checkpoint-page-requires c κs =
+    let c2 = c .before .before in
+    let c3 = c2 .before in
+    let c4 = c3 .before in
+    let c7 = c4 .before .before .before in
+    let a = c7 .args in
+    let l = c3 .loop in
+    (l .inv .0 .good, between-closing (a .state) (l .s) (l .k) (c4 .page-count .result) (l .inv .0)
+    (c4 .page-count .ensures) (c7 .pre .1) (c2 .loop-test .taken))
 
 add-k : tie.Need-add-k Inv-loop μ-loop
 add-k c = omega arith
@@ -37,14 +50,22 @@ loop-less : tie.Need-loop-less Inv-loop μ-loop
 loop-less c = omega arith
 
 loop-again : tie.Need-loop-again Inv-loop μ-loop
-loop-again c = let a = c .before .before .before .before .before .before .before .before .before .before .before .before .args in
-    let l = c .before .before .before .before .before .before .before .before .loop in
-    let n = c .before .before .before .before .before .before .before .before .before .page-count in
-    let x = c .before .before .before .before .checkpoint-page in
+loop-again c =
+    let c4 = c .before .before .before .before in
+    let c7 = c4 .before .before .before in
+    let c8 = c7 .before in
+    let c9 = c8 .before in
+    let c12 = c9 .before .before .before in
+    let a = c12 .args in
+    let l = c8 .loop in
+    let n = c9 .page-count in
+    let x = c4 .checkpoint-page in
     let w = world (pagesOf (l .pool)) (rowsOf (l .table)) (l .s) in
     let made = world (pagesOf (x .last .0)) (rowsOf (x .last .1 .0)) (x .result) in (
-      between-more (a .state) (l .s) (l .k) (n .result) made (checkpointPage (a .tariff) (l .k) w) (l .inv .0) (c .before .before .before .before .before .before .before .loop-test .taken) (x .kept .0) (x .kept .1 .0) (x .ensures),
-      ap (steps (checkpointPage (a .tariff)) (n .result - (l .k + 1)) (l .k + 1)) (x .ensures .is) ∙ steps-more (checkpointPage (a .tariff)) (n .result) (l .k) w (c .before .before .before .before .before .before .before .loop-test .taken) ∙ l .inv .1,
+      between-more (a .state) (l .s) (l .k) (n .result) made (checkpointPage (a .tariff) (l .k) w) (l .inv .0)
+      (c7 .loop-test .taken) (x .kept .0) (x .kept .1 .0) (x .ensures),
+      ap (steps (checkpointPage (a .tariff)) (n .result - (l .k + 1)) (l .k + 1)) (x .ensures .is) ∙ steps-more
+      (checkpointPage (a .tariff)) (n .result) (l .k) w (c7 .loop-test .taken) ∙ l .inv .1,
     )
 
 same-length : tie.Need-same-length Inv-loop μ-loop

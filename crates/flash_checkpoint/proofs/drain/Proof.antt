@@ -8,8 +8,10 @@ use Rattle.flash_checkpoint.proofs.drain.Statement.{statement}
 use Rattle.flash_checkpoint.proofs.drain.Tie as tie
 
 returns : tie.Need-returns
-returns c = let a = c .before .before .before .before .args in
-    drain-none (world (pagesOf (a .pool .now)) (rowsOf (a .table .now)) (a .state)) (c .if1 .taken) (c .before .before .before .before .pre)
+returns c =
+    let c4 = c .before .before .before .before in
+    let a = c4 .args in
+    drain-none (world (pagesOf (a .pool .now)) (rowsOf (a .table .now)) (a .state)) (c .if1 .taken) (c4 .pre)
 
 flush-requires : tie.Need-flush-requires
 flush-requires c κs = search needs
@@ -21,9 +23,14 @@ same-length-2 : tie.Need-same-length-2
 same-length-2 c = search needs
 
 returns-2 : tie.Need-returns-2
-returns-2 c = let a = c .before .before .before .before .before .before .before .before .before .before .before .args in
-    let y = c .before .before .before .before .flush in
-    drain-some (world (pagesOf (a .pool .now)) (rowsOf (a .table .now)) (a .state)) (world (pagesOf (y .last .0)) (rowsOf (y .last .1 .0)) (y .result)) (c .before .before .before .before .before .before .before .if1 .left) (y .ensures)
+returns-2 c =
+    let c4 = c .before .before .before .before in
+    let c7 = c4 .before .before .before in
+    let c11 = c7 .before .before .before .before in
+    let a = c11 .args in
+    let y = c4 .flush in
+    drain-some (world (pagesOf (a .pool .now)) (rowsOf (a .table .now)) (a .state))
+    (world (pagesOf (y .last .0)) (rowsOf (y .last .1 .0)) (y .result)) (c7 .if1 .left) (y .ensures)
 
 pub drain-spec : {M : Type 1} → statement M
 drain-spec = tie.close (tie.spec returns flush-requires same-length same-length-2 returns-2)

@@ -27,7 +27,8 @@ returns : tie.Need-returns
 unfolding scoreBytes
 returns c = let a = c .before .before .before .before .before .before .before .before .before .args in
     c .before .before .write32 .ensures ∙
-    rw (c .before .before .before .before .before .before .write16 .ensures) (lay-next (a .records .now) (a .at) (bigEndian 2 (a .id)) (bigEndian 4 (a .score)) _ (omega arith) refl)
+    rw (c .before .before .before .before .before .before .write16 .ensures)
+    (lay-next (a .records .now) (a .at) (bigEndian 2 (a .id)) (bigEndian 4 (a .score)) _ (omega arith) refl)
 
 pub lay-score-spec : {M : Type 1} → statement M
 lay-score-spec = tie.close (tie.spec cast-write16 write16-requires add-write32 write32-requires same-length returns)

@@ -38,14 +38,24 @@ same-length : tie.Need-same-length
 same-length c = search needs
 
 returns : tie.Need-returns
-returns c = let a = c .before .before .before .before .before .before .before .before .before .before .before .before .args in
-    let f = c .before .before .before .before .before .before .before .before .before .scores-before in
-    let n = c .before .before .before .before .before .before .before .before .scores-on in
-    let r = c .before .before .before .before .before .before .before .score-records in
-    let m = c .before .before .before .before .before .before .page-count in
-    let i = c .before .before .before .before .checkpoint-image in
-    let w = c .before .before .put-image in
-    checkpoint-page-put (a .number) (a .tariff) (a .k) (a .nodes) (rowsOf (a .table .now)) (f .result) (n .result) (m .result) (r .result) (i .result) (pagesOf (a .pool .now)) (pagesOf (w .last .0)) (a .at) (f .ensures) (n .ensures .is) (m .ensures) (r .ensures) (i .ensures) (w .ensures)
+returns c =
+    let c2 = c .before .before in
+    let c4 = c2 .before .before in
+    let c6 = c4 .before .before in
+    let c7 = c6 .before in
+    let c8 = c7 .before in
+    let c9 = c8 .before in
+    let c12 = c9 .before .before .before in
+    let a = c12 .args in
+    let f = c9 .scores-before in
+    let n = c8 .scores-on in
+    let r = c7 .score-records in
+    let m = c6 .page-count in
+    let i = c4 .checkpoint-image in
+    let w = c2 .put-image in
+    checkpoint-page-put (a .number) (a .tariff) (a .k) (a .nodes) (rowsOf (a .table .now)) (f .result) (n .result)
+    (m .result) (r .result) (i .result) (pagesOf (a .pool .now)) (pagesOf (w .last .0)) (a .at) (f .ensures)
+    (n .ensures .is) (m .ensures) (r .ensures) (i .ensures) (w .ensures)
 
 pub put-checkpoint-page-spec : {M : Type 1} → statement M
 put-checkpoint-page-spec =

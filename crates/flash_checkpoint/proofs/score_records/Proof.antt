@@ -11,7 +11,9 @@ use Rattle.flash_checkpoint.proofs.score_records.Statement.{statement}
 use Rattle.flash_checkpoint.proofs.score_records.Tie as tie
 
 abbrev Inv-loop : tie.InvT-loop
-Inv-loop table from n records₀ i₀ records i = ((i ≤ n) × (length records ≡ 324)) × (lay records (6 * i) (scoresBytes (scoresOf (rowsOf table) (from + i) (n - i))) ≡ lay (replicate 324 0) 0 (scoresBytes (scoresOf (rowsOf table) from n)))
+Inv-loop table from n records₀ i₀ records i = ((i ≤ n) × (length records ≡ 324)) ×
+    (lay records (6 * i) (scoresBytes (scoresOf (rowsOf table) (from + i) (n - i))) ≡ lay (replicate 324 0) 0
+    (scoresBytes (scoresOf (rowsOf table) from n)))
 
 abbrev μ-loop : tie.MeasureT-loop
 μ-loop table from n records₀ i₀ records i = n - i
@@ -47,7 +49,10 @@ loop-less c = omega arith
 loop-again : tie.Need-loop-again Inv-loop μ-loop
 loop-again c = let l = c .before .before .before .before .before .loop in
     let a = c .before .before .before .before .before .before .before .args in
-    (omega (arith, c .before .lay-score .kept .0), rw (c .before .lay-score .ensures, c .before .before .before .read-row .ensures) (records-more (rowsOf (a .table .now)) (a .from) (a .n) (l .records) (l .i) (omega arith) (omega arith) ∙ l .inv .1))
+    (omega (arith, c .before .lay-score .kept .0), rw
+    (c .before .lay-score .ensures, c .before .before .before .read-row .ensures)
+    (records-more (rowsOf (a .table .now)) (a .from) (a .n) (l .records) (l .i) (omega arith) (omega arith) ∙
+    l .inv .1))
 
 returns : tie.Need-returns Inv-loop μ-loop
 returns c = let l = c .before .loop in

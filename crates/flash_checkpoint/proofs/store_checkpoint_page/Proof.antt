@@ -21,7 +21,12 @@ same-length c = search needs
 
 returns : tie.Need-returns
 unfolding checkpointRow
-returns c = rw (← c .before .before .before .before .before .before .no-row .ensures, ← c .before .before .before .before .before .fresh .ensures, ← c .before .before .before .note .ensures) (c .before .before .write-row .ensures)
+returns c =
+    let c2 = c .before .before in
+    let c3 = c2 .before in
+    let c5 = c3 .before .before in
+    let c6 = c5 .before in
+    rw (← c6 .no-row .ensures, ← c5 .fresh .ensures, ← c3 .note .ensures) (c2 .write-row .ensures)
 
 pub store-checkpoint-page-spec : {M : Type 1} → statement M
 store-checkpoint-page-spec = tie.close (tie.spec no-row-requires fresh-requires note-requires write-row-requires same-length returns)

@@ -37,12 +37,19 @@ same-length-2 : tie.Need-same-length-2
 same-length-2 c = search needs
 
 returns : tie.Need-returns
-returns c = let a = c .before .before .before .before .before .before .before .before .before .before .before .before .before .before .before .before .args in
-    let p = c .before .before .before .before .before .before .before .before .before .before .before .before .before .before .before .before .pre in
-    let n = c .before .before .before .before .before .before .before .before .before .before .before .next-sequence in
-    let w = c .before .before .before .before .before .before .before .before .put-checkpoint-page in
-    let r = c .before .before .before .store-checkpoint-page in
-    checkpoint-page-written (a .tariff) (a .k) (pagesOf (a .pool .now)) (pagesOf (w .last .0)) (rowsOf (a .table .now)) (rowsOf (r .last .0)) (a .state) (c .count-page .result) (n .result) (p .0) (p .1) (w .kept .0) (r .kept .0) (p .2) (n .ensures) (w .ensures) (r .ensures) (c .count-page .ensures)
+returns c =
+    let c3 = c .before .before .before in
+    let c8 = c3 .before .before .before .before .before in
+    let c11 = c8 .before .before .before in
+    let c16 = c11 .before .before .before .before .before in
+    let a = c16 .args in
+    let p = c16 .pre in
+    let n = c11 .next-sequence in
+    let w = c8 .put-checkpoint-page in
+    let r = c3 .store-checkpoint-page in
+    checkpoint-page-written (a .tariff) (a .k) (pagesOf (a .pool .now)) (pagesOf (w .last .0))
+    (rowsOf (a .table .now)) (rowsOf (r .last .0)) (a .state) (c .count-page .result) (n .result) (p .0) (p .1)
+    (w .kept .0) (r .kept .0) (p .2) (n .ensures) (w .ensures) (r .ensures) (c .count-page .ensures)
 
 pub write-checkpoint-page-spec : {M : Type 1} → statement M
 write-checkpoint-page-spec =

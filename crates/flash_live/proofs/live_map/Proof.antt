@@ -11,7 +11,8 @@ use Rattle.flash_live.proofs.live_map.Statement.{statement}
 use Rattle.flash_live.proofs.live_map.Tie as tie
 
 abbrev Inv-loop : tie.InvT-loop
-Inv-loop table used live₀ n₀ live n = (n ≤ used) × (steps (markNth (rowsOf table)) (used - n) n live ≡ steps (markNth (rowsOf table)) used 0 (replicate 2048 0))
+Inv-loop table used live₀ n₀ live n = (n ≤ used) ×
+    (steps (markNth (rowsOf table)) (used - n) n live ≡ steps (markNth (rowsOf table)) used 0 (replicate 2048 0))
 
 abbrev μ-loop : tie.MeasureT-loop
 μ-loop table used live₀ n₀ live n = used - n
@@ -36,7 +37,8 @@ loop-again : tie.Need-loop-again Inv-loop μ-loop
 unfolding markNth
 loop-again c = let l = c .before .before .before .before .loop in
     let a = c .before .before .before .before .before .before .args in
-    (omega arith, rw (c .mark-row .ensures, c .before .read-row .ensures) (steps-more (markNth (rowsOf (a .table .now))) (a .used) (l .n) (l .live) (omega arith) ∙ l .inv .1))
+    (omega arith, rw (c .mark-row .ensures, c .before .read-row .ensures)
+    (steps-more (markNth (rowsOf (a .table .now))) (a .used) (l .n) (l .live) (omega arith) ∙ l .inv .1))
 
 returns : tie.Need-returns Inv-loop μ-loop
 unfolding liveMap

@@ -18,8 +18,13 @@ mark-slot-requires-3 c κs = search needs
 
 returns : tie.Need-returns
 unfolding markRow
-returns c = let r = c .before .before .before .before .before .before .args .r in
-    c .mark-slot3 .ensures ∙ ap (λ (m : List ℕ). markSlot 2 (r .pages) (r .third) m) (c .before .before .mark-slot2 .ensures ∙ ap (λ (m : List ℕ). markSlot 1 (r .pages) (r .second) m) (c .before .before .before .before .mark-slot .ensures))
+returns c =
+    let c2 = c .before .before in
+    let c4 = c2 .before .before in
+    let c6 = c4 .before .before in
+    let r = c6 .args .r in
+    c .mark-slot3 .ensures ∙ ap (λ (m : List ℕ). markSlot 2 (r .pages) (r .third) m)
+    (c2 .mark-slot2 .ensures ∙ ap (λ (m : List ℕ). markSlot 1 (r .pages) (r .second) m) (c4 .mark-slot .ensures))
 
 pub mark-row-spec : {M : Type 1} → statement M
 mark-row-spec =

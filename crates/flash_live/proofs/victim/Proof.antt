@@ -10,7 +10,9 @@ use Rattle.flash_live.proofs.victim.Statement.{statement}
 use Rattle.flash_live.proofs.victim.Tie as tie
 
 abbrev Inv-loop : tie.InvT-loop
-Inv-loop pool live blocks best₀ block₀ best block = ((block ≤ blocks) × (best .block < blocks)) × (steps (weigh (pagesOf pool) live) (blocks - block) block best ≡ steps (weigh (pagesOf pool) live) blocks 0 (choice 0 33))
+Inv-loop pool live blocks best₀ block₀ best block = ((block ≤ blocks) × (best .block < blocks)) ×
+    (steps (weigh (pagesOf pool) live) (blocks - block) block best ≡ steps (weigh (pagesOf pool) live) blocks 0
+    (choice 0 33))
 
 abbrev μ-loop : tie.MeasureT-loop
 μ-loop pool live blocks best₀ block₀ best block = blocks - block
@@ -31,13 +33,17 @@ loop-less c = omega arith
 loop-again : tie.Need-loop-again Inv-loop μ-loop
 loop-again c = let l = c .before .before .loop in
     let a = c .before .before .before .before .args in
-    (omega (arith, c .weigh .ensures .inside), rw (c .weigh .ensures .is) (steps-more (weigh (pagesOf (a .pool .now)) (a .live .now)) (a .blocks) (l .block) (l .best) (omega arith) ∙ l .inv .1))
+    (omega (arith, c .weigh .ensures .inside), rw (c .weigh .ensures .is)
+    (steps-more (weigh (pagesOf (a .pool .now)) (a .live .now)) (a .blocks) (l .block) (l .best) (omega arith) ∙
+    l .inv .1))
 
 returns : tie.Need-returns Inv-loop μ-loop
 unfolding victim best
 returns c = let l = c .before .loop in
     let a = c .before .before .before .args in
-    (ap (λ (x : Choice). x .block) (sym (steps-done (weigh (pagesOf (a .pool .now)) (a .live .now)) (a .blocks) (l .block) (l .best) (omega arith)) ∙ l .inv .1), omega arith)
+    (ap (λ (x : Choice). x .block)
+    (sym (steps-done (weigh (pagesOf (a .pool .now)) (a .live .now)) (a .blocks) (l .block) (l .best) (omega arith))
+    ∙ l .inv .1), omega arith)
 
 pub victim-spec : {M : Type 1} → statement M
 victim-spec =

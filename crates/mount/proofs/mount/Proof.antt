@@ -25,7 +25,9 @@ returns c =
     let pre = c .before .before .before .before .before .before .before .before .pre in
     let v = c .before .before .before .before .survey in
     let size : length (v .last .1 .0) ≡ tableBytes (a .blocks) = search needs in
-    mounted-five (pre .0, pre .1, pre .2, size) (bytes-getD (a .pool .now) (λ i. c .before .before .before .before .before .before .before .shared-slice-known .given i .fits)) (v .ensures)
+    mounted-five (pre .0, pre .1, pre .2, size)
+    (bytes-getD (a .pool .now) (λ i.
+    c .before .before .before .before .before .before .before .shared-slice-known .given i .fits)) (v .ensures)
     (rowsOf (v .last .1 .0)) (c .refuse .result) (c .before .if1 .left) (c .refuse .ensures)
 
 find-checkpoint-requires : tie.Need-find-checkpoint-requires
@@ -40,7 +42,9 @@ first-state-requires c κs = search needs
 refusal-requires : tie.Need-refusal-requires
 refusal-requires c κs =
     let pre = c .before .before .before .before .before .before .before .before .before .before .before .before .before .before .before .before .pre in
-    first-asks (c .before .before .before .checkpoint .given .0 .1 .0) (c .before .before .before .before .before .before .before .before .before .before .before .before .survey .result) (pre .0, pre .1, pre .2, search needs) (c .before .first-state .ensures)
+    first-asks (c .before .before .before .checkpoint .given .0 .1 .0)
+    (c .before .before .before .before .before .before .before .before .before .before .before .before .survey .result)
+    (pre .0, pre .1, pre .2, search needs) (c .before .first-state .ensures)
 
 enum-told : tie.Need-enum-told
 enum-told c = search needs
@@ -61,9 +65,15 @@ returns-2 c =
     let asked = c .before .before .refusal in
     let size : length (asked .last .1 .0) ≡ tableBytes (a .blocks) = search needs in
     let width : length (v .last .1 .0) ≡ tableBytes (a .blocks) = search needs in
-    mounted-by (pre .0, pre .1, pre .2, size) (bytes-getD (a .pool .now) (λ i. c .before .before .before .before .before .before .before .before .before .before .before .before .before .before .before .before .before .before .shared-slice-known .given i .fits)) (v .ensures)
-    (rowsOf (asked .last .1 .0)) _ (c .before .before .before .before .before .before .before .before .before .before .before .before .if1 .taken) (length (v .last .1 .0)) width (found .0 .0) (found .0 .1 .0) (found .0 .1 .1 .0)
-    (sym (found .1) ∙ f .ensures .is) (c .before .before .before .before .first-state .result) (c .before .before .before .before .first-state .ensures) (asked .result) (asked .ensures) refl
+    mounted-by (pre .0, pre .1, pre .2, size)
+    (bytes-getD (a .pool .now) (λ i.
+    c .before .before .before .before .before .before .before .before .before .before .before .before .before .before .before .before .before .before .shared-slice-known .given
+    i .fits)) (v .ensures)
+    (rowsOf (asked .last .1 .0)) _
+    (c .before .before .before .before .before .before .before .before .before .before .before .before .if1 .taken)
+    (length (v .last .1 .0)) width (found .0 .0) (found .0 .1 .0) (found .0 .1 .1 .0)
+    (sym (found .1) ∙ f .ensures .is) (c .before .before .before .before .first-state .result)
+    (c .before .before .before .before .first-state .ensures) (asked .result) (asked .ensures) refl
 
 same-length-3 : tie.Need-same-length-3
 same-length-3 c = search needs
@@ -76,7 +86,10 @@ returns-3 c =
     let f = c .before .before .before .before .before .find-checkpoint in
     let size : length (f .last .1 .0) ≡ tableBytes (a .blocks) = search needs in
     let width : length (v .last .1 .0) ≡ tableBytes (a .blocks) = search needs in
-    mounted-six (pre .0, pre .1, pre .2, size) (bytes-getD (a .pool .now) (λ i. c .before .before .before .before .before .before .before .before .before .before .before .before .before .shared-slice-known .given i .fits)) (v .ensures)
+    mounted-six (pre .0, pre .1, pre .2, size)
+    (bytes-getD (a .pool .now) (λ i.
+    c .before .before .before .before .before .before .before .before .before .before .before .before .before .shared-slice-known .given
+    i .fits)) (v .ensures)
     (rowsOf (f .last .1 .0)) (c .refuse2 .result) (c .before .before .before .before .before .before .before .if1 .taken) (length (v .last .1 .0)) width
     (sym (c .before .enum-told .given .1) ∙ f .ensures .is) (c .refuse2 .ensures)
 

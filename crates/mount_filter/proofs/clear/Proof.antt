@@ -37,7 +37,8 @@ returns c = let a = c .before .before .before .before .before .args in
     let size : length (take (from + from - from) (drop from t)) ≡ from + from - from =
     length-take-le (from + from - from) (drop from t) (rw (length-drop from t) (omega arith)) in
     let width : from + from - from ≡ from = omega arith in
-    lay-lent from (from + from) t (c .before .before .fill .last .0) (omega arith) (ap length (c .before .before .fill .ensures) ∙ length-replicate _ 0 ∙ size) ∙
+    lay-lent from (from + from) t (c .before .before .fill .last .0) (omega arith)
+    (ap length (c .before .before .fill .ensures) ∙ length-replicate _ 0 ∙ size) ∙
     ap (lay t from) (c .before .before .fill .ensures ∙ ap (λ (k : ℕ). replicate k 0) (size ∙ width))
 
 pub clear-spec : {M : Type 1} → statement M

@@ -17,12 +17,22 @@ fingerprint-requires : tie.Need-fingerprint-requires
 fingerprint-requires c κs = search needs
 
 returns-3 : tie.Need-returns-3
-returns-3 c = let a = c .before .before .before .before .args in
-    rules-same (a .mark) (a .v) (c .before .before .before .if1 .left) (c .before .before .if2 .left) (c .if3 .taken ∙ c .before .fingerprint .ensures .0)
+returns-3 c =
+    let c1 = c .before in
+    let c2 = c1 .before in
+    let c3 = c2 .before in
+    let c4 = c3 .before in
+    let a = c4 .args in
+    rules-same (a .mark) (a .v) (c3 .if1 .left) (c2 .if2 .left) (c .if3 .taken ∙ c1 .fingerprint .ensures .0)
 
 returns-4 : tie.Need-returns-4
-returns-4 c = let a = c .before .before .before .before .args in
-    rules-other (a .mark) (a .v) (c .before .before .before .if1 .left) (c .before .before .if2 .left) (λ e. c .if3 .left (e ∙ sym (c .before .fingerprint .ensures .0)))
+returns-4 c =
+    let c1 = c .before in
+    let c2 = c1 .before in
+    let c3 = c2 .before in
+    let c4 = c3 .before in
+    let a = c4 .args in
+    rules-other (a .mark) (a .v) (c3 .if1 .left) (c2 .if2 .left) (λ e. c .if3 .left (e ∙ sym (c1 .fingerprint .ensures .0)))
 
 pub excludes-spec : {M : Type 1} → statement M
 excludes-spec = tie.close (tie.spec returns returns-2 fingerprint-requires returns-3 returns-4)

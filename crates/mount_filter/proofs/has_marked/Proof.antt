@@ -25,10 +25,17 @@ excludes-requires : tie.Need-excludes-requires
 excludes-requires c κs = search needs
 
 returns : tie.Need-returns
-returns c = let a = c .before .before .before .before .before .args in
+returns c =
+    let c1 = c .before in
+    let c2 = c1 .before in
+    let c3 = c2 .before in
+    let c5 = c3 .before .before in
+    let a = c5 .args in
     let t = a .table .now in
-    let mark = c .before .before .read8 .ensures .0 ∙ ap (λ (k : ℕ). getD t (512 * a .blocks + k) 0) (c .before .before .before .mark-of .ensures .0) in
-    sym (has-none (a .v) (row (a .n) 0 t) (c .before .before .before .before .before .pre .1 .none (a .v) (ap (λ (m : ℕ). rulesOut m (a .v)) (sym mark) ∙ sym (c .before .excludes .ensures) ∙ c .if1 .taken)))
+    let mark = c2 .read8 .ensures .0 ∙ ap (λ (k : ℕ). getD t (512 * a .blocks + k) 0) (c3 .mark-of .ensures .0) in
+    sym (has-none (a .v) (row (a .n) 0 t)
+    (c5 .pre .1 .none (a .v) (ap (λ (m : ℕ). rulesOut m (a .v)) (sym mark) ∙ sym (c1 .excludes .ensures) ∙
+    c .if1 .taken)))
 
 has-requires : tie.Need-has-requires
 has-requires c κs = search needs

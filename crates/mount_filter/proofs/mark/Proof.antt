@@ -18,13 +18,18 @@ same-length : tie.Need-same-length
 same-length c = search needs
 
 returns : tie.Need-returns
-returns c = let a = c .before .before .before .before .before .before .before .before .before .args in
-    let r = c .before .before .set-marks .ensures in
+returns c =
+    let c2 = c .before .before in
+    let c6 = c2 .before .before .before .before in
+    let c9 = c6 .before .before .before in
+    let a = c9 .args in
+    let r = c2 .set-marks .ensures in
     record {
       kept =
           r .kept ∙
-          rw (c .before .before .before .before .before .before .clear .ensures)
-          (row-lay-before (a .table .now) (512 * a .blocks) (replicate (512 * a .blocks) 0) (omega (arith, c .before .before .before .before .before .before .before .before .before .pre .size)) (a .n) 0 (omega (arith, c .before .before .before .before .before .before .before .before .before .pre .few)));
+          rw (c6 .clear .ensures)
+          (row-lay-before (a .table .now) (512 * a .blocks) (replicate (512 * a .blocks) 0)
+          (omega (arith, c9 .pre .size)) (a .n) 0 (omega (arith, c9 .pre .few)));
       marked = r .marked;
     }
 

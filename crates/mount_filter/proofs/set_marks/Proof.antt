@@ -24,7 +24,9 @@ mul-read32 : tie.Need-mul-read32 Inv-loop μ-loop
 mul-read32 c = omega (arith, c .before .before .before .before .pre .few)
 
 read32-requires : tie.Need-read32-requires Inv-loop μ-loop
-read32-requires c κs = omega (arith, c .before .before .before .before .pre .few, c .before .before .before .before .pre .size)
+read32-requires c κs =
+    let c4 = c .before .before .before .before in
+    omega (arith, c4 .pre .few, c4 .pre .size)
 
 mul-at : tie.Need-mul-at Inv-loop μ-loop
 mul-at c = omega (arith, c .before .before .before .before .before .pre .size)
@@ -45,7 +47,11 @@ with-fingerprint-requires : tie.Need-with-fingerprint-requires Inv-loop μ-loop
 with-fingerprint-requires c κs = search needs
 
 put-requires : tie.Need-put-requires Inv-loop μ-loop
-put-requires c κs = (omega (arith, c .before .before .before .before .before .before .before .before .before .before .before .pre .size, c .before .before .before .before .before .mark-of .ensures .1), c .before .with-fingerprint .ensures .1)
+put-requires c κs =
+    let c1 = c .before in
+    let c5 = c1 .before .before .before .before in
+    let c11 = c5 .before .before .before .before .before .before in
+    (omega (arith, c11 .pre .size, c5 .mark-of .ensures .1), c1 .with-fingerprint .ensures .1)
 
 add-i : tie.Need-add-i Inv-loop μ-loop
 add-i c = search needs
@@ -59,12 +65,19 @@ loop-again c = let a = c .before .before .before .before .before .before .before
     let v = c .before .before .before .before .before .before .before .before .before .read32 in
     let m = c .before .before .before .before .before .before .before .before .mark-of in
     let r = c .before .before .before .before .with-fingerprint in
-    let room = room-kept (a .table .now) (l .table) (a .n) (a .blocks) (c .before .before .before .before .before .before .before .before .before .before .before .before .before .before .pre) (l .inv .0 .1) in
-    let byte = r .ensures .0 ∙ ap₂ printed (c .before .before .before .before .before .before .read8 .ensures .0) (c .before .before .before .before .before .fingerprint .ensures .0) in (
+    let room = room-kept (a .table .now) (l .table) (a .n) (a .blocks)
+    (c .before .before .before .before .before .before .before .before .before .before .before .before .before .before .pre)
+    (l .inv .0 .1) in
+    let byte = r .ensures .0 ∙ ap₂ printed (c .before .before .before .before .before .before .read8 .ensures .0)
+    (c .before .before .before .before .before .fingerprint .ensures .0) in (
       omega arith,
       rw (c .before .before .put .ensures) (
-        row-marked (l .table) (a .n) (a .blocks) (l .i) (v .result) (m .result) (r .result) room (c .before .before .before .before .before .before .before .before .before .before .before .loop-test .taken) (v .ensures .is) (m .ensures .0) (m .ensures .1) byte (a .n) (omega arith) ∙ l .inv .1 .0,
-        tells-marked (l .table) (a .n) (a .blocks) (l .i) (v .result) (m .result) (r .result) room (c .before .before .before .before .before .before .before .before .before .before .before .loop-test .taken) (v .ensures .is) (m .ensures .0) (m .ensures .1) byte (l .inv .1 .1),
+        row-marked (l .table) (a .n) (a .blocks) (l .i) (v .result) (m .result) (r .result) room
+        (c .before .before .before .before .before .before .before .before .before .before .before .loop-test .taken)
+        (v .ensures .is) (m .ensures .0) (m .ensures .1) byte (a .n) (omega arith) ∙ l .inv .1 .0,
+        tells-marked (l .table) (a .n) (a .blocks) (l .i) (v .result) (m .result) (r .result) room
+        (c .before .before .before .before .before .before .before .before .before .before .before .loop-test .taken)
+        (v .ensures .is) (m .ensures .0) (m .ensures .1) byte (l .inv .1 .1),
       ),
     )
 

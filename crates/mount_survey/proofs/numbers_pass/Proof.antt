@@ -21,8 +21,13 @@ same-length : tie.Need-same-length
 same-length c = search needs
 
 returns : tie.Need-returns
-returns c = let a = c .before .before .before .before .before .before .before .before .before .args in
-    numbers-twice (a .table .now) (c .before .before .before .before .before .sort .last .0) (a .n) (a .blocks) (c .before .before .before .before .before .sort .ensures) (pagesOf (a .pool .now)) (sym (c .before .is-strict .ensures) ∙ c .if1 .left)
+returns c =
+    let c1 = c .before in
+    let c5 = c1 .before .before .before .before in
+    let c9 = c5 .before .before .before .before in
+    let a = c9 .args in
+    numbers-twice (a .table .now) (c5 .sort .last .0) (a .n) (a .blocks) (c5 .sort .ensures) (pagesOf (a .pool .now))
+    (sym (c1 .is-strict .ensures) ∙ c .if1 .left)
 
 mark-requires : tie.Need-mark-requires
 mark-requires c κs = search needs
@@ -31,10 +36,14 @@ mul-versions-are-new : tie.Need-mul-versions-are-new
 mul-versions-are-new c = search needs
 
 versions-are-new-requires : tie.Need-versions-are-new-requires
-versions-are-new-requires c κs = let a = c .before .before .before .before .before .before .before .before .before .before .before .before .before .before .args in
-    let m = c .before .before .before .mark in (
-      omega (arith, c .before .before .before .before .before .before .before .before .before .before .before .before .before .before .pre .whole),
-      ascending-marked (a .table .now) (c .before .before .before .before .before .before .before .before .before .before .sort .last .0) (a .n) (a .blocks) (c .before .before .before .before .before .before .before .before .before .before .sort .ensures) (m .last .0) (m .ensures),
+versions-are-new-requires c κs =
+    let c3 = c .before .before .before in
+    let c10 = c3 .before .before .before .before .before .before .before in
+    let c14 = c10 .before .before .before .before in
+    let a = c14 .args in
+    let m = c3 .mark in (
+      omega (arith, c14 .pre .whole),
+      ascending-marked (a .table .now) (c10 .sort .last .0) (a .n) (a .blocks) (c10 .sort .ensures) (m .last .0) (m .ensures),
       m .ensures .marked,
     )
 
@@ -42,11 +51,17 @@ same-length-2 : tie.Need-same-length-2
 same-length-2 c = search needs
 
 returns-2 : tie.Need-returns-2
-returns-2 c = let a = c .before .before .before .before .before .before .before .before .before .before .before .before .before .before .before .args in
-    let m = c .before .before .before .before .mark in
+returns-2 c =
+    let c4 = c .before .before .before .before in
+    let c6 = c4 .before .before in
+    let c7 = c6 .before in
+    let c11 = c7 .before .before .before .before in
+    let c15 = c11 .before .before .before .before in
+    let a = c15 .args in
+    let m = c4 .mark in
     c .versions-are-new .ensures ∙
-    numbers-apart (a .table .now) (c .before .before .before .before .before .before .before .before .before .before .before .sort .last .0) (a .n) (a .blocks) (c .before .before .before .before .before .before .before .before .before .before .before .sort .ensures) (m .last .0) (m .ensures) (pagesOf (a .pool .now))
-    (sym (c .before .before .before .before .before .before .before .is-strict .ensures) ∙ c .before .before .before .before .before .before .if1 .taken)
+    numbers-apart (a .table .now) (c11 .sort .last .0) (a .n) (a .blocks) (c11 .sort .ensures) (m .last .0) (m .ensures) (pagesOf (a .pool .now))
+    (sym (c7 .is-strict .ensures) ∙ c6 .if1 .taken)
 
 pub numbers-pass-spec : {M : Type 1} → statement M
 numbers-pass-spec =

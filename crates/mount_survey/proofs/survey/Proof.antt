@@ -23,11 +23,16 @@ same-length : tie.Need-same-length
 same-length c = search needs
 
 returns : tie.Need-returns
-returns c = let a = c .before .before .before .before .before .before .before .before .args in
+returns c =
+    let c1 = c .before in
+    let c4 = c1 .before .before .before in
+    let c7 = c4 .before .before .before in
+    let c8 = c7 .before in
+    let a = c8 .args in
     let pool = a .pool .now in
-    let k = c .before .before .before .before .collect in
+    let k = c4 .collect in
     surveyed-by pool (a .blocks) (c .failed .result) failed (c .failed .ensures)
-    (surveyed-bad pool (bytes-getD pool (λ i. c .before .before .before .before .before .before .before .shared-slice-known .given i .fits)) (a .blocks) (c .before .before .before .before .before .before .before .before .pre .0) (k .ensures .bad (c .before .if1 .left)))
+    (surveyed-bad pool (bytes-getD pool (λ i. c7 .shared-slice-known .given i .fits)) (a .blocks) (c8 .pre .0) (k .ensures .bad (c1 .if1 .left)))
 
 greatest-requires : tie.Need-greatest-requires
 greatest-requires c κs = search needs
@@ -42,12 +47,19 @@ same-length-2 : tie.Need-same-length-2
 same-length-2 c = search needs
 
 returns-2 : tie.Need-returns-2
-returns-2 c = let a = c .before .before .before .before .before .before .before .before .before .before .before .before .before .before .before .args in
+returns-2 c =
+    let c1 = c .before in
+    let c4 = c1 .before .before .before in
+    let c8 = c4 .before .before .before .before in
+    let c11 = c8 .before .before .before in
+    let c14 = c11 .before .before .before in
+    let c15 = c14 .before in
+    let a = c15 .args in
     let pool = a .pool .now in
-    let k = c .before .before .before .before .before .before .before .before .before .before .before .collect in
+    let k = c11 .collect in
     surveyed-by pool (a .blocks) (c .failed2 .result) failed (c .failed2 .ensures)
-    (numbers-fail pool (bytes-getD pool (λ i. c .before .before .before .before .before .before .before .before .before .before .before .before .before .before .shared-slice-known .given i .fits)) (a .blocks) (c .before .before .before .before .before .before .before .before .before .before .before .before .before .before .before .pre .0) (row (k .result .count) 0 (k .last .1 .0))
-    (k .ensures .good (c .before .before .before .before .before .before .before .before .if1 .taken)) (sym (c .before .before .before .before .numbers-pass .ensures) ∙ c .before .if2 .left))
+    (numbers-fail pool (bytes-getD pool (λ i. c14 .shared-slice-known .given i .fits)) (a .blocks) (c15 .pre .0) (row (k .result .count) 0 (k .last .1 .0))
+    (k .ensures .good (c8 .if1 .taken)) (sym (c4 .numbers-pass .ensures) ∙ c1 .if2 .left))
 
 all-pass-requires : tie.Need-all-pass-requires
 all-pass-requires c κs = search needs
@@ -59,13 +71,23 @@ same-length-3 : tie.Need-same-length-3
 same-length-3 c = search needs
 
 returns-3 : tie.Need-returns-3
-returns-3 c = let a = c .before .before .before .before .before .before .before .before .before .before .before .before .before .before .before .before .before .args in
+returns-3 c =
+    let c1 = c .before in
+    let c2 = c1 .before in
+    let c3 = c2 .before in
+    let c6 = c3 .before .before .before in
+    let c8 = c6 .before .before in
+    let c10 = c8 .before .before in
+    let c13 = c10 .before .before .before in
+    let c16 = c13 .before .before .before in
+    let c17 = c16 .before in
+    let a = c17 .args in
     let pool = a .pool .now in
-    let k = c .before .before .before .before .before .before .before .before .before .before .before .before .before .collect in
-    let newest = ap (blocksPass (a .blocks) (pagesOf pool)) (sym (c .before .before .before .before .before .before .before .before .greatest .ensures)) in
+    let k = c13 .collect in
+    let newest = ap (blocksPass (a .blocks) (pagesOf pool)) (sym (c8 .greatest .ensures)) in
     surveyed-by pool (a .blocks) (c .failed3 .result) failed (c .failed3 .ensures)
-    (blocks-fail pool (bytes-getD pool (λ i. c .before .before .before .before .before .before .before .before .before .before .before .before .before .before .before .before .shared-slice-known .given i .fits)) (a .blocks) (c .before .before .before .before .before .before .before .before .before .before .before .before .before .before .before .before .before .pre .0) (row (k .result .count) 0 (k .last .1 .0))
-    (k .ensures .good (c .before .before .before .before .before .before .before .before .before .before .if1 .taken)) (sym (c .before .before .before .before .before .before .numbers-pass .ensures) ∙ c .before .before .before .if2 .taken) (newest ∙ sym (c .before .before .all-pass .ensures) ∙ c .before .if3 .left))
+    (blocks-fail pool (bytes-getD pool (λ i. c16 .shared-slice-known .given i .fits)) (a .blocks) (c17 .pre .0) (row (k .result .count) 0 (k .last .1 .0))
+    (k .ensures .good (c10 .if1 .taken)) (sym (c6 .numbers-pass .ensures) ∙ c3 .if2 .taken) (newest ∙ sym (c2 .all-pass .ensures) ∙ c1 .if3 .left))
 
 found-requires : tie.Need-found-requires
 found-requires c κs = search needs
@@ -74,14 +96,24 @@ same-length-4 : tie.Need-same-length-4
 same-length-4 c = search needs
 
 returns-4 : tie.Need-returns-4
-returns-4 c = let a = c .before .before .before .before .before .before .before .before .before .before .before .before .before .before .before .before .before .args in
+returns-4 c =
+    let c1 = c .before in
+    let c2 = c1 .before in
+    let c3 = c2 .before in
+    let c6 = c3 .before .before .before in
+    let c8 = c6 .before .before in
+    let c10 = c8 .before .before in
+    let c13 = c10 .before .before .before in
+    let c16 = c13 .before .before .before in
+    let c17 = c16 .before in
+    let a = c17 .args in
     let pool = a .pool .now in
-    let k = c .before .before .before .before .before .before .before .before .before .before .before .before .before .collect in
-    let top = c .before .before .before .before .before .before .before .before .greatest .ensures in
+    let k = c13 .collect in
+    let top = c8 .greatest .ensures in
     let newest = ap (blocksPass (a .blocks) (pagesOf pool)) (sym top) in
     surveyed-by pool (a .blocks) (c .found .result) _ (c .found .ensures ∙ ap (found (a .blocks) (pagesOf pool)) top)
-    (all-found pool (bytes-getD pool (λ i. c .before .before .before .before .before .before .before .before .before .before .before .before .before .before .before .before .shared-slice-known .given i .fits)) (a .blocks) (c .before .before .before .before .before .before .before .before .before .before .before .before .before .before .before .before .before .pre .0) (row (k .result .count) 0 (k .last .1 .0))
-    (k .ensures .good (c .before .before .before .before .before .before .before .before .before .before .if1 .taken)) (sym (c .before .before .before .before .before .before .numbers-pass .ensures) ∙ c .before .before .before .if2 .taken) (newest ∙ sym (c .before .before .all-pass .ensures) ∙ c .before .if3 .taken))
+    (all-found pool (bytes-getD pool (λ i. c16 .shared-slice-known .given i .fits)) (a .blocks) (c17 .pre .0) (row (k .result .count) 0 (k .last .1 .0))
+    (k .ensures .good (c10 .if1 .taken)) (sym (c6 .numbers-pass .ensures) ∙ c3 .if2 .taken) (newest ∙ sym (c2 .all-pass .ensures) ∙ c1 .if3 .taken))
 
 pub survey-spec : {M : Type 1} → statement M
 survey-spec =

@@ -22,38 +22,52 @@ first-leaf-requires c κs =
 
 returns-2 : tie.Need-returns-2
 returns-2 c =
-    let entry = c .before .before .before .before .before .before .before in
+    let c2 = c .before .before in
+    let c3 = c2 .before in
+    let c7 = c3 .before .before .before .before in
+    let entry = c7 in
     let a = entry .args in
     sym
-    (too-deep (a .limit) (a .state .nodes) (tableOf (pagesOf (a .pool .now)) (rowsOf (a .table .now)) (a .state)) (c .before .before .first-leaf .result)
-    (c .before .before .before .if1 .left) (entry .pre .1) (c .before .before .first-leaf .ensures) (c .if2 .taken))
+    (too-deep (a .limit) (a .state .nodes) (tableOf (pagesOf (a .pool .now)) (rowsOf (a .table .now)) (a .state)) (c2 .first-leaf .result)
+    (c3 .if1 .left) (entry .pre .1) (c2 .first-leaf .ensures) (c .if2 .taken))
 
 begin-requires : tie.Need-begin-requires
 begin-requires c κs = search needs
 
 visit-requires : tie.Need-visit-requires
 visit-requires c κs =
-    let entry = c .before .before .before .before .before .before .before .before in
-    let keeps = c .before .before .before .before .if1 .left in (
+    let c3 = c .before .before .before in
+    let c4 = c3 .before in
+    let c8 = c4 .before .before .before .before in
+    let entry = c8 in
+    let keeps = c4 .if1 .left in (
       record { entries = entry .pre .0; nodes = omega (arith, keeps, entry .pre .1); rows = omega (arith, keeps, entry .pre .2) },
-      rw (c .begin .ensures) (begin-room (c .before .before .before .first-leaf .result .leaf)),
+      rw (c .begin .ensures) (begin-room (c3 .first-leaf .result .leaf)),
     )
 
 complete-requires : tie.Need-complete-requires
 complete-requires c κs =
-    let entry = c .before .before .before .before .before .before .before .before .before in
-    (omega (arith, c .before .before .before .before .before .if1 .left, entry .pre .1), c .visit .ensures .kept)
+    let c5 = c .before .before .before .before .before in
+    let c9 = c5 .before .before .before .before in
+    let entry = c9 in
+    (omega (arith, c5 .if1 .left, entry .pre .1), c .visit .ensures .kept)
 
 returns-3 : tie.Need-returns-3
 returns-3 c =
-    let entry = c .before .before .before .before .before .before .before .before .before .before in
+    let c1 = c .before in
+    let c2 = c1 .before in
+    let c3 = c2 .before in
+    let c5 = c3 .before .before in
+    let c6 = c5 .before in
+    let c10 = c6 .before .before .before .before in
+    let entry = c10 in
     let a = entry .args in
-    let keeps = c .before .before .before .before .before .before .if1 .left in
+    let keeps = c6 .if1 .left in
     c .complete .ensures ∙
     by-walk (a .limit) (a .state .nodes) (tableOf (pagesOf (a .pool .now)) (rowsOf (a .table .now)) (a .state))
-    (c .before .before .before .before .before .first-leaf .result) keeps (entry .pre .1) (c .before .before .before .before .before .first-leaf .ensures)
-    (c .before .before .begin .result) (c .before .visit .result) (c .before .before .before .if2 .left) (omega (arith, keeps, entry .pre .1))
-    (c .before .before .begin .ensures) (c .before .visit .ensures)
+    (c5 .first-leaf .result) keeps (entry .pre .1) (c5 .first-leaf .ensures)
+    (c2 .begin .result) (c1 .visit .result) (c3 .if2 .left) (omega (arith, keeps, entry .pre .1))
+    (c2 .begin .ensures) (c1 .visit .ensures)
 
 pub is-sound-spec : {M : Type 1} → statement M
 is-sound-spec =

@@ -30,22 +30,30 @@ relinked-requires c κs = search needs
 
 returns-2 : tie.Need-returns-2
 returns-2 c =
-    let a = c .before .before .before .before .before .before .args in
-    let state : a .d .state ≡ Made = c .before .before .before .enum-told2 .given .1 in
+    let c1 = c .before in
+    let c2 = c1 .before in
+    let c3 = c2 .before in
+    let c6 = c3 .before .before .before in
+    let a = c6 .args in
+    let state : a .d .state ≡ Made = c3 .enum-told2 .given .1 in
     rw state
     (redone-again (a .d .node) (c .relinked .result) (a .shape) (a .to) (c .relinked .ensures)
-    (sym (c .before .before .same-shape .ensures) ∙ c .before .if1 .taken))
+    (sym (c2 .same-shape .ensures) ∙ c1 .if1 .taken))
 
 broken-requires : tie.Need-broken-requires
 broken-requires c κs = search needs
 
 returns-3 : tie.Need-returns-3
 returns-3 c =
-    let entry = c .before .before .before .before .before .before in
+    let c1 = c .before in
+    let c2 = c1 .before in
+    let c3 = c2 .before in
+    let c6 = c3 .before .before .before in
+    let entry = c6 in
     let a = entry .args in
-    let state : a .d .state ≡ Made = c .before .before .before .enum-told2 .given .1 in
+    let state : a .d .state ≡ Made = c3 .enum-told2 .given .1 in
     rw (c .broken .ensures, state)
-    (redone-other (a .d .node) (a .d .node) (a .shape) (a .to) (entry .pre) (sym (c .before .before .same-shape .ensures) ∙ c .before .if1 .left))
+    (redone-other (a .d .node) (a .d .node) (a .shape) (a .to) (entry .pre) (sym (c2 .same-shape .ensures) ∙ c1 .if1 .left))
 
 enum-told-3 : tie.Need-enum-told-3
 enum-told-3 c = search needs

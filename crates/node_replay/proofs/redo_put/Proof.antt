@@ -15,8 +15,11 @@ enum-known-found c = search needs
 
 repointed-requires : tie.Need-repointed-requires
 repointed-requires c κs =
-    let entry = c .before .before .before .before .before in
-    let e = sym (c .before .before .before .find .ensures) ∙ c .before .found .given .1 in
+    let c1 = c .before in
+    let c3 = c1 .before .before in
+    let c5 = c3 .before .before in
+    let entry = c5 in
+    let e = sym (c3 .find .ensures) ∙ c1 .found .given .1 in
     (entry .pre .sized, at-inside (entry .args .d .node) (entry .pre) (entry .args .key) _ e)
 
 returns : tie.Need-returns
@@ -34,8 +37,11 @@ enum-known-found-2 c = search needs
 
 added-requires : tie.Need-added-requires
 added-requires c κs =
-    let entry = c .before .before .before .before .before .before .before in
-    let e = sym (c .before .before .before .before .before .find .ensures) ∙ c .before .before .before .found2 .given .1 in
+    let c3 = c .before .before .before in
+    let c5 = c3 .before .before in
+    let c7 = c5 .before .before in
+    let entry = c7 in
+    let e = sym (c5 .find .ensures) ∙ c3 .found2 .given .1 in
     (entry .pre .sized, above-inside (entry .args .d .node) (entry .pre) (entry .args .key) _ e, c .if1 .taken)
 
 returns-2 : tie.Need-returns-2
@@ -53,13 +59,17 @@ broken-requires c κs = search needs
 
 returns-3 : tie.Need-returns-3
 returns-3 c =
-    let entry = c .before .before .before .before .before .before .before .before in
+    let c1 = c .before in
+    let c4 = c1 .before .before .before in
+    let c6 = c4 .before .before in
+    let c8 = c6 .before .before in
+    let entry = c8 in
     let a = entry .args in
     let v = a .d .node in
-    let e = sym (c .before .before .before .before .before .before .find .ensures) ∙ c .before .before .before .before .found2 .given .1 in
+    let e = sym (c6 .find .ensures) ∙ c4 .found2 .given .1 in
     rw (c .broken .ensures)
     (redone-full v v (a .key) (a .pointer) (a .d .state) (entry .pre)
-    (omega (arith, length-put-above v (entry .pre) (a .key) _ (a .pointer) e, c .before .if1 .left)))
+    (omega (arith, length-put-above v (entry .pre) (a .key) _ (a .pointer) e, c1 .if1 .left)))
 
 pub redo-put-spec : {M : Type 1} → statement M
 redo-put-spec =

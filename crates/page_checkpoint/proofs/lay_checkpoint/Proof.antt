@@ -20,42 +20,72 @@ lay-front-requires : tie.Need-lay-front-requires
 lay-front-requires c κs = search needs
 
 lay-run-requires : tie.Need-lay-run-requires
-lay-run-requires c κs = let a = c .before .before .before .before .before .before .before .before .before .before .before .args in
-    omega (arith, scores-room (a .first) (a .tariff) (a .n) (c .before .before .before .before .before .before .before .before .before .before .before .pre .1 .0), c .before .before .before .lay-front .ensures .behind, c .before .before .before .lay-front .kept .0, c .before .before .before .before .before .before .before .lay-sequence .kept .0, c .before .before .before .before .before .before .before .before .before .before .before .pre)
+lay-run-requires c κs =
+    let c3 = c .before .before .before in
+    let c7 = c3 .before .before .before .before in
+    let c11 = c7 .before .before .before .before in
+    let a = c11 .args in
+    omega (arith, scores-room (a .first) (a .tariff) (a .n) (c11 .pre .1 .0), c3 .lay-front .ensures .behind,
+    c3 .lay-front .kept .0, c7 .lay-sequence .kept .0, c11 .pre)
 
 mul-lay-end : tie.Need-mul-lay-end
 mul-lay-end c = search needs
 
 add-lay-end : tie.Need-add-lay-end
-add-lay-end c = let a = c .before .before .before .before .before .before .before .before .before .before .before .before .before .before .before .args in
-    omega (arith, scores-room (a .first) (a .tariff) (a .n) (c .before .before .before .before .before .before .before .before .before .before .before .before .before .before .before .pre .1 .0), c .before .before .before .before .before .before .before .lay-front .ensures .behind)
+add-lay-end c =
+    let c7 = c .before .before .before .before .before .before .before in
+    let c15 = c7 .before .before .before .before .before .before .before .before in
+    let a = c15 .args in
+    omega (arith, scores-room (a .first) (a .tariff) (a .n) (c15 .pre .1 .0), c7 .lay-front .ensures .behind)
 
 lay-end-requires : tie.Need-lay-end-requires
-lay-end-requires c κs = let a = c .before .before .before .before .before .before .before .before .before .before .before .before .before .before .before .args in
-    omega (arith, scores-room (a .first) (a .tariff) (a .n) (c .before .before .before .before .before .before .before .before .before .before .before .before .before .before .before .pre .1 .0), c .before .before .before .before .before .before .before .lay-front .ensures .behind, c .before .before .before .lay-run .kept .0, c .before .before .before .before .before .before .before .lay-front .kept .0, c .before .before .before .before .before .before .before .before .before .before .before .lay-sequence .kept .0, c .before .before .before .before .before .before .before .before .before .before .before .before .before .before .before .pre)
+lay-end-requires c κs =
+    let c3 = c .before .before .before in
+    let c7 = c3 .before .before .before .before in
+    let c11 = c7 .before .before .before .before in
+    let c15 = c11 .before .before .before .before in
+    let a = c15 .args in
+    omega (arith, scores-room (a .first) (a .tariff) (a .n) (c15 .pre .1 .0), c7 .lay-front .ensures .behind,
+    c3 .lay-run .kept .0, c7 .lay-front .kept .0, c11 .lay-sequence .kept .0, c15 .pre)
 
 lay-sums-requires : tie.Need-lay-sums-requires
-lay-sums-requires c κs = let a = c .before .before .before .before .before .before .before .before .before .before .before .before .before .before .before .before .before .before .before .args in
-    omega (arith, scores-room (a .first) (a .tariff) (a .n) (c .before .before .before .before .before .before .before .before .before .before .before .before .before .before .before .before .before .before .before .pre .1 .0), count-room (a .last) (a .count), c .before .before .before .lay-end .ensures .behind, c .before .before .before .before .before .before .before .before .before .before .before .lay-front .ensures .behind, c .before .before .before .lay-end .kept .0, c .before .before .before .before .before .before .before .lay-run .kept .0, c .before .before .before .before .before .before .before .before .before .before .before .lay-front .kept .0, c .before .before .before .before .before .before .before .before .before .before .before .before .before .before .before .lay-sequence .kept .0, c .before .before .before .before .before .before .before .before .before .before .before .before .before .before .before .before .before .before .before .pre)
+lay-sums-requires c κs =
+    let c3 = c .before .before .before in
+    let c7 = c3 .before .before .before .before in
+    let c11 = c7 .before .before .before .before in
+    let c15 = c11 .before .before .before .before in
+    let c19 = c15 .before .before .before .before in
+    let a = c19 .args in
+    omega (arith, scores-room (a .first) (a .tariff) (a .n) (c19 .pre .1 .0), count-room (a .last) (a .count),
+    c3 .lay-end .ensures .behind, c11 .lay-front .ensures .behind, c3 .lay-end .kept .0, c7 .lay-run .kept .0,
+    c11 .lay-front .kept .0, c15 .lay-sequence .kept .0, c19 .pre)
 
 same-length : tie.Need-same-length
 same-length c = search needs
 
 returns : tie.Need-returns
-returns c = let a = c .before .before .before .before .before .before .before .before .before .before .before .before .before .before .before .before .before .before .before .before .before .before .args in
-    let b = bytes-getD (a .records .now) (λ i. c .before .before .before .before .before .before .before .before .before .before .before .before .before .before .before .before .before .before .before .before .shared-slice-known .given i .fits) in
-    let at = c .before .before .before .before .before .before .before .before .before .before .before .before .before .before .lay-front .result in
-    let r = scores-room (a .first) (a .tariff) (a .n) (c .before .before .before .before .before .before .before .before .before .before .before .before .before .before .before .before .before .before .before .before .before .before .pre .1 .0) in
+returns c =
+    let c2 = c .before .before in
+    let c6 = c2 .before .before .before .before in
+    let c10 = c6 .before .before .before .before in
+    let c14 = c10 .before .before .before .before in
+    let c18 = c14 .before .before .before .before in
+    let c20 = c18 .before .before in
+    let c22 = c20 .before .before in
+    let a = c22 .args in
+    let b = bytes-getD (a .records .now) (λ i. c20 .shared-slice-known .given i .fits) in
+    let at = c14 .lay-front .result in
+    let r = scores-room (a .first) (a .tariff) (a .n) (c22 .pre .1 .0) in
     let page = recordsPage (a .sequence) (a .first) (a .tariff) (a .n) (a .records .now) (a .last) (a .count) in
-    let e : c .before .before .before .before .before .before .lay-end .last .0 ≡ lay (a .p .now) 0 (bodyOf page) =
-    c .before .before .before .before .before .before .lay-end .ensures .is ∙
-    rw (c .before .before .before .before .before .before .before .before .before .before .lay-run .ensures, c .before .before .before .before .before .before .before .before .before .before .before .before .before .before .lay-front .ensures .is, c .before .before .before .before .before .before .before .before .before .before .before .before .before .before .before .before .before .before .lay-sequence .ensures)
+    let e : c6 .lay-end .last .0 ≡ lay (a .p .now) 0 (bodyOf page) =
+    c6 .lay-end .ensures .is ∙
+    rw (c10 .lay-run .ensures, c14 .lay-front .ensures .is, c18 .lay-sequence .ensures)
     (checkpoint-laid (a .p .now) (a .sequence) (a .first) (a .tariff) (a .n) (a .records .now) (a .last) (a .count) at (at + 9 * a .n) b
-    (c .before .before .before .before .before .before .before .before .before .before .before .before .before .before .before .before .before .before .before .before .before .before .pre .1 .1 .0) (omega (arith, c .before .before .before .before .before .before .before .before .before .before .before .before .before .before .before .before .before .before .before .before .before .before .pre .0)) (c .before .before .before .before .before .before .before .before .before .before .before .before .before .before .lay-front .ensures .behind) refl (omega (arith, c .before .before .before .before .before .before .before .before .before .before .before .before .before .before .before .before .before .before .before .before .before .before .pre .0, c .before .before .before .before .before .before .before .before .before .before .before .before .before .before .lay-front .ensures .behind))) in
-    c .before .before .lay-sums .ensures ∙
-    rw e (summed-laid (a .p .now) (bodyOf page) (c .before .before .before .before .before .before .lay-end .result)
-    (length-checkpointBody (a .sequence) (a .first) (a .tariff) (a .n) (a .records .now) (a .last) (a .count) at (c .before .before .before .before .before .before .lay-end .result) b
-    (c .before .before .before .before .before .before .before .before .before .before .before .before .before .before .before .before .before .before .before .before .before .before .pre .1 .1 .0) (c .before .before .before .before .before .before .before .before .before .before .before .before .before .before .lay-front .ensures .behind) (c .before .before .before .before .before .before .lay-end .ensures .behind)))
+    (c22 .pre .1 .1 .0) (omega (arith, c22 .pre .0)) (c14 .lay-front .ensures .behind) refl (omega (arith, c22 .pre .0, c14 .lay-front .ensures .behind))) in
+    c2 .lay-sums .ensures ∙
+    rw e (summed-laid (a .p .now) (bodyOf page) (c6 .lay-end .result)
+    (length-checkpointBody (a .sequence) (a .first) (a .tariff) (a .n) (a .records .now) (a .last) (a .count) at (c6 .lay-end .result) b
+    (c22 .pre .1 .1 .0) (c14 .lay-front .ensures .behind) (c6 .lay-end .ensures .behind)))
 
 pub lay-checkpoint-spec : {M : Type 1} → statement M
 lay-checkpoint-spec =

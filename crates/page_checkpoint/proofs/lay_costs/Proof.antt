@@ -24,9 +24,14 @@ same-length : tie.Need-same-length
 same-length c = search needs
 
 returns : tie.Need-returns
-returns c = let a = c .before .before .before .before .before .before .before .before .before .before .before .before .before .args in
-    c .before .before .write323 .ensures ∙
-    rw (c .before .before .before .before .before .before .write322 .ensures, c .before .before .before .before .before .before .before .before .before .before .write32 .ensures) (three-laid (a .p .now) (a .at) (a .read) (a .edit) (a .rewrite) (c .before .before .before .before .before .before .before .before .before .before .before .before .before .pre))
+returns c =
+    let c2 = c .before .before in
+    let c6 = c2 .before .before .before .before in
+    let c10 = c6 .before .before .before .before in
+    let c13 = c10 .before .before .before in
+    let a = c13 .args in
+    c2 .write323 .ensures ∙
+    rw (c6 .write322 .ensures, c10 .write32 .ensures) (three-laid (a .p .now) (a .at) (a .read) (a .edit) (a .rewrite) (c13 .pre))
 
 pub lay-costs-spec : {M : Type 1} → statement M
 lay-costs-spec =

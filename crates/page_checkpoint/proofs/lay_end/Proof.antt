@@ -31,12 +31,15 @@ returns c = let a = c .before .before .before .before .before .before .before .b
     (record {
       is =
           c .before .before .write16 .ensures ∙
-          rw (c .before .before .before .before .before .before .lay-head .ensures) (lay-field (a .p .now) (a .at) 0x15 2 (bigEndian 2 (a .count)) (omega arith) refl);
+          rw (c .before .before .before .before .before .before .lay-head .ensures)
+          (lay-field (a .p .now) (a .at) 0x15 2 (bigEndian 2 (a .count)) (omega arith) refl);
       behind = omega (arith, length-field 0x15 (bigEndian 2 (a .count)));
     })
 
 returns-2 : tie.Need-returns-2
-returns-2 c = rw (c .if1 .left) (record { is = sym (lay-nil (c .before .before .args .p .now) (c .before .before .args .at)); behind = sym (add-zero (c .before .before .args .at)) })
+returns-2 c = rw (c .if1 .left)
+    (record { is = sym (lay-nil (c .before .before .args .p .now) (c .before .before .args .at)); behind = sym
+    (add-zero (c .before .before .args .at)) })
 
 pub lay-end-spec : {M : Type 1} → statement M
 lay-end-spec =

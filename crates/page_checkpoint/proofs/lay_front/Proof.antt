@@ -17,10 +17,14 @@ same-length : tie.Need-same-length
 same-length c = search needs
 
 returns : tie.Need-returns
-returns c = let a = c .before .before .before .before .before .before .args in
-    rw (c .before .before .before .before .if1 .taken)
+returns c =
+    let c2 = c .before .before in
+    let c4 = c2 .before .before in
+    let c6 = c4 .before .before in
+    let a = c6 .args in
+    rw (c4 .if1 .taken)
     (record {
-      is = c .before .before .lay-tariff .ensures;
+      is = c2 .lay-tariff .ensures;
       behind = omega (arith, length-field 0x13 (tariffBytes (a .tariff)), length-tariffBytes (a .tariff));
     })
 

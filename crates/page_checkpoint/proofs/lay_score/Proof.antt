@@ -25,7 +25,8 @@ returns : tie.Need-returns
 unfolding scoreRecord
 returns c = let a = c .before .before .before .before .before .before .before .before .before .args in
     c .before .before .write32 .ensures ∙
-    rw (c .before .before .before .before .before .before .write16 .ensures) (lay-next (a .records .now) (a .at) (bigEndian 2 (a .id)) (bigEndian 4 (a .score)) (a .at + 2) (omega arith) refl)
+    rw (c .before .before .before .before .before .before .write16 .ensures)
+    (lay-next (a .records .now) (a .at) (bigEndian 2 (a .id)) (bigEndian 4 (a .score)) (a .at + 2) (omega arith) refl)
 
 pub lay-score-spec : {M : Type 1} → statement M
 lay-score-spec =

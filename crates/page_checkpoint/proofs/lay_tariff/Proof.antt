@@ -37,10 +37,17 @@ same-length : tie.Need-same-length
 same-length c = search needs
 
 returns : tie.Need-returns
-returns c = let a = c .before .before .before .before .before .before .before .before .before .before .before .before .before .before .before .before .before .before .before .before .before .before .before .args in
-    c .before .before .write322 .ensures ∙
-    rw (c .before .before .before .before .before .before .write32 .ensures, c .before .before .before .before .before .before .before .before .before .before .lay-costs2 .ensures, c .before .before .before .before .before .before .before .before .before .before .before .before .before .before .lay-costs .ensures, c .before .before .before .before .before .before .before .before .before .before .before .before .before .before .before .before .before .before .lay-head .ensures)
-    (tariff-laid (a .p .now) (a .at) (a .tariff) (c .before .before .before .before .before .before .before .before .before .before .before .before .before .before .before .before .before .before .before .before .before .before .before .pre))
+returns c =
+    let c2 = c .before .before in
+    let c6 = c2 .before .before .before .before in
+    let c10 = c6 .before .before .before .before in
+    let c14 = c10 .before .before .before .before in
+    let c18 = c14 .before .before .before .before in
+    let c23 = c18 .before .before .before .before .before in
+    let a = c23 .args in
+    c2 .write322 .ensures ∙
+    rw (c6 .write32 .ensures, c10 .lay-costs2 .ensures, c14 .lay-costs .ensures, c18 .lay-head .ensures)
+    (tariff-laid (a .p .now) (a .at) (a .tariff) (c23 .pre))
 
 pub lay-tariff-spec : {M : Type 1} → statement M
 lay-tariff-spec =

@@ -15,10 +15,12 @@ mul-if3 : tie.Need-mul-if3
 mul-if3 c = search needs
 
 returns-3 : tie.Need-returns-3
-returns-3 c = whole-blocks (c .before .before .before .args .bytes) (omega (arith, c .before .before .if1 .left)) (omega (arith, c .before .if2 .left)) (c .if3 .taken)
+returns-3 c = whole-blocks (c .before .before .before .args .bytes) (omega (arith, c .before .before .if1 .left))
+    (omega (arith, c .before .if2 .left)) (c .if3 .taken)
 
 returns-4 : tie.Need-returns-4
-returns-4 c = cut-block (c .before .before .before .args .bytes) (omega (arith, c .before .before .if1 .left)) (omega (arith, c .before .if2 .left)) (c .if3 .left)
+returns-4 c = cut-block (c .before .before .before .args .bytes) (omega (arith, c .before .before .if1 .left))
+    (omega (arith, c .before .if2 .left)) (c .if3 .left)
 
 pub pool-blocks-spec : {M : Type 1} → statement M
 pool-blocks-spec = tie.close (tie.spec returns returns-2 mul-if3 returns-3 returns-4)

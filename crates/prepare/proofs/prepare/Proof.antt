@@ -18,8 +18,15 @@ in-range-requires : tie.Need-in-range-requires
 in-range-requires c κs = search needs
 
 returns-2 : tie.Need-returns-2
-returns-2 c = let a = c .before .before .before .before .before .args in
-    refused-tariff (a .pool .now) (a .tariff) (a-pool (a .pool .now) (c .before .before .before .pool-blocks .result) (c .before .before .before .pool-blocks .ensures) (c .before .before .if1 .left)) (sym (c .before .in-range .ensures) ∙ c .if2 .left)
+returns-2 c =
+    let c1 = c .before in
+    let c2 = c1 .before in
+    let c3 = c2 .before in
+    let c5 = c3 .before .before in
+    let a = c5 .args in
+    refused-tariff (a .pool .now) (a .tariff)
+    (a-pool (a .pool .now) (c3 .pool-blocks .result) (c3 .pool-blocks .ensures) (c2 .if1 .left))
+    (sym (c1 .in-range .ensures) ∙ c .if2 .left)
 
 root-page-requires : tie.Need-root-page-requires
 root-page-requires c κs = search needs
@@ -28,8 +35,12 @@ checkpoint-page-requires : tie.Need-checkpoint-page-requires
 checkpoint-page-requires c κs = search needs
 
 write-first-requires : tie.Need-write-first-requires
-write-first-requires c κs = let a = c .before .before .before .before .before .before .before .before .args in
-    let p = a-pool (a .pool .now) (c .before .before .before .before .before .before .pool-blocks .result) (c .before .before .before .before .before .before .pool-blocks .ensures) (c .before .before .before .before .before .if1 .left) in
+write-first-requires c κs =
+    let c5 = c .before .before .before .before .before in
+    let c6 = c5 .before in
+    let c8 = c6 .before .before in
+    let a = c8 .args in
+    let p = a-pool (a .pool .now) (c6 .pool-blocks .result) (c6 .pool-blocks .ensures) (c5 .if1 .left) in
     omega (arith, p .whole, p .least)
 
 same-length : tie.Need-same-length
@@ -37,8 +48,16 @@ same-length c = search needs
 
 returns-3 : tie.Need-returns-3
 returns-3 c = let a = c .before .before .before .before .before .before .before .before .before .before .before .args in
-    prepared-pool (a .pool .now) (a .tariff) (a-pool (a .pool .now) (c .before .before .before .before .before .before .before .before .before .pool-blocks .result) (c .before .before .before .before .before .before .before .before .before .pool-blocks .ensures) (c .before .before .before .before .before .before .before .before .if1 .left)) (sym (c .before .before .before .before .before .before .before .in-range .ensures) ∙ c .before .before .before .before .before .before .if2 .taken)
-    (c .before .before .before .before .before .root-page .result) (c .before .before .before .before .checkpoint-page .result) (c .before .before .write-first .last .0) (c .before .before .before .before .before .root-page .ensures) (c .before .before .before .before .checkpoint-page .ensures) (search needs) (search needs)
+    prepared-pool (a .pool .now) (a .tariff)
+    (a-pool (a .pool .now) (c .before .before .before .before .before .before .before .before .before .pool-blocks .result)
+    (c .before .before .before .before .before .before .before .before .before .pool-blocks .ensures)
+    (c .before .before .before .before .before .before .before .before .if1 .left))
+    (sym (c .before .before .before .before .before .before .before .in-range .ensures) ∙
+    c .before .before .before .before .before .before .if2 .taken)
+    (c .before .before .before .before .before .root-page .result)
+    (c .before .before .before .before .checkpoint-page .result) (c .before .before .write-first .last .0)
+    (c .before .before .before .before .before .root-page .ensures)
+    (c .before .before .before .before .checkpoint-page .ensures) (search needs) (search needs)
     (c .before .before .write-first .ensures)
 
 pub prepare-spec : {M : Type 1} → statement M

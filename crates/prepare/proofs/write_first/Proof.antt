@@ -18,11 +18,17 @@ same-length : tie.Need-same-length
 same-length c = search needs
 
 returns : tie.Need-returns
-returns c = let a = c .before .before .before .before .before .before .before .before .before .before .before .before .before .args in
-    let erased = c .before .before .before .before .before .before .before .before .before .before .fill in
-    let one = c .before .before .before .before .before .before .write-page in
-    let two = c .before .before .write-page2 in
-    first-written (length (a .pool .now)) (a .root) (a .checkpoint) (erased .last .0) (one .last .0) (two .last .0) (erased .ensures) (one .ensures) (two .ensures)
+returns c =
+    let c2 = c .before .before in
+    let c6 = c2 .before .before .before .before in
+    let c10 = c6 .before .before .before .before in
+    let c13 = c10 .before .before .before in
+    let a = c13 .args in
+    let erased = c10 .fill in
+    let one = c6 .write-page in
+    let two = c2 .write-page2 in
+    first-written (length (a .pool .now)) (a .root) (a .checkpoint) (erased .last .0) (one .last .0) (two .last .0)
+    (erased .ensures) (one .ensures) (two .ensures)
 
 pub write-first-spec : {M : Type 1} → statement M
 write-first-spec =

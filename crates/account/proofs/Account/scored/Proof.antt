@@ -35,13 +35,18 @@ floored-requires c κs = search needs
 
 returns : tie.Need-returns
 returns c =
+    let c2 = c .before .before in
+    let c3 = c2 .before in
+    let c4 = c3 .before in
+    let c5 = c4 .before in
+    let c6 = c5 .before in
     rw (
       c .floored .ensures,
-      c .before .before .cost2 .ensures,
-      c .before .before .before .costs2 .ensures,
-      c .before .before .before .before .other .ensures,
-      c .before .before .before .before .before .cost .ensures,
-      c .before .before .before .before .before .before .costs .ensures,
+      c2 .cost2 .ensures,
+      c3 .costs2 .ensures,
+      c4 .other .ensures,
+      c5 .cost .ensures,
+      c6 .costs .ensures,
     )
 
 pub scored-spec : {M : Type 1} → statement M

@@ -22,18 +22,26 @@ stayed-requires c κs = search needs
 
 returns : tie.Need-returns
 returns c =
-    let start = c .before .before .before .before in
+    let c1 = c .before in
+    let c2 = c1 .before in
+    let c3 = c2 .before in
+    let c4 = c3 .before in
+    let start = c4 in
     let over =
-    rw (c .before .before .limit .ensures, c .before .before .before .scored .ensures) at (c .before .if1 .taken) in
+    rw (c2 .limit .ensures, c3 .scored .ensures) at (c1 .if1 .taken) in
     serve-fair _ _ _ (start .pre)
     (c .switched .ensures ∙
     sym (serve-switched (start .args .tariff) (start .args .self) (start .args .request) over))
 
 returns-2 : tie.Need-returns-2
 returns-2 c =
-    let start = c .before .before .before .before in
-    let score = c .before .before .before .scored .ensures in
-    let below = rw (c .before .before .limit .ensures, score) at (c .before .if1 .left) in
+    let c1 = c .before in
+    let c2 = c1 .before in
+    let c3 = c2 .before in
+    let c4 = c3 .before in
+    let start = c4 in
+    let score = c3 .scored .ensures in
+    let below = rw (c2 .limit .ensures, score) at (c1 .if1 .left) in
     serve-fair _ _ _ (start .pre)
     (c .stayed .ensures ∙
     rw score (sym (serve-stayed (start .args .tariff) (start .args .self) (start .args .request) below)))

@@ -30,12 +30,17 @@ within-requires-3 c κs = search needs
 returns-3 : tie.Need-returns-3
 unfolding costsInRange
 returns-3 c =
+    let c1 = c .before in
+    let c2 = c1 .before in
+    let c3 = c2 .before in
+    let c4 = c3 .before in
+    let c5 = c4 .before in
     rw (
-      ← c .before .before .before .before .before .within .ensures,
-      c .before .before .before .before .if1 .taken,
-      ← c .before .before .before .within2 .ensures,
-      c .before .before .if2 .taken,
-      ← c .before .within3 .ensures,
+      ← c5 .within .ensures,
+      c4 .if1 .taken,
+      ← c3 .within2 .ensures,
+      c2 .if2 .taken,
+      ← c1 .within3 .ensures,
       c .if3 .left,
     )
 
@@ -45,13 +50,19 @@ within-requires-4 c κs = search needs
 returns-4 : tie.Need-returns-4
 unfolding costsInRange
 returns-4 c =
+    let c1 = c .before in
+    let c2 = c1 .before in
+    let c3 = c2 .before in
+    let c4 = c3 .before in
+    let c5 = c4 .before in
+    let c6 = c5 .before in
     rw (
-      ← c .before .before .before .before .before .before .within .ensures,
-      c .before .before .before .before .before .if1 .taken,
-      ← c .before .before .before .before .within2 .ensures,
-      c .before .before .before .if2 .taken,
-      ← c .before .before .within3 .ensures,
-      c .before .if3 .taken,
+      ← c6 .within .ensures,
+      c5 .if1 .taken,
+      ← c4 .within2 .ensures,
+      c3 .if2 .taken,
+      ← c2 .within3 .ensures,
+      c1 .if3 .taken,
       c .within4 .ensures,
     )
 

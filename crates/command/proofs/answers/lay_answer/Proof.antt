@@ -42,9 +42,13 @@ same-length c = search needs
 
 returns : tie.Need-returns
 returns c =
-    let a = c .before .before .before .before .before .before .before .args in
-    let laid = c .before .before .lay-absent in
-    laid-answer (a .buffer .now) _ (a .at) _ 3 (a .answer) (answerBytes Absent) (ap answerBytes (c .before .before .before .before .enum-told .given .1)) length-absent (laid .ensures .0) (laid .ensures .1)
+    let c2 = c .before .before in
+    let c4 = c2 .before .before in
+    let c7 = c4 .before .before .before in
+    let a = c7 .args in
+    let laid = c2 .lay-absent in
+    laid-answer (a .buffer .now) _ (a .at) _ 3 (a .answer) (answerBytes Absent)
+    (ap answerBytes (c4 .enum-told .given .1)) length-absent (laid .ensures .0) (laid .ensures .1)
 
 same-length-2 : tie.Need-same-length-2
 same-length-2 c = search needs
@@ -52,9 +56,12 @@ same-length-2 c = search needs
 returns-2 : tie.Need-returns-2
 unfolding answerBytes
 returns-2 c =
-    let a = c .before .before .before .before .before .before .before .before .args in
-    let laid = c .before .before .lay-value in
-    laid-answer (a .buffer .now) _ (a .at) _ 7 (a .answer) _ (ap answerBytes (c .before .before .before .before .before .answer .given .1)) (length-value _ _) (laid .ensures .0) (laid .ensures .1)
+    let c2 = c .before .before in
+    let c5 = c2 .before .before .before in
+    let c8 = c5 .before .before .before in
+    let a = c8 .args in
+    let laid = c2 .lay-value in
+    laid-answer (a .buffer .now) _ (a .at) _ 7 (a .answer) _ (ap answerBytes (c5 .answer .given .1)) (length-value _ _) (laid .ensures .0) (laid .ensures .1)
 
 same-length-3 : tie.Need-same-length-3
 same-length-3 c = search needs
@@ -62,9 +69,12 @@ same-length-3 c = search needs
 returns-3 : tie.Need-returns-3
 unfolding answerBytes
 returns-3 c =
-    let a = c .before .before .before .before .before .before .before .before .args in
-    let laid = c .before .before .lay-value2 in
-    laid-answer (a .buffer .now) _ (a .at) _ 7 (a .answer) _ (ap answerBytes (c .before .before .before .before .before .answer2 .given .1)) (length-value _ _) (laid .ensures .0) (laid .ensures .1)
+    let c2 = c .before .before in
+    let c5 = c2 .before .before .before in
+    let c8 = c5 .before .before .before in
+    let a = c8 .args in
+    let laid = c2 .lay-value2 in
+    laid-answer (a .buffer .now) _ (a .at) _ 7 (a .answer) _ (ap answerBytes (c5 .answer2 .given .1)) (length-value _ _) (laid .ensures .0) (laid .ensures .1)
 
 same-length-4 : tie.Need-same-length-4
 same-length-4 c = search needs
@@ -72,18 +82,24 @@ same-length-4 c = search needs
 returns-4 : tie.Need-returns-4
 unfolding answerBytes
 returns-4 c =
-    let a = c .before .before .before .before .before .before .before .before .args in
-    let laid = c .before .before .lay-value3 in
-    laid-answer (a .buffer .now) _ (a .at) _ 7 (a .answer) _ (ap answerBytes (c .before .before .before .before .before .answer3 .given .1)) (length-value _ _) (laid .ensures .0) (laid .ensures .1)
+    let c2 = c .before .before in
+    let c5 = c2 .before .before .before in
+    let c8 = c5 .before .before .before in
+    let a = c8 .args in
+    let laid = c2 .lay-value3 in
+    laid-answer (a .buffer .now) _ (a .at) _ 7 (a .answer) _ (ap answerBytes (c5 .answer3 .given .1)) (length-value _ _) (laid .ensures .0) (laid .ensures .1)
 
 same-length-5 : tie.Need-same-length-5
 same-length-5 c = search needs
 
 returns-5 : tie.Need-returns-5
 returns-5 c =
-    let a = c .before .before .before .before .before .before .before .before .args in
-    let laid = c .before .before .lay-refused in
-    laid-answer (a .buffer .now) _ (a .at) _ 4 (a .answer) _ (ap answerBytes (c .before .before .before .before .before .answer4 .given .1)) (length-refused _) (laid .ensures .0) (laid .ensures .1)
+    let c2 = c .before .before in
+    let c5 = c2 .before .before .before in
+    let c8 = c5 .before .before .before in
+    let a = c8 .args in
+    let laid = c2 .lay-refused in
+    laid-answer (a .buffer .now) _ (a .at) _ 4 (a .answer) _ (ap answerBytes (c5 .answer4 .given .1)) (length-refused _) (laid .ensures .0) (laid .ensures .1)
 
 pub lay-answer-spec : {M : Type 1} → statement M
 lay-answer-spec =

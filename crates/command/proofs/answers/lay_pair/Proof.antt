@@ -23,11 +23,15 @@ same-length c = search needs
 
 returns : tie.Need-returns
 returns c =
-    let entry = c .before .before .before .before .before .before .before .before .before in
+    let c2 = c .before .before in
+    let c6 = c2 .before .before .before .before in
+    let c9 = c6 .before .before .before in
+    let entry = c9 in
     let a = entry .args in
-    c .before .before .write322 .ensures ∙
-    ap (λ (s : List ℕ). lay s (a .at + 4) (bigEndian 4 (a .value))) (c .before .before .before .before .before .before .write32 .ensures) ∙
-    lay-next (a .buffer .now) (a .at) (bigEndian 4 (a .key)) (bigEndian 4 (a .value)) (a .at + 4) (omega (arith, entry .pre)) (omega (arith, length-bigEndian 4 (a .key)))
+    c2 .write322 .ensures ∙
+    ap (λ (s : List ℕ). lay s (a .at + 4) (bigEndian 4 (a .value))) (c6 .write32 .ensures) ∙
+    lay-next (a .buffer .now) (a .at) (bigEndian 4 (a .key)) (bigEndian 4 (a .value)) (a .at + 4)
+    (omega (arith, entry .pre)) (omega (arith, length-bigEndian 4 (a .key)))
 
 pub lay-pair-spec : {M : Type 1} → statement M
 lay-pair-spec =

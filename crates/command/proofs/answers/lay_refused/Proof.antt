@@ -32,10 +32,13 @@ same-length c = search needs
 returns : tie.Need-returns
 unfolding answerBytes
 returns c =
-    let entry = c .before .before .before .before .before .before .before .before .before .before in
+    let c2 = c .before .before in
+    let c7 = c2 .before .before .before .before .before in
+    let c10 = c7 .before .before .before in
+    let entry = c10 in
     let a = entry .args in (
-      c .before .before .lay-bytes .ensures ∙
-          ap (λ (s : List ℕ). lay s (a .at + 3) (a .number ∷ [])) (c .before .before .before .before .before .before .before .lay-head .ensures) ∙
+      c2 .lay-bytes .ensures ∙
+          ap (λ (s : List ℕ). lay s (a .at + 3) (a .number ∷ [])) (c7 .lay-head .ensures) ∙
           lay-field (a .buffer .now) (a .at) 143 1 (a .number ∷ []) (omega (arith, entry .pre)) refl,
       refl,
     )

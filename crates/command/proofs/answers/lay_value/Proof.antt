@@ -27,10 +27,13 @@ same-length c = search needs
 
 returns : tie.Need-returns
 returns c =
-    let entry = c .before .before .before .before .before .before .before .before .before in
+    let c2 = c .before .before in
+    let c6 = c2 .before .before .before .before in
+    let c9 = c6 .before .before .before in
+    let entry = c9 in
     let a = entry .args in (
-      c .before .before .write32 .ensures ∙
-          ap (λ (s : List ℕ). lay s (a .at + 3) (bigEndian 4 (a .value))) (c .before .before .before .before .before .before .lay-head .ensures) ∙
+      c2 .write32 .ensures ∙
+          ap (λ (s : List ℕ). lay s (a .at + 3) (bigEndian 4 (a .value))) (c6 .lay-head .ensures) ∙
           lay-field (a .buffer .now) (a .at) (a .tag) 4 (bigEndian 4 (a .value)) (omega (arith, entry .pre)) (length-bigEndian 4 (a .value)),
       refl,
     )

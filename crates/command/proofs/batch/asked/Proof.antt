@@ -27,8 +27,13 @@ step-is : (c : tie.After-known-told Inv-loop μ-loop) →
 step-is c = sym (c .before .before .before .command-at .ensures) ∙ c .before .step .given .1
 
 onward : (c : tie.After-known-told Inv-loop μ-loop) →
-    Onward (c .before .before .before .before .before .before .before .before .args .s .now) (c .before .before .before .before .before .loop .at) (Next (c .before .step .given .0 .0) (c .before .step .given .0 .1 .0))
-onward c = rw (step-is c) at (commandAt-onward (c .before .before .before .before .before .before .before .before .args .s .now) (c .before .before .before .before .before .loop .at))
+    Onward (c .before .before .before .before .before .before .before .before .args .s .now)
+    (c .before .before .before .before .before .loop .at)
+    (Next (c .before .step .given .0 .0) (c .before .step .given .0 .1 .0))
+onward c =
+    let c5 = c .before .before .before .before .before in
+    let c8 = c5 .before .before .before in
+    rw (step-is c) at (commandAt-onward (c8 .args .s .now) (c5 .loop .at))
 
 returns : tie.Need-returns Inv-loop μ-loop
 returns c = asked-long _ (c .if1 .taken)
@@ -47,9 +52,13 @@ room-for-requires c κs = search needs
 
 add-bytes : tie.Need-add-bytes Inv-loop μ-loop
 add-bytes c =
-    let w = onward (c .before) in
-    let turn = c .before .before .before .before .before .before .loop in
-    omega (arith, c .room-for .ensures, roomFor-le (c .before .before .step .given .0 .0) (w .2), turn .inv .0, turn .inv .1, c .before .before .before .before .before .before .before .if1 .left)
+    let c1 = c .before in
+    let c2 = c1 .before in
+    let c6 = c2 .before .before .before .before in
+    let c7 = c6 .before in
+    let w = onward (c1) in
+    let turn = c6 .loop in
+    omega (arith, c .room-for .ensures, roomFor-le (c2 .step .given .0 .0) (w .2), turn .inv .0, turn .inv .1, c7 .if1 .left)
 
 loop-less : tie.Need-loop-less Inv-loop μ-loop
 loop-less c =
@@ -58,14 +67,19 @@ loop-less c =
 
 loop-again : tie.Need-loop-again Inv-loop μ-loop
 loop-again c =
-    let w = onward (c .before) in
-    let turn = c .before .before .before .before .before .before .loop in
-    let s = c .before .before .before .before .before .before .before .before .before .args .s .now in
-    let next = c .before .before .step .given .0 .1 .0 in (
+    let c1 = c .before in
+    let c2 = c1 .before in
+    let c5 = c2 .before .before .before in
+    let c6 = c5 .before in
+    let c9 = c6 .before .before .before in
+    let w = onward (c1) in
+    let turn = c6 .loop in
+    let s = c9 .args .s .now in
+    let next = c2 .step .given .0 .1 .0 in (
       w .1,
-      omega (arith, w .0, c .room-for .ensures, roomFor-le (c .before .before .step .given .0 .0) (w .2), turn .inv .1),
+      omega (arith, w .0, c .room-for .ensures, roomFor-le (c2 .step .given .0 .0) (w .2), turn .inv .1),
       ap (λ (n : ℕ). askedWith (turn .bytes + n) (commandsFrom s next)) (c .room-for .ensures) ∙
-          asked-turn s (turn .at) (turn .bytes) (c .before .before .before .before .before .loop-test .taken) _ next (step-is (c .before)) (turn .inv .2),
+          asked-turn s (turn .at) (turn .bytes) (c5 .loop-test .taken) _ next (step-is (c1)) (turn .inv .2),
     )
 
 enum-told : tie.Need-enum-told Inv-loop μ-loop
@@ -73,9 +87,12 @@ enum-told c = search needs
 
 returns-2 : tie.Need-returns-2 Inv-loop μ-loop
 returns-2 c =
-    let turn = c .before .before .before .before .loop in
-    asked-invalid _ (turn .at) (turn .bytes) (c .before .before .before .loop-test .taken)
-    (sym (c .before .before .command-at .ensures) ∙ c .enum-told .given .1)
+    let c2 = c .before .before in
+    let c3 = c2 .before in
+    let c4 = c3 .before in
+    let turn = c4 .loop in
+    asked-invalid _ (turn .at) (turn .bytes) (c3 .loop-test .taken)
+    (sym (c2 .command-at .ensures) ∙ c .enum-told .given .1)
     (turn .inv .2)
 
 returns-3 : tie.Need-returns-3 Inv-loop μ-loop

@@ -49,10 +49,14 @@ returns-4 c =
 
 returns-5 : tie.Need-returns-5
 returns-5 c =
-    let a = c .before .before .before .before .before .args in
+    let c1 = c .before in
+    let c2 = c1 .before in
+    let c3 = c2 .before in
+    let c5 = c3 .before .before in
+    let a = c5 .args in
     sym
     (ap (stepAs (a .next))
-    (commandOf-other (a .tag) (a .p .now) (c .before .before .before .if1 .left) (c .before .before .if2 .left) (c .before .if3 .left) (c .if4 .left)))
+    (commandOf-other (a .tag) (a .p .now) (c3 .if1 .left) (c2 .if2 .left) (c1 .if3 .left) (c .if4 .left)))
 
 pub command-of-spec : {M : Type 1} → statement M
 command-of-spec =

@@ -10,8 +10,10 @@ use Rattle.flash_allocate.proofs.allocate.allocate.Statement.{statement
 use Rattle.flash_allocate.proofs.allocate.allocate.Tie as tie
 
 returns : tie.Need-returns
-returns c = let a = c .before .before .before .before .args in
-    record { is = allocate-room (world (pagesOf (a .pool .now)) (rowsOf (a .table .now)) (a .state)) (c .if1 .taken); good = c .before .before .before .before .pre }
+returns c =
+    let c4 = c .before .before .before .before in
+    let a = c4 .args in
+    record { is = allocate-room (world (pagesOf (a .pool .now)) (rowsOf (a .table .now)) (a .state)) (c .if1 .taken); good = c4 .pre }
 
 next-blank-requires : tie.Need-next-blank-requires
 next-blank-requires c κs = search needs
@@ -30,8 +32,11 @@ returns-2 c = let a = c .before .before .before .before .before .before .before 
     let n = c .before .before .before .before .next-blank in
     let b = c .before .before .count-blank in
     record {
-      is = allocate-next (pagesOf (a .pool .now)) (rowsOf (a .table .now)) (a .state) (n .result) (b .result) (c .before .before .before .before .before .before .if1 .left) (n .ensures .0) (b .ensures) (c .before .if2 .taken) (c .in-block .result) (c .in-block .ensures);
-      good = good-in-block (c .before .before .before .before .before .before .before .before .before .before .pre) refl refl (n .ensures .1) (omega arith) (c .in-block .ensures);
+      is = allocate-next (pagesOf (a .pool .now)) (rowsOf (a .table .now)) (a .state) (n .result) (b .result)
+      (c .before .before .before .before .before .before .if1 .left) (n .ensures .0) (b .ensures)
+      (c .before .if2 .taken) (c .in-block .result) (c .in-block .ensures);
+      good = good-in-block (c .before .before .before .before .before .before .before .before .before .before .pre)
+      refl refl (n .ensures .1) (omega arith) (c .in-block .ensures);
     }
 
 add-compact : tie.Need-add-compact
@@ -50,13 +55,22 @@ same-length-3 : tie.Need-same-length-3
 same-length-3 c = search needs
 
 returns-3 : tie.Need-returns-3
-returns-3 c = let a = c .before .before .before .before .before .before .before .before .before .before .before .before .before .before .before .before .before .before .args in
-    let n = c .before .before .before .before .before .before .before .before .before .before .before .before .next-blank in
-    let b = c .before .before .before .before .before .before .before .before .before .before .count-blank in
-    let m = c .before .before .before .before .before .compact in
+returns-3 c =
+    let c5 = c .before .before .before .before .before in
+    let c9 = c5 .before .before .before .before in
+    let c10 = c9 .before in
+    let c12 = c10 .before .before in
+    let c14 = c12 .before .before in
+    let c18 = c14 .before .before .before .before in
+    let a = c18 .args in
+    let n = c12 .next-blank in
+    let b = c10 .count-blank in
+    let m = c5 .compact in
     record {
-      is = allocate-compact (pagesOf (a .pool .now)) (rowsOf (a .table .now)) (a .state) (n .result) (b .result) (c .before .before .before .before .before .before .before .before .before .before .before .before .before .before .if1 .left) (n .ensures .0) (b .ensures) (c .before .before .before .before .before .before .before .before .before .if2 .left) (pagesOf (m .last .0)) (rowsOf (m .last .1 .0)) (m .result) (m .ensures .0) (c .in-block2 .result) (c .in-block2 .ensures);
-      good = good-in-block (c .before .before .before .before .before .before .before .before .before .before .before .before .before .before .before .before .before .before .pre) (m .kept .0) (m .kept .1 .0) (n .ensures .1) (m .ensures .1) (c .in-block2 .ensures);
+      is = allocate-compact (pagesOf (a .pool .now)) (rowsOf (a .table .now)) (a .state) (n .result) (b .result)
+      (c14 .if1 .left) (n .ensures .0) (b .ensures) (c9 .if2 .left) (pagesOf (m .last .0)) (rowsOf (m .last .1 .0))
+      (m .result) (m .ensures .0) (c .in-block2 .result) (c .in-block2 .ensures);
+      good = good-in-block (c18 .pre) (m .kept .0) (m .kept .1 .0) (n .ensures .1) (m .ensures .1) (c .in-block2 .ensures);
     }
 
 pub allocate-spec : {M : Type 1} → statement M

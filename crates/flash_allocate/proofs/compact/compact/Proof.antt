@@ -37,13 +37,22 @@ same-length-2 : tie.Need-same-length-2
 same-length-2 c = search needs
 
 returns : tie.Need-returns
-returns c = let a = c .before .before .before .before .before .before .before .before .before .before .before .before .before .before .before .before .before .before .before .before .before .before .args in
-    let m = c .before .before .before .before .before .before .before .before .before .before .before .before .before .before .before .before .before .before .live-map in
-    let v = c .before .before .before .before .before .before .before .before .before .before .before .before .before .before .before .victim in
-    let k = c .before .before .before .before .before .before .before .before .before .before .before .copy-block in
-    let r = c .before .before .before .before .before .before .rename-rows in
-    let e = c .before .before .erase-block in
-    (compact-steps (a .used) (a .blocks) (a .to) (pagesOf (a .pool .now)) (rowsOf (a .table .now)) (m .result) (v .result) (m .ensures) (v .ensures .0) (pagesOf (k .last .0)) (k .last .1 .0) (k .result) (k .ensures .0) (rowsOf (r .last .0)) (r .ensures) (pagesOf (e .last .0)) (e .ensures), k .ensures .1)
+returns c =
+    let c2 = c .before .before in
+    let c6 = c2 .before .before .before .before in
+    let c11 = c6 .before .before .before .before .before in
+    let c15 = c11 .before .before .before .before in
+    let c18 = c15 .before .before .before in
+    let c22 = c18 .before .before .before .before in
+    let a = c22 .args in
+    let m = c18 .live-map in
+    let v = c15 .victim in
+    let k = c11 .copy-block in
+    let r = c6 .rename-rows in
+    let e = c2 .erase-block in
+    (compact-steps (a .used) (a .blocks) (a .to) (pagesOf (a .pool .now)) (rowsOf (a .table .now)) (m .result)
+    (v .result) (m .ensures) (v .ensures .0) (pagesOf (k .last .0)) (k .last .1 .0) (k .result) (k .ensures .0)
+    (rowsOf (r .last .0)) (r .ensures) (pagesOf (e .last .0)) (e .ensures), k .ensures .1)
 
 pub compact-spec : {M : Type 1} → statement M
 compact-spec =

@@ -10,7 +10,10 @@ use Rattle.flash_allocate.proofs.compact.copy_block.Statement.{statemen
 use Rattle.flash_allocate.proofs.compact.copy_block.Tie as tie
 
 abbrev Inv-loop : tie.InvT-loop
-Inv-loop pool₀ places₀ live base first fill₀ k₀ pool places fill k = ((k ≤ 32) × ((fill ≤ k) × (length pool ≡ length pool₀))) × (steps (copyLive live base first) (32 - k) k (copying (pagesOf pool) places fill) ≡ steps (copyLive live base first) 32 0 (copying (pagesOf pool₀) places₀ 0))
+Inv-loop pool₀ places₀ live base first fill₀ k₀ pool places fill k =
+    ((k ≤ 32) × ((fill ≤ k) × (length pool ≡ length pool₀))) ×
+    (steps (copyLive live base first) (32 - k) k (copying (pagesOf pool) places fill) ≡ steps
+    (copyLive live base first) 32 0 (copying (pagesOf pool₀) places₀ 0))
 
 abbrev μ-loop : tie.MeasureT-loop
 μ-loop pool₀ places₀ live base first fill₀ k₀ pool places fill k = 32 - k
@@ -33,7 +36,8 @@ loop-again c = let l = c .before .before .before .before .before .before .loop i
     let a = c .before .before .before .before .before .before .before .before .args in
     let f = copyLive (a .live .now) (a .base) (a .first) in
     let o = c .before .before .copy-live in
-    (omega (arith, o .ensures .1), ap (λ (w : Copying). steps f (32 - (l .k + 1)) (l .k + 1) w) (o .ensures .0) ∙ (steps-more f 32 (l .k) (copying (pagesOf (l .pool)) (l .places) (l .fill)) (omega arith) ∙ l .inv .1))
+    (omega (arith, o .ensures .1), ap (λ (w : Copying). steps f (32 - (l .k + 1)) (l .k + 1) w) (o .ensures .0) ∙
+    (steps-more f 32 (l .k) (copying (pagesOf (l .pool)) (l .places) (l .fill)) (omega arith) ∙ l .inv .1))
 
 same-length : tie.Need-same-length Inv-loop μ-loop
 same-length c = omega arith
@@ -42,7 +46,8 @@ returns : tie.Need-returns Inv-loop μ-loop
 unfolding copyBlock
 returns c = let l = c .before .loop in
     let a = c .before .before .before .args in
-    (sym (steps-done (copyLive (a .live .now) (a .base) (a .first)) 32 (l .k) (copying (pagesOf (l .pool)) (l .places) (l .fill)) (omega arith)) ∙ l .inv .1, omega arith)
+    (sym (steps-done (copyLive (a .live .now) (a .base) (a .first)) 32 (l .k)
+    (copying (pagesOf (l .pool)) (l .places) (l .fill)) (omega arith)) ∙ l .inv .1, omega arith)
 
 pub copy-block-spec : {M : Type 1} → statement M
 copy-block-spec =

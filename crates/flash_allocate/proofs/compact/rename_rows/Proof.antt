@@ -11,7 +11,8 @@ use Rattle.flash_allocate.proofs.compact.rename_rows.Statement.{stateme
 use Rattle.flash_allocate.proofs.compact.rename_rows.Tie as tie
 
 abbrev Inv-loop : tie.InvT-loop
-Inv-loop table₀ used base places n₀ table n = ((n ≤ used) × (length table ≡ length table₀)) × (steps (renameRow base places) (used - n) n (rowsOf table) ≡ steps (renameRow base places) used 0 (rowsOf table₀))
+Inv-loop table₀ used base places n₀ table n = ((n ≤ used) × (length table ≡ length table₀)) ×
+    (steps (renameRow base places) (used - n) n (rowsOf table) ≡ steps (renameRow base places) used 0 (rowsOf table₀))
 
 abbrev μ-loop : tie.MeasureT-loop
 μ-loop table₀ used base places n₀ table n = used - n
@@ -39,7 +40,10 @@ loop-again : tie.Need-loop-again Inv-loop μ-loop
 unfolding renameRow
 loop-again c = let l = c .before .before .before .before .before .before .before .before .loop in
     let a = c .before .before .before .before .before .before .before .before .before .before .args in
-    (omega arith, rw (c .before .before .write-row .ensures, c .before .before .before .moved .ensures, c .before .before .before .before .before .read-row .ensures) (steps-more (renameRow (a .base) (a .places .now)) (a .used) (l .n) (rowsOf (l .table)) (omega arith) ∙ l .inv .1))
+    (omega arith, rw (c .before .before .write-row .ensures, c .before .before .before .moved .ensures,
+    c .before .before .before .before .before .read-row .ensures)
+    (steps-more (renameRow (a .base) (a .places .now)) (a .used) (l .n) (rowsOf (l .table)) (omega arith) ∙
+    l .inv .1))
 
 same-length : tie.Need-same-length Inv-loop μ-loop
 same-length c = omega arith

@@ -9,7 +9,9 @@ use Rattle.flash_blocks.proofs.blank.blank_from.Statement.{statement}
 use Rattle.flash_blocks.proofs.blank.blank_from.Tie as tie
 
 abbrev Inv-loop : tie.InvT-loop
-Inv-loop pool blocks from block₀ block = (block ≤ blocks) × (firstFrom (blankBlock (pagesOf pool)) (blocks - block) block ≡ firstFrom (blankBlock (pagesOf pool)) (blocks - from) from)
+Inv-loop pool blocks from block₀ block = (block ≤ blocks) ×
+    (firstFrom (blankBlock (pagesOf pool)) (blocks - block) block ≡ firstFrom (blankBlock (pagesOf pool))
+    (blocks - from) from)
 
 abbrev μ-loop : tie.MeasureT-loop
 μ-loop pool blocks from block₀ block = blocks - block
@@ -24,7 +26,8 @@ returns : tie.Need-returns Inv-loop μ-loop
 unfolding blankFrom
 returns c = let l = c .before .before .before .loop in
     let a = c .before .before .before .before .before .args in
-    (first-found (blankBlock (pagesOf (a .pool .now))) (a .blocks) (l .block) (omega arith) (sym (c .before .is-blank-block .ensures) ∙ c .if1 .taken) ∙ l .inv .1, omega arith)
+    (first-found (blankBlock (pagesOf (a .pool .now))) (a .blocks) (l .block) (omega arith)
+    (sym (c .before .is-blank-block .ensures) ∙ c .if1 .taken) ∙ l .inv .1, omega arith)
 
 add-block : tie.Need-add-block Inv-loop μ-loop
 add-block c = omega arith
@@ -35,7 +38,8 @@ loop-less c = omega arith
 loop-again : tie.Need-loop-again Inv-loop μ-loop
 loop-again c = let l = c .before .before .before .loop in
     let a = c .before .before .before .before .before .args in
-    (omega arith, first-more (blankBlock (pagesOf (a .pool .now))) (a .blocks) (l .block) (omega arith) (sym (c .before .is-blank-block .ensures) ∙ c .if1 .left) ∙ l .inv .1)
+    (omega arith, first-more (blankBlock (pagesOf (a .pool .now))) (a .blocks) (l .block) (omega arith)
+    (sym (c .before .is-blank-block .ensures) ∙ c .if1 .left) ∙ l .inv .1)
 
 returns-2 : tie.Need-returns-2 Inv-loop μ-loop
 unfolding blankFrom

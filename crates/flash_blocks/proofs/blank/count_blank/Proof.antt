@@ -9,7 +9,8 @@ use Rattle.flash_blocks.proofs.blank.count_blank.Statement.{statement}
 use Rattle.flash_blocks.proofs.blank.count_blank.Tie as tie
 
 abbrev Inv-loop : tie.InvT-loop
-Inv-loop pool blocks n₀ block₀ n block = ((block ≤ blocks) × (n ≤ block)) × (n + sumFrom (blankBit (pagesOf pool)) (blocks - block) block ≡ sumFrom (blankBit (pagesOf pool)) blocks 0)
+Inv-loop pool blocks n₀ block₀ n block = ((block ≤ blocks) × (n ≤ block)) ×
+    (n + sumFrom (blankBit (pagesOf pool)) (blocks - block) block ≡ sumFrom (blankBit (pagesOf pool)) blocks 0)
 
 abbrev μ-loop : tie.MeasureT-loop
 μ-loop pool blocks n₀ block₀ n block = blocks - block

@@ -19,8 +19,12 @@ same-length c = search needs
 
 returns : tie.Need-returns
 unfolding copied
-returns c = let a = c .before .before .before .before .before .before .before .before .args in
-    c .before .before .put-page .ensures ∙ ap (λ (p : List ℕ). set (pagesOf (a .pool .now)) (a .to) p) (c .before .before .before .before .before .read-page .ensures)
+returns c =
+    let c2 = c .before .before in
+    let c5 = c2 .before .before .before in
+    let c8 = c5 .before .before .before in
+    let a = c8 .args in
+    c2 .put-page .ensures ∙ ap (λ (p : List ℕ). set (pagesOf (a .pool .now)) (a .to) p) (c5 .read-page .ensures)
 
 pub copy-page-spec : {M : Type 1} → statement M
 copy-page-spec = tie.close (tie.spec read-page-requires put-page-requires same-length returns)

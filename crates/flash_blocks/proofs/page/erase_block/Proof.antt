@@ -30,7 +30,8 @@ same-length c = search needs
 
 returns : tie.Need-returns
 returns c = let a = c .before .before .before .before .before .args in
-    erase-pages (a .pool .now) (a .block) (16384 * a .block) (16384 * a .block + 16384) (c .before .before .fill .last .0) refl refl (omega arith) (c .before .before .fill .ensures)
+    erase-pages (a .pool .now) (a .block) (16384 * a .block) (16384 * a .block + 16384)
+    (c .before .before .fill .last .0) refl refl (omega arith) (c .before .before .fill .ensures)
 
 pub erase-block-spec : {M : Type 1} → statement M
 erase-block-spec =

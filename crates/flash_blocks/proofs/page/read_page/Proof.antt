@@ -32,7 +32,8 @@ lay-bytes-requires c κs = search needs
 
 returns : tie.Need-returns
 returns c = let a = c .before .before .before .before .before .args in
-    c .before .lay-bytes .ensures ∙ read-pages (a .pool .now) (a .page) (omega arith) (replicate 512 255) (length-replicate {A = ℕ} 512 255) (512 * a .page + 512 - 512 * a .page) (omega arith)
+    c .before .lay-bytes .ensures ∙ read-pages (a .pool .now) (a .page) (omega arith) (replicate 512 255)
+    (length-replicate {A = ℕ} 512 255) (512 * a .page + 512 - 512 * a .page) (omega arith)
 
 pub read-page-spec : {M : Type 1} → statement M
 read-page-spec =

@@ -10,7 +10,9 @@ use Rattle.flash_log.proofs.claim.claim_entries.Statement.{statement}
 use Rattle.flash_log.proofs.claim.claim_entries.Tie as tie
 
 abbrev Inv-loop : tie.InvT-loop
-Inv-loop table₀ buffer n nodes page k₀ table k = ((k ≤ n) × (length table ≡ length table₀)) × (steps (claimEntry buffer nodes page) (n - k) k (rowsOf table) ≡ steps (claimEntry buffer nodes page) n 0 (rowsOf table₀))
+Inv-loop table₀ buffer n nodes page k₀ table k = ((k ≤ n) × (length table ≡ length table₀)) ×
+    (steps (claimEntry buffer nodes page) (n - k) k (rowsOf table) ≡ steps (claimEntry buffer nodes page) n 0
+    (rowsOf table₀))
 
 abbrev μ-loop : tie.MeasureT-loop
 μ-loop table₀ buffer n nodes page k₀ table k = n - k
@@ -31,7 +33,9 @@ loop-less c = omega arith
 loop-again : tie.Need-loop-again Inv-loop μ-loop
 loop-again c = let l = c .before .before .before .before .before .loop in
     let a = c .before .before .before .before .before .before .before .args in
-    (omega arith, rw (c .before .before .claim-entry .ensures) (steps-more (claimEntry (a .buffer .now) (a .nodes) (a .page)) (a .n) (l .k) (rowsOf (l .table)) (omega arith) ∙ l .inv .1))
+    (omega arith, rw (c .before .before .claim-entry .ensures)
+    (steps-more (claimEntry (a .buffer .now) (a .nodes) (a .page)) (a .n) (l .k) (rowsOf (l .table)) (omega arith) ∙
+    l .inv .1))
 
 same-length : tie.Need-same-length Inv-loop μ-loop
 same-length c = omega arith

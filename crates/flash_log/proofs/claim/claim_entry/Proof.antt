@@ -36,16 +36,29 @@ same-length : tie.Need-same-length
 same-length c = search needs
 
 returns : tie.Need-returns
-returns c = let a = c .before .before .before .before .before .before .before .before .before .before .before .before .before .args in
-    let i = c .before .before .before .before .before .before .before .before .before .before .read16 in
-    let v = c .before .before .before .before .before .before .before .before .read32 in
-    let l = c .before .before .before .before .before .read-row in
-    let x = c .before .before .before .claim in
-    claim-in (a .buffer .now) (a .nodes) (a .page) (a .k) (rowsOf (a .table .now)) (rowsOf (c .before .before .store-claim .last .0)) (i .result) (v .result) (l .result) (x .result) (i .ensures .is) (v .ensures .is) (c .before .before .before .before .before .before .before .if1 .taken) (l .ensures) (x .ensures) (c .before .before .store-claim .ensures)
+returns c =
+    let c2 = c .before .before in
+    let c3 = c2 .before in
+    let c5 = c3 .before .before in
+    let c7 = c5 .before .before in
+    let c8 = c7 .before in
+    let c10 = c8 .before .before in
+    let c13 = c10 .before .before .before in
+    let a = c13 .args in
+    let i = c10 .read16 in
+    let v = c8 .read32 in
+    let l = c5 .read-row in
+    let x = c3 .claim in
+    claim-in (a .buffer .now) (a .nodes) (a .page) (a .k) (rowsOf (a .table .now))
+    (rowsOf (c2 .store-claim .last .0)) (i .result) (v .result) (l .result) (x .result) (i .ensures .is)
+    (v .ensures .is) (c7 .if1 .taken) (l .ensures) (x .ensures) (c2 .store-claim .ensures)
 
 returns-2 : tie.Need-returns-2
-returns-2 c = let a = c .before .before .before .before .before .before .args in
-    claim-out (a .buffer .now) (a .nodes) (a .page) (a .k) (rowsOf (a .table .now)) (c .before .before .before .read16 .result) (c .before .before .before .read16 .ensures .is) (c .if1 .left)
+returns-2 c =
+    let c3 = c .before .before .before in
+    let c6 = c3 .before .before .before in
+    let a = c6 .args in
+    claim-out (a .buffer .now) (a .nodes) (a .page) (a .k) (rowsOf (a .table .now)) (c3 .read16 .result) (c3 .read16 .ensures .is) (c .if1 .left)
 
 pub claim-entry-spec : {M : Type 1} → statement M
 claim-entry-spec =

@@ -15,8 +15,14 @@ add-s : tie.Need-add-s
 add-s c = search needs
 
 returns : tie.Need-returns
-returns c = let a = c .before .before .before .before .before .before .before .args in
-    append-in (a .id) (a .version) (changeOf (a .change)) (a .state) (c .before .before .before .before .entry-bytes .result) _ (c .before .before .before .before .before .if1 .taken) (c .before .before .before .before .entry-bytes .ensures) (c .before .lay-entry .ensures)
+returns c =
+    let c1 = c .before in
+    let c4 = c1 .before .before .before in
+    let c5 = c4 .before in
+    let c7 = c5 .before .before in
+    let a = c7 .args in
+    append-in (a .id) (a .version) (changeOf (a .change)) (a .state) (c4 .entry-bytes .result) _ (c5 .if1 .taken)
+    (c4 .entry-bytes .ensures) (c1 .lay-entry .ensures)
 
 returns-2 : tie.Need-returns-2
 returns-2 c = let a = c .before .before .args in

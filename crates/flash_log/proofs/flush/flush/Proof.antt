@@ -22,10 +22,17 @@ same-length-2 c = search needs
 
 returns : tie.Need-returns
 unfolding flush
-returns c = let a = c .before .before .before .before .before .before .before .before .before .before .before .before .before .before .before .before .before .before .args in
-    let x = c .before .before .before .before .before .before .before .before .before .before .before .before .before .allocate in
-    let y = c .before .before .before .before .write-buffer in
-    kept-room writeBuffer (world (pagesOf (a .pool .now)) (rowsOf (a .table .now)) (a .state)) (world (pagesOf (x .last .0)) (rowsOf (x .last .1 .0)) (x .result)) (x .ensures) (world (pagesOf (y .last .0)) (rowsOf (y .last .1 .0)) (y .result)) (c .before .before .before .before .before .before .before .if1 .taken) (y .ensures)
+returns c =
+    let c4 = c .before .before .before .before in
+    let c7 = c4 .before .before .before in
+    let c13 = c7 .before .before .before .before .before .before in
+    let c18 = c13 .before .before .before .before .before in
+    let a = c18 .args in
+    let x = c13 .allocate in
+    let y = c4 .write-buffer in
+    kept-room writeBuffer (world (pagesOf (a .pool .now)) (rowsOf (a .table .now)) (a .state))
+    (world (pagesOf (x .last .0)) (rowsOf (x .last .1 .0)) (x .result)) (x .ensures)
+    (world (pagesOf (y .last .0)) (rowsOf (y .last .1 .0)) (y .result)) (c7 .if1 .taken) (y .ensures)
 
 same-length-3 : tie.Need-same-length-3
 same-length-3 c = search needs
@@ -35,9 +42,13 @@ same-length-4 c = search needs
 
 returns-2 : tie.Need-returns-2
 unfolding flush
-returns-2 c = let a = c .before .before .before .before .before .before .before .before .before .before .before .args in
-    let x = c .before .before .before .before .before .before .allocate in
-    kept-stuck writeBuffer (world (pagesOf (a .pool .now)) (rowsOf (a .table .now)) (a .state)) (world (pagesOf (x .last .0)) (rowsOf (x .last .1 .0)) (x .result)) (x .ensures) (c .if1 .left)
+returns-2 c =
+    let c6 = c .before .before .before .before .before .before in
+    let c11 = c6 .before .before .before .before .before in
+    let a = c11 .args in
+    let x = c6 .allocate in
+    kept-stuck writeBuffer (world (pagesOf (a .pool .now)) (rowsOf (a .table .now)) (a .state))
+    (world (pagesOf (x .last .0)) (rowsOf (x .last .1 .0)) (x .result)) (x .ensures) (c .if1 .left)
 
 pub flush-spec : {M : Type 1} → statement M
 flush-spec =

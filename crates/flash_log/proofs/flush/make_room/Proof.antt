@@ -20,13 +20,20 @@ same-length-2 : tie.Need-same-length-2
 same-length-2 c = search needs
 
 returns : tie.Need-returns
-returns c = let a = c .before .before .before .before .before .before .before .before .before .before .before .args in
-    let y = c .before .before .before .before .flush in
-    room-out (a .k) (world (pagesOf (a .pool .now)) (rowsOf (a .table .now)) (a .state)) (world (pagesOf (y .last .0)) (rowsOf (y .last .1 .0)) (y .result)) (c .before .before .before .before .before .before .before .if1 .taken) (y .ensures)
+returns c =
+    let c4 = c .before .before .before .before in
+    let c7 = c4 .before .before .before in
+    let c11 = c7 .before .before .before .before in
+    let a = c11 .args in
+    let y = c4 .flush in
+    room-out (a .k) (world (pagesOf (a .pool .now)) (rowsOf (a .table .now)) (a .state))
+    (world (pagesOf (y .last .0)) (rowsOf (y .last .1 .0)) (y .result)) (c7 .if1 .taken) (y .ensures)
 
 returns-2 : tie.Need-returns-2
-returns-2 c = let a = c .before .before .before .before .args in
-    room-in (a .k) (world (pagesOf (a .pool .now)) (rowsOf (a .table .now)) (a .state)) (c .if1 .left) (c .before .before .before .before .pre .0)
+returns-2 c =
+    let c4 = c .before .before .before .before in
+    let a = c4 .args in
+    room-in (a .k) (world (pagesOf (a .pool .now)) (rowsOf (a .table .now)) (a .state)) (c .if1 .left) (c4 .pre .0)
 
 pub make-room-spec : {M : Type 1} → statement M
 make-room-spec = tie.close (tie.spec add-if1 flush-requires same-length same-length-2 returns returns-2)

@@ -37,12 +37,20 @@ same-length-2 : tie.Need-same-length-2
 same-length-2 c = search needs
 
 returns : tie.Need-returns
-returns c = let a = c .before .before .before .before .before .before .before .before .before .before .before .before .before .before .before .before .before .before .args in
-    let p = c .before .before .before .before .before .before .before .before .before .before .before .before .before .before .before .before .before .before .pre in
-    let n = c .before .before .before .before .before .before .before .before .before .before .before .before .before .next-sequence in
-    let w = c .before .before .before .before .before .before .before .before .before .put-log in
-    let k = c .before .before .before .before .claim-entries in
-    buffer-written (pagesOf (a .pool .now)) (pagesOf (w .last .0)) (rowsOf (a .table .now)) (rowsOf (k .last .0)) (a .state) (c .before .advance .result) (c .without-entries .result) (n .result) (p .0) (w .kept .0) (k .kept .0) (p .1) (n .ensures) (w .ensures) (k .ensures) (c .before .advance .ensures) (c .without-entries .ensures)
+returns c =
+    let c1 = c .before in
+    let c4 = c1 .before .before .before in
+    let c9 = c4 .before .before .before .before .before in
+    let c13 = c9 .before .before .before .before in
+    let c18 = c13 .before .before .before .before .before in
+    let a = c18 .args in
+    let p = c18 .pre in
+    let n = c13 .next-sequence in
+    let w = c9 .put-log in
+    let k = c4 .claim-entries in
+    buffer-written (pagesOf (a .pool .now)) (pagesOf (w .last .0)) (rowsOf (a .table .now)) (rowsOf (k .last .0))
+    (a .state) (c1 .advance .result) (c .without-entries .result) (n .result) (p .0) (w .kept .0) (k .kept .0) (p .1)
+    (n .ensures) (w .ensures) (k .ensures) (c1 .advance .ensures) (c .without-entries .ensures)
 
 pub write-buffer-spec : {M : Type 1} → statement M
 write-buffer-spec =

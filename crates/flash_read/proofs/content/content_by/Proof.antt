@@ -19,11 +19,13 @@ node-page-at-requires c κs = search needs
 
 returns : tie.Need-returns
 returns c = let a = c .before .before .before .before .args in
-    redone-is (c .log-content .result) _ _ (c .log-content .ensures) (content-log (pagesOf (a .pool .now)) (a .state) (a .row) (a .n) (c .before .enum-told .given .1))
+    redone-is (c .log-content .result) _ _ (c .log-content .ensures)
+    (content-log (pagesOf (a .pool .now)) (a .state) (a .row) (a .n) (c .before .enum-told .given .1))
 
 returns-2 : tie.Need-returns-2
 returns-2 c = let a = c .before .before .before .before .args in
-    redone-is (c .node-page-at .result) _ _ (c .node-page-at .ensures) (content-disk (pagesOf (a .pool .now)) (a .state) (a .row) (a .n) (c .before .enum-told2 .given .1))
+    redone-is (c .node-page-at .result) _ _ (c .node-page-at .ensures)
+    (content-disk (pagesOf (a .pool .now)) (a .state) (a .row) (a .n) (c .before .enum-told2 .given .1))
 
 pub content-by-spec : {M : Type 1} → statement M
 content-by-spec =

@@ -36,16 +36,37 @@ ascends-requires : tie.Need-ascends-requires
 ascends-requires c κs = search needs
 
 returns-3 : tie.Need-returns-3
-returns-3 c = let p = c .before .before .before .before .before .before .before .before .before .args .p .now in
-    whole-made p (c .before .before .before .before .before .before .before .if1 .left) ((length p - 7) / 8) refl (c .before .before .before .before .before .before .if2 .left) (c .before .before .read-pairs .result) (c .before .before .before .before .shape-of .result) (c .before .before .before .read32 .result) (c .before .before .before .before .shape-of .ensures) (c .before .before .before .read32 .ensures .is) (c .before .before .read-pairs .ensures) (sym (c .before .ascends .ensures) ∙ c .if3 .taken)
+returns-3 c =
+    let c1 = c .before in
+    let c2 = c1 .before in
+    let c3 = c2 .before in
+    let c4 = c3 .before in
+    let c6 = c4 .before .before in
+    let c7 = c6 .before in
+    let c9 = c7 .before .before in
+    let p = c9 .args .p .now in
+    whole-made p (c7 .if1 .left) ((length p - 7) / 8) refl (c6 .if2 .left) (c2 .read-pairs .result)
+    (c4 .shape-of .result) (c3 .read32 .result) (c4 .shape-of .ensures) (c3 .read32 .ensures .is)
+    (c2 .read-pairs .ensures) (sym (c1 .ascends .ensures) ∙ c .if3 .taken)
 
 no-node-requires-3 : tie.Need-no-node-requires-3
 no-node-requires-3 c κs = search needs
 
 returns-4 : tie.Need-returns-4
-returns-4 c = let p = c .before .before .before .before .before .before .before .before .before .before .args .p .now in
+returns-4 c =
+    let c1 = c .before in
+    let c2 = c1 .before in
+    let c3 = c2 .before in
+    let c4 = c3 .before in
+    let c5 = c4 .before in
+    let c7 = c5 .before .before in
+    let c8 = c7 .before in
+    let c10 = c8 .before .before in
+    let p = c10 .args .p .now in
     redone-is (c .no-node3 .result) _ _ (c .no-node3 .ensures)
-    (whole-loose p (c .before .before .before .before .before .before .before .before .if1 .left) ((length p - 7) / 8) refl (c .before .before .before .before .before .before .before .if2 .left) (c .before .before .before .read-pairs .result) (c .before .before .before .before .before .shape-of .result) (c .before .before .before .before .read32 .result) (c .before .before .before .before .before .shape-of .ensures) (c .before .before .before .before .read32 .ensures .is) (c .before .before .before .read-pairs .ensures) (sym (c .before .before .ascends .ensures) ∙ c .before .if3 .left))
+    (whole-loose p (c8 .if1 .left) ((length p - 7) / 8) refl (c7 .if2 .left) (c3 .read-pairs .result)
+    (c5 .shape-of .result) (c4 .read32 .result) (c5 .shape-of .ensures) (c4 .read32 .ensures .is)
+    (c3 .read-pairs .ensures) (sym (c2 .ascends .ensures) ∙ c1 .if3 .left))
 
 pub node-of-payload-spec : {M : Type 1} → statement M
 node-of-payload-spec =

@@ -26,7 +26,9 @@ read-node-requires c κs = search needs
 
 returns : tie.Need-returns
 returns c = let a = c .before .before .before .before .args in
-    redone-is (c .read-node .result) _ _ (c .read-node .ensures) (whole-in (a .pool .now) (a .page) (512 * a .page + 512 - 512 * a .page) (c .before .before .if1 .taken) (omega arith))
+    redone-is (c .read-node .result) _ _ (c .read-node .ensures)
+    (whole-in (a .pool .now) (a .page) (512 * a .page + 512 - 512 * a .page) (c .before .before .if1 .taken)
+    (omega arith))
 
 no-node-requires : tie.Need-no-node-requires
 no-node-requires c κs = search needs

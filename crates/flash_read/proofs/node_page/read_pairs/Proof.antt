@@ -14,7 +14,9 @@ use Rattle.flash_read.proofs.node_page.read_pairs.Statement.{statement}
 use Rattle.flash_read.proofs.node_page.read_pairs.Tie as tie
 
 abbrev Inv-loop : tie.InvT-loop
-Inv-loop p n shape link keys₀ pointers₀ i₀ keys pointers i = (i ≤ n) × ((length keys ≡ 24) × ((length pointers ≡ 24) × (zip (take i keys) (take i pointers) ++ decode.pairsFrom (n - i) p (7 + 8 * i) ≡ decode.pairsFrom n p 7)))
+Inv-loop p n shape link keys₀ pointers₀ i₀ keys pointers i = (i ≤ n) ×
+    ((length keys ≡ 24) × ((length pointers ≡ 24) ×
+    (zip (take i keys) (take i pointers) ++ decode.pairsFrom (n - i) p (7 + 8 * i) ≡ decode.pairsFrom n p 7)))
 
 abbrev μ-loop : tie.MeasureT-loop
 μ-loop p n shape link keys₀ pointers₀ i₀ keys pointers i = n - i
@@ -67,7 +69,9 @@ loop-again c = let a = c .before .before .before .before .before .args in
         length-set (l .keys) (l .i) (c .before .read32 .result) ∙ l .inv .1 .0,
         (
           length-set (l .pointers) (l .i) (c .read322 .result) ∙ l .inv .1 .1 .0,
-          pairs-more (a .p .now) (a .n) (l .keys) (l .pointers) (l .i) (c .before .before .loop-test .taken) (omega arith) (l .inv .1 .0) (l .inv .1 .1 .0) (c .before .read32 .result) (c .read322 .result) (c .before .read32 .ensures .is) (c .read322 .ensures .is) ∙ l .inv .1 .1 .1,
+          pairs-more (a .p .now) (a .n) (l .keys) (l .pointers) (l .i) (c .before .before .loop-test .taken)
+          (omega arith) (l .inv .1 .0) (l .inv .1 .1 .0) (c .before .read32 .result) (c .read322 .result)
+          (c .before .read32 .ensures .is) (c .read322 .ensures .is) ∙ l .inv .1 .1 .1,
         ),
       ),
     )

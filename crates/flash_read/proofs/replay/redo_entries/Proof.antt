@@ -14,7 +14,9 @@ use Rattle.flash_read.proofs.replay.redo_entries.Statement.{statement}
 use Rattle.flash_read.proofs.replay.redo_entries.Tie as tie
 
 abbrev Inv-loop : tie.InvT-loop
-Inv-loop buffer n id version r₀ k₀ r k = (k ≤ n) × ((Held (r .node)) × (steps (redoNth id version buffer) (n - k) k (draftOf r) ≡ steps (redoNth id version buffer) n 0 (draftOf r₀)))
+Inv-loop buffer n id version r₀ k₀ r k = (k ≤ n) ×
+    ((Held (r .node)) × (steps (redoNth id version buffer) (n - k) k (draftOf r) ≡ steps (redoNth id version buffer)
+    n 0 (draftOf r₀)))
 
 abbrev μ-loop : tie.MeasureT-loop
 μ-loop buffer n id version r₀ k₀ r k = n - k
@@ -41,7 +43,8 @@ part-redo-entry-end c = search needs
 redo-entry-requires : tie.Need-redo-entry-requires Inv-loop μ-loop
 redo-entry-requires c κs = let a = c .before .before .before .before .args in
     let l = c .before .before .loop in
-    (rw (length-take-le (15 * l .k + 15 - 15 * l .k) (drop (15 * l .k) (a .buffer .now)) (rw (length-drop (15 * l .k) (a .buffer .now)) (omega arith))) (omega arith), l .inv .1 .0)
+    (rw (length-take-le (15 * l .k + 15 - 15 * l .k) (drop (15 * l .k) (a .buffer .now))
+    (rw (length-drop (15 * l .k) (a .buffer .now)) (omega arith))) (omega arith), l .inv .1 .0)
 
 add-k : tie.Need-add-k Inv-loop μ-loop
 add-k c = search needs
@@ -73,4 +76,5 @@ returns c = let a = c .before .before .before .args in
     }
 
 pub redo-entries-spec : {M : Type 1} → statement M
-redo-entries-spec = tie.close (tie.spec Inv-loop μ-loop loop-holds mul-from add-to sub-redo-entry part-redo-entry-start part-redo-entry-end redo-entry-requires add-k loop-less loop-again returns)
+redo-entries-spec = tie.close (tie.spec Inv-loop μ-loop loop-holds mul-from add-to sub-redo-entry
+    part-redo-entry-start part-redo-entry-end redo-entry-requires add-k loop-less loop-again returns)

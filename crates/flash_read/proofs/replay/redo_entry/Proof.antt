@@ -29,23 +29,44 @@ redo-requires : tie.Need-redo-requires
 redo-requires c κs = search needs
 
 returns : tie.Need-returns
-returns c = let a = c .before .before .before .before .before .before .before .before .before .before .args in
-    let i = c .before .before .before .before .before .before .before .before .read16 in
-    let v = c .before .before .before .before .before .before .before .read32 in
-    entry-own (a .id) (a .version) (a .entry .now) (a .d) (i .result) (v .result) (i .ensures .is) (v .ensures .is) (c .before .before .before .before .before .before .if1 .taken) (c .before .before .before .before .before .if2 .taken) (c .before .change-of .result) (c .redo .result)
-    (rw (← c .before .before .before .before .read322 .ensures .is, ← c .before .before .before .read323 .ensures .is) (c .before .change-of .ensures)) (c .redo .ensures)
+returns c =
+    let c1 = c .before in
+    let c3 = c1 .before .before in
+    let c4 = c3 .before in
+    let c5 = c4 .before in
+    let c6 = c5 .before in
+    let c7 = c6 .before in
+    let c8 = c7 .before in
+    let c10 = c8 .before .before in
+    let a = c10 .args in
+    let i = c8 .read16 in
+    let v = c7 .read32 in
+    entry-own (a .id) (a .version) (a .entry .now) (a .d) (i .result) (v .result) (i .ensures .is) (v .ensures .is)
+    (c6 .if1 .taken) (c5 .if2 .taken) (c1 .change-of .result) (c .redo .result)
+    (rw (← c4 .read322 .ensures .is, ← c3 .read323 .ensures .is) (c1 .change-of .ensures)) (c .redo .ensures)
 
 returns-2 : tie.Need-returns-2
-returns-2 c = let a = c .before .before .before .before .before .args in
-    let i = c .before .before .before .read16 in
-    let v = c .before .before .read32 in
-    entry-older (a .id) (a .version) (a .entry .now) (a .d) (i .result) (v .result) (i .ensures .is) (v .ensures .is) (c .before .if1 .taken) (c .if2 .left) (c .before .before .before .before .before .pre .1)
+returns-2 c =
+    let c1 = c .before in
+    let c2 = c1 .before in
+    let c3 = c2 .before in
+    let c5 = c3 .before .before in
+    let a = c5 .args in
+    let i = c3 .read16 in
+    let v = c2 .read32 in
+    entry-older (a .id) (a .version) (a .entry .now) (a .d) (i .result) (v .result) (i .ensures .is) (v .ensures .is)
+    (c1 .if1 .taken) (c .if2 .left) (c5 .pre .1)
 
 returns-3 : tie.Need-returns-3
-returns-3 c = let a = c .before .before .before .before .args in
-    let i = c .before .before .read16 in
-    let v = c .before .read32 in
-    entry-other (a .id) (a .version) (a .entry .now) (a .d) (i .result) (v .result) (i .ensures .is) (v .ensures .is) (c .if1 .left) (c .before .before .before .before .pre .1)
+returns-3 c =
+    let c1 = c .before in
+    let c2 = c1 .before in
+    let c4 = c2 .before .before in
+    let a = c4 .args in
+    let i = c2 .read16 in
+    let v = c1 .read32 in
+    entry-other (a .id) (a .version) (a .entry .now) (a .d) (i .result) (v .result) (i .ensures .is) (v .ensures .is) (c .if1 .left) (c4 .pre .1)
 
 pub redo-entry-spec : {M : Type 1} → statement M
-redo-entry-spec = tie.close (tie.spec read16-requires cast-own read32-requires read32-requires-2 read32-requires-3 shared-slice-read-change-of change-of-requires redo-requires returns returns-2 returns-3)
+redo-entry-spec = tie.close (tie.spec read16-requires cast-own read32-requires read32-requires-2 read32-requires-3
+    shared-slice-read-change-of change-of-requires redo-requires returns returns-2 returns-3)

@@ -14,7 +14,8 @@ use Rattle.flash_read.proofs.replay.redo_page.Statement.{statement}
 use Rattle.flash_read.proofs.replay.redo_page.Tie as tie
 
 abbrev Inv-loop : tie.InvT-loop
-Inv-loop page id version r₀ at₀ left₀ r at left = (at + 18 * left ≡ 493) × ((Held (r .node)) × (redoRun id version left page at (draftOf r) ≡ redoRun id version 27 page 7 (draftOf r₀)))
+Inv-loop page id version r₀ at₀ left₀ r at left = (at + 18 * left ≡ 493) ×
+    ((Held (r .node)) × (redoRun id version left page at (draftOf r) ≡ redoRun id version 27 page 7 (draftOf r₀)))
 
 abbrev μ-loop : tie.MeasureT-loop
 μ-loop page id version r₀ at₀ left₀ r at left = left
@@ -26,11 +27,17 @@ payload-requires : tie.Need-payload-requires Inv-loop μ-loop
 payload-requires c κs = tt
 
 returns : tie.Need-returns Inv-loop μ-loop
-returns c = let a = c .before .before .before .before .before .args in
-    let l = c .before .before .before .loop in
+returns c =
+    let c1 = c .before in
+    let c2 = c1 .before in
+    let c3 = c2 .before in
+    let c5 = c3 .before .before in
+    let a = c5 .args in
+    let l = c3 .loop in
     record {
       is =
-          sym (run-stop (a .id) (a .version) (a .page .now) (l .left) (l .at) (draftOf (l .r)) (c .before .before .loop-test .taken) (λ e. c .if1 .taken (ap length (c .before .payload .ensures) ∙ e))) ∙
+          sym (run-stop (a .id) (a .version) (a .page .now) (l .left) (l .at) (draftOf (l .r)) (c2 .loop-test .taken)
+          (λ e. c .if1 .taken (ap length (c1 .payload .ensures) ∙ e))) ∙
           l .inv .1 .1;
       held = l .inv .1 .0;
     }
@@ -57,7 +64,8 @@ loop-again c = let a = c .before .before .before .before .before .before .args i
         x .held,
         ap (redoRun (a .id) (a .version) (l .left - 1) (a .page .now) (l .at + 18))
             (x .is ∙ ap (λ (b : List ℕ). redoEntry (a .id) (a .version) (decode.entryOf b) (draftOf (l .r))) (p .ensures)) ∙
-            run-more (a .id) (a .version) (a .page .now) (l .left) (l .at) (draftOf (l .r)) (c .before .before .before .loop-test .taken) (sym (ap length (p .ensures)) ∙ c .before .if1 .left) ∙
+            run-more (a .id) (a .version) (a .page .now) (l .left) (l .at) (draftOf (l .r))
+            (c .before .before .before .loop-test .taken) (sym (ap length (p .ensures)) ∙ c .before .if1 .left) ∙
             l .inv .1 .1,
       ),
     )

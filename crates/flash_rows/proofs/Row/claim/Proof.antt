@@ -13,15 +13,27 @@ names-requires : tie.Need-names-requires
 names-requires c κs = search needs
 
 returns : tie.Need-returns
-returns c = let a = c .before .before .before .before .before .before .args in
-    claim-again (a .version) (a .page) (a .self) (c .before .before .before .before .enum-told .given .1) (eq-eqb _ _ (c .before .before .if1 .taken)) (sym (c .before .names .ensures) ∙ c .if2 .taken)
+returns c =
+    let c1 = c .before in
+    let c2 = c1 .before in
+    let c4 = c2 .before .before in
+    let c6 = c4 .before .before in
+    let a = c6 .args in
+    claim-again (a .version) (a .page) (a .self) (c4 .enum-told .given .1) (eq-eqb _ _ (c2 .if1 .taken)) (sym (c1 .names .ensures) ∙ c .if2 .taken)
 
 note-requires : tie.Need-note-requires
 note-requires c κs = search needs
 
 returns-2 : tie.Need-returns-2
-returns-2 c = let a = c .before .before .before .before .before .before .before .args in
-    claim-new (a .version) (a .page) (a .self) (c .before .before .before .before .before .enum-told .given .1) (eq-eqb _ _ (c .before .before .before .if1 .taken)) (c .note .result) (c .note .ensures) (sym (c .before .before .names .ensures) ∙ c .before .if2 .left)
+returns-2 c =
+    let c1 = c .before in
+    let c2 = c1 .before in
+    let c3 = c2 .before in
+    let c5 = c3 .before .before in
+    let c7 = c5 .before .before in
+    let a = c7 .args in
+    claim-new (a .version) (a .page) (a .self) (c5 .enum-told .given .1) (eq-eqb _ _ (c3 .if1 .taken))
+    (c .note .result) (c .note .ensures) (sym (c2 .names .ensures) ∙ c1 .if2 .left)
 
 enum-told-2 : tie.Need-enum-told-2
 enum-told-2 c = search needs

@@ -23,7 +23,12 @@ holds-requires-3 c κs = search needs
 
 returns-3 : tie.Need-returns-3
 unfolding Rattle.flash_rows.specs.Step.names
-returns-3 c = rw (sym (c .before .before .before .before .holds .ensures) ∙ c .before .before .before .if1 .left, sym (c .before .before .holds2 .ensures) ∙ c .before .if2 .left, c .holds3 .ensures) refl
+returns-3 c =
+    let c1 = c .before in
+    let c2 = c1 .before in
+    let c3 = c2 .before in
+    let c4 = c3 .before in
+    rw (sym (c4 .holds .ensures) ∙ c3 .if1 .left, sym (c2 .holds2 .ensures) ∙ c1 .if2 .left, c .holds3 .ensures) refl
 
 pub names-spec : {M : Type 1} → statement M
 names-spec =

@@ -25,10 +25,18 @@ same-length-2 : tie.Need-same-length-2
 same-length-2 c = search needs
 
 returns : tie.Need-returns
-returns c = let a = c .before .before .before .before .before .before .before .before .before .before .before .before .before .before .args in
-    let m = c .before .before .before .before .before .before .before .before .before .make-room in
-    let l = c .before .before .before .read-row in
-    edit-entry (a .n) (changeOf (a .change)) (nodeOf (a .edited)) (world (pagesOf (a .pool .now)) (rowsOf (a .table .now)) (a .state)) (world (pagesOf (m .last .0)) (rowsOf (m .last .1 .0)) (m .result)) (m .ensures) (l .result) (l .ensures) (c .append .result) (c .before .if1 .taken) (c .append .ensures)
+returns c =
+    let c1 = c .before in
+    let c3 = c1 .before .before in
+    let c9 = c3 .before .before .before .before .before .before in
+    let c14 = c9 .before .before .before .before .before in
+    let a = c14 .args in
+    let m = c9 .make-room in
+    let l = c3 .read-row in
+    edit-entry (a .n) (changeOf (a .change)) (nodeOf (a .edited))
+    (world (pagesOf (a .pool .now)) (rowsOf (a .table .now)) (a .state))
+    (world (pagesOf (m .last .0)) (rowsOf (m .last .1 .0)) (m .result)) (m .ensures) (l .result) (l .ensures)
+    (c .append .result) (c1 .if1 .taken) (c .append .ensures)
 
 group-requires : tie.Need-group-requires
 group-requires c κs = search needs
@@ -40,11 +48,21 @@ same-length-4 : tie.Need-same-length-4
 same-length-4 c = search needs
 
 returns-2 : tie.Need-returns-2
-returns-2 c = let a = c .before .before .before .before .before .before .before .before .before .before .before .before .before .before .before .before .before .before .before .before .args in
-    let m = c .before .before .before .before .before .before .before .before .before .before .before .before .before .before .before .make-room in
-    let l = c .before .before .before .before .before .before .before .before .before .read-row in
-    let g = c .before .before .before .before .group in
-    edit-group (a .n) (changeOf (a .change)) (nodeOf (a .edited)) (world (pagesOf (a .pool .now)) (rowsOf (a .table .now)) (a .state)) (world (pagesOf (m .last .0)) (rowsOf (m .last .1 .0)) (m .result)) (m .ensures) (l .result) (l .ensures) (world (pagesOf (g .last .0)) (rowsOf (g .last .1 .0)) (g .result)) (c .before .before .before .before .before .before .before .if1 .left) (g .ensures)
+returns-2 c =
+    let c4 = c .before .before .before .before in
+    let c7 = c4 .before .before .before in
+    let c9 = c7 .before .before in
+    let c15 = c9 .before .before .before .before .before .before in
+    let c20 = c15 .before .before .before .before .before in
+    let a = c20 .args in
+    let m = c15 .make-room in
+    let l = c9 .read-row in
+    let g = c4 .group in
+    edit-group (a .n) (changeOf (a .change)) (nodeOf (a .edited))
+    (world (pagesOf (a .pool .now)) (rowsOf (a .table .now)) (a .state))
+    (world (pagesOf (m .last .0)) (rowsOf (m .last .1 .0)) (m .result)) (m .ensures) (l .result) (l .ensures)
+    (world (pagesOf (g .last .0)) (rowsOf (g .last .1 .0)) (g .result)) (c7 .if1 .left) (g .ensures)
 
 pub edit-spec : {M : Type 1} → statement M
-edit-spec = tie.close (tie.spec make-room-requires read-row-requires append-requires same-length same-length-2 returns group-requires same-length-3 same-length-4 returns-2)
+edit-spec = tie.close (tie.spec make-room-requires read-row-requires append-requires same-length same-length-2
+    returns group-requires same-length-3 same-length-4 returns-2)

@@ -15,7 +15,8 @@ append-requires c κs = search needs
 
 returns : tie.Need-returns
 returns c = let a = c .before .before .args in
-    c .append .ensures ∙ rw (c .before .append-pairs .ensures) (appendAll-last (a .id) (a .version) (puts (pairsIn (a .v))) (link (a .v .shape) (a .v .link)) (a .state))
+    c .append .ensures ∙ rw (c .before .append-pairs .ensures)
+    (appendAll-last (a .id) (a .version) (puts (pairsIn (a .v))) (link (a .v .shape) (a .v .link)) (a .state))
 
 pub append-node-spec : {M : Type 1} → statement M
 append-node-spec = tie.close (tie.spec append-pairs-requires append-requires returns)

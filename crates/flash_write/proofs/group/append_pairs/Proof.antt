@@ -12,7 +12,9 @@ use Rattle.flash_write.proofs.group.append_pairs.Statement.{statement}
 use Rattle.flash_write.proofs.group.append_pairs.Tie as tie
 
 abbrev Inv-loop : tie.InvT-loop
-Inv-loop id version v keys pointers s₀ i₀ s i = (i ≤ v .count) × (appendAll id version (puts (firstPairs (v .count - i) keys pointers i)) s ≡ appendAll id version (puts (firstPairs (v .count) keys pointers 0)) s₀)
+Inv-loop id version v keys pointers s₀ i₀ s i = (i ≤ v .count) ×
+    (appendAll id version (puts (firstPairs (v .count - i) keys pointers i)) s ≡ appendAll id version
+    (puts (firstPairs (v .count) keys pointers 0)) s₀)
 
 abbrev μ-loop : tie.MeasureT-loop
 μ-loop id version v keys pointers s₀ i₀ s i = v .count - i
@@ -45,14 +47,19 @@ loop-less c = omega arith
 loop-again : tie.Need-loop-again Inv-loop μ-loop
 loop-again c = let a = c .before .before .before .before .before .before .args in
     let l = c .before .before .before .loop in
-    (omega arith, rw (c .append .ensures) (entries-more (a .id) (a .version) (a .v .keys) (a .v .pointers) (a .v .count) (l .i) (l .s) (c .before .if1 .taken) ∙ l .inv .1))
+    (omega arith, rw (c .append .ensures)
+    (entries-more (a .id) (a .version) (a .v .keys) (a .v .pointers) (a .v .count) (l .i) (l .s)
+    (c .before .if1 .taken) ∙ l .inv .1))
 
 returns : tie.Need-returns Inv-loop μ-loop
-returns c = let a = c .before .before .before .before .before .args in
-    let l = c .before .before .loop in
+returns c =
+    let c2 = c .before .before in
+    let c5 = c2 .before .before .before in
+    let a = c5 .args in
+    let l = c2 .loop in
     sym (entries-done (a .id) (a .version) (a .v .keys) (a .v .pointers) (a .v .count) (l .i) (l .s) (c .if1 .left)) ∙
     l .inv .1 ∙
-    ap (λ (ps : List Pair). appendAll (a .id) (a .version) (puts ps) (a .state)) (pairs-first (a .v) (c .before .before .before .before .before .pre))
+    ap (λ (ps : List Pair). appendAll (a .id) (a .version) (puts ps) (a .state)) (pairs-first (a .v) (c5 .pre))
 
 pub append-pairs-spec : {M : Type 1} → statement M
 append-pairs-spec =

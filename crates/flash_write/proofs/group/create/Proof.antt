@@ -38,13 +38,24 @@ same-length-2 : tie.Need-same-length-2
 same-length-2 c = search needs
 
 returns : tie.Need-returns
-returns c = let a = c .before .before .before .before .before .before .before .before .before .before .before .before .before .before .before .before .before .before .args in
-    let p = c .before .before .before .before .before .before .before .before .before .before .before .before .before .before .before .before .before .before .pre in
-    let m = c .before .before .before .before .before .before .before .before .before .before .before .before .make-room in
-    let n = c .before .before .before .before .before .before .before .next-sequence in
-    let r = c .before .before .before .before .before .before .no-row in
-    let t = c .before .before .before .before .start in
-    create-made (nodeOf (a .v)) (world (pagesOf (a .pool .now)) (rowsOf (a .table .now)) (a .state)) (world (pagesOf (m .last .0)) (rowsOf (m .last .1 .0)) (m .result)) (a .v .count + 1) (ap (λ (k : ℕ). k + 1) (sym (length-pairsIn (a .v) (p .2)))) (m .ensures) (t .kept .0) (n .result) (n .ensures) (r .result) (rowsOf (t .last .0)) (t .result) (c .with-nodes .result) (r .ensures) (t .ensures) (c .with-nodes .ensures) (p .1)
+returns c =
+    let c4 = c .before .before .before .before in
+    let c6 = c4 .before .before in
+    let c7 = c6 .before in
+    let c12 = c7 .before .before .before .before .before in
+    let c18 = c12 .before .before .before .before .before .before in
+    let a = c18 .args in
+    let p = c18 .pre in
+    let m = c12 .make-room in
+    let n = c7 .next-sequence in
+    let r = c6 .no-row in
+    let t = c4 .start in
+    create-made (nodeOf (a .v)) (world (pagesOf (a .pool .now)) (rowsOf (a .table .now)) (a .state))
+    (world (pagesOf (m .last .0)) (rowsOf (m .last .1 .0)) (m .result)) (a .v .count + 1)
+    (ap (λ (k : ℕ). k + 1) (sym (length-pairsIn (a .v) (p .2)))) (m .ensures) (t .kept .0) (n .result) (n .ensures)
+    (r .result) (rowsOf (t .last .0)) (t .result) (c .with-nodes .result) (r .ensures) (t .ensures)
+    (c .with-nodes .ensures) (p .1)
 
 pub create-spec : {M : Type 1} → statement M
-create-spec = tie.close (tie.spec add-make-room make-room-requires next-sequence-requires no-row-requires start-requires add-with-nodes with-nodes-requires same-length same-length-2 returns)
+create-spec = tie.close (tie.spec add-make-room make-room-requires next-sequence-requires no-row-requires
+    start-requires add-with-nodes with-nodes-requires same-length same-length-2 returns)

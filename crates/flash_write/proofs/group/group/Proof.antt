@@ -32,12 +32,21 @@ same-length-2 : tie.Need-same-length-2
 same-length-2 c = search needs
 
 returns : tie.Need-returns
-returns c = let a = c .before .before .before .before .before .before .before .before .before .before .before .before .before .before .before .before .before .args in
-    let m = c .before .before .before .before .before .before .before .before .before .before .before .make-room in
-    let n = c .before .before .before .before .before .before .next-sequence in
-    let l = c .before .before .before .before .read-row in
-    let t = c .before .before .start in
-    group-made (nodeOf (a .v)) (world (pagesOf (a .pool .now)) (rowsOf (a .table .now)) (a .state)) (world (pagesOf (m .last .0)) (rowsOf (m .last .1 .0)) (m .result)) (a .v .count + 1) (ap (λ (k : ℕ). k + 1) (sym (length-pairsIn (a .v) (c .before .before .before .before .before .before .before .before .before .before .before .before .before .before .before .before .before .pre .2)))) (m .ensures) (t .kept .0) (n .result) (n .ensures) (a .n) (l .result) (rowsOf (t .last .0)) (t .result) (l .ensures) (t .ensures)
+returns c =
+    let c2 = c .before .before in
+    let c4 = c2 .before .before in
+    let c6 = c4 .before .before in
+    let c11 = c6 .before .before .before .before .before in
+    let c17 = c11 .before .before .before .before .before .before in
+    let a = c17 .args in
+    let m = c11 .make-room in
+    let n = c6 .next-sequence in
+    let l = c4 .read-row in
+    let t = c2 .start in
+    group-made (nodeOf (a .v)) (world (pagesOf (a .pool .now)) (rowsOf (a .table .now)) (a .state))
+    (world (pagesOf (m .last .0)) (rowsOf (m .last .1 .0)) (m .result)) (a .v .count + 1)
+    (ap (λ (k : ℕ). k + 1) (sym (length-pairsIn (a .v) (c17 .pre .2)))) (m .ensures) (t .kept .0) (n .result)
+    (n .ensures) (a .n) (l .result) (rowsOf (t .last .0)) (t .result) (l .ensures) (t .ensures)
 
 pub group-spec : {M : Type 1} → statement M
 group-spec = tie.close (tie.spec add-make-room make-room-requires next-sequence-requires read-row-requires start-requires same-length same-length-2 returns)

@@ -19,7 +19,11 @@ same-length : tie.Need-same-length
 same-length c = search needs
 
 returns : tie.Need-returns
-returns c = record { rows = rw (← c .before .before .before .before .before .fresh .ensures) (c .before .before .before .before .write-row .ensures); state = rw (← c .before .with-sequence .ensures) (c .append-node .ensures) }
+returns c =
+    let c1 = c .before in
+    let c4 = c1 .before .before .before in
+    let c5 = c4 .before in
+    record { rows = rw (← c5 .fresh .ensures) (c4 .write-row .ensures); state = rw (← c1 .with-sequence .ensures) (c .append-node .ensures) }
 
 pub start-spec : {M : Type 1} → statement M
 start-spec = tie.close (tie.spec fresh-requires write-row-requires with-sequence-requires append-node-requires same-length returns)

@@ -14,11 +14,17 @@ allocate-requires : tie.Need-allocate-requires
 allocate-requires c κs = search needs
 
 write-node-requires : tie.Need-write-node-requires
-write-node-requires c κs = let a = c .before .before .before .before .before .before .before .before .before .before .before .before .before .args in
-    let p = c .before .before .before .before .before .before .before .before .before .before .before .before .before .pre in
-    let x = c .before .before .before .before .before .before .before .before .allocate in
-    let b = allocated (writeNode (a .n) (nodeOf (a .v))) (world (pagesOf (a .pool .now)) (rowsOf (a .table .now)) (a .state)) (world (pagesOf (x .last .0)) (rowsOf (x .last .1 .0)) (x .result)) (x .ensures) in
-    (x .ensures .good, c .before .before .if1 .taken, omega (arith, b .nodes, p .1), p .2)
+write-node-requires c κs =
+    let c2 = c .before .before in
+    let c8 = c2 .before .before .before .before .before .before in
+    let c13 = c8 .before .before .before .before .before in
+    let a = c13 .args in
+    let p = c13 .pre in
+    let x = c8 .allocate in
+    let b = allocated (writeNode (a .n) (nodeOf (a .v)))
+    (world (pagesOf (a .pool .now)) (rowsOf (a .table .now)) (a .state))
+    (world (pagesOf (x .last .0)) (rowsOf (x .last .1 .0)) (x .result)) (x .ensures) in
+    (x .ensures .good, c2 .if1 .taken, omega (arith, b .nodes, p .1), p .2)
 
 same-length : tie.Need-same-length
 same-length c = search needs
@@ -28,10 +34,17 @@ same-length-2 c = search needs
 
 returns : tie.Need-returns
 unfolding nodePage
-returns c = let a = c .before .before .before .before .before .before .before .before .before .before .before .before .before .before .before .before .before .before .args in
-    let x = c .before .before .before .before .before .before .before .before .before .before .before .before .before .allocate in
-    let y = c .before .before .before .before .write-node in
-    kept-room (writeNode (a .n) (nodeOf (a .v))) (world (pagesOf (a .pool .now)) (rowsOf (a .table .now)) (a .state)) (world (pagesOf (x .last .0)) (rowsOf (x .last .1 .0)) (x .result)) (x .ensures) (world (pagesOf (y .last .0)) (rowsOf (y .last .1 .0)) (y .result)) (c .before .before .before .before .before .before .before .if1 .taken) (y .ensures)
+returns c =
+    let c4 = c .before .before .before .before in
+    let c7 = c4 .before .before .before in
+    let c13 = c7 .before .before .before .before .before .before in
+    let c18 = c13 .before .before .before .before .before in
+    let a = c18 .args in
+    let x = c13 .allocate in
+    let y = c4 .write-node in
+    kept-room (writeNode (a .n) (nodeOf (a .v))) (world (pagesOf (a .pool .now)) (rowsOf (a .table .now)) (a .state))
+    (world (pagesOf (x .last .0)) (rowsOf (x .last .1 .0)) (x .result)) (x .ensures)
+    (world (pagesOf (y .last .0)) (rowsOf (y .last .1 .0)) (y .result)) (c7 .if1 .taken) (y .ensures)
 
 same-length-3 : tie.Need-same-length-3
 same-length-3 c = search needs
@@ -41,9 +54,14 @@ same-length-4 c = search needs
 
 returns-2 : tie.Need-returns-2
 unfolding nodePage
-returns-2 c = let a = c .before .before .before .before .before .before .before .before .before .before .before .args in
-    let x = c .before .before .before .before .before .before .allocate in
-    kept-stuck (writeNode (a .n) (nodeOf (a .v))) (world (pagesOf (a .pool .now)) (rowsOf (a .table .now)) (a .state)) (world (pagesOf (x .last .0)) (rowsOf (x .last .1 .0)) (x .result)) (x .ensures) (c .if1 .left)
+returns-2 c =
+    let c6 = c .before .before .before .before .before .before in
+    let c11 = c6 .before .before .before .before .before in
+    let a = c11 .args in
+    let x = c6 .allocate in
+    kept-stuck (writeNode (a .n) (nodeOf (a .v)))
+    (world (pagesOf (a .pool .now)) (rowsOf (a .table .now)) (a .state))
+    (world (pagesOf (x .last .0)) (rowsOf (x .last .1 .0)) (x .result)) (x .ensures) (c .if1 .left)
 
 pub node-page-spec : {M : Type 1} → statement M
 node-page-spec =

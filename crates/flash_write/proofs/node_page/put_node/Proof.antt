@@ -32,11 +32,15 @@ same-length c = search needs
 
 returns : tie.Need-returns
 unfolding nodePage
-returns c = let a = c .before .before .before .before .before .before .before .before .before .before .args in
-    let i : c .before .before .before .before .node-image .result ≡ image (page (a .with-sequence) (whole (a .id) (nodeOf (a .v)))) =
-    c .before .before .before .before .node-image .ensures ∙
-    ap (λ (ps : List Pair). image (page (a .with-sequence) (whole (a .id) (node (a .v .shape) ps (a .v .link))))) (pairs-first (a .v) (c .before .before .before .before .before .before .before .before .before .before .pre .2)) in
-    rw (← i) (c .before .before .put-image .ensures)
+returns c =
+    let c2 = c .before .before in
+    let c4 = c2 .before .before in
+    let c10 = c4 .before .before .before .before .before .before in
+    let a = c10 .args in
+    let i : c4 .node-image .result ≡ image (page (a .with-sequence) (whole (a .id) (nodeOf (a .v)))) =
+    c4 .node-image .ensures ∙
+    ap (λ (ps : List Pair). image (page (a .with-sequence) (whole (a .id) (node (a .v .shape) ps (a .v .link))))) (pairs-first (a .v) (c10 .pre .2)) in
+    rw (← i) (c2 .put-image .ensures)
 
 pub put-node-spec : {M : Type 1} → statement M
 put-node-spec =

@@ -35,12 +35,19 @@ same-length-2 : tie.Need-same-length-2
 same-length-2 c = search needs
 
 returns : tie.Need-returns
-returns c = let a = c .before .before .before .before .before .before .before .before .before .before .before .before .before .before .args in
-    let p = c .before .before .before .before .before .before .before .before .before .before .before .before .before .before .pre in
-    let n = c .before .before .before .before .before .before .before .before .before .next-sequence in
-    let w = c .before .before .before .before .before .before .before .put-node in
-    let d = c .before .before .before .node-page-row in
-    node-written (a .n) (nodeOf (a .v)) (pagesOf (a .pool .now)) (pagesOf (w .last .0)) (rowsOf (a .table .now)) (rowsOf (d .last .0)) (a .state) (c .advance .result) (n .result) (p .0) (w .kept .0) (d .kept .0) (p .1) (n .ensures) (w .ensures) (d .ensures) (c .advance .ensures)
+returns c =
+    let c3 = c .before .before .before in
+    let c7 = c3 .before .before .before .before in
+    let c9 = c7 .before .before in
+    let c14 = c9 .before .before .before .before .before in
+    let a = c14 .args in
+    let p = c14 .pre in
+    let n = c9 .next-sequence in
+    let w = c7 .put-node in
+    let d = c3 .node-page-row in
+    node-written (a .n) (nodeOf (a .v)) (pagesOf (a .pool .now)) (pagesOf (w .last .0)) (rowsOf (a .table .now))
+    (rowsOf (d .last .0)) (a .state) (c .advance .result) (n .result) (p .0) (w .kept .0) (d .kept .0) (p .1)
+    (n .ensures) (w .ensures) (d .ensures) (c .advance .ensures)
 
 pub write-node-spec : {M : Type 1} → statement M
 write-node-spec =

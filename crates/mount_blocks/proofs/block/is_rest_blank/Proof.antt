@@ -25,7 +25,8 @@ returns : tie.Need-returns
 unfolding restBlank firstBlank
 returns c = let a = c .before .before .before .args in
     let to = 32 * a .block + 32 in
-    ap (λ (k : ℕ). eqb k to) (c .first-written .ensures ∙ ap (λ (k : ℕ). firstIn (writtenAt (pagesOf (a .pool .now))) k to) (c .before .first-blank .ensures .0))
+    ap (λ (k : ℕ). eqb k to) (c .first-written .ensures ∙ ap
+    (λ (k : ℕ). firstIn (writtenAt (pagesOf (a .pool .now))) k to) (c .before .first-blank .ensures .0))
 
 pub is-rest-blank-spec : {M : Type 1} → statement M
 is-rest-blank-spec =

@@ -12,7 +12,8 @@ use Rattle.mount_blocks.proofs.page.first_blank.Statement.{statement}
 use Rattle.mount_blocks.proofs.page.first_blank.Tie as tie
 
 abbrev Inv-loop : tie.InvT-loop
-Inv-loop pool from to page₀ page = ((from ≤ page) × (page ≤ to)) × (firstIn (blankAt (pagesOf pool)) page to ≡ firstIn (blankAt (pagesOf pool)) from to)
+Inv-loop pool from to page₀ page = ((from ≤ page) × (page ≤ to)) ×
+    (firstIn (blankAt (pagesOf pool)) page to ≡ firstIn (blankAt (pagesOf pool)) from to)
 
 abbrev μ-loop : tie.MeasureT-loop
 μ-loop pool from to page₀ page = to - page
@@ -27,7 +28,8 @@ returns : tie.Need-returns Inv-loop μ-loop
 returns c = let a = c .before .before .before .before .before .args in
     let l = c .before .before .before .loop in
     let ps = pagesOf (a .pool .now) in (
-      in-found (blankAt ps) (a .to) (l .page) (c .before .before .loop-test .taken) (blank-at ps (l .page) true (sym (c .before .is-blank .ensures) ∙ c .if1 .taken)) ∙ l .inv .1,
+      in-found (blankAt ps) (a .to) (l .page) (c .before .before .loop-test .taken)
+      (blank-at ps (l .page) true (sym (c .before .is-blank .ensures) ∙ c .if1 .taken)) ∙ l .inv .1,
       omega arith,
       omega arith,
     )
@@ -43,7 +45,8 @@ loop-again c = let a = c .before .before .before .before .before .args in
     let l = c .before .before .before .loop in
     let ps = pagesOf (a .pool .now) in (
       omega arith,
-      in-more (blankAt ps) (a .to) (l .page) (c .before .before .loop-test .taken) (blank-at ps (l .page) false (sym (c .before .is-blank .ensures) ∙ c .if1 .left)) ∙ l .inv .1,
+      in-more (blankAt ps) (a .to) (l .page) (c .before .before .loop-test .taken)
+      (blank-at ps (l .page) false (sym (c .before .is-blank .ensures) ∙ c .if1 .left)) ∙ l .inv .1,
     )
 
 returns-2 : tie.Need-returns-2 Inv-loop μ-loop

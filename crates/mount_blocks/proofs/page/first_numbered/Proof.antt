@@ -11,7 +11,8 @@ use Rattle.mount_blocks.proofs.page.first_numbered.Statement.{statement
 use Rattle.mount_blocks.proofs.page.first_numbered.Tie as tie
 
 abbrev Inv-loop : tie.InvT-loop
-Inv-loop pool from to number page₀ page = ((from ≤ page) × (page ≤ to)) × (firstIn (numberedAt (pagesOf pool) number) page to ≡ firstIn (numberedAt (pagesOf pool) number) from to)
+Inv-loop pool from to number page₀ page = ((from ≤ page) × (page ≤ to)) ×
+    (firstIn (numberedAt (pagesOf pool) number) page to ≡ firstIn (numberedAt (pagesOf pool) number) from to)
 
 abbrev μ-loop : tie.MeasureT-loop
 μ-loop pool from to number page₀ page = to - page
@@ -23,11 +24,17 @@ sequence-on-requires : tie.Need-sequence-on-requires Inv-loop μ-loop
 sequence-on-requires c κs = search needs
 
 returns : tie.Need-returns Inv-loop μ-loop
-returns c = let a = c .before .before .before .before .before .args in
-    let l = c .before .before .before .loop in
-    let s = c .before .sequence-on in
+returns c =
+    let c1 = c .before in
+    let c2 = c1 .before in
+    let c3 = c2 .before in
+    let c5 = c3 .before .before in
+    let a = c5 .args in
+    let l = c3 .loop in
+    let s = c1 .sequence-on in
     let ps = pagesOf (a .pool .now) in
-    in-found (numberedAt ps (a .number)) (a .to) (l .page) (c .before .before .loop-test .taken) (numbered-at ps (l .page) (a .number) (s .result) (s .ensures) (c .if1 .taken)) ∙ l .inv .1
+    in-found (numberedAt ps (a .number)) (a .to) (l .page) (c2 .loop-test .taken)
+    (numbered-at ps (l .page) (a .number) (s .result) (s .ensures) (c .if1 .taken)) ∙ l .inv .1
 
 add-page : tie.Need-add-page Inv-loop μ-loop
 add-page c = search needs
@@ -41,7 +48,8 @@ loop-again c = let a = c .before .before .before .before .before .args in
     let s = c .before .sequence-on in
     let ps = pagesOf (a .pool .now) in (
       omega arith,
-      in-more (numberedAt ps (a .number)) (a .to) (l .page) (c .before .before .loop-test .taken) (other-at ps (l .page) (a .number) (s .result) (s .ensures) (c .if1 .left)) ∙ l .inv .1,
+      in-more (numberedAt ps (a .number)) (a .to) (l .page) (c .before .before .loop-test .taken)
+      (other-at ps (l .page) (a .number) (s .result) (s .ensures) (c .if1 .left)) ∙ l .inv .1,
     )
 
 returns-2 : tie.Need-returns-2 Inv-loop μ-loop

@@ -12,7 +12,8 @@ use Rattle.mount_blocks.proofs.page.first_written.Statement.{statement}
 use Rattle.mount_blocks.proofs.page.first_written.Tie as tie
 
 abbrev Inv-loop : tie.InvT-loop
-Inv-loop pool from to page₀ page = ((from ≤ page) × (page ≤ to)) × (firstIn (writtenAt (pagesOf pool)) page to ≡ firstIn (writtenAt (pagesOf pool)) from to)
+Inv-loop pool from to page₀ page = ((from ≤ page) × (page ≤ to)) ×
+    (firstIn (writtenAt (pagesOf pool)) page to ≡ firstIn (writtenAt (pagesOf pool)) from to)
 
 abbrev μ-loop : tie.MeasureT-loop
 μ-loop pool from to page₀ page = to - page
@@ -34,14 +35,21 @@ loop-again c = let a = c .before .before .before .before .before .args in
     let l = c .before .before .before .loop in
     let ps = pagesOf (a .pool .now) in (
       omega arith,
-      in-more (writtenAt ps) (a .to) (l .page) (c .before .before .loop-test .taken) (written-at ps (l .page) true (sym (c .before .is-blank .ensures) ∙ c .if1 .taken)) ∙ l .inv .1,
+      in-more (writtenAt ps) (a .to) (l .page) (c .before .before .loop-test .taken)
+      (written-at ps (l .page) true (sym (c .before .is-blank .ensures) ∙ c .if1 .taken)) ∙ l .inv .1,
     )
 
 returns : tie.Need-returns Inv-loop μ-loop
-returns c = let a = c .before .before .before .before .before .args in
-    let l = c .before .before .before .loop in
+returns c =
+    let c1 = c .before in
+    let c2 = c1 .before in
+    let c3 = c2 .before in
+    let c5 = c3 .before .before in
+    let a = c5 .args in
+    let l = c3 .loop in
     let ps = pagesOf (a .pool .now) in
-    in-found (writtenAt ps) (a .to) (l .page) (c .before .before .loop-test .taken) (written-at ps (l .page) false (sym (c .before .is-blank .ensures) ∙ c .if1 .left)) ∙ l .inv .1
+    in-found (writtenAt ps) (a .to) (l .page) (c2 .loop-test .taken)
+    (written-at ps (l .page) false (sym (c1 .is-blank .ensures) ∙ c .if1 .left)) ∙ l .inv .1
 
 returns-2 : tie.Need-returns-2 Inv-loop μ-loop
 returns-2 c = let a = c .before .before .before .args in

@@ -11,7 +11,9 @@ use Rattle.mount_blocks.proofs.rules.block_of.Statement.{statement}
 use Rattle.mount_blocks.proofs.rules.block_of.Tie as tie
 
 abbrev Inv-loop : tie.InvT-loop
-Inv-loop pool blocks number block₀ block = (block ≤ blocks) × (firstFrom (holds (pagesOf pool) number) (blocks - block) block ≡ firstFrom (holds (pagesOf pool) number) blocks 0)
+Inv-loop pool blocks number block₀ block = (block ≤ blocks) ×
+    (firstFrom (holds (pagesOf pool) number) (blocks - block) block ≡ firstFrom (holds (pagesOf pool) number) blocks
+    0)
 
 abbrev μ-loop : tie.MeasureT-loop
 μ-loop pool blocks number block₀ block = blocks - block
@@ -26,7 +28,8 @@ returns : tie.Need-returns Inv-loop μ-loop
 unfolding blockOf
 returns c = let a = c .before .before .before .before .before .args in
     let l = c .before .before .before .loop in
-    (first-found (holds (pagesOf (a .pool .now)) (a .number)) (a .blocks) (l .block) (c .before .before .loop-test .taken) (sym (c .before .holds .ensures) ∙ c .if1 .taken) ∙ l .inv .1, omega arith)
+    (first-found (holds (pagesOf (a .pool .now)) (a .number)) (a .blocks) (l .block)
+    (c .before .before .loop-test .taken) (sym (c .before .holds .ensures) ∙ c .if1 .taken) ∙ l .inv .1, omega arith)
 
 add-block : tie.Need-add-block Inv-loop μ-loop
 add-block c = search needs
@@ -37,7 +40,8 @@ loop-less c = search needs
 loop-again : tie.Need-loop-again Inv-loop μ-loop
 loop-again c = let a = c .before .before .before .before .before .args in
     let l = c .before .before .before .loop in
-    (omega arith, first-more (holds (pagesOf (a .pool .now)) (a .number)) (a .blocks) (l .block) (c .before .before .loop-test .taken) (sym (c .before .holds .ensures) ∙ c .if1 .left) ∙ l .inv .1)
+    (omega arith, first-more (holds (pagesOf (a .pool .now)) (a .number)) (a .blocks) (l .block)
+    (c .before .before .loop-test .taken) (sym (c .before .holds .ensures) ∙ c .if1 .left) ∙ l .inv .1)
 
 returns-2 : tie.Need-returns-2 Inv-loop μ-loop
 unfolding blockOf

@@ -10,7 +10,9 @@ use Rattle.mount_blocks.proofs.rules.each_passes.Statement.{statement}
 use Rattle.mount_blocks.proofs.rules.each_passes.Tie as tie
 
 abbrev Inv-loop : tie.InvT-loop
-Inv-loop pool blocks newest block₀ block = (block ≤ blocks) × (allFrom (blockPasses (pagesOf pool) newest) (blocks - block) block ≡ allFrom (blockPasses (pagesOf pool) newest) blocks 0)
+Inv-loop pool blocks newest block₀ block = (block ≤ blocks) ×
+    (allFrom (blockPasses (pagesOf pool) newest) (blocks - block) block ≡ allFrom (blockPasses (pagesOf pool) newest)
+    blocks 0)
 
 abbrev μ-loop : tie.MeasureT-loop
 μ-loop pool blocks newest block₀ block = blocks - block
@@ -23,9 +25,15 @@ passes-requires : tie.Need-passes-requires Inv-loop μ-loop
 passes-requires c κs = search needs
 
 returns : tie.Need-returns Inv-loop μ-loop
-returns c = let a = c .before .before .before .before .before .args in
-    let l = c .before .before .before .loop in
-    all-stop (blockPasses (pagesOf (a .pool .now)) (a .newest)) (a .blocks) (l .block) (c .before .before .loop-test .taken) (sym (c .before .passes .ensures) ∙ c .if1 .left) ∙ l .inv .1
+returns c =
+    let c1 = c .before in
+    let c2 = c1 .before in
+    let c3 = c2 .before in
+    let c5 = c3 .before .before in
+    let a = c5 .args in
+    let l = c3 .loop in
+    all-stop (blockPasses (pagesOf (a .pool .now)) (a .newest)) (a .blocks) (l .block) (c2 .loop-test .taken)
+    (sym (c1 .passes .ensures) ∙ c .if1 .left) ∙ l .inv .1
 
 add-block : tie.Need-add-block Inv-loop μ-loop
 add-block c = search needs
@@ -36,7 +44,8 @@ loop-less c = search needs
 loop-again : tie.Need-loop-again Inv-loop μ-loop
 loop-again c = let a = c .before .before .before .before .before .args in
     let l = c .before .before .before .loop in
-    (omega arith, all-more (blockPasses (pagesOf (a .pool .now)) (a .newest)) (a .blocks) (l .block) (c .before .before .loop-test .taken) (sym (c .before .passes .ensures) ∙ c .if1 .taken) ∙ l .inv .1)
+    (omega arith, all-more (blockPasses (pagesOf (a .pool .now)) (a .newest)) (a .blocks) (l .block)
+    (c .before .before .loop-test .taken) (sym (c .before .passes .ensures) ∙ c .if1 .taken) ∙ l .inv .1)
 
 returns-2 : tie.Need-returns-2 Inv-loop μ-loop
 returns-2 c = let a = c .before .before .before .args in

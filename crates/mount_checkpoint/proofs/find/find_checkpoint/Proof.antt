@@ -20,21 +20,32 @@ sum-pages-requires : tie.Need-sum-pages-requires
 sum-pages-requires c κs = search needs
 
 returns-2 : tie.Need-returns-2
-returns-2 c = let a = c .before .before .before .before .before .before .before .before .args in
-    let e = c .before .before .before .before .before .extent-of in
-    let t = c .before .before .sum-pages in
-    found-misfit (pagesOf (a .pool .now)) (a .blocks) (a .scratch .now) (e .result) (e .ensures .is) (c .before .before .before .if1 .left)
+returns-2 c =
+    let c2 = c .before .before in
+    let c3 = c2 .before in
+    let c5 = c3 .before .before in
+    let c8 = c5 .before .before .before in
+    let a = c8 .args in
+    let e = c5 .extent-of in
+    let t = c2 .sum-pages in
+    found-misfit (pagesOf (a .pool .now)) (a .blocks) (a .scratch .now) (e .result) (e .ensures .is) (c3 .if1 .left)
     (t .result) (t .ensures .is) (c .if2 .taken)
 
 cast-nodes : tie.Need-cast-nodes
 cast-nodes c = search needs
 
 returns-3 : tie.Need-returns-3
-returns-3 c = let a = c .before .before .before .before .before .before .before .before .before .before .before .args in
-    let e = c .before .before .before .before .before .before .before .before .extent-of in
-    let t = c .before .before .before .before .before .sum-pages in
+returns-3 c =
+    let c3 = c .before .before .before in
+    let c5 = c3 .before .before in
+    let c6 = c5 .before in
+    let c8 = c6 .before .before in
+    let c11 = c8 .before .before .before in
+    let a = c11 .args in
+    let e = c8 .extent-of in
+    let t = c5 .sum-pages in
     found-short (pagesOf (a .pool .now)) (a .blocks) (a .scratch .now) (e .result) (e .ensures .is)
-    (c .before .before .before .before .before .before .if1 .left) (t .result) (t .ensures .is) (c .before .before .before .if2 .left)
+    (c6 .if1 .left) (t .result) (t .ensures .is) (c3 .if2 .left)
     (c .if3 .taken)
 
 covers-requires : tie.Need-covers-requires
@@ -47,27 +58,44 @@ same-length : tie.Need-same-length
 same-length c = search needs
 
 returns-4 : tie.Need-returns-4
-returns-4 c = let a = c .before .before .before .before .before .before .before .before .before .before .before .before .before .before .before .before .before .args in
-    let e = c .before .before .before .before .before .before .before .before .before .before .before .before .before .before .extent-of in
-    let t = c .before .before .before .before .before .before .before .before .before .before .before .sum-pages in
-    let v = c .before .before .before .before .covers in
+returns-4 c =
+    let c1 = c .before in
+    let c4 = c1 .before .before .before in
+    let c6 = c4 .before .before in
+    let c9 = c6 .before .before .before in
+    let c11 = c9 .before .before in
+    let c12 = c11 .before in
+    let c14 = c12 .before .before in
+    let c17 = c14 .before .before .before in
+    let a = c17 .args in
+    let e = c14 .extent-of in
+    let t = c11 .sum-pages in
+    let v = c4 .covers in
     found-complete (pagesOf (a .pool .now)) (a .blocks) (a .scratch .now) (e .result) (e .ensures .is)
-    (c .before .before .before .before .before .before .before .before .before .before .before .before .if1 .left) (t .result) (t .ensures .is)
-    (c .before .before .before .before .before .before .before .before .before .if2 .left)
-    (c .before .before .before .before .before .before .if3 .left) (v .last .1 .0) (v .result) (v .ensures) (c .before .if4 .taken)
+    (c12 .if1 .left) (t .result) (t .ensures .is)
+    (c9 .if2 .left)
+    (c6 .if3 .left) (v .last .1 .0) (v .result) (v .ensures) (c1 .if4 .taken)
     (c .tariff-at .result) (c .tariff-at .ensures)
 
 same-length-2 : tie.Need-same-length-2
 same-length-2 c = search needs
 
 returns-5 : tie.Need-returns-5
-returns-5 c = let a = c .before .before .before .before .before .before .before .before .before .before .before .before .before .before .before .before .args in
-    let e = c .before .before .before .before .before .before .before .before .before .before .before .before .before .extent-of in
-    let t = c .before .before .before .before .before .before .before .before .before .before .sum-pages in
-    let v = c .before .before .before .covers in
+returns-5 c =
+    let c3 = c .before .before .before in
+    let c5 = c3 .before .before in
+    let c8 = c5 .before .before .before in
+    let c10 = c8 .before .before in
+    let c11 = c10 .before in
+    let c13 = c11 .before .before in
+    let c16 = c13 .before .before .before in
+    let a = c16 .args in
+    let e = c13 .extent-of in
+    let t = c10 .sum-pages in
+    let v = c3 .covers in
     found-uncovered (pagesOf (a .pool .now)) (a .blocks) (a .scratch .now) (e .result) (e .ensures .is)
-    (c .before .before .before .before .before .before .before .before .before .before .before .if1 .left) (t .result) (t .ensures .is)
-    (c .before .before .before .before .before .before .before .before .if2 .left) (c .before .before .before .before .before .if3 .left)
+    (c11 .if1 .left) (t .result) (t .ensures .is)
+    (c8 .if2 .left) (c5 .if3 .left)
     (v .last .1 .0) (v .result) (v .ensures) (c .if4 .left)
 
 pub find-checkpoint-spec : {M : Type 1} → statement M

@@ -11,7 +11,9 @@ use Rattle.mount_checkpoint.proofs.marks.mark_pages.Statement.{statemen
 use Rattle.mount_checkpoint.proofs.marks.mark_pages.Tie as tie
 
 abbrev Inv-loop : tie.InvT-loop
-Inv-loop pool marks₀ pages since start q₀ marks q = ((q ≤ pages) × (length marks ≡ length marks₀)) × (steps (λ i. markPage since start (pageAt (pagesOf pool) i)) (pages - q) q marks ≡ markPages (pagesOf pool) pages since start marks₀)
+Inv-loop pool marks₀ pages since start q₀ marks q = ((q ≤ pages) × (length marks ≡ length marks₀)) ×
+    (steps (λ i. markPage since start (pageAt (pagesOf pool) i)) (pages - q) q marks ≡ markPages (pagesOf pool) pages
+    since start marks₀)
 
 abbrev μ-loop : tie.MeasureT-loop
 μ-loop pool marks₀ pages since start q₀ marks q = pages - q

@@ -19,11 +19,15 @@ same-length : tie.Need-same-length
 same-length c = search needs
 
 returns : tie.Need-returns
-returns c = let a = c .before .before .before .before .before .before .before .before .before .before .before .before .args in
+returns c =
+    let c4 = c .before .before .before .before in
+    let c8 = c4 .before .before .before .before in
+    let c12 = c8 .before .before .before .before in
+    let a = c12 .args in
     window-is (pagesOf (a .pool .now)) (a .pages) (a .since) (a .start) (a .size) (length (a .marks .now))
-    (c .before .before .before .before .before .before .before .before .fill .last .0) (c .before .before .before .before .mark-pages .last .1 .0)
-    (c .before .before .before .before .before .before .before .before .fill .ensures)
-    (c .before .before .before .before .mark-pages .ensures) (c .all-set .result) (c .all-set .ensures)
+    (c8 .fill .last .0) (c4 .mark-pages .last .1 .0)
+    (c8 .fill .ensures)
+    (c4 .mark-pages .ensures) (c .all-set .result) (c .all-set .ensures)
 
 pub window-spec : {M : Type 1} → statement M
 window-spec =

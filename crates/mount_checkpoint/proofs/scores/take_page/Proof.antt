@@ -13,7 +13,8 @@ use Rattle.mount_checkpoint.proofs.scores.take_page.Statement.{statemen
 use Rattle.mount_checkpoint.proofs.scores.take_page.Tie as tie
 
 abbrev Inv-loop : tie.InvT-loop
-Inv-loop page table₀ since nodes from n i₀ table i = ((i ≤ n) × (length table ≡ length table₀)) × (steps (λ k. scoreTaken nodes (scoreAt page k .id)
+Inv-loop page table₀ since nodes from n i₀ table i = ((i ≤ n) × (length table ≡ length table₀)) ×
+    (steps (λ k. scoreTaken nodes (scoreAt page k .id)
     (scoreAt page k .score)) (n - i) i (rowsOf table) ≡ takeScores nodes page n (rowsOf table₀))
 
 abbrev μ-loop : tie.MeasureT-loop

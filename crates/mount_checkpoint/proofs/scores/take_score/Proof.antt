@@ -18,11 +18,17 @@ same-length : tie.Need-same-length
 same-length c = search needs
 
 returns : tie.Need-returns
-returns c = let a = c .before .before .before .before .before .before .before .before .before .args in
-    score-in (a .nodes) (a .id) (a .score) (rowsOf (a .table .now)) (c .before .before .before .before .before .before .before .if1 .taken)
-    (c .before .before .before .before .before .read-row .result) (c .before .before .before .scored .result)
-    (rowsOf (c .before .before .write-row .last .0)) (c .before .before .before .before .before .read-row .ensures)
-    (c .before .before .before .scored .ensures) (c .before .before .write-row .ensures)
+returns c =
+    let c2 = c .before .before in
+    let c3 = c2 .before in
+    let c5 = c3 .before .before in
+    let c7 = c5 .before .before in
+    let c9 = c7 .before .before in
+    let a = c9 .args in
+    score-in (a .nodes) (a .id) (a .score) (rowsOf (a .table .now)) (c7 .if1 .taken)
+    (c5 .read-row .result) (c3 .scored .result)
+    (rowsOf (c2 .write-row .last .0)) (c5 .read-row .ensures)
+    (c3 .scored .ensures) (c2 .write-row .ensures)
 
 returns-2 : tie.Need-returns-2
 returns-2 c = let a = c .before .before .args in

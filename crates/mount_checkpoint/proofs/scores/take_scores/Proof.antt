@@ -12,7 +12,9 @@ use Rattle.mount_checkpoint.proofs.scores.take_scores.Statement.{statem
 use Rattle.mount_checkpoint.proofs.scores.take_scores.Tie as tie
 
 abbrev Inv-loop : tie.InvT-loop
-Inv-loop pool table₀ blocks since nodes pages q₀ table q = ((q ≤ 32 * blocks) × (length table ≡ length table₀)) × (steps (λ i. takePage since nodes (pageAt (pagesOf pool) i)) (32 * blocks - q) q (rowsOf table) ≡ takePages (pagesOf pool) (32 * blocks) since nodes (rowsOf table₀))
+Inv-loop pool table₀ blocks since nodes pages q₀ table q = ((q ≤ 32 * blocks) × (length table ≡ length table₀)) ×
+    (steps (λ i. takePage since nodes (pageAt (pagesOf pool) i)) (32 * blocks - q) q (rowsOf table) ≡ takePages
+    (pagesOf pool) (32 * blocks) since nodes (rowsOf table₀))
 
 abbrev μ-loop : tie.MeasureT-loop
 μ-loop pool table₀ blocks since nodes pages q₀ table q = 32 * blocks - q

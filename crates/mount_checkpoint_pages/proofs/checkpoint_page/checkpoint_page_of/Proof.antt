@@ -22,20 +22,29 @@ payload-requires : tie.Need-payload-requires
 payload-requires c κs = search needs
 
 returns : tie.Need-returns
-returns c = let b = c .before .before .before .before .before .before .args .page .now in
-    let s = c .before .before .before .before .scores-of .result in
-    checkpoint-page-open b s (c .before .before .before .before .scores-of .ensures)
-    (payload-empty b (s .from + 9 * s .count) 0x15 2 only-15 (λ z. c .if1 .taken (ap length (c .before .payload .ensures) ∙ z)))
+returns c =
+    let c1 = c .before in
+    let c4 = c1 .before .before .before in
+    let c6 = c4 .before .before in
+    let b = c6 .args .page .now in
+    let s = c4 .scores-of .result in
+    checkpoint-page-open b s (c4 .scores-of .ensures)
+    (payload-empty b (s .from + 9 * s .count) 0x15 2 only-15 (λ z. c .if1 .taken (ap length (c1 .payload .ensures) ∙ z)))
 
 read16-requires : tie.Need-read16-requires
 read16-requires c κs = search needs
 
 returns-2 : tie.Need-returns-2
-returns-2 c = let b = c .before .before .before .before .before .before .before .args .page .now in
-    let s = c .before .before .before .before .before .scores-of .result in
-    let p = c .before .before .payload .result .now in
-    checkpoint-page-counted b s (c .before .before .before .before .before .scores-of .ensures) p (c .before .before .payload .ensures) (c .before .if1 .left)
-    (c .read16 .result) (c .read16 .ensures .is ∙ number-whole p 2 (c .before .if1 .left)) (c .read16 .ensures .small)
+returns-2 c =
+    let c1 = c .before in
+    let c2 = c1 .before in
+    let c5 = c2 .before .before .before in
+    let c7 = c5 .before .before in
+    let b = c7 .args .page .now in
+    let s = c5 .scores-of .result in
+    let p = c2 .payload .result .now in
+    checkpoint-page-counted b s (c5 .scores-of .ensures) p (c2 .payload .ensures) (c1 .if1 .left)
+    (c .read16 .result) (c .read16 .ensures .is ∙ number-whole p 2 (c1 .if1 .left)) (c .read16 .ensures .small)
 
 pub checkpoint-page-of-spec : {M : Type 1} → statement M
 checkpoint-page-of-spec =

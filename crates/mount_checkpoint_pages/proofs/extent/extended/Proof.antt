@@ -18,24 +18,41 @@ payload-requires : tie.Need-payload-requires
 payload-requires c κs = search needs
 
 returns : tie.Need-returns
-returns c = let a = c .before .before .before .before .before .before .before .args in
-    extended-later (a .q) (a .page .now) (a .e) (c .before .before .before .before .before .sequence .result)
-    (c .before .before .before .before .greater .result) (c .before .before .before .before .before .sequence .ensures)
-    (c .before .before .before .before .greater .ensures)
-    (ap length (sym (c .before .before .before .payload .ensures)) ∙ c .before .before .if1 .taken) (c .if2 .taken)
+returns c =
+    let c2 = c .before .before in
+    let c3 = c2 .before in
+    let c4 = c3 .before in
+    let c5 = c4 .before in
+    let c7 = c5 .before .before in
+    let a = c7 .args in
+    extended-later (a .q) (a .page .now) (a .e) (c5 .sequence .result)
+    (c4 .greater .result) (c5 .sequence .ensures)
+    (c4 .greater .ensures)
+    (ap length (sym (c3 .payload .ensures)) ∙ c2 .if1 .taken) (c .if2 .taken)
 
 returns-2 : tie.Need-returns-2
-returns-2 c = let a = c .before .before .before .before .before .before .before .args in
-    extended-older (a .q) (a .page .now) (a .e) (c .before .before .before .before .before .sequence .result)
-    (c .before .before .before .before .greater .result) (c .before .before .before .before .before .sequence .ensures)
-    (c .before .before .before .before .greater .ensures)
-    (ap length (sym (c .before .before .before .payload .ensures)) ∙ c .before .before .if1 .taken) (c .if2 .left)
+returns-2 c =
+    let c2 = c .before .before in
+    let c3 = c2 .before in
+    let c4 = c3 .before in
+    let c5 = c4 .before in
+    let c7 = c5 .before .before in
+    let a = c7 .args in
+    extended-older (a .q) (a .page .now) (a .e) (c5 .sequence .result)
+    (c4 .greater .result) (c5 .sequence .ensures)
+    (c4 .greater .ensures)
+    (ap length (sym (c3 .payload .ensures)) ∙ c2 .if1 .taken) (c .if2 .left)
 
 returns-3 : tie.Need-returns-3
-returns-3 c = let a = c .before .before .before .before .before .args in
-    extended-none (a .q) (a .page .now) (a .e) (c .before .before .before .sequence .result) (c .before .before .greater .result)
-    (c .before .before .before .sequence .ensures) (c .before .before .greater .ensures)
-    (payload-empty (a .page .now) 7 0x13 32 only-13 (λ z. c .if1 .left (ap length (c .before .payload .ensures) ∙ z)))
+returns-3 c =
+    let c1 = c .before in
+    let c2 = c1 .before in
+    let c3 = c2 .before in
+    let c5 = c3 .before .before in
+    let a = c5 .args in
+    extended-none (a .q) (a .page .now) (a .e) (c3 .sequence .result) (c2 .greater .result)
+    (c3 .sequence .ensures) (c2 .greater .ensures)
+    (payload-empty (a .page .now) 7 0x13 32 only-13 (λ z. c .if1 .left (ap length (c1 .payload .ensures) ∙ z)))
 
 pub extended-spec : {M : Type 1} → statement M
 extended-spec =

@@ -25,25 +25,38 @@ fits-requires : tie.Need-fits-requires
 fits-requires c κs = search needs
 
 returns-2 : tie.Need-returns-2
-returns-2 c = let a = c .before .before .before .before .before .before .before .before .before .before .args in
-    add-fit (a .since) (a .newest) (a .page .now) (a .t) (c .before .before .before .before .before .before .before .before .sequence .result)
-    (c .before .before .before .before .before .before .before .before .sequence .ensures)
-    (c .before .before .before .before .before .before .before .if1 .left)
-    (c .before .before .before .before .before .before .checkpoint-page-of .result)
-    (c .before .before .before .before .before .before .checkpoint-page-of .ensures) (sym (c .if2 .taken) ∙ c .before .fits2 .ensures)
+returns-2 c =
+    let c1 = c .before in
+    let c6 = c1 .before .before .before .before .before in
+    let c7 = c6 .before in
+    let c8 = c7 .before in
+    let c10 = c8 .before .before in
+    let a = c10 .args in
+    add-fit (a .since) (a .newest) (a .page .now) (a .t) (c8 .sequence .result)
+    (c8 .sequence .ensures)
+    (c7 .if1 .left)
+    (c6 .checkpoint-page-of .result)
+    (c6 .checkpoint-page-of .ensures) (sym (c .if2 .taken) ∙ c1 .fits2 .ensures)
 
 add-t11 : tie.Need-add-t11
 add-t11 c = search needs
 
 returns-3 : tie.Need-returns-3
-returns-3 c = let a = c .before .before .before .before .before .before .before .before .before .before .before .args in
+returns-3 c =
+    let c1 = c .before in
+    let c2 = c1 .before in
+    let c7 = c2 .before .before .before .before .before in
+    let c8 = c7 .before in
+    let c9 = c8 .before in
+    let c11 = c9 .before .before in
+    let a = c11 .args in
     add-misfit (a .since) (a .newest) (a .page .now) (a .t)
-    (c .before .before .before .before .before .before .before .before .before .sequence .result)
-    (c .before .before .before .before .before .before .before .before .before .sequence .ensures)
-    (c .before .before .before .before .before .before .before .before .if1 .left)
-    (c .before .before .before .before .before .before .before .checkpoint-page-of .result)
-    (c .before .before .before .before .before .before .before .checkpoint-page-of .ensures)
-    (sym (c .before .if2 .left) ∙ c .before .before .fits2 .ensures)
+    (c9 .sequence .result)
+    (c9 .sequence .ensures)
+    (c8 .if1 .left)
+    (c7 .checkpoint-page-of .result)
+    (c7 .checkpoint-page-of .ensures)
+    (sym (c1 .if2 .left) ∙ c2 .fits2 .ensures)
 
 pub add-page-spec : {M : Type 1} → statement M
 add-page-spec =

@@ -12,7 +12,10 @@ use Rattle.mount_pages.proofs.collect.collect.Statement.{statement}
 use Rattle.mount_pages.proofs.collect.collect.Tie as tie
 
 abbrev Inv-loop : tie.InvT-loop
-Inv-loop pool table₀ pages page₀ count₀ table page count = ((page ≤ pages) × (count ≤ page) × (length table ≡ length table₀)) × (behind (row count 0 table) (sequencesFrom (pagesOf pool) (pages - page) page) ≡ sequencesFrom (pagesOf pool) pages 0)
+Inv-loop pool table₀ pages page₀ count₀ table page count =
+    ((page ≤ pages) × (count ≤ page) × (length table ≡ length table₀)) ×
+    (behind (row count 0 table) (sequencesFrom (pagesOf pool) (pages - page) page) ≡ sequencesFrom (pagesOf pool)
+    pages 0)
 
 abbrev μ-loop : tie.MeasureT-loop
 μ-loop pool table₀ pages page₀ count₀ table page count = pages - page
@@ -38,7 +41,8 @@ loop-again : tie.Need-loop-again Inv-loop μ-loop
 loop-again c = let a = c .before .before .before .before .before .before .before .args in
     let l = c .before .before .before .before .loop in (
       omega arith,
-      collect-blank (pagesOf (a .pool .now)) (a .pages) (l .page) (c .before .before .before .loop-test .taken) (row (l .count) 0 (l .table)) (sym (c .before .before .see .ensures) ∙ c .enum-told .given .1) ∙ l .inv .1,
+      collect-blank (pagesOf (a .pool .now)) (a .pages) (l .page) (c .before .before .before .loop-test .taken)
+      (row (l .count) 0 (l .table)) (sym (c .before .before .see .ensures) ∙ c .enum-told .given .1) ∙ l .inv .1,
     )
 
 enum-known-sequence : tie.Need-enum-known-sequence Inv-loop μ-loop
@@ -65,7 +69,11 @@ loop-again-2 c = let a = c .before .before .before .before .before .before .befo
     let s = c .before .before .before .before .before .sequence .given .0 .0 in (
       omega arith,
       rw (c .before .before .write32 .ensures, row-write-front (l .count) (l .table) s (omega arith) (omega arith))
-          (collect-numbered (pagesOf (a .pool .now)) (a .pages) (l .page) (c .before .before .before .before .before .before .before .before .loop-test .taken) (row (l .count) 0 (l .table)) s (sym (c .before .before .before .before .before .before .before .see .ensures) ∙ c .before .before .before .before .before .sequence .given .1) ∙ l .inv .1),
+          (collect-numbered (pagesOf (a .pool .now)) (a .pages) (l .page)
+          (c .before .before .before .before .before .before .before .before .loop-test .taken)
+          (row (l .count) 0 (l .table)) s
+          (sym (c .before .before .before .before .before .before .before .see .ensures) ∙
+          c .before .before .before .before .before .sequence .given .1) ∙ l .inv .1),
     )
 
 enum-told-2 : tie.Need-enum-told-2 Inv-loop μ-loop
@@ -83,7 +91,8 @@ returns c = let a = c .before .before .before .before .before .before .before .a
       bad =
           λ e.
           sym (l .inv .1) ∙
-          collect-bad (pagesOf (a .pool .now)) (a .pages) (l .page) (c .before .before .before .loop-test .taken) (row (l .count) 0 (l .table)) (sym (c .before .before .see .ensures) ∙ c .enum-told2 .given .1);
+          collect-bad (pagesOf (a .pool .now)) (a .pages) (l .page) (c .before .before .before .loop-test .taken)
+          (row (l .count) 0 (l .table)) (sym (c .before .before .see .ensures) ∙ c .enum-told2 .given .1);
     }
 
 same-length-2 : tie.Need-same-length-2 Inv-loop μ-loop

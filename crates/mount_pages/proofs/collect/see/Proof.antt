@@ -37,7 +37,9 @@ unfolding seenOf viewOf
 returns c = let a = c .before .before .before .before .args in
     let b = pageAt (pagesOf (a .pool .now)) (a .page) in
     c .seen-in .ensures ∙
-    ap seenIn (c .before .view-page .ensures ∙ ap viewOf (page-part (a .pool .now) (a .page) (512 * a .page + 512 - 512 * a .page) (c .before .before .before .before .pre) (omega arith))) ∙
+    ap seenIn (c .before .view-page .ensures ∙ ap viewOf
+    (page-part (a .pool .now) (a .page) (512 * a .page + 512 - 512 * a .page)
+    (c .before .before .before .before .pre) (omega arith))) ∙
     seen-view (decode b)
 
 pub see-spec : {M : Type 1} → statement M

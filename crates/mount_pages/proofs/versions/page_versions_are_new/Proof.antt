@@ -32,7 +32,9 @@ returns : tie.Need-returns
 unfolding pageApart
 returns c = let a = c .before .before .before .before .args in
     c .is-new-version .ensures ∙
-    ap (apartOn (has (row (a .n) 0 (a .table .now)))) (page-part (a .pool .now) (a .page) (512 * a .page + 512 - 512 * a .page) (c .before .before .before .before .pre .0) (omega arith))
+    ap (apartOn (has (row (a .n) 0 (a .table .now))))
+    (page-part (a .pool .now) (a .page) (512 * a .page + 512 - 512 * a .page)
+    (c .before .before .before .before .pre .0) (omega arith))
 
 pub page-versions-are-new-spec : {M : Type 1} → statement M
 page-versions-are-new-spec =

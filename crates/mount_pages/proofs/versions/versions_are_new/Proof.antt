@@ -11,7 +11,9 @@ use Rattle.mount_pages.proofs.versions.versions_are_new.Statement.{stat
 use Rattle.mount_pages.proofs.versions.versions_are_new.Tie as tie
 
 abbrev Inv-loop : tie.InvT-loop
-Inv-loop pool table n blocks pages page₀ page = (page ≤ pages) × (allFrom (pageApart (row n 0 table) (pagesOf pool)) (pages - page) page ≡ allFrom (pageApart (row n 0 table) (pagesOf pool)) pages 0)
+Inv-loop pool table n blocks pages page₀ page = (page ≤ pages) ×
+    (allFrom (pageApart (row n 0 table) (pagesOf pool)) (pages - page) page ≡ allFrom
+    (pageApart (row n 0 table) (pagesOf pool)) pages 0)
 
 abbrev μ-loop : tie.MeasureT-loop
 μ-loop pool table n blocks pages page₀ page = pages - page
@@ -25,9 +27,15 @@ page-versions-are-new-requires c κs = (omega arith, c .before .before .before .
 
 returns : tie.Need-returns Inv-loop μ-loop
 unfolding pagesApart
-returns c = let a = c .before .before .before .before .before .before .args in
-    let l = c .before .before .before .loop in
-    all-stop (pageApart (row (a .n) 0 (a .table .now)) (pagesOf (a .pool .now))) (a .pages) (l .page) (c .before .before .loop-test .taken) (sym (c .before .page-versions-are-new .ensures) ∙ c .if1 .left) ∙ l .inv .1
+returns c =
+    let c1 = c .before in
+    let c2 = c1 .before in
+    let c3 = c2 .before in
+    let c6 = c3 .before .before .before in
+    let a = c6 .args in
+    let l = c3 .loop in
+    all-stop (pageApart (row (a .n) 0 (a .table .now)) (pagesOf (a .pool .now))) (a .pages) (l .page)
+    (c2 .loop-test .taken) (sym (c1 .page-versions-are-new .ensures) ∙ c .if1 .left) ∙ l .inv .1
 
 add-page : tie.Need-add-page Inv-loop μ-loop
 add-page c = search needs
@@ -38,7 +46,9 @@ loop-less c = search needs
 loop-again : tie.Need-loop-again Inv-loop μ-loop
 loop-again c = let a = c .before .before .before .before .before .before .args in
     let l = c .before .before .before .loop in
-    (omega arith, all-more (pageApart (row (a .n) 0 (a .table .now)) (pagesOf (a .pool .now))) (a .pages) (l .page) (c .before .before .loop-test .taken) (sym (c .before .page-versions-are-new .ensures) ∙ c .if1 .taken) ∙ l .inv .1)
+    (omega arith, all-more (pageApart (row (a .n) 0 (a .table .now)) (pagesOf (a .pool .now))) (a .pages) (l .page)
+    (c .before .before .loop-test .taken) (sym (c .before .page-versions-are-new .ensures) ∙ c .if1 .taken) ∙
+    l .inv .1)
 
 returns-2 : tie.Need-returns-2 Inv-loop μ-loop
 unfolding pagesApart

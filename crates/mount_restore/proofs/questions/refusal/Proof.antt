@@ -23,18 +23,24 @@ same-length-2 c = search needs
 
 returns-2 : tie.Need-returns-2
 returns-2 c =
-    let a = c .before .before .before .before .before .before .before .before .before .args in
-    let j = c .before .before .before .before .before .tree-passes in
-    not-refused (a .tariff) (a .state) (a .since) (pagesOf (a .pool .now)) (rowsOf (j .last .1 .0)) (j .result) (j .ensures) (c .before .before .if1 .taken) (c .if2 .taken)
+    let c2 = c .before .before in
+    let c5 = c2 .before .before .before in
+    let c9 = c5 .before .before .before .before in
+    let a = c9 .args in
+    let j = c5 .tree-passes in
+    not-refused (a .tariff) (a .state) (a .since) (pagesOf (a .pool .now)) (rowsOf (j .last .1 .0)) (j .result) (j .ensures) (c2 .if1 .taken) (c .if2 .taken)
 
 same-length-3 : tie.Need-same-length-3
 same-length-3 c = search needs
 
 returns-3 : tie.Need-returns-3
 returns-3 c =
-    let a = c .before .before .before .before .before .before .before .before .before .args in
-    let j = c .before .before .before .before .before .tree-passes in
-    refused-eight (a .tariff) (a .state) (a .since) (pagesOf (a .pool .now)) (rowsOf (j .last .1 .0)) (j .result) (j .ensures) (c .before .before .if1 .taken) (c .if2 .left)
+    let c2 = c .before .before in
+    let c5 = c2 .before .before .before in
+    let c9 = c5 .before .before .before .before in
+    let a = c9 .args in
+    let j = c5 .tree-passes in
+    refused-eight (a .tariff) (a .state) (a .since) (pagesOf (a .pool .now)) (rowsOf (j .last .1 .0)) (j .result) (j .ensures) (c2 .if1 .taken) (c .if2 .left)
 
 pub refusal-spec : {M : Type 1} → statement M
 refusal-spec =

@@ -23,9 +23,14 @@ scores-below-requires c κs = search needs
 
 returns-2 : tie.Need-returns-2
 returns-2 c =
-    let a = c .before .before .before .before .before .before .before .args in
-    score-too-great (a .tariff) (a .state) (pagesOf (a .pool .now)) (rowsOf (a .table .now)) (sym (c .before .before .before .before .in-range .ensures) ∙ c .before .before .before .if1 .taken)
-    (c .before .before .limit .result) (c .before .before .limit .ensures) (sym (c .before .scores-below .ensures) ∙ c .if2 .left)
+    let c1 = c .before in
+    let c2 = c1 .before in
+    let c3 = c2 .before in
+    let c4 = c3 .before in
+    let c7 = c4 .before .before .before in
+    let a = c7 .args in
+    score-too-great (a .tariff) (a .state) (pagesOf (a .pool .now)) (rowsOf (a .table .now)) (sym (c4 .in-range .ensures) ∙ c3 .if1 .taken)
+    (c2 .limit .result) (c2 .limit .ensures) (sym (c1 .scores-below .ensures) ∙ c .if2 .left)
 
 sub-is-sound : tie.Need-sub-is-sound
 sub-is-sound c = search needs
@@ -38,10 +43,16 @@ is-sound-requires c κs = search needs
 
 returns-3 : tie.Need-returns-3
 returns-3 c =
-    let a = c .before .before .before .before .before .before .before .before .before .args in
+    let c2 = c .before .before in
+    let c3 = c2 .before in
+    let c4 = c3 .before in
+    let c5 = c4 .before in
+    let c6 = c5 .before in
+    let c9 = c6 .before .before .before in
+    let a = c9 .args in
     c .is-sound .ensures ∙
-    tree-decides (a .tariff) (a .state) (pagesOf (a .pool .now)) (rowsOf (a .table .now)) (sym (c .before .before .before .before .before .before .in-range .ensures) ∙ c .before .before .before .before .before .if1 .taken)
-    (c .before .before .before .before .limit .result) (c .before .before .before .before .limit .ensures) (sym (c .before .before .before .scores-below .ensures) ∙ c .before .before .if2 .taken)
+    tree-decides (a .tariff) (a .state) (pagesOf (a .pool .now)) (rowsOf (a .table .now)) (sym (c6 .in-range .ensures) ∙ c5 .if1 .taken)
+    (c4 .limit .result) (c4 .limit .ensures) (sym (c3 .scores-below .ensures) ∙ c2 .if2 .taken)
 
 pub rows-pass-spec : {M : Type 1} → statement M
 rows-pass-spec =

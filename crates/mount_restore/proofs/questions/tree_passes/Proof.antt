@@ -25,9 +25,12 @@ same-length c = search needs
 
 returns-2 : tie.Need-returns-2
 returns-2 c =
-    let a = c .before .before .before .before .before .before .before .before .before .before .args in
-    let r = c .before .before .before .restore-rows in
-    too-scattered (a .tariff) (a .state) (a .since) (pagesOf (a .pool .now)) (rowsOf (r .last .1 .0)) (c .before .before .before .before .before .if1 .left) (r .result) (r .ensures) (c .if2 .left)
+    let c3 = c .before .before .before in
+    let c5 = c3 .before .before in
+    let c10 = c5 .before .before .before .before .before in
+    let a = c10 .args in
+    let r = c3 .restore-rows in
+    too-scattered (a .tariff) (a .state) (a .since) (pagesOf (a .pool .now)) (rowsOf (r .last .1 .0)) (c5 .if1 .left) (r .result) (r .ensures) (c .if2 .left)
 
 rows-pass-requires : tie.Need-rows-pass-requires
 rows-pass-requires c κs = search needs
@@ -37,9 +40,13 @@ same-length-2 c = search needs
 
 returns-3 : tie.Need-returns-3
 returns-3 c =
-    let a = c .before .before .before .before .before .before .before .before .before .before .before .before .args in
-    let r = c .before .before .before .before .before .restore-rows in
-    rows-decide (a .tariff) (a .state) (a .since) (pagesOf (a .pool .now)) (rowsOf (r .last .1 .0)) (c .before .before .before .before .before .before .before .if1 .left) (r .result) (r .ensures) (c .before .before .if2 .taken)
+    let c2 = c .before .before in
+    let c5 = c2 .before .before .before in
+    let c7 = c5 .before .before in
+    let c12 = c7 .before .before .before .before .before in
+    let a = c12 .args in
+    let r = c5 .restore-rows in
+    rows-decide (a .tariff) (a .state) (a .since) (pagesOf (a .pool .now)) (rowsOf (r .last .1 .0)) (c7 .if1 .left) (r .result) (r .ensures) (c2 .if2 .taken)
     (c .rows-pass .result) (c .rows-pass .ensures)
 
 pub tree-passes-spec : {M : Type 1} → statement M

@@ -20,9 +20,13 @@ same-length c = search needs
 
 returns : tie.Need-returns
 returns c =
-    let a = c .before .before .before .before .before .before .before .before .before .before .before .before .before .before .args in
-    rows-restored (a .blocks) (a .nodes) (a .since) (pagesOf (a .pool .now)) (a .table .now) (c .before .before .before .before .before .before .before .before .before .before .fill .last .0) (c .before .before .before .before .before .before .take-scores .last .1 .0)
-    (rowsOf (c .before .before .fill-rows .last .1 .0)) (c .before .before .fill-rows .result) (c .before .before .before .before .before .before .before .before .before .before .before .before .before .before .pre .2) (c .before .before .before .before .before .before .before .before .before .before .fill .ensures) (c .before .before .before .before .before .before .take-scores .ensures) (c .before .before .fill-rows .ensures)
+    let c2 = c .before .before in
+    let c6 = c2 .before .before .before .before in
+    let c10 = c6 .before .before .before .before in
+    let c14 = c10 .before .before .before .before in
+    let a = c14 .args in
+    rows-restored (a .blocks) (a .nodes) (a .since) (pagesOf (a .pool .now)) (a .table .now) (c10 .fill .last .0) (c6 .take-scores .last .1 .0)
+    (rowsOf (c2 .fill-rows .last .1 .0)) (c2 .fill-rows .result) (c14 .pre .2) (c10 .fill .ensures) (c6 .take-scores .ensures) (c2 .fill-rows .ensures)
 
 pub restore-rows-spec : {M : Type 1} → statement M
 restore-rows-spec =

@@ -36,7 +36,12 @@ same-length c = search needs
 
 returns : tie.Need-returns
 returns c = let a = c .before .before .before .before .before .before .before .before .before .before .before .args in
-    page-seen (a .nodes) (a .pool .now) (a .page) (512 * a .page + 512 - 512 * a .page) (rowsOf (a .table .now)) (rowsOf (c .before .before .before .before .before .before .see-entries .last .1 .0)) (rowsOf (c .before .before .see-node .last .1 .0)) (omega (arith, c .before .before .before .before .before .before .before .before .before .before .before .pre)) (omega arith) (c .before .before .before .before .before .before .see-entries .ensures) (c .before .before .see-node .ensures)
+    page-seen (a .nodes) (a .pool .now) (a .page) (512 * a .page + 512 - 512 * a .page) (rowsOf (a .table .now))
+    (rowsOf (c .before .before .before .before .before .before .see-entries .last .1 .0))
+    (rowsOf (c .before .before .see-node .last .1 .0))
+    (omega (arith, c .before .before .before .before .before .before .before .before .before .before .before .pre))
+    (omega arith) (c .before .before .before .before .before .before .see-entries .ensures)
+    (c .before .before .see-node .ensures)
 
 pub see-page-spec : {M : Type 1} → statement M
 see-page-spec =

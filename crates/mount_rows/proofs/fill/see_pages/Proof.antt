@@ -11,7 +11,9 @@ use Rattle.mount_rows.proofs.fill.see_pages.Statement.{statement}
 use Rattle.mount_rows.proofs.fill.see_pages.Tie as tie
 
 abbrev Inv-loop : tie.InvT-loop
-Inv-loop pool table₀ blocks nodes pages page₀ table page = ((page ≤ 32 * blocks) × (length table ≡ length table₀)) × (steps (seenPage nodes (pagesOf pool)) (32 * blocks - page) page (rowsOf table) ≡ steps (seenPage nodes (pagesOf pool)) (32 * blocks) 0 (rowsOf table₀))
+Inv-loop pool table₀ blocks nodes pages page₀ table page = ((page ≤ 32 * blocks) × (length table ≡ length table₀)) ×
+    (steps (seenPage nodes (pagesOf pool)) (32 * blocks - page) page (rowsOf table) ≡ steps
+    (seenPage nodes (pagesOf pool)) (32 * blocks) 0 (rowsOf table₀))
 
 abbrev μ-loop : tie.MeasureT-loop
 μ-loop pool table₀ blocks nodes pages page₀ table page = 32 * blocks - page
@@ -35,7 +37,9 @@ loop-less c = omega arith
 loop-again : tie.Need-loop-again Inv-loop μ-loop
 loop-again c = let a = c .before .before .before .before .before .before .before .before .args in
     let l = c .before .before .before .before .before .loop in
-    (omega arith, rw (c .before .before .see-page .ensures) (steps-more (seenPage (a .nodes) (pagesOf (a .pool .now))) (32 * a .blocks) (l .page) (rowsOf (l .table)) (omega arith) ∙ l .inv .1))
+    (omega arith, rw (c .before .before .see-page .ensures)
+    (steps-more (seenPage (a .nodes) (pagesOf (a .pool .now))) (32 * a .blocks) (l .page) (rowsOf (l .table))
+    (omega arith) ∙ l .inv .1))
 
 same-length : tie.Need-same-length Inv-loop μ-loop
 same-length c = omega arith

@@ -24,10 +24,15 @@ read-row-requires : tie.Need-read-row-requires Inv-loop μ-loop
 read-row-requires c κs = omega arith
 
 returns : tie.Need-returns Inv-loop μ-loop
-returns c = let a = c .before .before .before .before .before .before .args in
-    let l = c .before .before .before .before .loop in
-    let x = c .before .before .read-row in
-    sym (three-stop (rowsOf (a .table .now)) (l .left) (x .result) (c .before .before .before .loop-test .taken) (x .ensures) (c .if1 .taken)) ∙ l .inv .1
+returns c =
+    let c2 = c .before .before in
+    let c3 = c2 .before in
+    let c4 = c3 .before in
+    let c6 = c4 .before .before in
+    let a = c6 .args in
+    let l = c4 .loop in
+    let x = c2 .read-row in
+    sym (three-stop (rowsOf (a .table .now)) (l .left) (x .result) (c3 .loop-test .taken) (x .ensures) (c .if1 .taken)) ∙ l .inv .1
 
 loop-less : tie.Need-loop-less Inv-loop μ-loop
 loop-less c = omega arith
@@ -36,7 +41,8 @@ loop-again : tie.Need-loop-again Inv-loop μ-loop
 loop-again c = let a = c .before .before .before .before .before .before .args in
     let l = c .before .before .before .before .loop in
     let x = c .before .before .read-row in
-    (omega arith, three-more (rowsOf (a .table .now)) (l .left) (x .result) (c .before .before .before .loop-test .taken) (x .ensures) (c .if1 .left) ∙ l .inv .1)
+    (omega arith, three-more (rowsOf (a .table .now)) (l .left) (x .result)
+    (c .before .before .before .loop-test .taken) (x .ensures) (c .if1 .left) ∙ l .inv .1)
 
 returns-2 : tie.Need-returns-2 Inv-loop μ-loop
 returns-2 c = let a = c .before .before .before .args in

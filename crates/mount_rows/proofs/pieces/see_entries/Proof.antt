@@ -11,7 +11,9 @@ use Rattle.mount_rows.proofs.pieces.see_entries.Statement.{statement}
 use Rattle.mount_rows.proofs.pieces.see_entries.Tie as tie
 
 abbrev Inv-loop : tie.InvT-loop
-Inv-loop bytes table₀ nodes page at₀ left₀ table at left = ((at + 18 * left ≡ 493) × (length table ≡ length table₀)) × (seenRun nodes page left bytes at (rowsOf table) ≡ seenRun nodes page 27 bytes 7 (rowsOf table₀))
+Inv-loop bytes table₀ nodes page at₀ left₀ table at left =
+    ((at + 18 * left ≡ 493) × (length table ≡ length table₀)) ×
+    (seenRun nodes page left bytes at (rowsOf table) ≡ seenRun nodes page 27 bytes 7 (rowsOf table₀))
 
 abbrev μ-loop : tie.MeasureT-loop
 μ-loop bytes table₀ nodes page at₀ left₀ table at left = left
@@ -26,9 +28,15 @@ same-length : tie.Need-same-length Inv-loop μ-loop
 same-length c = omega arith
 
 returns : tie.Need-returns Inv-loop μ-loop
-returns c = let a = c .before .before .before .before .before .before .args in
-    let l = c .before .before .before .loop in
-    sym (run-stop (a .nodes) (a .page) (a .bytes .now) (l .left) (l .at) (rowsOf (l .table)) (c .before .before .loop-test .taken) (λ e. c .if1 .taken (ap length (c .before .payload .ensures) ∙ e))) ∙ l .inv .1
+returns c =
+    let c1 = c .before in
+    let c2 = c1 .before in
+    let c3 = c2 .before in
+    let c6 = c3 .before .before .before in
+    let a = c6 .args in
+    let l = c3 .loop in
+    sym (run-stop (a .nodes) (a .page) (a .bytes .now) (l .left) (l .at) (rowsOf (l .table)) (c2 .loop-test .taken)
+    (λ e. c .if1 .taken (ap length (c1 .payload .ensures) ∙ e))) ∙ l .inv .1
 
 see-entry-requires : tie.Need-see-entry-requires Inv-loop μ-loop
 see-entry-requires c κs = (c .before .if1 .left, omega arith)
@@ -50,7 +58,9 @@ loop-again c = let a = c .before .before .before .before .before .before .before
       omega arith,
       ap (seenRun (a .nodes) (a .page) (l .left - 1) (a .bytes .now) (l .at + 18))
           (x .ensures ∙ ap (λ (b : List ℕ). seenEntry (a .nodes) (a .page) b (rowsOf (l .table))) (p .ensures)) ∙
-          run-more (a .nodes) (a .page) (a .bytes .now) (l .left) (l .at) (rowsOf (l .table)) (c .before .before .before .before .before .before .loop-test .taken) (sym (ap length (p .ensures)) ∙ c .before .before .before .before .if1 .left) ∙
+          run-more (a .nodes) (a .page) (a .bytes .now) (l .left) (l .at) (rowsOf (l .table))
+          (c .before .before .before .before .before .before .loop-test .taken)
+          (sym (ap length (p .ensures)) ∙ c .before .before .before .before .if1 .left) ∙
           l .inv .1,
     )
 

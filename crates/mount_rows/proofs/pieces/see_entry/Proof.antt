@@ -21,10 +21,16 @@ same-length : tie.Need-same-length
 same-length c = search needs
 
 returns : tie.Need-returns
-returns c = let a = c .before .before .before .before .before .before .before .before .args in
-    let i = c .before .before .before .before .before .read16 in
-    let v = c .before .before .before .before .read32 in
-    entry-seen (a .nodes) (a .page) (a .entry .now) (rowsOf (a .table .now)) (rowsOf (c .before .before .see .last .0)) (i .result) (v .result) (i .ensures .is) (v .ensures .is) (c .before .before .see .ensures)
+returns c =
+    let c2 = c .before .before in
+    let c4 = c2 .before .before in
+    let c5 = c4 .before in
+    let c8 = c5 .before .before .before in
+    let a = c8 .args in
+    let i = c5 .read16 in
+    let v = c4 .read32 in
+    entry-seen (a .nodes) (a .page) (a .entry .now) (rowsOf (a .table .now)) (rowsOf (c2 .see .last .0)) (i .result)
+    (v .result) (i .ensures .is) (v .ensures .is) (c2 .see .ensures)
 
 pub see-entry-spec : {M : Type 1} → statement M
 see-entry-spec =

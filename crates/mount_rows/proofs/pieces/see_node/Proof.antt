@@ -29,11 +29,20 @@ same-length : tie.Need-same-length
 same-length c = search needs
 
 returns-2 : tie.Need-returns-2
-returns-2 c = let a = c .before .before .before .before .before .before .before .before .before .before .args in
-    let p = c .before .before .before .before .before .before .before .payload in
-    let i = c .before .before .before .before .before .read16 in
-    let s = c .before .before .before .before .sequence in
-    node-seen (a .nodes) (a .page) (a .bytes .now) (p .result .now) (rowsOf (a .table .now)) (rowsOf (c .before .before .see .last .0)) (i .result) (s .result) (p .ensures) (c .before .before .before .before .before .before .if1 .left) (i .ensures .is) (s .ensures) (c .before .before .see .ensures)
+returns-2 c =
+    let c2 = c .before .before in
+    let c4 = c2 .before .before in
+    let c5 = c4 .before in
+    let c6 = c5 .before in
+    let c7 = c6 .before in
+    let c10 = c7 .before .before .before in
+    let a = c10 .args in
+    let p = c7 .payload in
+    let i = c5 .read16 in
+    let s = c4 .sequence in
+    node-seen (a .nodes) (a .page) (a .bytes .now) (p .result .now) (rowsOf (a .table .now))
+    (rowsOf (c2 .see .last .0)) (i .result) (s .result) (p .ensures) (c6 .if1 .left) (i .ensures .is) (s .ensures)
+    (c2 .see .ensures)
 
 pub see-node-spec : {M : Type 1} → statement M
 see-node-spec =

@@ -12,8 +12,12 @@ same-length : tie.Need-same-length
 same-length c = search needs
 
 returns : tie.Need-returns
-returns c = let a = c .before .before .before .before .before .before .args in
-    at-in (a .nodes) (a .id) (a .version) (a .mode) (a .page) (rowsOf (a .table .now)) (rowsOf (c .before .before .see-row .last .0)) (c .before .before .before .before .if1 .taken) (c .before .before .see-row .ensures)
+returns c =
+    let c2 = c .before .before in
+    let c4 = c2 .before .before in
+    let c6 = c4 .before .before in
+    let a = c6 .args in
+    at-in (a .nodes) (a .id) (a .version) (a .mode) (a .page) (rowsOf (a .table .now)) (rowsOf (c2 .see-row .last .0)) (c4 .if1 .taken) (c2 .see-row .ensures)
 
 returns-2 : tie.Need-returns-2
 returns-2 c = let a = c .before .before .args in

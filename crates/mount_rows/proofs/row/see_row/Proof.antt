@@ -21,9 +21,18 @@ same-length : tie.Need-same-length
 same-length c = search needs
 
 returns : tie.Need-returns
-returns c = let a = c .before .before .before .before .before .before .before .before .before .before .before .args in
-    let l = c .before .before .before .before .before .before .before .before .read-row in
-    seen-fresh (rowsOf (a .table .now)) (rowsOf (c .before .before .write-row .last .0)) (a .id) (a .version) (a .mode) (a .page) (l .result) (l .ensures) (c .before .before .before .before .fresh .result) (c .before .before .before .note .result) (c .before .before .before .before .before .before .if1 .taken) (c .before .before .before .before .fresh .ensures) (c .before .before .before .note .ensures) (c .before .before .write-row .ensures)
+returns c =
+    let c2 = c .before .before in
+    let c3 = c2 .before in
+    let c4 = c3 .before in
+    let c6 = c4 .before .before in
+    let c8 = c6 .before .before in
+    let c11 = c8 .before .before .before in
+    let a = c11 .args in
+    let l = c8 .read-row in
+    seen-fresh (rowsOf (a .table .now)) (rowsOf (c2 .write-row .last .0)) (a .id) (a .version) (a .mode) (a .page)
+    (l .result) (l .ensures) (c4 .fresh .result) (c3 .note .result) (c6 .if1 .taken) (c4 .fresh .ensures)
+    (c3 .note .ensures) (c2 .write-row .ensures)
 
 lacks-requires : tie.Need-lacks-requires
 lacks-requires c κs = search needs
@@ -38,17 +47,33 @@ same-length-2 : tie.Need-same-length-2
 same-length-2 c = search needs
 
 returns-2 : tie.Need-returns-2
-returns-2 c = let a = c .before .before .before .before .before .before .before .before .before .before .before .before .args in
-    let l = c .before .before .before .before .before .before .before .before .before .read-row in
-    seen-more (rowsOf (a .table .now)) (rowsOf (c .before .before .write-row2 .last .0)) (a .id) (a .version) (a .mode) (a .page) (l .result) (l .ensures) (c .before .before .before .before .before .before .before .if1 .left) (c .before .before .before .one-more .result) (c .before .before .before .before .before .before .lacks .result) (c .before .before .before .before .before .before .lacks .ensures) (c .before .before .before .before .before .if2 .taken) (c .before .before .before .one-more .ensures) (c .before .before .write-row2 .ensures)
+returns-2 c =
+    let c2 = c .before .before in
+    let c3 = c2 .before in
+    let c5 = c3 .before .before in
+    let c6 = c5 .before in
+    let c7 = c6 .before in
+    let c9 = c7 .before .before in
+    let c12 = c9 .before .before .before in
+    let a = c12 .args in
+    let l = c9 .read-row in
+    seen-more (rowsOf (a .table .now)) (rowsOf (c2 .write-row2 .last .0)) (a .id) (a .version) (a .mode) (a .page)
+    (l .result) (l .ensures) (c7 .if1 .left) (c3 .one-more .result) (c6 .lacks .result) (c6 .lacks .ensures)
+    (c5 .if2 .taken) (c3 .one-more .ensures) (c2 .write-row2 .ensures)
 
 same-length-3 : tie.Need-same-length-3
 same-length-3 c = search needs
 
 returns-3 : tie.Need-returns-3
-returns-3 c = let a = c .before .before .before .before .before .before .before .args in
-    let l = c .before .before .before .before .read-row in
-    seen-same (rowsOf (a .table .now)) (rowsOf (a .table .now)) (a .id) (a .version) (a .mode) (a .page) (l .result) (l .ensures) (c .before .before .if1 .left) (c .before .lacks .result) (c .before .lacks .ensures) (c .if2 .left)
+returns-3 c =
+    let c1 = c .before in
+    let c2 = c1 .before in
+    let c4 = c2 .before .before in
+    let c7 = c4 .before .before .before in
+    let a = c7 .args in
+    let l = c4 .read-row in
+    seen-same (rowsOf (a .table .now)) (rowsOf (a .table .now)) (a .id) (a .version) (a .mode) (a .page) (l .result)
+    (l .ensures) (c2 .if1 .left) (c1 .lacks .result) (c1 .lacks .ensures) (c .if2 .left)
 
 pub see-row-spec : {M : Type 1} → statement M
 see-row-spec =

@@ -12,7 +12,8 @@ use Rattle.mount_sequences.proofs.find.has.Statement.{statement}
 use Rattle.mount_sequences.proofs.find.has.Tie as tie
 
 abbrev Inv-loop : tie.InvT-loop
-Inv-loop table n v low₀ high₀ low high = ((low ≤ high) × (high ≤ n)) × ((count (is v) (row low 0 table) ≡ 0) × (count (is v) (row (n - high) (4 * high) table) ≡ 0))
+Inv-loop table n v low₀ high₀ low high = ((low ≤ high) × (high ≤ n)) ×
+    ((count (is v) (row low 0 table) ≡ 0) × (count (is v) (row (n - high) (4 * high) table) ≡ 0))
 
 abbrev μ-loop : tie.MeasureT-loop
 μ-loop table n v low₀ high₀ low high = high - low
@@ -37,7 +38,8 @@ read32-requires c κs = omega (arith, c .before .before .before .pre .room)
 returns : tie.Need-returns Inv-loop μ-loop
 returns c = let a = c .before .before .before .before .before .args in
     let l = c .before .before .before .loop in
-    found-at (a .table .now) (a .n) (l .low + (l .high - l .low) / 2) (a .v) (c .before .read32 .result) (omega arith) (c .before .read32 .ensures .is) (c .if1 .taken)
+    found-at (a .table .now) (a .n) (l .low + (l .high - l .low) / 2) (a .v) (c .before .read32 .result)
+    (omega arith) (c .before .read32 .ensures .is) (c .if1 .taken)
 
 add-low : tie.Need-add-low Inv-loop μ-loop
 add-low c = search needs
@@ -50,7 +52,9 @@ loop-again c = let a = c .before .before .before .before .before .before .args i
     let l = c .before .before .before .before .loop in (
       omega arith,
       (
-        none-below (a .table .now) (a .n) (l .low + (l .high - l .low) / 2) (a .v) (c .before .before .read32 .result) (omega arith) (c .before .before .read32 .ensures .is) (c .before .before .before .before .before .before .pre .ascends) (c .if2 .taken),
+        none-below (a .table .now) (a .n) (l .low + (l .high - l .low) / 2) (a .v)
+        (c .before .before .read32 .result) (omega arith) (c .before .before .read32 .ensures .is)
+        (c .before .before .before .before .before .before .pre .ascends) (c .if2 .taken),
         l .inv .1 .1,
       ),
     )
@@ -66,7 +70,8 @@ loop-again-2 c = let a = c .before .before .before .before .before .before .args
       omega arith,
       (
         l .inv .1 .0,
-        none-above (a .table .now) (a .n) (l .low + (l .high - l .low) / 2) (a .v) (x .result) (omega arith) (x .ensures .is) (c .before .before .before .before .before .before .pre .ascends) more,
+        none-above (a .table .now) (a .n) (l .low + (l .high - l .low) / 2) (a .v) (x .result) (omega arith)
+        (x .ensures .is) (c .before .before .before .before .before .before .pre .ascends) more,
       ),
     )
 

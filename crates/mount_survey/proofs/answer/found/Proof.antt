@@ -13,7 +13,8 @@ fill-in-requires c κs = search needs
 
 returns : tie.Need-returns
 returns c = let a = c .before .before .before .args in
-    found-is (a .blocks) (pagesOf (a .pool .now)) (a .newest) (c .before .block-of .result) (c .fill-in .result) (c .before .block-of .ensures .0) (c .fill-in .ensures)
+    found-is (a .blocks) (pagesOf (a .pool .now)) (a .newest) (c .before .block-of .result) (c .fill-in .result)
+    (c .before .block-of .ensures .0) (c .fill-in .ensures)
 
 pub found-spec : {M : Type 1} → statement M
 found-spec = tie.close (tie.spec block-of-requires fill-in-requires returns)

@@ -32,13 +32,17 @@ same-shape-requires c κs = search needs
 
 returns : tie.Need-returns Inv-loop μ-loop
 returns c =
-    let a = c .before .before .before .before .before .before .before .args in
+    let c1 = c .before in
+    let c2 = c1 .before in
+    let c4 = c2 .before .before in
+    let c7 = c4 .before .before .before in
+    let a = c7 .args in
     let nodes = tableOf (pagesOf (a .pool .now)) (rowsOf (a .table .now)) (a .state) in
-    let turn = c .before .before .before .before .loop in
-    let read = c .before .before .node-at in
+    let turn = c4 .loop in
+    let read = c2 .node-at in
     sym
     (search-leaf nodes (turn .depth) (turn .leaf) (pairsIn (read .result)) (read .result .link)
-    (is-leaf (read .result) (nodes (turn .leaf)) (read .ensures .is) (c .before .same-shape .result) (c .before .same-shape .ensures) (c .if1 .taken))) ∙
+    (is-leaf (read .result) (nodes (turn .leaf)) (read .ensures .is) (c1 .same-shape .result) (c1 .same-shape .ensures) (c .if1 .taken))) ∙
     turn .inv .1
 
 pointer-requires : tie.Need-pointer-requires Inv-loop μ-loop

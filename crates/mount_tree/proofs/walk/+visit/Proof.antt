@@ -73,11 +73,15 @@ visit-leaf-requires t c κs = search needs
 
 returns-2 : (t : ℕ) → lts.Need-returns-2 (claims t) (at t) reads.Post Inv-loop μ-loop
 returns-2 t c =
-    let entry = c .before .before .before .before .before .before in
+    let c1 = c .before in
+    let c2 = c1 .before in
+    let c3 = c2 .before in
+    let c6 = c3 .before .before .before in
+    let entry = c6 in
     let a = entry .args in
     let table = tableOf (pagesOf (a .pool .now)) (rowsOf (a .table .now)) (a .state) in
-    visited-leaf (a .state .nodes) table (a .depth) (a .id) (a .low) (a .high) (a .w) (c .visit-leaf .result) (c .before .before .node-at .result)
-    (c .before .before .node-at .ensures .is) (c .before .before .before .if1 .taken) (c .before .if2 .taken) (c .visit-leaf .ensures)
+    visited-leaf (a .state .nodes) table (a .depth) (a .id) (a .low) (a .high) (a .w) (c .visit-leaf .result) (c2 .node-at .result)
+    (c2 .node-at .ensures .is) (c3 .if1 .taken) (c1 .if2 .taken) (c .visit-leaf .ensures)
 
 enter-branch-requires : (t : ℕ) → lts.Need-enter-branch-requires (claims t) (at t) reads.Post Inv-loop μ-loop
 enter-branch-requires t c κs = search needs
@@ -119,7 +123,8 @@ loop-again t c =
       omega arith,
       c .visit .ensures .kept,
       left-next (a .state .nodes) (visit (a .depth - 1) table) (v .result) (v .ensures .held .sized) (a .high) (turn .i) (turn .least) (turn .walked)
-          (c .visit .result) (c .before .before .pointer .result) (c .before .key .result) (c .before .before .before .if3 .taken) (c .before .before .pointer .ensures)
+          (c .visit .result) (c .before .before .pointer .result) (c .before .key .result)
+          (c .before .before .before .if3 .taken) (c .before .before .pointer .ensures)
           (c .before .key .ensures) (c .visit .ensures) ∙
           turn .inv .2,
     )
@@ -135,18 +140,25 @@ visit-requires-2 t c κs = search needs
 
 returns-3 : (t : ℕ) → lts.Need-returns-3 (claims t) (at t) reads.Post Inv-loop μ-loop
 returns-3 t c =
-    let entry = c .before .before .before .before .before .before .before .before .before .before .before in
+    let c2 = c .before .before in
+    let c4 = c2 .before .before in
+    let c5 = c4 .before in
+    let c6 = c5 .before in
+    let c7 = c6 .before in
+    let c8 = c7 .before in
+    let c11 = c8 .before .before .before in
+    let entry = c11 in
     let a = entry .args in
     let table = tableOf (pagesOf (a .pool .now)) (rowsOf (a .table .now)) (a .state) in
-    let v = c .before .before .before .before .before .before .before .node-at in
-    let turn = c .before .before .before .before .loop in
+    let v = c7 .node-at in
+    let turn = c4 .loop in
     let next = visit (a .depth - 1) table in
     walked-is (c .visit2 .result) (a .state .nodes) _ _
     (left-last (a .state .nodes) next (v .result) (v .ensures .held .sized) (a .high) (turn .i) (turn .least) (turn .walked) (c .visit2 .result)
-    (c .before .before .if3 .left) (c .visit2 .ensures))
+    (c2 .if3 .left) (c .visit2 .ensures))
     (turn .inv .2 ∙
-    visited-branch (a .state .nodes) table (a .depth) (a .id) (a .low) (a .high) (a .w) (c .before .before .before .before .before .enter-branch .result) (v .result)
-    (v .ensures .is) (c .before .before .before .before .before .before .before .before .if1 .taken) (c .before .before .before .before .before .before .if2 .left) (c .before .before .before .before .before .enter-branch .ensures))
+    visited-branch (a .state .nodes) table (a .depth) (a .id) (a .low) (a .high) (a .w) (c5 .enter-branch .result) (v .result)
+    (v .ensures .is) (c8 .if1 .taken) (c6 .if2 .left) (c5 .enter-branch .ensures))
 
 pub +visit-spec : {M : Type 1} → statement M
 +visit-spec = close μ-depth λ t. lts.spec (claims t)

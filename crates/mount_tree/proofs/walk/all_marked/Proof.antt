@@ -24,13 +24,16 @@ array-read-if1 c = omega arith
 
 returns : tie.Need-returns Inv-loop μ-loop
 returns c =
-    let entry = c .before .before .before .before in
+    let c1 = c .before in
+    let c2 = c1 .before in
+    let c4 = c2 .before .before in
+    let entry = c4 in
     let a = entry .args in
-    let i = c .before .before .loop .i in
+    let i = c2 .loop .i in
     let size = length-marks (a .nodes) (a .w) (entry .pre .1) (entry .pre .0) in
-    let read = mark-read (a .nodes) (a .w) (entry .pre .1) (entry .pre .0) i (c .before .loop-test .taken) in
-    sym (marked-not (take (a .nodes) (a .w .marks)) i (omega (arith, c .before .loop-test .taken)) (λ e. c .if1 .taken (sym read ∙ e))) ∙
-    c .before .before .loop .inv .1
+    let read = mark-read (a .nodes) (a .w) (entry .pre .1) (entry .pre .0) i (c1 .loop-test .taken) in
+    sym (marked-not (take (a .nodes) (a .w .marks)) i (omega (arith, c1 .loop-test .taken)) (λ e. c .if1 .taken (sym read ∙ e))) ∙
+    c2 .loop .inv .1
 
 add-i : tie.Need-add-i Inv-loop μ-loop
 add-i c = omega arith

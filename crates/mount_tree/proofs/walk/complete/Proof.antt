@@ -12,11 +12,14 @@ all-marked-requires c κs = search needs
 
 returns : tie.Need-returns
 returns c =
-    let a = c .before .before .before .before .args in
+    let c1 = c .before in
+    let c3 = c1 .before .before in
+    let c4 = c3 .before in
+    let a = c4 .args in
     c .all-marked .ensures ∙
     sym
-    (ap def.complete (soFar-passed (a .nodes) (a .w) (c .before .before .before .if1 .taken)) ∙
-    complete-all (walkOf (a .nodes) (a .w)) (c .before .if2 .taken))
+    (ap def.complete (soFar-passed (a .nodes) (a .w) (c3 .if1 .taken)) ∙
+    complete-all (walkOf (a .nodes) (a .w)) (c1 .if2 .taken))
 
 returns-2 : tie.Need-returns-2
 returns-2 c =

@@ -27,46 +27,67 @@ failed-requires-2 c κs = search needs
 
 returns-2 : tie.Need-returns-2
 returns-2 c =
-    let entry = c .before .before .before .before .before .before .before in
+    let c1 = c .before in
+    let c3 = c1 .before .before in
+    let c4 = c3 .before in
+    let c5 = c4 .before in
+    let c6 = c5 .before in
+    let c7 = c6 .before in
+    let entry = c7 in
     let a = entry .args in
-    let shape = c .before .before .before .before .before .before .same-shape in
-    let order = c .before .before .before .before .in-order in
+    let shape = c6 .same-shape in
+    let order = c4 .in-order in
     branch-keyless (a .v) (a .id) (a .nodes) (a .low) (a .high) (a .w) (entry .pre) (shape .result) (shape .ensures) (c .failed2 .result)
-    (order .result) (order .ensures) (c .before .before .before .if2 .taken) (c .before .before .before .before .before .if1 .left)
-    (c .before .if3 .taken) (c .failed2 .ensures)
+    (order .result) (order .ensures) (c3 .if2 .taken) (c5 .if1 .left)
+    (c1 .if3 .taken) (c .failed2 .ensures)
 
 marked-requires : tie.Need-marked-requires
 marked-requires c κs =
-    let entry = c .before .before .before .before .before .before in
+    let c2 = c .before .before in
+    let c3 = c2 .before in
+    let c5 = c3 .before .before in
+    let c6 = c5 .before in
+    let entry = c6 in
     let a = entry .args in
-    let shape = c .before .before .before .before .before .same-shape in
-    let order = c .before .before .before .in-order in
+    let shape = c5 .same-shape in
+    let order = c3 .in-order in
     let reached =
     inside (a .v) (a .id) (a .nodes) (a .low) (a .high) (a .w) (entry .pre) (shape .result) (shape .ensures) (a .w)
-    (order .result) (order .ensures) (c .before .before .if2 .taken) in
+    (order .result) (order .ensures) (c2 .if2 .taken) in
     (entry .pre .kept, omega (arith, entry .pre .few))
 
 returns-3 : tie.Need-returns-3
 returns-3 c =
-    let entry = c .before .before .before .before .before .before .before in
+    let c1 = c .before in
+    let c3 = c1 .before .before in
+    let c4 = c3 .before in
+    let c5 = c4 .before in
+    let c6 = c5 .before in
+    let c7 = c6 .before in
+    let entry = c7 in
     let a = entry .args in
-    let shape = c .before .before .before .before .before .before .same-shape in
-    let order = c .before .before .before .before .in-order in
+    let shape = c6 .same-shape in
+    let order = c4 .in-order in
     branch-keyed (a .v) (a .id) (a .nodes) (a .low) (a .high) (a .w) (entry .pre) (shape .result) (shape .ensures) (c .marked .result)
-    (order .result) (order .ensures) (c .before .before .before .if2 .taken) (c .before .before .before .before .before .if1 .left)
-    (c .before .if3 .left) (c .marked .ensures)
+    (order .result) (order .ensures) (c3 .if2 .taken) (c5 .if1 .left)
+    (c1 .if3 .left) (c .marked .ensures)
 
 failed-requires-3 : tie.Need-failed-requires-3
 failed-requires-3 c κs = search needs
 
 returns-4 : tie.Need-returns-4
 returns-4 c =
-    let entry = c .before .before .before .before .before in
+    let c1 = c .before in
+    let c2 = c1 .before in
+    let c3 = c2 .before in
+    let c4 = c3 .before in
+    let c5 = c4 .before in
+    let entry = c5 in
     let a = entry .args in
-    let shape = c .before .before .before .before .same-shape in
-    let order = c .before .before .in-order in
+    let shape = c4 .same-shape in
+    let order = c2 .in-order in
     branch-out (a .v) (a .id) (a .nodes) (a .low) (a .high) (a .w) (entry .pre) (shape .result) (shape .ensures) (c .failed3 .result)
-    (order .result) (order .ensures) (c .before .before .before .if1 .left) (c .before .if2 .left) (c .failed3 .ensures)
+    (order .result) (order .ensures) (c3 .if1 .left) (c1 .if2 .left) (c .failed3 .ensures)
 
 pub enter-branch-spec : {M : Type 1} → statement M
 enter-branch-spec =

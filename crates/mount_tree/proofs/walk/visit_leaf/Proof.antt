@@ -16,49 +16,70 @@ cast-marked c = search needs
 
 marked-requires : tie.Need-marked-requires
 marked-requires c κs =
-    let entry = c .before .before .before .before .before .before .before in
+    let c3 = c .before .before .before in
+    let c4 = c3 .before in
+    let c6 = c4 .before .before in
+    let c7 = c6 .before in
+    let entry = c7 in
     let a = entry .args in
-    let shape = c .before .before .before .before .before .before .same-shape in
-    let order = c .before .before .before .before .in-order in
+    let shape = c6 .same-shape in
+    let order = c4 .in-order in
     let reached =
     inside (a .v) (a .id) (a .nodes) (a .low) (a .high) (a .w) (entry .pre) (shape .result) (shape .ensures) (a .w)
-    (order .result) (order .ensures) (c .before .before .before .if2 .taken) in
+    (order .result) (order .ensures) (c3 .if2 .taken) in
     (entry .pre .kept, omega (arith, entry .pre .few))
 
 returns : tie.Need-returns
 returns c =
-    let entry = c .before .before .before .before .before .before .before .before in
+    let c2 = c .before .before in
+    let c4 = c2 .before .before in
+    let c5 = c4 .before in
+    let c6 = c5 .before in
+    let c7 = c6 .before in
+    let c8 = c7 .before in
+    let entry = c8 in
     let a = entry .args in
-    let shape = c .before .before .before .before .before .before .before .same-shape in
-    let order = c .before .before .before .before .before .in-order in
+    let shape = c7 .same-shape in
+    let order = c5 .in-order in
     leaf-awaited (a .v) (a .id) (a .nodes) (a .low) (a .high) (a .w) (entry .pre) (shape .result) (shape .ensures) (c .marked .result)
-    (order .result) (order .ensures) (c .before .before .before .before .if2 .taken) (c .before .before .before .before .before .before .if1 .taken)
-    (c .before .before .if3 .taken) (c .marked .ensures)
+    (order .result) (order .ensures) (c4 .if2 .taken) (c6 .if1 .taken)
+    (c2 .if3 .taken) (c .marked .ensures)
 
 failed-requires : tie.Need-failed-requires
 failed-requires c κs = search needs
 
 returns-2 : tie.Need-returns-2
 returns-2 c =
-    let entry = c .before .before .before .before .before .before .before in
+    let c1 = c .before in
+    let c3 = c1 .before .before in
+    let c4 = c3 .before in
+    let c5 = c4 .before in
+    let c6 = c5 .before in
+    let c7 = c6 .before in
+    let entry = c7 in
     let a = entry .args in
-    let shape = c .before .before .before .before .before .before .same-shape in
-    let order = c .before .before .before .before .in-order in
+    let shape = c6 .same-shape in
+    let order = c4 .in-order in
     leaf-unawaited (a .v) (a .id) (a .nodes) (a .low) (a .high) (a .w) (entry .pre) (shape .result) (shape .ensures) (c .failed .result)
-    (order .result) (order .ensures) (c .before .before .before .if2 .taken) (c .before .before .before .before .before .if1 .taken)
-    (c .before .if3 .left) (c .failed .ensures)
+    (order .result) (order .ensures) (c3 .if2 .taken) (c5 .if1 .taken)
+    (c1 .if3 .left) (c .failed .ensures)
 
 failed-requires-2 : tie.Need-failed-requires-2
 failed-requires-2 c κs = search needs
 
 returns-3 : tie.Need-returns-3
 returns-3 c =
-    let entry = c .before .before .before .before .before in
+    let c1 = c .before in
+    let c2 = c1 .before in
+    let c3 = c2 .before in
+    let c4 = c3 .before in
+    let c5 = c4 .before in
+    let entry = c5 in
     let a = entry .args in
-    let shape = c .before .before .before .before .same-shape in
-    let order = c .before .before .in-order in
+    let shape = c4 .same-shape in
+    let order = c2 .in-order in
     leaf-out (a .v) (a .id) (a .nodes) (a .low) (a .high) (a .w) (entry .pre) (shape .result) (shape .ensures) (c .failed2 .result)
-    (order .result) (order .ensures) (c .before .before .before .if1 .taken) (c .before .if2 .left) (c .failed2 .ensures)
+    (order .result) (order .ensures) (c3 .if1 .taken) (c1 .if2 .left) (c .failed2 .ensures)
 
 failed-requires-3 : tie.Need-failed-requires-3
 failed-requires-3 c κs = search needs

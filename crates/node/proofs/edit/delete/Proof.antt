@@ -13,8 +13,11 @@ enum-known-found c = search needs
 
 removed-requires : tie.Need-removed-requires
 removed-requires c κs =
-    let entry = c .before .before .before .before in
-    let e = sym (c .before .before .before .find .ensures) ∙ c .before .found .given .1 in
+    let c1 = c .before in
+    let c3 = c1 .before .before in
+    let c4 = c3 .before in
+    let entry = c4 in
+    let e = sym (c3 .find .ensures) ∙ c1 .found .given .1 in
     (entry .pre .sized, at-inside (entry .args .v) (entry .pre) (entry .args .key) _ e)
 
 enum-told : tie.Need-enum-told
@@ -22,8 +25,11 @@ enum-told c = search needs
 
 returns : tie.Need-returns
 returns c =
-    let entry = c .before .before .before .before .before in
-    let e = sym (c .before .before .before .before .find .ensures) ∙ c .before .before .found .given .1 in
+    let c2 = c .before .before in
+    let c4 = c2 .before .before in
+    let c5 = c4 .before in
+    let entry = c5 in
+    let e = sym (c4 .find .ensures) ∙ c2 .found .given .1 in
     becomes-removed (entry .args .v) (c .removed .result) (entry .pre) (entry .args .key) _ e (c .removed .ensures)
 
 returns-2 : tie.Need-returns-2

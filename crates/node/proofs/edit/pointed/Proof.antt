@@ -11,7 +11,8 @@ repointed-requires c κs = search needs
 returns : tie.Need-returns
 returns c =
     let entry = c .before .before .before in
-    becomes-repointed (entry .args .v) (c .repointed .result) (entry .pre) (entry .args .at) (entry .args .pointer) (c .before .if1 .taken) (c .repointed .ensures)
+    becomes-repointed (entry .args .v) (c .repointed .result) (entry .pre) (entry .args .at) (entry .args .pointer)
+    (c .before .if1 .taken) (c .repointed .ensures)
 
 relinked-requires : tie.Need-relinked-requires
 relinked-requires c κs = search needs

@@ -15,8 +15,11 @@ enum-known-found c = search needs
 
 repointed-requires : tie.Need-repointed-requires
 repointed-requires c κs =
-    let entry = c .before .before .before .before in
-    let e = sym (c .before .before .before .find .ensures) ∙ c .before .found .given .1 in
+    let c1 = c .before in
+    let c3 = c1 .before .before in
+    let c4 = c3 .before in
+    let entry = c4 in
+    let e = sym (c3 .find .ensures) ∙ c1 .found .given .1 in
     (entry .pre .0 .sized, at-inside (entry .args .v) (entry .pre .0) (entry .args .key) _ e)
 
 enum-known-found-2 : tie.Need-enum-known-found-2
@@ -24,9 +27,12 @@ enum-known-found-2 c = search needs
 
 added-requires : tie.Need-added-requires
 added-requires c κs =
-    let entry = c .before .before .before .before in
+    let c1 = c .before in
+    let c3 = c1 .before .before in
+    let c4 = c3 .before in
+    let entry = c4 in
     let a = entry .args in
-    let e = sym (c .before .before .before .find .ensures) ∙ c .before .found2 .given .1 in (
+    let e = sym (c3 .find .ensures) ∙ c1 .found2 .given .1 in (
       entry .pre .0 .sized,
       above-inside (a .v) (entry .pre .0) (a .key) _ e,
       omega (arith, entry .pre .1, length-put-above (a .v) (entry .pre .0) (a .key) _ (a .pointer) e),

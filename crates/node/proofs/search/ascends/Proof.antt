@@ -33,12 +33,17 @@ wide-requires c κs = search needs
 
 returns : tie.Need-returns Inv-loop μ-loop
 returns c =
-    let entry = c .before .before .before .before .before .before in
+    let c1 = c .before in
+    let c2 = c1 .before in
+    let c4 = c2 .before .before in
+    let c6 = c4 .before .before in
+    let entry = c6 in
     let v = entry .args .v in
-    let turn = c .before .before .before .before .loop in
-    let key = keyAt-pairsIn v (entry .pre) (turn .i) (c .before .before .if1 .taken) in
+    let turn = c4 .loop in
+    let key = keyAt-pairsIn v (entry .pre) (turn .i) (c2 .if1 .taken) in
     let size = length-pairsIn v (entry .pre) in
-    sym (ascends-low (turn .least) (entry .args .high) (pairsIn v) (turn .i) (omega (arith, c .before .before .if1 .taken)) (omega (arith, c .before .wide .ensures, c .if2 .taken))) ∙
+    sym (ascends-low (turn .least) (entry .args .high) (pairsIn v) (turn .i) (omega (arith, c2 .if1 .taken))
+    (omega (arith, c1 .wide .ensures, c .if2 .taken))) ∙
     turn .inv .1
 
 returns-2 : tie.Need-returns-2 Inv-loop μ-loop

@@ -26,15 +26,21 @@ array-read-if2 c = search needs
 
 returns : tie.Need-returns
 returns c =
-    let entry = c .before .before .before .before .before .before in
-    let searched = c .before .before .before .before in
-    found-at-value (entry .args .v) (entry .pre) (entry .args .key) (searched .place .result) (at-place searched) (c .before .if1 .taken) (c .if2 .taken)
+    let c1 = c .before in
+    let c4 = c1 .before .before .before in
+    let c6 = c4 .before .before in
+    let entry = c6 in
+    let searched = c4 in
+    found-at-value (entry .args .v) (entry .pre) (entry .args .key) (searched .place .result) (at-place searched) (c1 .if1 .taken) (c .if2 .taken)
 
 returns-2 : tie.Need-returns-2
 returns-2 c =
-    let entry = c .before .before .before .before .before .before in
-    let searched = c .before .before .before .before in
-    found-above-value (entry .args .v) (entry .pre) (entry .args .key) (searched .place .result) (at-place searched) (c .before .if1 .taken) (c .if2 .left)
+    let c1 = c .before in
+    let c4 = c1 .before .before .before in
+    let c6 = c4 .before .before in
+    let entry = c6 in
+    let searched = c4 in
+    found-above-value (entry .args .v) (entry .pre) (entry .args .key) (searched .place .result) (at-place searched) (c1 .if1 .taken) (c .if2 .left)
 
 returns-3 : tie.Need-returns-3
 returns-3 c =

@@ -11,7 +11,8 @@ use Rattle.page_read.proofs.field.count_scores.Statement.{statement}
 use Rattle.page_read.proofs.field.count_scores.Tie as tie
 
 abbrev Inv-loop : tie.InvT-loop
-Inv-loop page from most n₀ at₀ n at = ((n ≤ most) × (at ≡ from + 9 * n)) × (n + run scoreOk 0x14 9 (most - n) page at ≡ run scoreOk 0x14 9 most page from)
+Inv-loop page from most n₀ at₀ n at = ((n ≤ most) × (at ≡ from + 9 * n)) ×
+    (n + run scoreOk 0x14 9 (most - n) page at ≡ run scoreOk 0x14 9 most page from)
 
 abbrev μ-loop : tie.MeasureT-loop
 μ-loop page from most n₀ at₀ n at = most - n

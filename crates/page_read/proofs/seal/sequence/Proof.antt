@@ -13,13 +13,15 @@ payload-requires : tie.Need-payload-requires
 payload-requires c κs = search needs
 
 returns : tie.Need-returns
-returns c = sym (ap number (payload-empty (c .before .before .before .args .page .now) 0 0x10 4 only-10 (λ z. c .if1 .taken (ap length (c .before .payload .ensures) ∙ z))))
+returns c = sym (ap number (payload-empty (c .before .before .before .args .page .now) 0 0x10 4 only-10
+    (λ z. c .if1 .taken (ap length (c .before .payload .ensures) ∙ z))))
 
 read32-requires : tie.Need-read32-requires
 read32-requires c κs = search needs
 
 returns-2 : tie.Need-returns-2
-returns-2 c = c .read32 .ensures .is ∙ number-whole (c .before .before .payload .result .now) 4 (c .before .if1 .left) ∙ ap number (c .before .before .payload .ensures)
+returns-2 c = c .read32 .ensures .is ∙ number-whole (c .before .before .payload .result .now) 4
+    (c .before .if1 .left) ∙ ap number (c .before .before .payload .ensures)
 
 pub sequence-spec : {M : Type 1} → statement M
 sequence-spec = tie.close (tie.spec payload-requires returns read32-requires returns-2)

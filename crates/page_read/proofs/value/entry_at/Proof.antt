@@ -20,7 +20,8 @@ payload-requires c κs = search needs
 
 returns : tie.Need-returns
 returns c = let a = c .before .before .before .args in
-    sym (ap entryValue (payload-empty (a .page .now) (7 + 18 * a .i) 0x12 15 only-12 (λ z. c .if1 .taken (ap length (c .before .payload .ensures) ∙ z))) ∙ entryValue-empty)
+    sym (ap entryValue (payload-empty (a .page .now) (7 + 18 * a .i) 0x12 15 only-12
+    (λ z. c .if1 .taken (ap length (c .before .payload .ensures) ∙ z))) ∙ entryValue-empty)
 
 entry-of-requires : tie.Need-entry-of-requires
 entry-of-requires c κs = search needs

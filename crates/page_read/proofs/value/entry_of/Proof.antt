@@ -21,7 +21,11 @@ read32-requires-3 c κs = search needs
 
 returns : tie.Need-returns
 unfolding entryValue
-returns c = rw (c .before .before .before .before .read16 .ensures .is, c .before .before .before .read32 .ensures .is, c .before .read322 .ensures .is, c .read323 .ensures .is)
+returns c =
+    let c1 = c .before in
+    let c3 = c1 .before .before in
+    let c4 = c3 .before in
+    rw (c4 .read16 .ensures .is, c3 .read32 .ensures .is, c1 .read322 .ensures .is, c .read323 .ensures .is)
 
 pub entry-of-spec : {M : Type 1} → statement M
 entry-of-spec =

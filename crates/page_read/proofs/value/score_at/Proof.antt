@@ -20,7 +20,8 @@ payload-requires c κs = search needs
 
 returns : tie.Need-returns
 returns c = let a = c .before .before .before .args in
-    sym (ap scoreValue (payload-empty (a .page .now) (a .from + 9 * a .i) 0x14 6 only-14 (λ z. c .if1 .taken (ap length (c .before .payload .ensures) ∙ z))) ∙ scoreValue-empty)
+    sym (ap scoreValue (payload-empty (a .page .now) (a .from + 9 * a .i) 0x14 6 only-14
+    (λ z. c .if1 .taken (ap length (c .before .payload .ensures) ∙ z))) ∙ scoreValue-empty)
 
 read16-requires : tie.Need-read16-requires
 read16-requires c κs = search needs

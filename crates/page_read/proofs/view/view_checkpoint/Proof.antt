@@ -33,11 +33,17 @@ view-scores-requires c κs = let b = c .before .before .before .before .args .pa
     }
 
 returns : tie.Need-returns
-returns c = let b = c .before .before .before .before .before .args .page .now in
+returns c =
+    let c1 = c .before in
+    let c2 = c1 .before in
+    let c3 = c2 .before in
+    let c5 = c3 .before .before in
+    let b = c5 .args .page .now in
     let t = payloadAt b 7 0x13 in
-    let z = payload-empty b 7 0x13 32 only-13 (λ y. c .before .before .if1 .taken (ap length (c .before .before .before .payload .ensures) ∙ y)) in
+    let z = payload-empty b 7 0x13 32 only-13 (λ y. c2 .if1 .taken (ap length (c3 .payload .ensures) ∙ y)) in
     c .view-scores .ensures ∙
-    checkpoint-is (c .before .before .before .before .before .args .sequence) t b 7 54 (c .before .count-scores .result) (omega (arith, ap taken z)) (sym (ap (λ (p : List ℕ). mostScores (found p)) z)) (c .before .count-scores .ensures .0)
+    checkpoint-is (c5 .args .sequence) t b 7 54 (c1 .count-scores .result) (omega (arith, ap taken z))
+    (sym (ap (λ (p : List ℕ). mostScores (found p)) z)) (c1 .count-scores .ensures .0)
 
 count-scores-requires-2 : tie.Need-count-scores-requires-2
 count-scores-requires-2 c κs = search needs
@@ -61,7 +67,11 @@ returns-2 c = let b = c .before .before .before .before .before .args .page .now
     let l : length t ≡ 32 = ap length (sym (c .before .before .before .payload .ensures)) ∙ c .before .before .if1 .left in
     let f : found t ≡ true = found-true t (omega arith) in
     c .view-scores2 .ensures ∙
-    checkpoint-is (c .before .before .before .before .before .args .sequence) t b 42 50 (c .before .count-scores2 .result) (omega (arith, taken-some t (omega arith))) (sym (ap mostScores f)) (c .before .count-scores2 .ensures .0)
+    checkpoint-is (c .before .before .before .before .before .args .sequence) t b 42 50
+    (c .before .count-scores2 .result) (omega (arith, taken-some t (omega arith))) (sym (ap mostScores f))
+    (c .before .count-scores2 .ensures .0)
 
 pub view-checkpoint-spec : {M : Type 1} → statement M
-view-checkpoint-spec = tie.close (tie.spec payload-requires count-scores-requires view-scores-requires returns count-scores-requires-2 view-scores-requires-2 returns-2)
+view-checkpoint-spec = tie.close
+    (tie.spec payload-requires count-scores-requires view-scores-requires returns count-scores-requires-2
+    view-scores-requires-2 returns-2)

@@ -35,11 +35,15 @@ is-shape-requires : tie.Need-is-shape-requires
 is-shape-requires c κs = search needs
 
 returns-2 : tie.Need-returns-2
-returns-2 c = let b = c .before .before .before .before .before .before .args .page .now in
-    let q = c .before .before .before .before .payload .ensures in
+returns-2 c =
+    let c1 = c .before in
+    let c4 = c1 .before .before .before in
+    let c6 = c4 .before .before in
+    let b = c6 .args .page .now in
+    let q = c4 .payload .ensures in
     let l : 1 ≤ length (payloadAt b 7 0x11) = omega (arith, ap length q) in
-    node-other (c .before .before .before .before .before .before .args .sequence) (payloadAt b 7 0x11) b (found-true (payloadAt b 7 0x11) l)
-    (ap is-a-shape (sym q) ∙ sym (c .before .is-shape .ensures) ∙ c .if2 .left)
+    node-other (c6 .args .sequence) (payloadAt b 7 0x11) b (found-true (payloadAt b 7 0x11) l)
+    (ap is-a-shape (sym q) ∙ sym (c1 .is-shape .ensures) ∙ c .if2 .left)
 
 add-is-sealed : tie.Need-add-is-sealed
 add-is-sealed c = search needs
@@ -54,25 +58,39 @@ shape-of-requires : tie.Need-shape-of-requires
 shape-of-requires c κs = search needs
 
 returns-3 : tie.Need-returns-3
-returns-3 c = let b = c .before .before .before .before .before .before .before .before .before .before .args .page .now in
-    let s = c .before .before .before .before .before .before .before .before .before .before .args .sequence in
-    let q = c .before .before .before .before .before .before .before .before .payload .ensures in
+returns-3 c =
+    let c1 = c .before in
+    let c2 = c1 .before in
+    let c3 = c2 .before in
+    let c4 = c3 .before in
+    let c5 = c4 .before in
+    let c8 = c5 .before .before .before in
+    let c10 = c8 .before .before in
+    let b = c10 .args .page .now in
+    let s = c10 .args .sequence in
+    let q = c8 .payload .ensures in
     let p = payloadAt b 7 0x11 in
     let l : 1 ≤ length p = omega (arith, ap length q) in
-    let e : 7 + taken p ≡ 10 + length (c .before .before .before .before .before .before .before .before .payload .result .now) = omega (arith, taken-some p l, ap length q) in
-    rw (c .before .read16 .ensures .is, c .shape-of .ensures)
+    let e : 7 + taken p ≡ 10 + length (c8 .payload .result .now) = omega (arith, taken-some p l, ap length q) in
+    rw (c1 .read16 .ensures .is, c .shape-of .ensures)
     (ap (λ (x : List ℕ). NodePage s (numberAt 2 x 0) (shapeOfNumber (getD x 2 0)) (pairsIn x)) q ∙
-    node-sealed s p b (found-true p l) (ap is-a-shape (sym q) ∙ sym (c .before .before .before .before .before .is-shape .ensures) ∙ c .before .before .before .before .if2 .taken)
-    (ap (sealedAt b) e ∙ sym (c .before .before .before .is-sealed .ensures) ∙ c .before .before .if3 .taken))
+    node-sealed s p b (found-true p l) (ap is-a-shape (sym q) ∙ sym (c5 .is-shape .ensures) ∙ c4 .if2 .taken)
+    (ap (sealedAt b) e ∙ sym (c3 .is-sealed .ensures) ∙ c2 .if3 .taken))
 
 returns-4 : tie.Need-returns-4
-returns-4 c = let b = c .before .before .before .before .before .before .before .before .args .page .now in
-    let q = c .before .before .before .before .before .before .payload .ensures in
+returns-4 c =
+    let c1 = c .before in
+    let c2 = c1 .before in
+    let c3 = c2 .before in
+    let c6 = c3 .before .before .before in
+    let c8 = c6 .before .before in
+    let b = c8 .args .page .now in
+    let q = c6 .payload .ensures in
     let p = payloadAt b 7 0x11 in
     let l : 1 ≤ length p = omega (arith, ap length q) in
-    let e : 7 + taken p ≡ 10 + length (c .before .before .before .before .before .before .payload .result .now) = omega (arith, taken-some p l, ap length q) in
-    node-unsealed (c .before .before .before .before .before .before .before .before .args .sequence) p b (found-true p l) (ap is-a-shape (sym q) ∙ sym (c .before .before .before .is-shape .ensures) ∙ c .before .before .if2 .taken)
-    (ap (sealedAt b) e ∙ sym (c .before .is-sealed .ensures) ∙ c .if3 .left)
+    let e : 7 + taken p ≡ 10 + length (c6 .payload .result .now) = omega (arith, taken-some p l, ap length q) in
+    node-unsealed (c8 .args .sequence) p b (found-true p l) (ap is-a-shape (sym q) ∙ sym (c3 .is-shape .ensures) ∙ c2 .if2 .taken)
+    (ap (sealedAt b) e ∙ sym (c1 .is-sealed .ensures) ∙ c .if3 .left)
 
 pub view-node-spec : {M : Type 1} → statement M
 view-node-spec =

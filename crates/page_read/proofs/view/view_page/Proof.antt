@@ -23,9 +23,14 @@ sequence-requires c κs = search needs
 
 returns-2 : tie.Need-returns-2
 unfolding viewOf
-returns-2 c = let b = c .before .before .before .before .before .args .page .now in
-    sym (ap view (decode-other b (sym (c .before .before .before .all-blank .ensures) ∙ c .before .before .if1 .left) ∙
-    written-zero _ b (omega (arith, c .before .sequence .ensures))))
+returns-2 c =
+    let c1 = c .before in
+    let c2 = c1 .before in
+    let c3 = c2 .before in
+    let c5 = c3 .before .before in
+    let b = c5 .args .page .now in
+    sym (ap view (decode-other b (sym (c3 .all-blank .ensures) ∙ c2 .if1 .left) ∙
+    written-zero _ b (omega (arith, c1 .sequence .ensures))))
 
 shared-slice-read-tag : tie.Need-shared-slice-read-tag
 shared-slice-read-tag c = search needs
@@ -38,7 +43,8 @@ unfolding viewOf
 returns-3 c = let b = c .before .before .before .before .before .before .before .before .args .page .now in
     let s = c .before .before .before .before .sequence .result in
     c .view-log .ensures ∙
-    sym (ap view (decode-other b (sym (c .before .before .before .before .before .before .all-blank .ensures) ∙ c .before .before .before .before .before .if1 .left) ∙
+    sym (ap view (decode-other b (sym (c .before .before .before .before .before .before .all-blank .ensures) ∙
+    c .before .before .before .before .before .if1 .left) ∙
     ap (λ (x : ℕ). decodeWritten x b) (sym (c .before .before .before .before .sequence .ensures)) ∙
     written-from s b (omega arith) ∙ content-log s b (getD b 7 0) (c .before .if3 .taken)))
 
@@ -50,7 +56,8 @@ unfolding viewOf
 returns-4 c = let b = c .before .before .before .before .before .before .before .before .before .args .page .now in
     let s = c .before .before .before .before .before .sequence .result in
     c .view-node .ensures ∙
-    sym (ap view (decode-other b (sym (c .before .before .before .before .before .before .before .all-blank .ensures) ∙ c .before .before .before .before .before .before .if1 .left) ∙
+    sym (ap view (decode-other b (sym (c .before .before .before .before .before .before .before .all-blank .ensures)
+    ∙ c .before .before .before .before .before .before .if1 .left) ∙
     ap (λ (x : ℕ). decodeWritten x b) (sym (c .before .before .before .before .before .sequence .ensures)) ∙
     written-from s b (omega arith) ∙ content-node s b (getD b 7 0) (c .before .if4 .taken)))
 
@@ -62,9 +69,11 @@ unfolding viewOf
 returns-5 c = let b = c .before .before .before .before .before .before .before .before .before .args .page .now in
     let s = c .before .before .before .before .before .sequence .result in
     c .view-checkpoint .ensures ∙
-    sym (ap view (decode-other b (sym (c .before .before .before .before .before .before .before .all-blank .ensures) ∙ c .before .before .before .before .before .before .if1 .left) ∙
+    sym (ap view (decode-other b (sym (c .before .before .before .before .before .before .before .all-blank .ensures)
+    ∙ c .before .before .before .before .before .before .if1 .left) ∙
     ap (λ (x : ℕ). decodeWritten x b) (sym (c .before .before .before .before .before .sequence .ensures)) ∙
     written-from s b (omega arith) ∙ content-checkpoint s b (getD b 7 0) (c .before .before .if3 .left) (c .before .if4 .left)))
 
 pub view-page-spec : {M : Type 1} → statement M
-view-page-spec = tie.close (tie.spec all-blank-requires returns sequence-requires returns-2 shared-slice-read-tag view-log-requires returns-3 view-node-requires returns-4 view-checkpoint-requires returns-5)
+view-page-spec = tie.close (tie.spec all-blank-requires returns sequence-requires returns-2 shared-slice-read-tag
+    view-log-requires returns-3 view-node-requires returns-4 view-checkpoint-requires returns-5)

@@ -36,41 +36,60 @@ payload-requires c κs = search needs
 
 returns-2 : tie.Need-returns-2
 unfolding decodeCounted
-returns-2 c = let a = c .before .before .before .before .before .args in
+returns-2 c =
+    let c1 = c .before in
+    let c2 = c1 .before in
+    let c3 = c2 .before in
+    let c5 = c3 .before .before in
+    let a = c5 .args in
     let b = a .page .now in
-    let z = payload-empty b (a .at + 9 * a .n) 0x15 2 only-15 (λ y. c .before .if2 .taken (ap length (c .before .before .payload .ensures) ∙ y)) in
-    scores-unfilled (a .sequence) (payloadAt b 7 0x13) (a .at) (a .n) (payloadAt b (a .at + 9 * a .n) 0x15) b (c .before .before .before .if1 .left) (ap found z)
-    (λ y. c .if3 .taken (y ∙ sym (c .before .before .before .before .before .pre .limit)))
+    let z = payload-empty b (a .at + 9 * a .n) 0x15 2 only-15 (λ y. c1 .if2 .taken (ap length (c2 .payload .ensures) ∙ y)) in
+    scores-unfilled (a .sequence) (payloadAt b 7 0x13) (a .at) (a .n) (payloadAt b (a .at + 9 * a .n) 0x15) b (c3 .if1 .left) (ap found z)
+    (λ y. c .if3 .taken (y ∙ sym (c5 .pre .limit)))
 
 is-sealed-requires : tie.Need-is-sealed-requires
 is-sealed-requires c κs = search needs
 
 returns-3 : tie.Need-returns-3
 unfolding decodeCounted
-returns-3 c = let a = c .before .before .before .before .before .before .before .args in
+returns-3 c =
+    let c1 = c .before in
+    let c2 = c1 .before in
+    let c3 = c2 .before in
+    let c4 = c3 .before in
+    let c5 = c4 .before in
+    let c7 = c5 .before .before in
+    let a = c7 .args in
     let b = a .page .now in
     let t = payloadAt b 7 0x13 in
     let count = payloadAt b (a .at + 9 * a .n) 0x15 in
-    let z = payload-empty b (a .at + 9 * a .n) 0x15 2 only-15 (λ y. c .before .before .before .if2 .taken (ap length (c .before .before .before .before .payload .ensures) ∙ y)) in
+    let z = payload-empty b (a .at + 9 * a .n) 0x15 2 only-15 (λ y. c3 .if2 .taken (ap length (c4 .payload .ensures) ∙ y)) in
     let f : found count ≡ false = ap found z in
     let m : (found count || eqb (a .n) (mostScores (found t))) ≡ true =
-    ap (λ (x : Bool). x || eqb (a .n) (mostScores (found t))) f ∙ eq-eqb (a .n) (mostScores (found t)) (c .before .before .if3 .left ∙ c .before .before .before .before .before .before .before .pre .limit) in
+    ap (λ (x : Bool). x || eqb (a .n) (mostScores (found t))) f ∙ eq-eqb (a .n) (mostScores (found t)) (c2 .if3 .left ∙ c7 .pre .limit) in
     let e : a .at + 9 * a .n ≡ a .at + 9 * a .n + taken count = omega (arith, ap taken z) in
-    ap₂ (λ (x : Bool) (y : Nodes). Checkpoint (a .sequence) x (a .n) y) (c .before .before .before .before .before .before .before .pre .tariff ∙ given-read t) (nodes-none count f) ∙
-    scores-sealed (a .sequence) t (a .at) (a .n) count b (c .before .before .before .before .before .if1 .left) m (ap (sealedAt b) (sym e) ∙ sym (c .before .is-sealed .ensures) ∙ c .if4 .taken)
+    ap₂ (λ (x : Bool) (y : Nodes). Checkpoint (a .sequence) x (a .n) y) (c7 .pre .tariff ∙ given-read t) (nodes-none count f) ∙
+    scores-sealed (a .sequence) t (a .at) (a .n) count b (c5 .if1 .left) m (ap (sealedAt b) (sym e) ∙ sym (c1 .is-sealed .ensures) ∙ c .if4 .taken)
 
 returns-4 : tie.Need-returns-4
 unfolding decodeCounted
-returns-4 c = let a = c .before .before .before .before .before .before .before .args in
+returns-4 c =
+    let c1 = c .before in
+    let c2 = c1 .before in
+    let c3 = c2 .before in
+    let c4 = c3 .before in
+    let c5 = c4 .before in
+    let c7 = c5 .before .before in
+    let a = c7 .args in
     let b = a .page .now in
     let t = payloadAt b 7 0x13 in
     let count = payloadAt b (a .at + 9 * a .n) 0x15 in
-    let z = payload-empty b (a .at + 9 * a .n) 0x15 2 only-15 (λ y. c .before .before .before .if2 .taken (ap length (c .before .before .before .before .payload .ensures) ∙ y)) in
+    let z = payload-empty b (a .at + 9 * a .n) 0x15 2 only-15 (λ y. c3 .if2 .taken (ap length (c4 .payload .ensures) ∙ y)) in
     let f : found count ≡ false = ap found z in
     let m : (found count || eqb (a .n) (mostScores (found t))) ≡ true =
-    ap (λ (x : Bool). x || eqb (a .n) (mostScores (found t))) f ∙ eq-eqb (a .n) (mostScores (found t)) (c .before .before .if3 .left ∙ c .before .before .before .before .before .before .before .pre .limit) in
+    ap (λ (x : Bool). x || eqb (a .n) (mostScores (found t))) f ∙ eq-eqb (a .n) (mostScores (found t)) (c2 .if3 .left ∙ c7 .pre .limit) in
     let e : a .at + 9 * a .n ≡ a .at + 9 * a .n + taken count = omega (arith, ap taken z) in
-    scores-unsealed (a .sequence) t (a .at) (a .n) count b (c .before .before .before .before .before .if1 .left) m (ap (sealedAt b) (sym e) ∙ sym (c .before .is-sealed .ensures) ∙ c .if4 .left)
+    scores-unsealed (a .sequence) t (a .at) (a .n) count b (c5 .if1 .left) m (ap (sealedAt b) (sym e) ∙ sym (c1 .is-sealed .ensures) ∙ c .if4 .left)
 
 add-is-sealed : tie.Need-add-is-sealed
 add-is-sealed c = search needs
@@ -93,9 +112,14 @@ returns-5 c = let a = c .before .before .before .before .before .before .before 
     let f : found count ≡ true = found-true count l in
     let m : (found count || eqb (a .n) (mostScores (found t))) ≡ true = ap (λ (x : Bool). x || eqb (a .n) (mostScores (found t))) f in
     let e : a .at + 9 * a .n + 5 ≡ a .at + 9 * a .n + taken count = omega (arith, taken-some count l) in
-    let v : c .read16 .result ≡ number count = c .read16 .ensures .is ∙ number-whole (c .before .before .before .before .payload .result .now) 2 (c .before .before .before .if2 .left) ∙ ap number q in
-    ap₂ (λ (x : Bool) (y : Nodes). Checkpoint (a .sequence) x (a .n) y) (c .before .before .before .before .before .before .before .pre .tariff ∙ given-read t) (ap Count v ∙ nodes-some count f) ∙
-    scores-sealed (a .sequence) t (a .at) (a .n) count b (c .before .before .before .before .before .if1 .left) m (ap (sealedAt b) (sym e) ∙ sym (c .before .before .is-sealed2 .ensures) ∙ c .before .if5 .taken)
+    let v : c .read16 .result ≡ number count = c .read16 .ensures .is ∙ number-whole
+    (c .before .before .before .before .payload .result .now) 2 (c .before .before .before .if2 .left) ∙ ap number
+    q in
+    ap₂ (λ (x : Bool) (y : Nodes). Checkpoint (a .sequence) x (a .n) y)
+    (c .before .before .before .before .before .before .before .pre .tariff ∙ given-read t)
+    (ap Count v ∙ nodes-some count f) ∙
+    scores-sealed (a .sequence) t (a .at) (a .n) count b (c .before .before .before .before .before .if1 .left) m
+    (ap (sealedAt b) (sym e) ∙ sym (c .before .before .is-sealed2 .ensures) ∙ c .before .if5 .taken)
 
 returns-6 : tie.Need-returns-6
 unfolding decodeCounted
@@ -108,7 +132,9 @@ returns-6 c = let a = c .before .before .before .before .before .before .args in
     let l : 1 ≤ length count = omega arith in
     let m : (found count || eqb (a .n) (mostScores (found t))) ≡ true = ap (λ (x : Bool). x || eqb (a .n) (mostScores (found t))) (found-true count l) in
     let e : a .at + 9 * a .n + 5 ≡ a .at + 9 * a .n + taken count = omega (arith, taken-some count l) in
-    scores-unsealed (a .sequence) t (a .at) (a .n) count b (c .before .before .before .before .if1 .left) m (ap (sealedAt b) (sym e) ∙ sym (c .before .is-sealed2 .ensures) ∙ c .if5 .left)
+    scores-unsealed (a .sequence) t (a .at) (a .n) count b (c .before .before .before .before .if1 .left) m
+    (ap (sealedAt b) (sym e) ∙ sym (c .before .is-sealed2 .ensures) ∙ c .if5 .left)
 
 pub view-scores-spec : {M : Type 1} → statement M
-view-scores-spec = tie.close (tie.spec returns mul-end add-end payload-requires returns-2 is-sealed-requires returns-3 returns-4 add-is-sealed is-sealed-requires-2 read16-requires returns-5 returns-6)
+view-scores-spec = tie.close (tie.spec returns mul-end add-end payload-requires returns-2 is-sealed-requires
+    returns-3 returns-4 add-is-sealed is-sealed-requires-2 read16-requires returns-5 returns-6)

@@ -13,7 +13,8 @@ use Rattle.page_write.proofs.frame.lay_run.Statement.{statement}
 use Rattle.page_write.proofs.frame.lay_run.Tie as tie
 
 abbrev Inv-loop : tie.InvT-loop
-Inv-loop p₀ at tag records size n place₀ from₀ left₀ p place from left = ((place + (3 + size) * left ≡ at + (3 + size) * n) × ((from + size * left ≡ size * n) × (length p ≡ length p₀))) ×
+Inv-loop p₀ at tag records size n place₀ from₀ left₀ p place from left =
+    ((place + (3 + size) * left ≡ at + (3 + size) * n) × ((from + size * left ≡ size * n) × (length p ≡ length p₀))) ×
     (lay p place (fields tag (chunks size left records from)) ≡ lay p₀ at (fields tag (chunks size n records 0)))
 
 abbrev μ-loop : tie.MeasureT-loop
@@ -32,7 +33,8 @@ part-lay-field-start : tie.Need-part-lay-field-start Inv-loop μ-loop
 part-lay-field-start c = omega arith
 
 part-lay-field-end : tie.Need-part-lay-field-end Inv-loop μ-loop
-part-lay-field-end c = omega (arith, mul-split (c .before .before .before .before .before .args .size) (c .before .before .loop .left) (c .before .loop-test .taken))
+part-lay-field-end c = omega (arith, mul-split (c .before .before .before .before .before .args .size)
+    (c .before .before .loop .left) (c .before .loop-test .taken))
 
 lay-field-requires : tie.Need-lay-field-requires Inv-loop μ-loop
 lay-field-requires c κs = let l = c .before .before .before .loop in
@@ -42,13 +44,25 @@ lay-field-requires c κs = let l = c .before .before .before .loop in
     rw (lent-part (a .records .now) (l .from) (a .size), length-part (a .records .now) (l .from) (a .size) w) (omega arith)
 
 add-place : tie.Need-add-place Inv-loop μ-loop
-add-place c = omega (arith, mul-split (c .before .before .before .before .before .before .before .before .before .args .size) (c .before .before .before .before .before .before .loop .left) (c .before .before .before .before .before .loop-test .taken))
+add-place c =
+    let c5 = c .before .before .before .before .before in
+    let c6 = c5 .before in
+    let c9 = c6 .before .before .before in
+    omega (arith, mul-split (c9 .args .size) (c6 .loop .left) (c5 .loop-test .taken))
 
 add-place-2 : tie.Need-add-place-2 Inv-loop μ-loop
-add-place-2 c = omega (arith, mul-split (c .before .before .before .before .before .before .before .before .before .args .size) (c .before .before .before .before .before .before .loop .left) (c .before .before .before .before .before .loop-test .taken))
+add-place-2 c =
+    let c5 = c .before .before .before .before .before in
+    let c6 = c5 .before in
+    let c9 = c6 .before .before .before in
+    omega (arith, mul-split (c9 .args .size) (c6 .loop .left) (c5 .loop-test .taken))
 
 add-from : tie.Need-add-from Inv-loop μ-loop
-add-from c = omega (arith, mul-split (c .before .before .before .before .before .before .before .before .before .args .size) (c .before .before .before .before .before .before .loop .left) (c .before .before .before .before .before .loop-test .taken))
+add-from c =
+    let c5 = c .before .before .before .before .before in
+    let c6 = c5 .before in
+    let c9 = c6 .before .before .before in
+    omega (arith, mul-split (c9 .args .size) (c6 .loop .left) (c5 .loop-test .taken))
 
 sub-left : tie.Need-sub-left Inv-loop μ-loop
 sub-left c = omega arith
@@ -63,7 +77,8 @@ loop-again c = let l = c .before .before .before .before .before .before .loop i
     let w : l .from + a .size ≤ length (a .records .now) = omega arith in (
       omega (arith, c .before .before .lay-field .kept .0),
       rw (c .before .before .lay-field .ensures, lent-part (a .records .now) (l .from) (a .size))
-          (run-next (a .tag) (a .size) (l .left) (l .p) (a .records .now) (l .place) (l .from) (c .before .before .before .before .before .loop-test .taken) (omega arith) w ∙ l .inv .1),
+          (run-next (a .tag) (a .size) (l .left) (l .p) (a .records .now) (l .place) (l .from)
+          (c .before .before .before .before .before .loop-test .taken) (omega arith) w ∙ l .inv .1),
     )
 
 same-length : tie.Need-same-length Inv-loop μ-loop

@@ -15,8 +15,12 @@ same-length : tie.Need-same-length
 same-length c = search needs
 
 returns : tie.Need-returns
-returns c = let a = c .before .before .before .before .before .before .before .before .before .args in
-    c .before .before .write32 .ensures ∙ rw (c .before .before .before .before .before .before .lay-head .ensures) (ten-laid (a .p .now) (a .sequence))
+returns c =
+    let c2 = c .before .before in
+    let c6 = c2 .before .before .before .before in
+    let c9 = c6 .before .before .before in
+    let a = c9 .args in
+    c2 .write32 .ensures ∙ rw (c6 .lay-head .ensures) (ten-laid (a .p .now) (a .sequence))
 
 pub lay-sequence-spec : {M : Type 1} → statement M
 lay-sequence-spec = tie.close (tie.spec lay-head-requires write32-requires same-length returns)

@@ -27,13 +27,22 @@ add-write16 : tie.Need-add-write16
 add-write16 c = search needs
 
 write16-requires : tie.Need-write16-requires
-write16-requires c κs = rw (c .before .before .before .before .before .sum-bytes .ensures) (omega (arith, c .before .before .before .lay-head .kept .0, sumsOf-small (take (c .before .before .before .before .before .before .before .before .args .end) (c .before .before .before .before .before .before .before .before .args .p .now)) .b))
+write16-requires c κs =
+    let c3 = c .before .before .before in
+    let c5 = c3 .before .before in
+    let c8 = c5 .before .before .before in
+    rw (c5 .sum-bytes .ensures) (omega (arith, c3 .lay-head .kept .0, sumsOf-small (take (c8 .args .end) (c8 .args .p .now)) .b))
 
 add-write16-2 : tie.Need-add-write16-2
 add-write16-2 c = search needs
 
 write16-requires-2 : tie.Need-write16-requires-2
-write16-requires-2 c κs = rw (c .before .before .before .before .before .before .before .before .before .sum-bytes .ensures) (omega (arith, c .before .before .before .write16 .kept .0, c .before .before .before .before .before .before .before .lay-head .kept .0, sumsOf-small (take (c .before .before .before .before .before .before .before .before .before .before .before .before .args .end) (c .before .before .before .before .before .before .before .before .before .before .before .before .args .p .now)) .a))
+write16-requires-2 c κs =
+    let c3 = c .before .before .before in
+    let c7 = c3 .before .before .before .before in
+    let c9 = c7 .before .before in
+    let c12 = c9 .before .before .before in
+    rw (c9 .sum-bytes .ensures) (omega (arith, c3 .write16 .kept .0, c7 .lay-head .kept .0, sumsOf-small (take (c12 .args .end) (c12 .args .p .now)) .a))
 
 same-length : tie.Need-same-length
 same-length c = search needs
@@ -41,9 +50,11 @@ same-length c = search needs
 returns : tie.Need-returns
 returns c = let a = c .before .before .before .before .before .before .before .before .before .before .before .before .before .before .before .args in
     c .before .before .write162 .ensures ∙
-    rw (c .before .before .before .before .before .before .write16 .ensures, c .before .before .before .before .before .before .before .before .before .before .lay-head .ensures)
+    rw (c .before .before .before .before .before .before .write16 .ensures,
+    c .before .before .before .before .before .before .before .before .before .before .lay-head .ensures)
     (sums-laid (a .p .now) (a .end) (take (a .end) (a .p .now)) _ _ (omega arith)
-    (ap (λ (s : Sums). s .a) (c .before .before .before .before .before .before .before .before .before .before .before .before .sum-bytes .ensures)) (ap (λ (s : Sums). s .b) (c .before .before .before .before .before .before .before .before .before .before .before .before .sum-bytes .ensures)))
+    (ap (λ (s : Sums). s .a) (c .before .before .before .before .before .before .before .before .before .before .before .before .sum-bytes .ensures))
+    (ap (λ (s : Sums). s .b) (c .before .before .before .before .before .before .before .before .before .before .before .before .sum-bytes .ensures)))
 
 pub lay-sums-spec : {M : Type 1} → statement M
 lay-sums-spec =

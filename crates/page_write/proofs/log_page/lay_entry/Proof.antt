@@ -37,10 +37,17 @@ same-length : tie.Need-same-length
 same-length c = search needs
 
 returns : tie.Need-returns
-returns c = let a = c .before .before .before .before .before .before .before .before .before .before .before .before .before .before .before .before .before .before .before .before .before .args in
-    c .before .before .write323 .ensures ∙
-    rw (c .before .before .before .before .before .before .write322 .ensures, c .before .before .before .before .before .before .before .before .before .before .lay-byte .ensures, c .before .before .before .before .before .before .before .before .before .before .before .before .before .before .write32 .ensures, c .before .before .before .before .before .before .before .before .before .before .before .before .before .before .before .before .before .before .write16 .ensures)
-    (entry-laid (a .buffer .now) (a .at) (a .id) (a .version) (a .kind) (a .key) (a .pointer) (c .before .before .before .before .before .before .before .before .before .before .before .before .before .before .before .before .before .before .before .before .before .pre .0))
+returns c =
+    let c2 = c .before .before in
+    let c6 = c2 .before .before .before .before in
+    let c10 = c6 .before .before .before .before in
+    let c14 = c10 .before .before .before .before in
+    let c18 = c14 .before .before .before .before in
+    let c21 = c18 .before .before .before in
+    let a = c21 .args in
+    c2 .write323 .ensures ∙
+    rw (c6 .write322 .ensures, c10 .lay-byte .ensures, c14 .write32 .ensures, c18 .write16 .ensures)
+    (entry-laid (a .buffer .now) (a .at) (a .id) (a .version) (a .kind) (a .key) (a .pointer) (c21 .pre .0))
 
 pub lay-entry-spec : {M : Type 1} → statement M
 lay-entry-spec =

@@ -37,7 +37,8 @@ returns c = let a = c .before .before .before .before .before .before .before .b
     let body = logBody (a .sequence) (a .n) (a .buffer .now) in
     let e : c .before .before .before .before .before .before .lay-run .last .0 ≡ lay (a .p .now) 0 body =
     c .before .before .before .before .before .before .lay-run .ensures ∙
-    rw (c .before .before .before .before .before .before .before .before .before .before .lay-sequence .ensures) (numbered-laid (a .p .now) (a .sequence) (fields 0x12 (chunks 15 (a .n) (a .buffer .now) 0))) in
+    rw (c .before .before .before .before .before .before .before .before .before .before .lay-sequence .ensures)
+    (numbered-laid (a .p .now) (a .sequence) (fields 0x12 (chunks 15 (a .n) (a .buffer .now) 0))) in
     c .before .before .lay-sums .ensures ∙
     rw e (summed-laid (a .p .now) body (7 + 18 * a .n) (length-logBody (a .sequence) (a .n) (a .buffer .now) (omega arith)))
 

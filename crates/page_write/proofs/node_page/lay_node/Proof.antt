@@ -33,13 +33,19 @@ same-length : tie.Need-same-length
 same-length c = search needs
 
 returns : tie.Need-returns
-returns c = let a = c .before .before .before .before .before .before .before .before .before .before .before .before .before .before .before .before .before .before .before .args in
+returns c =
+    let c2 = c .before .before in
+    let c6 = c2 .before .before .before .before in
+    let c10 = c6 .before .before .before .before in
+    let c14 = c10 .before .before .before .before in
+    let c19 = c14 .before .before .before .before .before in
+    let a = c19 .args in
     let body = bodyOf (nodePage (a .sequence) (a .id) (a .shape) (a .n) (a .keys .now) (a .pointers .now) (a .link)) in
-    let e : c .before .before .before .before .before .before .lay-pairs .last .0 ≡ lay (a .p .now) 0 body =
-    c .before .before .before .before .before .before .lay-pairs .ensures ∙
-    rw (c .before .before .before .before .before .before .before .before .before .before .lay-node-head .ensures, c .before .before .before .before .before .before .before .before .before .before .before .before .before .before .lay-sequence .ensures)
-    (node-laid (a .p .now) (a .sequence) (a .id) (a .shape) (a .n) (a .keys .now) (a .pointers .now) (a .link) (omega (arith, c .before .before .before .before .before .before .before .before .before .before .before .before .before .before .before .before .before .before .before .pre))) in
-    c .before .before .lay-sums .ensures ∙
+    let e : c6 .lay-pairs .last .0 ≡ lay (a .p .now) 0 body =
+    c6 .lay-pairs .ensures ∙
+    rw (c10 .lay-node-head .ensures, c14 .lay-sequence .ensures)
+    (node-laid (a .p .now) (a .sequence) (a .id) (a .shape) (a .n) (a .keys .now) (a .pointers .now) (a .link) (omega (arith, c19 .pre))) in
+    c2 .lay-sums .ensures ∙
     rw e (summed-laid (a .p .now) body (17 + 8 * a .n) (length-nodeBody (a .sequence) (a .id) (a .shape) (a .n) (a .keys .now) (a .pointers .now) (a .link)))
 
 pub lay-node-spec : {M : Type 1} → statement M

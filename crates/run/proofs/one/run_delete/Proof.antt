@@ -20,7 +20,11 @@ same-length-3 : tie.Need-same-length-3
 same-length-3 c = search needs
 
 returns : tie.Need-returns
-returns c = delete-command (c .before .before .before .before .before .before .before .before .before .before .before .before .before .before .before .pre .0) (c .before .before .before .before .before .before .before .before .before .delete .ensures) (c .before .before .lay-answer .ensures)
+returns c =
+    let c2 = c .before .before in
+    let c9 = c2 .before .before .before .before .before .before .before in
+    let c15 = c9 .before .before .before .before .before .before in
+    delete-command (c15 .pre .0) (c9 .delete .ensures) (c2 .lay-answer .ensures)
 
 pub run-delete-spec : {M : Type 1} → statement M
 run-delete-spec =

@@ -20,7 +20,11 @@ same-length-3 : tie.Need-same-length-3
 same-length-3 c = search needs
 
 returns : tie.Need-returns
-returns c = get-command (c .before .before .before .before .before .before .before .before .before .before .before .before .before .before .before .pre .0) (c .before .before .before .before .before .before .before .before .before .get .ensures) (c .before .before .lay-answer .ensures)
+returns c =
+    let c2 = c .before .before in
+    let c9 = c2 .before .before .before .before .before .before .before in
+    let c15 = c9 .before .before .before .before .before .before in
+    get-command (c15 .pre .0) (c9 .get .ensures) (c2 .lay-answer .ensures)
 
 pub run-get-spec : {M : Type 1} → statement M
 run-get-spec =

@@ -20,7 +20,11 @@ same-length-3 : tie.Need-same-length-3
 same-length-3 c = search needs
 
 returns : tie.Need-returns
-returns c = scan-command (c .before .before .before .before .before .before .before .before .before .before .before .before .before .before .before .before .pre .0) (c .before .before .before .before .before .before .before .before .before .before .scan .ensures) (c .before .before .lay-scan .ensures)
+returns c =
+    let c2 = c .before .before in
+    let c10 = c2 .before .before .before .before .before .before .before .before in
+    let c16 = c10 .before .before .before .before .before .before in
+    scan-command (c16 .pre .0) (c10 .scan .ensures) (c2 .lay-scan .ensures)
 
 pub run-scan-spec : {M : Type 1} → statement M
 run-scan-spec =

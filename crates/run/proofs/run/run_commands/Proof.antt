@@ -18,23 +18,33 @@ use Rattle.run.proofs.run.run_commands.Tie as tie
 abbrev Inv-loop : tie.InvT-loop
 Inv-loop pool₀ table₀ batch answers₀ tariff s₀ charge₀ place₀ at₀ pool table answers s charge place at =
     (length pool ≡ length pool₀) × (length table ≡ length table₀) × (length answers ≡ length answers₀) ×
-    Running (length pool) (length table) tariff batch answers₀ at (world (pagesOf pool₀) (rowsOf table₀) s₀) (world (pagesOf pool) (rowsOf table) s) answers charge place
+    Running (length pool) (length table) tariff batch answers₀ at (world (pagesOf pool₀) (rowsOf table₀) s₀)
+    (world (pagesOf pool) (rowsOf table) s) answers charge place
 
 abbrev μ-loop : tie.MeasureT-loop
 μ-loop pool₀ table₀ batch answers₀ tariff s₀ charge₀ place₀ at₀ pool table answers s charge place at = length batch - at
 
 -- the command found, and that it goes on
 step-is : (k : tie.After-known-told Inv-loop μ-loop) →
-    commandAt (k .before .before .before .before .before .before .before .before .before .before .args .batch .now) (k .before .before .before .before .before .loop .at) ≡ Next (k .before .step .given .0 .0) (k .before .step .given .0 .1 .0)
+    commandAt (k .before .before .before .before .before .before .before .before .before .before .args .batch .now)
+    (k .before .before .before .before .before .loop .at) ≡ Next (k .before .step .given .0 .0)
+    (k .before .step .given .0 .1 .0)
 step-is k = sym (k .before .before .before .command-at .ensures) ∙ k .before .step .given .1
 
 onward : (k : tie.After-known-told Inv-loop μ-loop) →
-    Onward (k .before .before .before .before .before .before .before .before .before .before .args .batch .now) (k .before .before .before .before .before .loop .at) (Next (k .before .step .given .0 .0) (k .before .step .given .0 .1 .0))
-onward k = rw (step-is k) at (commandAt-onward (k .before .before .before .before .before .before .before .before .before .before .args .batch .now) (k .before .before .before .before .before .loop .at))
+    Onward (k .before .before .before .before .before .before .before .before .before .before .args .batch .now)
+    (k .before .before .before .before .before .loop .at)
+    (Next (k .before .step .given .0 .0) (k .before .step .given .0 .1 .0))
+onward k = rw (step-is k) at (commandAt-onward
+    (k .before .before .before .before .before .before .before .before .before .before .args .batch .now)
+    (k .before .before .before .before .before .loop .at))
 
 loop-holds : tie.Need-loop-holds Inv-loop μ-loop
-loop-holds c = let a = c .before .before .before .before .args in
-    (refl, refl, refl, running-start _ _ (a .tariff) (a .batch .now) (a .answers .now) (world (pagesOf (a .pool .now)) (rowsOf (a .table .now)) (a .state)) (c .before .before .before .before .pre .0) (c .before .before .before .before .pre .2))
+loop-holds c =
+    let c4 = c .before .before .before .before in
+    let a = c4 .args in
+    (refl, refl, refl, running-start _ _ (a .tariff) (a .batch .now) (a .answers .now)
+    (world (pagesOf (a .pool .now)) (rowsOf (a .table .now)) (a .state)) (c4 .pre .0) (c4 .pre .2))
 
 command-at-requires : tie.Need-command-at-requires Inv-loop μ-loop
 command-at-requires c κs = search needs
@@ -43,24 +53,45 @@ enum-known-step : tie.Need-enum-known-step Inv-loop μ-loop
 enum-known-step c = search needs
 
 run-command-requires : tie.Need-run-command-requires Inv-loop μ-loop
-run-command-requires c κs = let l = c .before .before .before .before .before .before .before .before .loop in
-    (l .inv .3 .growing, c .before .before .before .before .before .before .before .before .before .before .before .before .before .pre .1, command-range (c .before .before .before .before .before .before .before .before .before .before .before .before .before .args .batch .now) (l .at) _ _ (step-is (c .before .before .before)), omega (arith, running-room (l .inv .3) (c .before .before .before .before .before .before .before .loop-test .taken) _ _ (step-is (c .before .before .before)), l .inv .2))
+run-command-requires c κs =
+    let c3 = c .before .before .before in
+    let c7 = c3 .before .before .before .before in
+    let c8 = c7 .before in
+    let c13 = c8 .before .before .before .before .before in
+    let l = c8 .loop in
+    (l .inv .3 .growing, c13 .pre .1, command-range (c13 .args .batch .now) (l .at) _ _ (step-is (c3)), omega
+    (arith, running-room (l .inv .3) (c7 .loop-test .taken) _ _ (step-is (c3)), l .inv .2))
 
 add-charge : tie.Need-add-charge Inv-loop μ-loop
-add-charge c = omega (arith, c .before .before .before .before .before .before .before .before .before .before .before .before .before .before .before .before .before .loop .inv .3 .most, c .before .before .before .before .before .before .before .before .run-command .ensures .most, c .before .before .before .before .before .before .before .before .before .before .before .before .before .before .before .before .before .before .before .before .before .before .pre .2 .short, c .before .before .before .before .before .before .before .before .before .before .before .before .before .before .before .before .loop-test .taken)
+add-charge c =
+    let c8 = c .before .before .before .before .before .before .before .before in
+    let c16 = c8 .before .before .before .before .before .before .before .before in
+    let c17 = c16 .before in
+    let c22 = c17 .before .before .before .before .before in
+    omega (arith, c17 .loop .inv .3 .most, c8 .run-command .ensures .most, c22 .pre .2 .short, c16 .loop-test .taken)
 
 loop-less : tie.Need-loop-less Inv-loop μ-loop
-loop-less c = let further = onward (c .before .before .before .before .before .before .before .before .before .before .before .before) in
-    omega (arith, further .0, further .1, c .before .before .before .before .before .before .before .before .before .before .before .before .before .before .before .before .loop-test .taken)
+loop-less c =
+    let c12 = c .before .before .before .before .before .before .before .before .before .before .before .before in
+    let c16 = c12 .before .before .before .before in
+    let further = onward (c12) in
+    omega (arith, further .0, further .1, c16 .loop-test .taken)
 
 loop-again : tie.Need-loop-again Inv-loop μ-loop
-loop-again c = let l = c .before .before .before .before .before .before .before .before .before .before .before .before .before .before .before .before .before .loop in
-    let x = c .before .before .before .before .before .before .before .before .run-command in
-    let further = onward (c .before .before .before .before .before .before .before .before .before .before .before .before) in (
+loop-again c =
+    let c8 = c .before .before .before .before .before .before .before .before in
+    let c12 = c8 .before .before .before .before in
+    let c16 = c12 .before .before .before .before in
+    let c17 = c16 .before in
+    let l = c17 .loop in
+    let x = c8 .run-command in
+    let further = onward (c12) in (
       x .kept .0 ∙ l .inv .0,
       x .kept .1 .0 ∙ l .inv .1,
       x .kept .1 .1 .0 ∙ l .inv .2,
-      running-next (l .inv .3) (c .before .before .before .before .before .before .before .before .before .before .before .before .before .before .before .before .loop-test .taken) _ _ (step-is (c .before .before .before .before .before .before .before .before .before .before .before .before)) (length (x .last .0)) (length (x .last .1 .0)) (pagesOf (x .last .0)) (rowsOf (x .last .1 .0)) (x .last .1 .1 .0) (x .result) (further .0) (further .1) (x .ensures),
+      running-next (l .inv .3) (c16 .loop-test .taken) _ _ (step-is (c12)) (length (x .last .0))
+      (length (x .last .1 .0)) (pagesOf (x .last .0)) (rowsOf (x .last .1 .0)) (x .last .1 .1 .0) (x .result)
+      (further .0) (further .1) (x .ensures),
     )
 
 enum-told : tie.Need-enum-told Inv-loop μ-loop
@@ -76,7 +107,11 @@ same-length-3 : tie.Need-same-length-3 Inv-loop μ-loop
 same-length-3 c = c .before .before .before .before .loop .inv .2
 
 returns : tie.Need-returns Inv-loop μ-loop
-returns c = absurd (running-valid (c .before .before .before .before .loop .inv .3) (c .before .before .before .loop-test .taken) (sym (c .before .before .command-at .ensures) ∙ c .enum-told .given .1))
+returns c =
+    let c2 = c .before .before in
+    let c3 = c2 .before in
+    let c4 = c3 .before in
+    absurd (running-valid (c4 .loop .inv .3) (c3 .loop-test .taken) (sym (c2 .command-at .ensures) ∙ c .enum-told .given .1))
 
 same-length-4 : tie.Need-same-length-4 Inv-loop μ-loop
 same-length-4 c = c .before .loop .inv .0

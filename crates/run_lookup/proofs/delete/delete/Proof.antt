@@ -33,10 +33,17 @@ array-read-serve-edit : tie.Need-array-read-serve-edit
 array-read-serve-edit c = search needs
 
 serve-edit-requires : tie.Need-serve-edit-requires
-serve-edit-requires c κs = (c .before .before .before .before .before .before .before .before .before .before .serve-reads .ensures .kept .good, c .before .before .before .before .before .before .before .before .before .before .before .before .before .before .before .before .before .before .before .before .before .before .pre .1)
+serve-edit-requires c κs =
+    let c10 = c .before .before .before .before .before .before .before .before .before .before in
+    let c22 = c10 .before .before .before .before .before .before .before .before .before .before .before .before in
+    (c10 .serve-reads .ensures .kept .good, c22 .pre .1)
 
 add-t37 : tie.Need-add-t37
-add-t37 c = omega (arith, c .before .before .before .before .before .before .before .before .before .before .before .before .before .before .before .before .before .before .serve-reads .ensures .most, c .before .before .before .before .before .before .before .serve-edit .ensures .most, c .before .before .before .before .before .before .before .before .before .before .before .before .before .before .before .before .before .before .before .before .before .before .before .before .before .path-to .ensures .few)
+add-t37 c =
+    let c7 = c .before .before .before .before .before .before .before in
+    let c18 = c7 .before .before .before .before .before .before .before .before .before .before .before in
+    let c25 = c18 .before .before .before .before .before .before .before in
+    omega (arith, c18 .serve-reads .ensures .most, c7 .serve-edit .ensures .most, c25 .path-to .ensures .few)
 
 enum-told : tie.Need-enum-told
 enum-told c = search needs
@@ -48,12 +55,19 @@ same-length-2 : tie.Need-same-length-2
 same-length-2 c = search needs
 
 returns : tie.Need-returns
-returns c = let a = c .before .before .before .before .before .before .before .before .before .before .before .before .before .before .before .before .before .before .before .before .before .before .before .before .before .before .before .before .before .before .args in
+returns c =
+    let c7 = c .before .before .before .before .before .before .before in
+    let c11 = c7 .before .before .before .before in
+    let c18 = c11 .before .before .before .before .before .before .before in
+    let c21 = c18 .before .before .before in
+    let c25 = c21 .before .before .before .before in
+    let c30 = c25 .before .before .before .before .before in
+    let a = c30 .args in
     let w = world (pagesOf (a .pool .now)) (rowsOf (a .table .now)) (a .state) in
-    let path = c .before .before .before .before .before .before .before .before .before .before .before .before .before .before .before .before .before .before .before .before .before .before .before .before .before .path-to .ensures in
-    let value = c .before .before .before .before .before .before .before .before .before .before .before .before .before .before .before .before .before .before .before .before .before .value-at in
-    deleted-one (path .few) (path-read w path (c .before .before .before .before .before .before .before .before .before .before .before .before .before .before .before .before .before .before .serve-reads .ensures)) _ _ (path .end)
-    (value-in w path (valueOf (value .result)) (value .ensures) ∙ ap valueOf (c .before .before .before .before .before .before .before .before .before .before .before .value .given .1)) (c .before .before .before .before .before .before .before .serve-edit .ensures)
+    let path = c25 .path-to .ensures in
+    let value = c21 .value-at in
+    deleted-one (path .few) (path-read w path (c18 .serve-reads .ensures)) _ _ (path .end)
+    (value-in w path (valueOf (value .result)) (value .ensures) ∙ ap valueOf (c11 .value .given .1)) (c7 .serve-edit .ensures)
 
 same-length-3 : tie.Need-same-length-3
 same-length-3 c = search needs
@@ -62,11 +76,16 @@ same-length-4 : tie.Need-same-length-4
 same-length-4 c = search needs
 
 returns-2 : tie.Need-returns-2
-returns-2 c = let a = c .before .before .before .before .before .before .before .before .before .before .before .before .before .before .before .before .before .before .before .args in
+returns-2 c =
+    let c7 = c .before .before .before .before .before .before .before in
+    let c10 = c7 .before .before .before in
+    let c14 = c10 .before .before .before .before in
+    let c19 = c14 .before .before .before .before .before in
+    let a = c19 .args in
     let w = world (pagesOf (a .pool .now)) (rowsOf (a .table .now)) (a .state) in
-    let path = c .before .before .before .before .before .before .before .before .before .before .before .before .before .before .path-to .ensures in
-    let value = c .before .before .before .before .before .before .before .before .before .before .value-at in
-    deleted-none (path .few) (path-read w path (c .before .before .before .before .before .before .before .serve-reads .ensures))
+    let path = c14 .path-to .ensures in
+    let value = c10 .value-at in
+    deleted-none (path .few) (path-read w path (c7 .serve-reads .ensures))
     (value-in w path (valueOf (value .result)) (value .ensures) ∙ ap valueOf (c .enum-told .given .1))
 
 pub delete-spec : {M : Type 1} → statement M

@@ -26,8 +26,16 @@ same-length-2 : tie.Need-same-length-2
 same-length-2 c = search needs
 
 returns : tie.Need-returns
-returns c = let a = c .before .before .before .before .before .before .before .before .before .before .before .before .before .before .before .before .before .args in
-    got-as (world (pagesOf (a .pool .now)) (rowsOf (a .table .now)) (a .state)) (c .before .before .before .before .before .before .before .before .before .before .before .before .path-to .ensures) (c .before .before .before .before .before .serve-reads .ensures) (c .before .before .before .before .before .before .before .before .before .before .value-at .result) (c .before .before .before .before .before .before .before .before .before .before .value-at .ensures) (c .before .before .before .before .before .before .before .before .before .get-answer .result) (c .before .before .before .before .before .before .before .before .before .get-answer .ensures)
+returns c =
+    let c5 = c .before .before .before .before .before in
+    let c9 = c5 .before .before .before .before in
+    let c10 = c9 .before in
+    let c12 = c10 .before .before in
+    let c17 = c12 .before .before .before .before .before in
+    let a = c17 .args in
+    got-as (world (pagesOf (a .pool .now)) (rowsOf (a .table .now)) (a .state)) (c12 .path-to .ensures)
+    (c5 .serve-reads .ensures) (c10 .value-at .result) (c10 .value-at .ensures) (c9 .get-answer .result)
+    (c9 .get-answer .ensures)
 
 pub get-spec : {M : Type 1} → statement M
 get-spec =

@@ -18,8 +18,12 @@ enum-told : tie.Need-enum-told
 enum-told c = search needs
 
 returns : tie.Need-returns
-returns c = let entry = c .before .before .before .before .before in
-    value-there (entry .args .v) (entry .pre) (entry .args .key) _ (c .pointer .result) (sym (c .before .before .before .before .find .ensures) ∙ c .before .before .found .given .1) (c .pointer .ensures)
+returns c =
+    let c2 = c .before .before in
+    let c4 = c2 .before .before in
+    let c5 = c4 .before in
+    let entry = c5 in
+    value-there (entry .args .v) (entry .pre) (entry .args .key) _ (c .pointer .result) (sym (c4 .find .ensures) ∙ c2 .found .given .1) (c .pointer .ensures)
 
 returns-2 : tie.Need-returns-2
 returns-2 c = let entry = c .before .before .before in

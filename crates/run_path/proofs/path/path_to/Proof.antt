@@ -38,12 +38,18 @@ add-t18 : tie.Need-add-t18 Inv-loop μ-loop
 add-t18 c = omega arith
 
 returns : tie.Need-returns Inv-loop μ-loop
-returns c = let a = c .before .before .before .before .before .before .before .args in
+returns c =
+    let c1 = c .before in
+    let c2 = c1 .before in
+    let c4 = c2 .before .before in
+    let c7 = c4 .before .before .before in
+    let a = c7 .args in
     let nodes = tableOf (pagesOf (a .pool .now)) (rowsOf (a .table .now)) (a .state) in
-    let turn = c .before .before .before .before .loop in
-    let read = c .before .before .node-at in
+    let turn = c4 .loop in
+    let read = c2 .node-at in
     down-leaf (turn .inv) (pairsIn (read .result)) (read .result .link)
-    (is-leaf (read .result) (nodes (turn .id)) (read .ensures .is) (c .before .same-shape .result) (c .before .same-shape .ensures) (c .if1 .taken)) (read .result) (read .ensures)
+    (is-leaf (read .result) (nodes (turn .id)) (read .ensures .is) (c1 .same-shape .result) (c1 .same-shape .ensures)
+    (c .if1 .taken)) (read .result) (read .ensures)
 
 child-requires : tie.Need-child-requires Inv-loop μ-loop
 child-requires c κs = c .before .before .node-at .ensures .held
@@ -58,14 +64,21 @@ loop-less : tie.Need-loop-less Inv-loop μ-loop
 loop-less c = omega arith
 
 loop-again : tie.Need-loop-again Inv-loop μ-loop
-loop-again c = let a = c .before .before .before .before .before .before .before .before .args in
+loop-again c =
+    let c1 = c .before in
+    let c2 = c1 .before in
+    let c3 = c2 .before in
+    let c4 = c3 .before in
+    let c5 = c4 .before in
+    let c8 = c5 .before .before .before in
+    let a = c8 .args in
     let nodes = tableOf (pagesOf (a .pool .now)) (rowsOf (a .table .now)) (a .state) in
-    let turn = c .before .before .before .before .before .loop in
-    let read = c .before .before .before .node-at in
-    let shape = c .before .before .same-shape in
+    let turn = c5 .loop in
+    let read = c3 .node-at in
+    let shape = c2 .same-shape in
     subst (λ (next : ℕ). Down nodes (a .key) (set (turn .ids) (turn .i) (turn .id)) next (turn .i + 1)) (sym (c .child .ensures))
-    (down-more (turn .inv) (c .before .before .before .before .loop-test .taken) (pairsIn (read .result)) (read .result .link)
-    (is-branch (read .result) (nodes (turn .id)) (read .ensures .is) (shape .result) (shape .ensures) (c .before .if1 .left)))
+    (down-more (turn .inv) (c4 .loop-test .taken) (pairsIn (read .result)) (read .result .link)
+    (is-branch (read .result) (nodes (turn .id)) (read .ensures .is) (shape .result) (shape .ensures) (c1 .if1 .left)))
 
 array-write-ids-2 : tie.Need-array-write-ids-2 Inv-loop μ-loop
 array-write-ids-2 c = let d = c .before .loop .inv in omega (arith, d .long)

@@ -12,7 +12,8 @@ use Rattle.run_path.proofs.reads.read_nodes.Statement.{statement}
 use Rattle.run_path.proofs.reads.read_nodes.Tie as tie
 
 abbrev Inv-loop : tie.InvT-loop
-Inv-loop pool₀ table₀ tariff ids s₀ charge₀ i₀ pool table s charge i = (i ≤ length ids) × (length pool ≡ length pool₀) × (length table ≡ length table₀) ×
+Inv-loop pool₀ table₀ tariff ids s₀ charge₀ i₀ pool table s charge i = (i ≤ length ids) ×
+    (length pool ≡ length pool₀) × (length table ≡ length table₀) ×
     Reading (length pool) (length table) tariff ids i (world (pagesOf pool₀) (rowsOf table₀) s₀) (world (pagesOf pool) (rowsOf table) s) charge
 
 abbrev μ-loop : tie.MeasureT-loop
@@ -20,7 +21,8 @@ abbrev μ-loop : tie.MeasureT-loop
 
 loop-holds : tie.Need-loop-holds Inv-loop μ-loop
 loop-holds c = let a = c .before .before .before .args in
-    (omega arith, refl, refl, reading-start _ _ (a .tariff) (a .ids .now) (world (pagesOf (a .pool .now)) (rowsOf (a .table .now)) (a .state)) (c .before .before .before .pre .0))
+    (omega arith, refl, refl, reading-start _ _ (a .tariff) (a .ids .now)
+    (world (pagesOf (a .pool .now)) (rowsOf (a .table .now)) (a .state)) (c .before .before .before .pre .0))
 
 mul-serve-read : tie.Need-mul-serve-read Inv-loop μ-loop
 mul-serve-read c = search needs
@@ -29,10 +31,18 @@ shared-slice-read-serve-read : tie.Need-shared-slice-read-serve-read Inv-loop μ
 shared-slice-read-serve-read c = search needs
 
 serve-read-requires : tie.Need-serve-read-requires Inv-loop μ-loop
-serve-read-requires c κs = (c .before .before .before .before .loop .inv .3 .good, c .before .before .before .before .before .before .before .before .pre .1)
+serve-read-requires c κs =
+    let c4 = c .before .before .before .before in
+    let c8 = c4 .before .before .before .before in
+    (c4 .loop .inv .3 .good, c8 .pre .1)
 
 add-charge : tie.Need-add-charge Inv-loop μ-loop
-add-charge c = omega (arith, c .before .before .before .before .before .before .before .before .before .before .before .loop .inv .3 .most, c .before .before .before .before .before .before .serve-read .ensures .most, c .before .before .before .before .before .before .before .before .before .before .before .before .before .before .before .pre .2, c .before .before .before .before .before .before .before .before .before .before .loop-test .taken)
+add-charge c =
+    let c6 = c .before .before .before .before .before .before in
+    let c10 = c6 .before .before .before .before in
+    let c11 = c10 .before in
+    let c15 = c11 .before .before .before .before in
+    omega (arith, c11 .loop .inv .3 .most, c6 .serve-read .ensures .most, c15 .pre .2, c10 .loop-test .taken)
 
 add-i : tie.Need-add-i Inv-loop μ-loop
 add-i c = omega arith
@@ -48,7 +58,8 @@ loop-again c = let a = c .before .before .before .before .before .before .before
       omega arith,
       x .kept .0 ∙ l .inv .1,
       x .kept .1 .0 ∙ l .inv .2,
-      reading-next (l .inv .3) (length (x .last .0)) (length (x .last .1 .0)) (pagesOf (x .last .0)) (rowsOf (x .last .1 .0)) (x .result) (getD (a .ids .now) (l .i) 0) inside refl (x .ensures),
+      reading-next (l .inv .3) (length (x .last .0)) (length (x .last .1 .0)) (pagesOf (x .last .0))
+      (rowsOf (x .last .1 .0)) (x .result) (getD (a .ids .now) (l .i) 0) inside refl (x .ensures),
     )
 
 same-length : tie.Need-same-length Inv-loop μ-loop

@@ -27,30 +27,47 @@ sub-i c = omega (arith, c .before .before .pre .1)
 loop-holds : tie.Need-loop-holds Inv-loop μ-loop
 loop-holds c =
     let a = c .before .before .args in
-    (search needs, leaf-counted (tableOf (pagesOf (a .pool .now)) (rowsOf (a .table .now)) (a .state)) (a .t4) (a .n) (few (a .t4) (a .n) (search needs) (c .before .before .pre .2)) (c .before .before .pre .1) (c .before .before .pre .3))
+    (search needs, leaf-counted (tableOf (pagesOf (a .pool .now)) (rowsOf (a .table .now)) (a .state)) (a .t4) (a .n)
+    (few (a .t4) (a .n) (search needs) (c .before .before .pre .2)) (c .before .before .pre .1)
+    (c .before .before .pre .3))
 
 sub-above : tie.Need-sub-above Inv-loop μ-loop
 sub-above c = omega arith
 
 mul-node-at : tie.Need-mul-node-at Inv-loop μ-loop
-mul-node-at c = omega (arith, c .before .loop .inv .0, c .before .loop .inv .1 .inside, length-take (c .before .before .before .before .args .n) (c .before .before .before .before .args .t4))
+mul-node-at c =
+    let c1 = c .before in
+    let c4 = c1 .before .before .before in
+    omega (arith, c1 .loop .inv .0, c1 .loop .inv .1 .inside, length-take (c4 .args .n) (c4 .args .t4))
 
 array-read-node-at : tie.Need-array-read-node-at Inv-loop μ-loop
-array-read-node-at c = omega (arith, c .before .loop .inv .0, c .before .loop .inv .1 .inside, length-take (c .before .before .before .before .args .n) (c .before .before .before .before .args .t4))
+array-read-node-at c =
+    let c1 = c .before in
+    let c4 = c1 .before .before .before in
+    omega (arith, c1 .loop .inv .0, c1 .loop .inv .1 .inside, length-take (c4 .args .n) (c4 .args .t4))
 
 node-at-requires : tie.Need-node-at-requires Inv-loop μ-loop
 node-at-requires c κs = c .before .before .before .before .pre .0
 
 sub-result : tie.Need-sub-result Inv-loop μ-loop
-sub-result c = omega (arith, c .before .before .before .before .loop .inv .1 .inside, length-take (c .before .before .before .before .before .before .before .args .n) (c .before .before .before .before .before .before .before .args .t4))
+sub-result c =
+    let c4 = c .before .before .before .before in
+    let c7 = c4 .before .before .before in
+    omega (arith, c4 .loop .inv .1 .inside, length-take (c7 .args .n) (c7 .args .t4))
 
 returns : tie.Need-returns Inv-loop μ-loop
 returns c =
-    let a = c .before .before .before .before .before .before .before .args in
-    let l = c .before .before .before .before .loop in
+    let c2 = c .before .before in
+    let c3 = c2 .before in
+    let c4 = c3 .before in
+    let c7 = c4 .before .before .before in
+    let a = c7 .args in
+    let l = c4 .loop in
     let nodes = tableOf (pagesOf (a .pool .now)) (rowsOf (a .table .now)) (a .state) in (
-      gap-counted nodes (a .t4) (a .n) (few (a .t4) (a .n) (l .inv .0) (c .before .before .before .before .before .before .before .pre .2)) (l .i) (l .inv .1) (c .before .before .before .loop-test .taken) (omega (arith, size-read nodes (getD (a .t4) (l .i - 1) 0) (c .before .before .node-at .result) (c .before .before .node-at .ensures), c .if1 .taken)),
-      omega (arith, c .before .before .before .before .before .before .before .pre .2),
+      gap-counted nodes (a .t4) (a .n) (few (a .t4) (a .n) (l .inv .0) (c7 .pre .2)) (l .i) (l .inv .1)
+      (c3 .loop-test .taken) (omega (arith, size-read nodes (getD (a .t4) (l .i - 1) 0) (c2 .node-at .result)
+      (c2 .node-at .ensures), c .if1 .taken)),
+      omega (arith, c7 .pre .2),
     )
 
 loop-less : tie.Need-loop-less Inv-loop μ-loop
@@ -58,19 +75,29 @@ loop-less c = omega arith
 
 loop-again : tie.Need-loop-again Inv-loop μ-loop
 loop-again c =
-    let a = c .before .before .before .before .before .before .before .args in
-    let l = c .before .before .before .before .loop in
+    let c2 = c .before .before in
+    let c3 = c2 .before in
+    let c4 = c3 .before in
+    let c7 = c4 .before .before .before in
+    let a = c7 .args in
+    let l = c4 .loop in
     let nodes = tableOf (pagesOf (a .pool .now)) (rowsOf (a .table .now)) (a .state) in
-    (l .inv .0, above-counted nodes (a .t4) (a .n) (few (a .t4) (a .n) (l .inv .0) (c .before .before .before .before .before .before .before .pre .2)) (l .i) (l .inv .1) (c .before .before .before .loop-test .taken) (omega (arith, size-read nodes (getD (a .t4) (l .i - 1) 0) (c .before .before .node-at .result) (c .before .before .node-at .ensures), c .if1 .left)))
+    (l .inv .0, above-counted nodes (a .t4) (a .n) (few (a .t4) (a .n) (l .inv .0) (c7 .pre .2)) (l .i) (l .inv .1)
+    (c3 .loop-test .taken) (omega (arith, size-read nodes (getD (a .t4) (l .i - 1) 0) (c2 .node-at .result)
+    (c2 .node-at .ensures), c .if1 .left)))
 
 add-result : tie.Need-add-result Inv-loop μ-loop
 add-result c = omega (arith, c .before .before .before .before .pre .2)
 
 returns-2 : tie.Need-returns-2 Inv-loop μ-loop
 returns-2 c =
-    let a = c .before .before .before .before .args in
-    let l = c .before .loop in
-    (all-counted (tableOf (pagesOf (a .pool .now)) (rowsOf (a .table .now)) (a .state)) (a .t4) (a .n) (few (a .t4) (a .n) (l .inv .0) (c .before .before .before .before .pre .2)) (l .i) (l .inv .1) (c .loop-test .left), omega (arith, c .before .before .before .before .pre .2))
+    let c1 = c .before in
+    let c4 = c1 .before .before .before in
+    let a = c4 .args in
+    let l = c1 .loop in
+    (all-counted (tableOf (pagesOf (a .pool .now)) (rowsOf (a .table .now)) (a .state)) (a .t4) (a .n)
+    (few (a .t4) (a .n) (l .inv .0) (c4 .pre .2)) (l .i) (l .inv .1) (c .loop-test .left), omega (arith, c4 .pre .2))
 
 pub ids-needed-spec : {M : Type 1} → statement M
-ids-needed-spec = tie.close (tie.spec Inv-loop μ-loop sub-i loop-holds sub-above mul-node-at array-read-node-at node-at-requires sub-result returns loop-less loop-again add-result returns-2)
+ids-needed-spec = tie.close (tie.spec Inv-loop μ-loop sub-i loop-holds sub-above mul-node-at array-read-node-at
+    node-at-requires sub-result returns loop-less loop-again add-result returns-2)

@@ -21,7 +21,10 @@ replaced-answer-requires : tie.Need-replaced-answer-requires
 replaced-answer-requires c κs = c .before .before .before .before .before .path-to .ensures .leaf .held
 
 read-and-edit-requires : tie.Need-read-and-edit-requires
-read-and-edit-requires c κs = (c .before .before .before .before .before .before .before .before .before .before .before .before .before .pre .0, c .before .before .before .before .before .before .before .before .before .before .before .before .before .pre .1, c .before .before .before .before .before .before .before .before .path-to .ensures .some, c .before .before .before .before .before .before .before .before .path-to .ensures .few)
+read-and-edit-requires c κs =
+    let c8 = c .before .before .before .before .before .before .before .before in
+    let c13 = c8 .before .before .before .before .before in
+    (c13 .pre .0, c13 .pre .1, c8 .path-to .ensures .some, c8 .path-to .ensures .few)
 
 same-length : tie.Need-same-length
 same-length c = search needs
@@ -31,21 +34,35 @@ same-length-2 c = search needs
 
 returns : tie.Need-returns
 returns c =
-    let a = c .before .before .before .before .before .before .before .before .before .before .before .before .before .before .before .before .before .before .before .args in
-    let p = c .before .before .before .before .before .before .before .before .before .before .before .before .before .before .path-to in
-    let f = c .before .before .before .before .before .before .before .before .before .before .before .fit in
-    let x = c .before .before .before .before .before .read-and-edit in
-    put-edit (a .tariff) (a .key) (a .value) (world (pagesOf (a .pool .now)) (rowsOf (a .table .now)) (a .state)) (p .result) (p .ensures) (f .result) (f .ensures) (pagesOf (x .last .0)) (rowsOf (x .last .1 .0)) (c .before .before .before .before .before .before .before .before .replaced-answer .result) (x .result) (c .before .before .before .before .before .before .before .before .before .enum-told .given .1) (c .before .before .before .before .before .before .before .before .replaced-answer .ensures) (x .ensures)
+    let c5 = c .before .before .before .before .before in
+    let c8 = c5 .before .before .before in
+    let c9 = c8 .before in
+    let c11 = c9 .before .before in
+    let c14 = c11 .before .before .before in
+    let c19 = c14 .before .before .before .before .before in
+    let a = c19 .args in
+    let p = c14 .path-to in
+    let f = c11 .fit in
+    let x = c5 .read-and-edit in
+    put-edit (a .tariff) (a .key) (a .value) (world (pagesOf (a .pool .now)) (rowsOf (a .table .now)) (a .state))
+    (p .result) (p .ensures) (f .result) (f .ensures) (pagesOf (x .last .0)) (rowsOf (x .last .1 .0))
+    (c8 .replaced-answer .result) (x .result) (c9 .enum-told .given .1) (c8 .replaced-answer .ensures) (x .ensures)
 
 enum-told-2 : tie.Need-enum-told-2
 enum-told-2 c = search needs
 
 put-splitting-requires : tie.Need-put-splitting-requires
 put-splitting-requires c κs =
-    let a = c .before .before .before .before .before .before .before .before .before .before .before .before .args in
-    let p = c .before .before .before .before .before .before .before .path-to in
-    let f = c .before .before .before .before .fit in
-    (c .before .before .before .before .before .before .before .before .before .before .before .before .pre .0, c .before .before .before .before .before .before .before .before .before .before .before .before .pre .1, p .ensures .some, p .ensures .few, leaf-full (a .tariff) (a .key) (a .value) (world (pagesOf (a .pool .now)) (rowsOf (a .table .now)) (a .state)) (p .result) (p .ensures) (f .result) (f .ensures) _ (c .before .before .enum-told2 .given .1))
+    let c2 = c .before .before in
+    let c4 = c2 .before .before in
+    let c7 = c4 .before .before .before in
+    let c12 = c7 .before .before .before .before .before in
+    let a = c12 .args in
+    let p = c7 .path-to in
+    let f = c4 .fit in
+    (c12 .pre .0, c12 .pre .1, p .ensures .some, p .ensures .few, leaf-full (a .tariff) (a .key) (a .value)
+    (world (pagesOf (a .pool .now)) (rowsOf (a .table .now)) (a .state)) (p .result) (p .ensures) (f .result)
+    (f .ensures) _ (c2 .enum-told2 .given .1))
 
 same-length-3 : tie.Need-same-length-3
 same-length-3 c = search needs
@@ -55,10 +72,19 @@ same-length-4 c = search needs
 
 returns-2 : tie.Need-returns-2
 returns-2 c =
-    let a = c .before .before .before .before .before .before .before .before .before .before .before .before .before .before .before .before .before .args in
-    let p = c .before .before .before .before .before .before .before .before .before .before .before .before .path-to in
-    let f = c .before .before .before .before .before .before .before .before .before .fit in
-    done-is (c .before .before .before .before .put-splitting .ensures) (put-new (a .tariff) (a .key) (a .value) (world (pagesOf (a .pool .now)) (rowsOf (a .table .now)) (a .state)) (p .result) (p .ensures) (f .result) (f .ensures) _ (c .before .before .before .before .before .before .before .enum-told2 .given .1))
+    let c4 = c .before .before .before .before in
+    let c7 = c4 .before .before .before in
+    let c9 = c7 .before .before in
+    let c12 = c9 .before .before .before in
+    let c17 = c12 .before .before .before .before .before in
+    let a = c17 .args in
+    let p = c12 .path-to in
+    let f = c9 .fit in
+    done-is (c4 .put-splitting .ensures)
+    (put-new (a .tariff) (a .key) (a .value) (world (pagesOf (a .pool .now)) (rowsOf (a .table .now)) (a .state))
+    (p .result) (p .ensures) (f .result) (f .ensures) _ (c7 .enum-told2 .given .1))
 
 pub put-spec : {M : Type 1} → statement M
-put-spec = tie.close (tie.spec path-to-requires fit-requires enum-told replaced-answer-requires read-and-edit-requires same-length same-length-2 returns enum-told-2 put-splitting-requires same-length-3 same-length-4 returns-2)
+put-spec = tie.close (tie.spec path-to-requires fit-requires enum-told replaced-answer-requires
+    read-and-edit-requires same-length same-length-2 returns enum-told-2 put-splitting-requires same-length-3
+    same-length-4 returns-2)

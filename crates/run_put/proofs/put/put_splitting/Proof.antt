@@ -13,7 +13,9 @@ use Rattle.run_put.proofs.put.put_splitting.Statement.{statement}
 use Rattle.run_put.proofs.put.put_splitting.Tie as tie
 
 ids-needed-requires : tie.Need-ids-needed-requires
-ids-needed-requires c κs = (readable (c .before .before .before .before .pre .0), c .before .before .before .before .pre .2, c .before .before .before .before .pre .3, c .before .before .before .before .pre .4)
+ids-needed-requires c κs =
+    let c4 = c .before .before .before .before in
+    (readable (c4 .pre .0), c4 .pre .2, c4 .pre .3, c4 .pre .4)
 
 sub-if1 : tie.Need-sub-if1
 sub-if1 c = omega (arith, c .before .before .before .before .before .before .pre .0 .good .few)
@@ -22,7 +24,10 @@ mul-if1 : tie.Need-mul-if1
 mul-if1 c = omega (arith, c .before .before .before .before .before .before .pre .0 .good .most)
 
 add-if1 : tie.Need-add-if1
-add-if1 c = omega (arith, c .before .before .before .before .before .before .before .pre .0 .limited, c .before .before .before .before .before .before .before .pre .0 .good .most, c .before .before .ids-needed .ensures .1)
+add-if1 c =
+    let c2 = c .before .before in
+    let c7 = c2 .before .before .before .before .before in
+    omega (arith, c7 .pre .0 .limited, c7 .pre .0 .good .most, c2 .ids-needed .ensures .1)
 
 same-length : tie.Need-same-length
 same-length c = search needs
@@ -32,12 +37,19 @@ same-length-2 c = search needs
 
 returns : tie.Need-returns
 returns c =
-    let a = c .before .before .before .before .before .before .before .before .args in
-    let x = c .before .before .before .ids-needed in
-    new-refused (a .tariff) (take (a .n) (a .ids)) (x .result) (idsNeeded (tableOf (pagesOf (a .pool .now)) (rowsOf (a .table .now)) (a .state)) (take (a .n) (a .ids))) (a .key) (a .value) (world (pagesOf (a .pool .now)) (rowsOf (a .table .now)) (a .state)) (x .ensures .0) (c .if1 .taken) (c .before .before .before .before .before .before .before .before .pre .0)
+    let c3 = c .before .before .before in
+    let c8 = c3 .before .before .before .before .before in
+    let a = c8 .args in
+    let x = c3 .ids-needed in
+    new-refused (a .tariff) (take (a .n) (a .ids)) (x .result)
+    (idsNeeded (tableOf (pagesOf (a .pool .now)) (rowsOf (a .table .now)) (a .state)) (take (a .n) (a .ids)))
+    (a .key) (a .value) (world (pagesOf (a .pool .now)) (rowsOf (a .table .now)) (a .state)) (x .ensures .0)
+    (c .if1 .taken) (c8 .pre .0)
 
 read-and-split-requires : tie.Need-read-and-split-requires
-read-and-split-requires c κs = (c .before .before .before .before .before .before .before .before .before .before .pre .0, c .before .before .before .before .before .before .before .before .before .before .pre .1, c .before .before .before .before .before .before .before .before .before .before .pre .2, c .before .before .before .before .before .before .before .before .before .before .pre .3)
+read-and-split-requires c κs =
+    let c10 = c .before .before .before .before .before .before .before .before .before .before in
+    (c10 .pre .0, c10 .pre .1, c10 .pre .2, c10 .pre .3)
 
 same-length-3 : tie.Need-same-length-3
 same-length-3 c = search needs
@@ -47,10 +59,19 @@ same-length-4 c = search needs
 
 returns-2 : tie.Need-returns-2
 returns-2 c =
-    let a = c .before .before .before .before .before .before .before .before .before .before .before .before .before .before .before .before .args in
-    let x = c .before .before .before .before .before .before .before .before .before .before .before .ids-needed in
-    let y = c .before .before .before .before .before .read-and-split in
-    new-split (a .tariff) (take (a .n) (a .ids)) (x .result) (idsNeeded (tableOf (pagesOf (a .pool .now)) (rowsOf (a .table .now)) (a .state)) (take (a .n) (a .ids))) (a .key) (a .value) (world (pagesOf (a .pool .now)) (rowsOf (a .table .now)) (a .state)) (x .ensures .0) (pagesOf (y .last .0)) (rowsOf (y .last .1 .0)) (y .result) (c .before .before .before .before .before .before .before .before .if1 .left) (y .ensures)
+    let c5 = c .before .before .before .before .before in
+    let c8 = c5 .before .before .before in
+    let c11 = c8 .before .before .before in
+    let c16 = c11 .before .before .before .before .before in
+    let a = c16 .args in
+    let x = c11 .ids-needed in
+    let y = c5 .read-and-split in
+    new-split (a .tariff) (take (a .n) (a .ids)) (x .result)
+    (idsNeeded (tableOf (pagesOf (a .pool .now)) (rowsOf (a .table .now)) (a .state)) (take (a .n) (a .ids)))
+    (a .key) (a .value) (world (pagesOf (a .pool .now)) (rowsOf (a .table .now)) (a .state)) (x .ensures .0)
+    (pagesOf (y .last .0)) (rowsOf (y .last .1 .0)) (y .result) (c8 .if1 .left) (y .ensures)
 
 pub put-splitting-spec : {M : Type 1} → statement M
-put-splitting-spec = tie.close (tie.spec ids-needed-requires sub-if1 mul-if1 add-if1 same-length same-length-2 returns read-and-split-requires same-length-3 same-length-4 returns-2)
+put-splitting-spec = tie.close
+    (tie.spec ids-needed-requires sub-if1 mul-if1 add-if1 same-length same-length-2 returns read-and-split-requires
+    same-length-3 same-length-4 returns-2)

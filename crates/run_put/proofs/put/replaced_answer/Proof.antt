@@ -18,10 +18,17 @@ enum-told : tie.Need-enum-told
 enum-told c = search needs
 
 returns : tie.Need-returns
-returns c = old-there (c .before .before .before .before .before .args .v) (c .before .before .before .before .before .pre) (c .before .before .before .before .before .args .key) _ (c .pointer .result) (sym (c .before .before .before .before .find .ensures) ∙ c .before .before .found .given .1) (c .pointer .ensures)
+returns c =
+    let c2 = c .before .before in
+    let c4 = c2 .before .before in
+    let c5 = c4 .before in
+    old-there (c5 .args .v) (c5 .pre) (c5 .args .key) _ (c .pointer .result) (sym (c4 .find .ensures) ∙ c2 .found .given .1) (c .pointer .ensures)
 
 returns-2 : tie.Need-returns-2
-returns-2 c = old-none (c .before .before .before .args .v) (c .before .before .before .pre) (c .before .before .before .args .key) _ (sym (c .before .before .find .ensures) ∙ c .enum-told .given .1)
+returns-2 c =
+    let c2 = c .before .before in
+    let c3 = c2 .before in
+    old-none (c3 .args .v) (c3 .pre) (c3 .args .key) _ (sym (c2 .find .ensures) ∙ c .enum-told .given .1)
 
 pub replaced-answer-spec : {M : Type 1} → statement M
 replaced-answer-spec = tie.close (tie.spec find-requires enum-known-found pointer-requires enum-told returns returns-2)

@@ -16,13 +16,15 @@ use Rattle.run_scan.proofs.gather.gather.Statement.{statement}
 use Rattle.run_scan.proofs.gather.gather.Tie as tie
 
 abbrev Inv-loop : tie.InvT-loop
-Inv-loop pool table state low high most keys₀ values₀ count₀ leaves visited leaf leaf-keys leaf-values i₀ keys values count i = Taking low high most leaf keys₀ values₀ count₀ keys values count i
+Inv-loop pool table state low high most keys₀ values₀ count₀ leaves visited leaf leaf-keys leaf-values i₀ keys values
+    count i = Taking low high most leaf keys₀ values₀ count₀ keys values count i
 
 abbrev μ-loop : tie.MeasureT-loop
 μ-loop pool table state low high most keys₀ values₀ count₀ leaves visited leaf leaf-keys leaf-values i₀ keys values count i = leaf .count - i
 
 abbrev Inv-leaves : tie.InvT-leaves
-Inv-leaves pool table state low high most keys₀ values₀ count₀ leaves₀ visited₀ leaf₀ keys values count leaves visited leaf = let nodes = tableOf (pagesOf pool) (rowsOf table) state in
+Inv-leaves pool table state low high most keys₀ values₀ count₀ leaves₀ visited₀ leaf₀ keys values count leaves
+    visited leaf = let nodes = tableOf (pagesOf pool) (rowsOf table) state in
     Along (leafFor mostSteps nodes low 0) nodes (state .nodes) low high most keys values count leaves visited leaf
 
 abbrev μ-leaves : tie.MeasureT-leaves
@@ -43,52 +45,85 @@ array-read-key : tie.Need-array-read-key Inv-loop μ-loop Inv-leaves μ-leaves
 array-read-key c = let s = c .before .before .before .before .before .leaves .inv .here .held .sized in omega (arith, s .size, s .keyRoom, c .if1 .taken)
 
 mul-keys : tie.Need-mul-keys Inv-loop μ-loop Inv-leaves μ-leaves
-mul-keys c = let t = c .before .before .before .before .loop .inv in omega (arith, t .wanted, c .before .before .before .before .before .before .before .before .before .before .before .pre .4)
+mul-keys c =
+    let c4 = c .before .before .before .before in
+    let c11 = c4 .before .before .before .before .before .before .before in
+    let t = c4 .loop .inv in omega (arith, t .wanted, c11 .pre .4)
 
 array-write-keys : tie.Need-array-write-keys Inv-loop μ-loop Inv-leaves μ-leaves
-array-write-keys c = let t = c .before .before .before .before .loop .inv in omega (arith, t .wanted, t .keyRoom, c .before .before .before .before .before .before .before .before .before .before .before .pre .4)
+array-write-keys c =
+    let c4 = c .before .before .before .before in
+    let c11 = c4 .before .before .before .before .before .before .before in
+    let t = c4 .loop .inv in omega (arith, t .wanted, t .keyRoom, c11 .pre .4)
 
 mul-values : tie.Need-mul-values Inv-loop μ-loop Inv-leaves μ-leaves
-mul-values c = let s = c .before .before .before .before .before .before .before .leaves .inv .here .held .sized in omega (arith, s .size, c .before .before .if1 .taken)
+mul-values c = let s = c .before .before .before .before .before .before .before .leaves .inv .here .held .sized in
+    omega (arith, s .size, c .before .before .if1 .taken)
 
 array-read-values : tie.Need-array-read-values Inv-loop μ-loop Inv-leaves μ-leaves
-array-read-values c = let s = c .before .before .before .before .before .before .before .leaves .inv .here .held .sized in omega (arith, s .size, s .pointerRoom, c .before .before .if1 .taken)
+array-read-values c = let s = c .before .before .before .before .before .before .before .leaves .inv .here .held .sized in
+    omega (arith, s .size, s .pointerRoom, c .before .before .if1 .taken)
 
 mul-values-2 : tie.Need-mul-values-2 Inv-loop μ-loop Inv-leaves μ-leaves
-mul-values-2 c = let t = c .before .before .before .before .loop .inv in omega (arith, t .wanted, c .before .before .before .before .before .before .before .before .before .before .before .pre .4)
+mul-values-2 c =
+    let c4 = c .before .before .before .before in
+    let c11 = c4 .before .before .before .before .before .before .before in
+    let t = c4 .loop .inv in omega (arith, t .wanted, c11 .pre .4)
 
 array-write-values : tie.Need-array-write-values Inv-loop μ-loop Inv-leaves μ-leaves
-array-write-values c = let t = c .before .before .before .before .loop .inv in omega (arith, t .wanted, t .valueRoom, c .before .before .before .before .before .before .before .before .before .before .before .pre .4)
+array-write-values c =
+    let c4 = c .before .before .before .before in
+    let c11 = c4 .before .before .before .before .before .before .before in
+    let t = c4 .loop .inv in omega (arith, t .wanted, t .valueRoom, c11 .pre .4)
 
 add-count : tie.Need-add-count Inv-loop μ-loop Inv-leaves μ-leaves
-add-count c = let t = c .before .before .before .before .loop .inv in omega (arith, t .wanted, c .before .before .before .before .before .before .before .before .before .before .before .pre .4)
+add-count c =
+    let c4 = c .before .before .before .before in
+    let c11 = c4 .before .before .before .before .before .before .before in
+    let t = c4 .loop .inv in omega (arith, t .wanted, c11 .pre .4)
 
 add-i : tie.Need-add-i Inv-loop μ-loop Inv-leaves μ-leaves
-add-i c = let s = c .before .before .before .before .before .before .before .leaves .inv .here .held .sized in omega (arith, s .size, c .before .before .if1 .taken)
+add-i c = let s = c .before .before .before .before .before .before .before .leaves .inv .here .held .sized in omega
+    (arith, s .size, c .before .before .if1 .taken)
 
 loop-less : tie.Need-loop-less Inv-loop μ-loop Inv-leaves μ-leaves
 loop-less c = omega (arith, c .before .before .if1 .taken)
 
 loop-again : tie.Need-loop-again Inv-loop μ-loop Inv-leaves μ-leaves
-loop-again c = let p = c .before .before .before .before .before .before .before .before .before .before .before .pre in
-    let s = c .before .before .before .before .before .before .before .leaves .inv .here .held .sized in
-    let t = c .before .before .before .before .loop .inv in
+loop-again c =
+    let c1 = c .before in
+    let c2 = c1 .before in
+    let c4 = c2 .before .before in
+    let c7 = c4 .before .before .before in
+    let c11 = c7 .before .before .before .before in
+    let p = c11 .pre in
+    let s = c7 .leaves .inv .here .held .sized in
+    let t = c4 .loop .inv in
     ⊎-elim
-    (λ w. rw (w .2, w .3, w .4) (taking-more (p .4) s t (c .before .before .if1 .taken) (w .0 .taken) (c .before .if2 .left) (w .1 .left)))
-    (λ w. rw (w .1, w .2, w .3) (taking-skip (p .4) s t (c .before .before .if1 .taken) (p .2) (w .0 .left)))
+    (λ w. rw (w .2, w .3, w .4) (taking-more (p .4) s t (c2 .if1 .taken) (w .0 .taken) (c1 .if2 .left) (w .1 .left)))
+    (λ w. rw (w .1, w .2, w .3) (taking-skip (p .4) s t (c2 .if1 .taken) (p .2) (w .0 .left)))
     (c .if3 .came)
 
 cast-leaves : tie.Need-cast-leaves Inv-loop μ-loop Inv-leaves μ-leaves
 cast-leaves c = search needs
 
 mul-leaves : tie.Need-mul-leaves Inv-loop μ-loop Inv-leaves μ-leaves
-mul-leaves c = let a = c .before .before .before .before .before .before .before .before .leaves .inv in omega (arith, a .links, c .before .before .before .before .before .before .before .before .before .before .before .before .pre .0 .nodes)
+mul-leaves c =
+    let c8 = c .before .before .before .before .before .before .before .before in
+    let c12 = c8 .before .before .before .before in
+    let a = c8 .leaves .inv in omega (arith, a .links, c12 .pre .0 .nodes)
 
 array-write-leaves : tie.Need-array-write-leaves Inv-loop μ-loop Inv-leaves μ-leaves
-array-write-leaves c = let a = c .before .before .before .before .before .before .before .before .leaves .inv in omega (arith, a .links, a .room, c .if6 .left, c .before .before .before .before .before .before .before .before .before .before .before .before .pre .0 .nodes)
+array-write-leaves c =
+    let c8 = c .before .before .before .before .before .before .before .before in
+    let c12 = c8 .before .before .before .before in
+    let a = c8 .leaves .inv in omega (arith, a .links, a .room, c .if6 .left, c12 .pre .0 .nodes)
 
 add-visited : tie.Need-add-visited Inv-loop μ-loop Inv-leaves μ-leaves
-add-visited c = let a = c .before .before .before .before .before .before .before .before .leaves .inv in omega (arith, a .links, c .before .before .before .before .before .before .before .before .before .before .before .before .pre .0 .nodes)
+add-visited c =
+    let c8 = c .before .before .before .before .before .before .before .before in
+    let c12 = c8 .before .before .before .before in
+    let a = c8 .leaves .inv in omega (arith, a .links, c12 .pre .0 .nodes)
 
 cast-node-at : tie.Need-cast-node-at Inv-loop μ-loop Inv-leaves μ-leaves
 cast-node-at c = search needs
@@ -100,24 +135,54 @@ leaves-less : tie.Need-leaves-less Inv-loop μ-loop Inv-leaves μ-leaves
 leaves-less c = let a = c .before .before .before .before .before .before .before .before .before .leaves .inv in omega (arith, a .links, c .before .if6 .left)
 
 leaves-again : tie.Need-leaves-again Inv-loop μ-loop Inv-leaves μ-leaves
-leaves-again c = let p = c .before .before .before .before .before .before .before .before .before .before .before .before .before .pre in
-    gathering-next (p .2) (p .4) (c .before .before .before .before .before .before .before .before .before .leaves .inv) (c .before .before .before .before .before .before .loop .inv) (c .before .before .before .before .if1 .left) (p .0 .nodes) (c .before .before .before .if5 .left) (c .before .if6 .left) (c .node-at .result) (c .node-at .ensures)
+leaves-again c =
+    let c1 = c .before in
+    let c3 = c1 .before .before in
+    let c4 = c3 .before in
+    let c6 = c4 .before .before in
+    let c9 = c6 .before .before .before in
+    let c13 = c9 .before .before .before .before in
+    let p = c13 .pre in
+    gathering-next (p .2) (p .4) (c9 .leaves .inv) (c6 .loop .inv) (c4 .if1 .left) (p .0 .nodes) (c3 .if5 .left)
+    (c1 .if6 .left) (c .node-at .result) (c .node-at .ensures)
 
 returns : tie.Need-returns Inv-loop μ-loop Inv-leaves μ-leaves
-returns c = let p = c .before .before .before .before .before .before .before .before .before .before .pre in
-    gathered-high (p .2) (p .4) (c .before .before .before .before .before .before .leaves .inv) (c .before .before .before .loop .inv) (c .before .if1 .taken) (c .if2 .taken)
+returns c =
+    let c1 = c .before in
+    let c3 = c1 .before .before in
+    let c6 = c3 .before .before .before in
+    let c10 = c6 .before .before .before .before in
+    let p = c10 .pre in
+    gathered-high (p .2) (p .4) (c6 .leaves .inv) (c3 .loop .inv) (c1 .if1 .taken) (c .if2 .taken)
 
 returns-2 : tie.Need-returns-2 Inv-loop μ-loop Inv-leaves μ-leaves
-returns-2 c = let p = c .before .before .before .before .before .before .before .before .before .before .before .before .pre in
-    gathered-last (p .2) (p .4) (c .before .before .before .before .before .before .before .before .leaves .inv) (c .before .before .before .before .before .loop .inv) (c .before .before .before .if1 .taken) (c .before .if3 .taken) (c .before .before .if2 .left) (c .if4 .taken)
+returns-2 c =
+    let c1 = c .before in
+    let c2 = c1 .before in
+    let c3 = c2 .before in
+    let c5 = c3 .before .before in
+    let c8 = c5 .before .before .before in
+    let c12 = c8 .before .before .before .before in
+    let p = c12 .pre in
+    gathered-last (p .2) (p .4) (c8 .leaves .inv) (c5 .loop .inv) (c3 .if1 .taken) (c1 .if3 .taken) (c2 .if2 .left) (c .if4 .taken)
 
 returns-3 : tie.Need-returns-3 Inv-loop μ-loop Inv-leaves μ-leaves
-returns-3 c = let p = c .before .before .before .before .before .before .before .before .before .before .pre in
-    gathered-end (p .2) (p .4) (c .before .before .before .before .before .before .leaves .inv) (c .before .before .before .loop .inv) (c .before .if1 .left) (c .if5 .taken)
+returns-3 c =
+    let c1 = c .before in
+    let c3 = c1 .before .before in
+    let c6 = c3 .before .before .before in
+    let c10 = c6 .before .before .before .before in
+    let p = c10 .pre in
+    gathered-end (p .2) (p .4) (c6 .leaves .inv) (c3 .loop .inv) (c1 .if1 .left) (c .if5 .taken)
 
 returns-4 : tie.Need-returns-4 Inv-loop μ-loop Inv-leaves μ-leaves
-returns-4 c = let p = c .before .before .before .before .before .before .before .before .before .before .before .before .pre in
-    gathered-out (p .2) (p .4) (c .before .before .before .before .before .before .before .before .leaves .inv) (c .before .before .before .before .before .loop .inv) (c .before .before .before .if1 .left) (c .if6 .taken)
+returns-4 c =
+    let c3 = c .before .before .before in
+    let c5 = c3 .before .before in
+    let c8 = c5 .before .before .before in
+    let c12 = c8 .before .before .before .before in
+    let p = c12 .pre in
+    gathered-out (p .2) (p .4) (c8 .leaves .inv) (c5 .loop .inv) (c3 .if1 .left) (c .if6 .taken)
 
 pub gather-spec : {M : Type 1} → statement M
 gather-spec =

@@ -17,7 +17,9 @@ use Rattle.run_scan.proofs.scan.scan.Tie as tie
 returns : tie.Need-returns
 returns c = let entry = c .before .before .before in
     let a = entry .args in
-    scanned-none (a .tariff) (a .low) (a .high) (a .most) (world (pagesOf (a .pool .now)) (rowsOf (a .table .now)) (a .state)) _ (c .if1 .taken) (entry .pre .0) (listed-none _ _) (record { size = omega arith; keyRoom = search needs; valueRoom = search needs }) (omega arith)
+    scanned-none (a .tariff) (a .low) (a .high) (a .most)
+    (world (pagesOf (a .pool .now)) (rowsOf (a .table .now)) (a .state)) _ (c .if1 .taken) (entry .pre .0)
+    (listed-none _ _) (record { size = omega arith; keyRoom = search needs; valueRoom = search needs }) (omega arith)
 
 path-to-requires : tie.Need-path-to-requires
 path-to-requires c κs = search needs
@@ -35,18 +37,33 @@ part-read-nodes-start : tie.Need-part-read-nodes-start
 part-read-nodes-start c = search needs
 
 part-read-nodes-end : tie.Need-part-read-nodes-end
-part-read-nodes-end c = let found = c .before .before .before .before .before .before .before .before .before .before .before .before .before .gather .ensures in omega (arith, found .few, found .room, c .before .before .before .before .before .before .before .before .before .before .before .before .before .before .before .before .before .before .before .before .before .before .pre .2)
+part-read-nodes-end c =
+    let c13 = c .before .before .before .before .before .before .before .before .before .before .before .before .before in
+    let c22 = c13 .before .before .before .before .before .before .before .before .before in
+    let found = c13 .gather .ensures in omega (arith, found .few, found .room, c22 .pre .2)
 
 read-nodes-requires : tie.Need-read-nodes-requires
-read-nodes-requires c κs = let entry = c .before .before .before .before .before .before .before .before .before .before .before .before .before .before .before .before .before .before .before .before .before .before .before in
-    let found = c .before .before .before .before .before .before .before .before .before .before .before .before .before .before .gather in
+read-nodes-requires c κs =
+    let c10 = c .before .before .before .before .before .before .before .before .before .before in
+    let c14 = c10 .before .before .before .before in
+    let c23 = c14 .before .before .before .before .before .before .before .before .before in
+    let entry = c23 in
+    let found = c14 .gather in
     let few : found .result .visited ≤ length (found .result .leaves) = omega (arith, found .ensures .few, found .ensures .room, entry .pre .2) in
-    (c .before .before .before .before .before .before .before .before .before .before .serve-reads .ensures .kept .good, entry .pre .1, rw (sub-zero, length-take-le (found .result .visited) (found .result .leaves) few) (omega (arith, few, found .ensures .room)))
+    (c10 .serve-reads .ensures .kept .good, entry .pre .1, rw
+    (sub-zero, length-take-le (found .result .visited) (found .result .leaves) few)
+    (omega (arith, few, found .ensures .room)))
 
 add-t43 : tie.Need-add-t43
-add-t43 c = let found = c .before .before .before .before .before .before .before .before .before .before .before .before .before .before .before .before .before .before .before .before .before .before .before .gather in
-    let few : found .result .visited ≤ length (found .result .leaves) = omega (arith, found .ensures .few, found .ensures .room, c .before .before .before .before .before .before .before .before .before .before .before .before .before .before .before .before .before .before .before .before .before .before .before .before .before .before .before .before .before .before .before .before .pre .2) in
-    omega (arith, c .before .before .before .before .before .before .before .before .before .before .before .before .before .before .before .before .before .before .before .serve-reads .ensures .most, c .before .before .before .before .before .before .before .before .before .before .before .before .before .before .before .before .before .before .before .before .before .before .before .before .before .before .path-to .ensures .few, reads-part _ _ few (c .before .before .before .before .before .before .before .before .read-nodes .ensures) .most, found .ensures .room)
+add-t43 c =
+    let c8 = c .before .before .before .before .before .before .before .before in
+    let c19 = c8 .before .before .before .before .before .before .before .before .before .before .before in
+    let c23 = c19 .before .before .before .before in
+    let c26 = c23 .before .before .before in
+    let c32 = c26 .before .before .before .before .before .before in
+    let found = c23 .gather in
+    let few : found .result .visited ≤ length (found .result .leaves) = omega (arith, found .ensures .few, found .ensures .room, c32 .pre .2) in
+    omega (arith, c19 .serve-reads .ensures .most, c26 .path-to .ensures .few, reads-part _ _ few (c8 .read-nodes .ensures) .most, found .ensures .room)
 
 same-length : tie.Need-same-length
 same-length c = search needs
@@ -55,11 +72,21 @@ same-length-2 : tie.Need-same-length-2
 same-length-2 c = search needs
 
 returns-2 : tie.Need-returns-2
-returns-2 c = let entry = c .before .before .before .before .before .before .before .before .before .before .before .before .before .before .before .before .before .before .before .before .before .before .before .before .before .before .before .before .before .before .before .before in
+returns-2 c =
+    let c8 = c .before .before .before .before .before .before .before .before in
+    let c19 = c8 .before .before .before .before .before .before .before .before .before .before .before in
+    let c23 = c19 .before .before .before .before in
+    let c26 = c23 .before .before .before in
+    let c29 = c26 .before .before .before in
+    let c32 = c29 .before .before .before in
+    let entry = c32 in
     let a = entry .args in
-    let found = c .before .before .before .before .before .before .before .before .before .before .before .before .before .before .before .before .before .before .before .before .before .before .before .gather in
+    let found = c23 .gather in
     let few : found .result .visited ≤ length (found .result .leaves) = omega (arith, found .ensures .few, found .ensures .room, entry .pre .2) in
-    scanned (a .tariff) (a .low) (a .high) (a .most) (world (pagesOf (a .pool .now)) (rowsOf (a .table .now)) (a .state)) (c .before .before .before .before .before .before .before .before .before .before .before .before .before .before .before .before .before .before .before .before .before .before .before .before .before .before .before .before .before .if1 .left) (entry .pre .2) (c .before .before .before .before .before .before .before .before .before .before .before .before .before .before .before .before .before .before .before .before .before .before .before .before .before .before .path-to .ensures) (found .ensures) (c .before .before .before .before .before .before .before .before .before .before .before .before .before .before .before .before .before .before .before .serve-reads .ensures) (reads-part (found .result .visited) (found .result .leaves) few (c .before .before .before .before .before .before .before .before .read-nodes .ensures))
+    scanned (a .tariff) (a .low) (a .high) (a .most)
+    (world (pagesOf (a .pool .now)) (rowsOf (a .table .now)) (a .state)) (c29 .if1 .left) (entry .pre .2)
+    (c26 .path-to .ensures) (found .ensures) (c19 .serve-reads .ensures)
+    (reads-part (found .result .visited) (found .result .leaves) few (c8 .read-nodes .ensures))
 
 pub scan-spec : {M : Type 1} → statement M
 scan-spec =

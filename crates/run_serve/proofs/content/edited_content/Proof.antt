@@ -20,7 +20,10 @@ node-in-requires c κs = search needs
 
 returns : tie.Need-returns
 unfolding editedOf
-returns c = becomes-is (c .node-in .ensures) (ap nodeIn (c .before .redo .ensures .is ∙ ap (λ (d : Draft). redo d (changeOf (c .before .before .before .before .before .args .change))) (c .before .before .content .ensures .is)))
+returns c = becomes-is (c .node-in .ensures)
+    (ap nodeIn (c .before .redo .ensures .is ∙ ap
+    (λ (d : Draft). redo d (changeOf (c .before .before .before .before .before .args .change)))
+    (c .before .before .content .ensures .is)))
 
 pub edited-content-spec : {M : Type 1} → statement M
 edited-content-spec = tie.close (tie.spec content-requires redo-requires node-in-requires returns)

@@ -20,15 +20,22 @@ same-length-2 : tie.Need-same-length-2
 same-length-2 c = search needs
 
 returns : tie.Need-returns
-returns c = let a = c .before .before .before .before .before .before .before .before .before .before .before .before .args in
-    let x = c .before .before .before .before .before .settle in
+returns c =
+    let c5 = c .before .before .before .before .before in
+    let c8 = c5 .before .before .before in
+    let c12 = c8 .before .before .before .before in
+    let a = c12 .args in
+    let x = c5 .settle in
     let w = world (pagesOf (a .pool .now)) (rowsOf (a .table .now)) (a .state) in
     let w₁ = world (pagesOf (x .last .0)) (rowsOf (x .last .1 .0)) (x .result .state) in
-    served-there (a .tariff) (a .n) read w (c .before .before .before .before .before .before .before .before .if1 .taken) (w₁ .pages) (w₁ .rows) (x .result) (x .ensures) (contentOf (a .n) w) refl (w₁ .pages) (w₁ .rows) (w₁ .state) (kept-same w₁ (x .ensures .kept .good))
+    served-there (a .tariff) (a .n) read w (c8 .if1 .taken) (w₁ .pages) (w₁ .rows) (x .result) (x .ensures)
+    (contentOf (a .n) w) refl (w₁ .pages) (w₁ .rows) (w₁ .state) (kept-same w₁ (x .ensures .kept .good))
 
 returns-2 : tie.Need-returns-2
-returns-2 c = let a = c .before .before .before .before .args in
-    served-nowhere (a .tariff) (a .n) read (world (pagesOf (a .pool .now)) (rowsOf (a .table .now)) (a .state)) (c .if1 .left) (c .before .before .before .before .pre .0)
+returns-2 c =
+    let c4 = c .before .before .before .before in
+    let a = c4 .args in
+    served-nowhere (a .tariff) (a .n) read (world (pagesOf (a .pool .now)) (rowsOf (a .table .now)) (a .state)) (c .if1 .left) (c4 .pre .0)
 
 pub serve-read-spec : {M : Type 1} → statement M
 serve-read-spec = tie.close (tie.spec settle-requires same-length same-length-2 returns returns-2)

@@ -18,7 +18,11 @@ same-length c = search needs
 
 returns : tie.Need-returns
 unfolding rescored
-returns c = rw (← c .before .before .before .before .before .read-row .ensures, ← c .before .before .before .scored .ensures) (c .before .before .write-row .ensures)
+returns c =
+    let c2 = c .before .before in
+    let c3 = c2 .before in
+    let c5 = c3 .before .before in
+    rw (← c5 .read-row .ensures, ← c3 .scored .ensures) (c2 .write-row .ensures)
 
 pub rescore-spec : {M : Type 1} → statement M
 rescore-spec =

@@ -29,10 +29,20 @@ same-length-2 : tie.Need-same-length-2
 same-length-2 c = search needs
 
 returns : tie.Need-returns
-returns c = let a = c .before .before .before .before .before .before .before .before .before .before .before .before .before .before .before .before .before .before .args in
-    let x = c .before .before .before .before .before .before .before .before .switch in
-    let y = c .before .before .rescore in
-    settled (a .tariff) (a .request) (a .n) (world (pagesOf (a .pool .now)) (rowsOf (a .table .now)) (a .state)) (world (pagesOf (x .last .0)) (rowsOf (x .last .1 .0)) (x .result)) (c .before .before .before .before .before .before .before .before .before .before .before .before .before .before .read-row .result) (c .before .before .before .before .before .before .before .before .before .before .before .before .before .account-in .result) (c .before .before .before .before .before .before .before .before .before .before .before .before .serve .result) (rowsOf (y .last .0)) (c .before .before .before .before .before .before .before .before .before .before .before .before .before .before .read-row .ensures) (c .before .before .before .before .before .before .before .before .before .before .before .before .before .account-in .ensures) (c .before .before .before .before .before .before .before .before .before .before .before .before .serve .ensures) (x .ensures) (y .ensures) (y .kept .0)
+returns c =
+    let c2 = c .before .before in
+    let c8 = c2 .before .before .before .before .before .before in
+    let c12 = c8 .before .before .before .before in
+    let c13 = c12 .before in
+    let c14 = c13 .before in
+    let c18 = c14 .before .before .before .before in
+    let a = c18 .args in
+    let x = c8 .switch in
+    let y = c2 .rescore in
+    settled (a .tariff) (a .request) (a .n) (world (pagesOf (a .pool .now)) (rowsOf (a .table .now)) (a .state))
+    (world (pagesOf (x .last .0)) (rowsOf (x .last .1 .0)) (x .result)) (c14 .read-row .result)
+    (c13 .account-in .result) (c12 .serve .result) (rowsOf (y .last .0)) (c14 .read-row .ensures)
+    (c13 .account-in .ensures) (c12 .serve .ensures) (x .ensures) (y .ensures) (y .kept .0)
 
 pub settle-spec : {M : Type 1} → statement M
 settle-spec =

@@ -13,8 +13,12 @@ same-mode-requires : tie.Need-same-mode-requires
 same-mode-requires c κs = search needs
 
 returns : tie.Need-returns
-returns c = let a = c .before .before .before .before .args in
-    switch-none (a .from) (a .to) (a .n) (world (pagesOf (a .pool .now)) (rowsOf (a .table .now)) (a .state)) (sym (c .before .same-mode .ensures) ∙ c .if1 .taken) (c .before .before .before .before .pre .0)
+returns c =
+    let c1 = c .before in
+    let c4 = c1 .before .before .before in
+    let a = c4 .args in
+    switch-none (a .from) (a .to) (a .n) (world (pagesOf (a .pool .now)) (rowsOf (a .table .now)) (a .state))
+    (sym (c1 .same-mode .ensures) ∙ c .if1 .taken) (c4 .pre .0)
 
 content-of-requires : tie.Need-content-of-requires
 content-of-requires c κs = search needs
@@ -29,9 +33,17 @@ same-length-2 : tie.Need-same-length-2
 same-length-2 c = search needs
 
 returns-2 : tie.Need-returns-2
-returns-2 c = let a = c .before .before .before .before .before .before .before .before .before .before .before .before .before .before .args in
-    let g = c .before .before .before .before .write-whole in
-    switch-whole (a .from) (a .to) (a .n) (world (pagesOf (a .pool .now)) (rowsOf (a .table .now)) (a .state)) (nodeOf (c .before .before .before .before .before .before .before .content-of .result)) (world (pagesOf (g .last .0)) (rowsOf (g .last .1 .0)) (g .result)) (sym (c .before .before .before .before .before .before .before .before .before .before .before .same-mode .ensures) ∙ c .before .before .before .before .before .before .before .before .before .before .if1 .left) (c .before .before .before .before .before .before .before .content-of .ensures .is) (g .ensures)
+returns-2 c =
+    let c4 = c .before .before .before .before in
+    let c7 = c4 .before .before .before in
+    let c10 = c7 .before .before .before in
+    let c11 = c10 .before in
+    let c14 = c11 .before .before .before in
+    let a = c14 .args in
+    let g = c4 .write-whole in
+    switch-whole (a .from) (a .to) (a .n) (world (pagesOf (a .pool .now)) (rowsOf (a .table .now)) (a .state))
+    (nodeOf (c7 .content-of .result)) (world (pagesOf (g .last .0)) (rowsOf (g .last .1 .0)) (g .result))
+    (sym (c11 .same-mode .ensures) ∙ c10 .if1 .left) (c7 .content-of .ensures .is) (g .ensures)
 
 pub switch-spec : {M : Type 1} → statement M
 switch-spec =

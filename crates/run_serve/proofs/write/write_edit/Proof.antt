@@ -24,8 +24,14 @@ same-length-2 : tie.Need-same-length-2
 same-length-2 c = search needs
 
 returns : tie.Need-returns
-returns c = let a = c .before .before .before .before .before .before .before .before .before .before .before .args in
-    kept-mode (λ (m : Mode). writeEdit m (a .n) (changeOf (a .change)) (nodeOf (a .edited-content)) (world (pagesOf (a .pool .now)) (rowsOf (a .table .now)) (a .state))) (c .before .before .before .before .before .before .before .enum-told .given .1) (c .before .before .before .before .edit .ensures)
+returns c =
+    let c4 = c .before .before .before .before in
+    let c7 = c4 .before .before .before in
+    let c11 = c7 .before .before .before .before in
+    let a = c11 .args in
+    kept-mode (λ (m : Mode). writeEdit m (a .n) (changeOf (a .change)) (nodeOf (a .edited-content))
+    (world (pagesOf (a .pool .now)) (rowsOf (a .table .now)) (a .state))) (c7 .enum-told .given .1)
+    (c4 .edit .ensures)
 
 enum-told-2 : tie.Need-enum-told-2
 enum-told-2 c = search needs
@@ -40,8 +46,14 @@ same-length-4 : tie.Need-same-length-4
 same-length-4 c = search needs
 
 returns-2 : tie.Need-returns-2
-returns-2 c = let a = c .before .before .before .before .before .before .before .before .before .before .before .args in
-    kept-mode (λ (m : Mode). writeEdit m (a .n) (changeOf (a .change)) (nodeOf (a .edited-content)) (world (pagesOf (a .pool .now)) (rowsOf (a .table .now)) (a .state))) (c .before .before .before .before .before .before .before .enum-told2 .given .1) (c .before .before .before .before .node-page .ensures)
+returns-2 c =
+    let c4 = c .before .before .before .before in
+    let c7 = c4 .before .before .before in
+    let c11 = c7 .before .before .before .before in
+    let a = c11 .args in
+    kept-mode (λ (m : Mode). writeEdit m (a .n) (changeOf (a .change)) (nodeOf (a .edited-content))
+    (world (pagesOf (a .pool .now)) (rowsOf (a .table .now)) (a .state))) (c7 .enum-told2 .given .1)
+    (c4 .node-page .ensures)
 
 pub write-edit-spec : {M : Type 1} → statement M
 write-edit-spec =

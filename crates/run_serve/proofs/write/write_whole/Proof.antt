@@ -23,8 +23,14 @@ same-length-2 : tie.Need-same-length-2
 same-length-2 c = search needs
 
 returns : tie.Need-returns
-returns c = let a = c .before .before .before .before .before .before .before .before .before .before .before .args in
-    kept-mode (λ (m : Mode). writeWhole m (a .n) (nodeOf (a .v)) (world (pagesOf (a .pool .now)) (rowsOf (a .table .now)) (a .state))) (c .before .before .before .before .before .before .before .enum-told .given .1) (c .before .before .before .before .group .ensures)
+returns c =
+    let c4 = c .before .before .before .before in
+    let c7 = c4 .before .before .before in
+    let c11 = c7 .before .before .before .before in
+    let a = c11 .args in
+    kept-mode (λ (m : Mode). writeWhole m (a .n) (nodeOf (a .v))
+    (world (pagesOf (a .pool .now)) (rowsOf (a .table .now)) (a .state))) (c7 .enum-told .given .1)
+    (c4 .group .ensures)
 
 enum-told-2 : tie.Need-enum-told-2
 enum-told-2 c = search needs
@@ -39,8 +45,14 @@ same-length-4 : tie.Need-same-length-4
 same-length-4 c = search needs
 
 returns-2 : tie.Need-returns-2
-returns-2 c = let a = c .before .before .before .before .before .before .before .before .before .before .before .args in
-    kept-mode (λ (m : Mode). writeWhole m (a .n) (nodeOf (a .v)) (world (pagesOf (a .pool .now)) (rowsOf (a .table .now)) (a .state))) (c .before .before .before .before .before .before .before .enum-told2 .given .1) (c .before .before .before .before .node-page .ensures)
+returns-2 c =
+    let c4 = c .before .before .before .before in
+    let c7 = c4 .before .before .before in
+    let c11 = c7 .before .before .before .before in
+    let a = c11 .args in
+    kept-mode (λ (m : Mode). writeWhole m (a .n) (nodeOf (a .v))
+    (world (pagesOf (a .pool .now)) (rowsOf (a .table .now)) (a .state))) (c7 .enum-told2 .given .1)
+    (c4 .node-page .ensures)
 
 pub write-whole-spec : {M : Type 1} → statement M
 write-whole-spec =

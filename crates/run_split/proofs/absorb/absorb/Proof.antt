@@ -12,8 +12,10 @@ enum-told c = search needs
 
 returns : tie.Need-returns
 returns c =
-    let a = c .before .before .before .before .args in
-    absorb-nothing (a .tariff) (a .wanted) (a .root) (a .id) (a .pending) (world (pagesOf (a .pool .now)) (rowsOf (a .table .now)) (a .state)) (c .enum-told .given .1) (c .before .before .before .before .pre .0)
+    let c4 = c .before .before .before .before in
+    let a = c4 .args in
+    absorb-nothing (a .tariff) (a .wanted) (a .root) (a .id) (a .pending)
+    (world (pagesOf (a .pool .now)) (rowsOf (a .table .now)) (a .state)) (c .enum-told .given .1) (c4 .pre .0)
 
 enum-known-pending : tie.Need-enum-known-pending
 enum-known-pending c = search needs
@@ -29,8 +31,13 @@ same-length-2 c = search needs
 
 returns-2 : tie.Need-returns-2
 returns-2 c =
-    let a = c .before .before .before .before .before .before .before .before .before .before .before .before .args in
-    absorbed-is (c .before .before .before .before .absorb-pair .ensures) (absorb-known (a .tariff) (a .wanted) (a .root) (a .id) (a .pending) _ (world (pagesOf (a .pool .now)) (rowsOf (a .table .now)) (a .state)) (c .before .before .before .before .before .before .before .before .pending .given .1))
+    let c4 = c .before .before .before .before in
+    let c8 = c4 .before .before .before .before in
+    let c12 = c8 .before .before .before .before in
+    let a = c12 .args in
+    absorbed-is (c4 .absorb-pair .ensures)
+    (absorb-known (a .tariff) (a .wanted) (a .root) (a .id) (a .pending) _
+    (world (pagesOf (a .pool .now)) (rowsOf (a .table .now)) (a .state)) (c8 .pending .given .1))
 
 enum-known-pending-2 : tie.Need-enum-known-pending-2
 enum-known-pending-2 c = search needs
@@ -46,8 +53,14 @@ same-length-4 c = search needs
 
 returns-3 : tie.Need-returns-3
 returns-3 c =
-    let a = c .before .before .before .before .before .before .before .before .before .before .before .before .args in
-    absorbed-is (c .before .before .before .before .absorb-halves .ensures) (absorb-known (a .tariff) (a .wanted) (a .root) (a .id) (a .pending) _ (world (pagesOf (a .pool .now)) (rowsOf (a .table .now)) (a .state)) (c .before .before .before .before .before .before .before .before .pending2 .given .1))
+    let c4 = c .before .before .before .before in
+    let c8 = c4 .before .before .before .before in
+    let c12 = c8 .before .before .before .before in
+    let a = c12 .args in
+    absorbed-is (c4 .absorb-halves .ensures)
+    (absorb-known (a .tariff) (a .wanted) (a .root) (a .id) (a .pending) _
+    (world (pagesOf (a .pool .now)) (rowsOf (a .table .now)) (a .state)) (c8 .pending2 .given .1))
 
 pub absorb-spec : {M : Type 1} → statement M
-absorb-spec = tie.close (tie.spec enum-told returns enum-known-pending absorb-pair-requires same-length same-length-2 returns-2 enum-known-pending-2 absorb-halves-requires same-length-3 same-length-4 returns-3)
+absorb-spec = tie.close (tie.spec enum-told returns enum-known-pending absorb-pair-requires same-length same-length-2
+    returns-2 enum-known-pending-2 absorb-halves-requires same-length-3 same-length-4 returns-3)

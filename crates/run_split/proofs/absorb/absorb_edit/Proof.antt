@@ -9,7 +9,9 @@ use Rattle.run_split.proofs.absorb.absorb_edit.Statement.{statement}
 use Rattle.run_split.proofs.absorb.absorb_edit.Tie as tie
 
 serve-edit-requires : tie.Need-serve-edit-requires
-serve-edit-requires c κs = (c .before .before .before .before .pre .0 .good, c .before .before .before .before .pre .1)
+serve-edit-requires c κs =
+    let c4 = c .before .before .before .before in
+    (c4 .pre .0 .good, c4 .pre .1)
 
 same-length : tie.Need-same-length
 same-length c = search needs
@@ -19,9 +21,12 @@ same-length-2 c = search needs
 
 returns : tie.Need-returns
 returns c =
-    let a = c .before .before .before .before .before .before .before .before .before .before .args in
-    let x = c .before .before .before .before .before .serve-edit in
-    one-edit (a .tariff) (a .id) (world (pagesOf (a .pool .now)) (rowsOf (a .table .now)) (a .state)) (c .before .before .before .before .before .before .before .before .before .before .pre .0) (changeOf (a .edit)) (pagesOf (x .last .0)) (rowsOf (x .last .1 .0)) (x .result) (x .ensures)
+    let c5 = c .before .before .before .before .before in
+    let c10 = c5 .before .before .before .before .before in
+    let a = c10 .args in
+    let x = c5 .serve-edit in
+    one-edit (a .tariff) (a .id) (world (pagesOf (a .pool .now)) (rowsOf (a .table .now)) (a .state)) (c10 .pre .0)
+    (changeOf (a .edit)) (pagesOf (x .last .0)) (rowsOf (x .last .1 .0)) (x .result) (x .ensures)
 
 pub absorb-edit-spec : {M : Type 1} → statement M
 absorb-edit-spec = tie.close (tie.spec serve-edit-requires same-length same-length-2 returns)

@@ -38,21 +38,44 @@ same-length-2 c = search needs
 
 returns : tie.Need-returns
 returns c =
-    let a = c .before .before .before .before .before .before .before .before .before .before .before .before .before .before .before .before .before .before .args in
-    let v = c .before .before .before .before .before .before .before .before .before .before .before .before .before .node-at in
-    let u = c .before .before .before .before .before .before .before .before .before .before .before .pointed in
-    absorbed-is (c .before .before .before .before .absorb-edits .ensures) (halves-fits (a .tariff) (a .root) (a .id) (a .wanted) (a .middle) (a .left) (a .right) (world (pagesOf (a .pool .now)) (rowsOf (a .table .now)) (a .state)) (v .result) (v .ensures .is) (c .before .before .before .before .before .before .before .before .before .before .before .before .child-place .result) (c .before .before .before .before .before .before .before .before .before .before .before .before .child-place .ensures .0) (u .result) (u .ensures .is) (c .before .before .before .before .before .before .before .before .before .before .fit .result) (c .before .before .before .before .before .before .before .before .before .before .fit .ensures) (c .before .before .before .before .before .before .before .before .enum-told .given .1) (changeOf (c .before .before .before .before .before .before .before .rename .result)) (c .before .before .before .before .before .before .before .rename .ensures))
+    let c4 = c .before .before .before .before in
+    let c7 = c4 .before .before .before in
+    let c8 = c7 .before in
+    let c10 = c8 .before .before in
+    let c11 = c10 .before in
+    let c12 = c11 .before in
+    let c13 = c12 .before in
+    let c18 = c13 .before .before .before .before .before in
+    let a = c18 .args in
+    let v = c13 .node-at in
+    let u = c11 .pointed in
+    absorbed-is (c4 .absorb-edits .ensures)
+    (halves-fits (a .tariff) (a .root) (a .id) (a .wanted) (a .middle) (a .left) (a .right)
+    (world (pagesOf (a .pool .now)) (rowsOf (a .table .now)) (a .state)) (v .result) (v .ensures .is)
+    (c12 .child-place .result) (c12 .child-place .ensures .0) (u .result) (u .ensures .is) (c10 .fit .result)
+    (c10 .fit .ensures) (c8 .enum-told .given .1) (changeOf (c7 .rename .result)) (c7 .rename .ensures))
 
 enum-known-found : tie.Need-enum-known-found
 enum-known-found c = search needs
 
 split-requires : tie.Need-split-requires
 split-requires c κs =
-    let a = c .before .before .before .before .before .before .before .before .before .before .before .before .before .args in
-    let v = c .before .before .before .before .before .before .before .before .node-at in
-    let u = c .before .before .before .before .before .before .pointed in
+    let c3 = c .before .before .before in
+    let c5 = c3 .before .before in
+    let c6 = c5 .before in
+    let c7 = c6 .before in
+    let c8 = c7 .before in
+    let c13 = c8 .before .before .before .before .before in
+    let a = c13 .args in
+    let v = c8 .node-at in
+    let u = c6 .pointed in
     let w = world (pagesOf (a .pool .now)) (rowsOf (a .table .now)) (a .state) in
-    (c .before .before .before .before .before .before .before .before .before .before .before .before .before .pre .0, c .before .before .before .before .before .before .before .before .before .before .before .before .before .pre .1, halves-there (a .tariff) (a .root) (a .id) (a .wanted) (a .middle) (a .left) (a .right) w (v .result) (v .ensures .is) (c .before .before .before .before .before .before .before .child-place .result) (c .before .before .before .before .before .before .before .child-place .ensures .0) (u .result) (u .ensures .is) (c .before .before .before .before .before .fit .result) (c .before .before .before .before .before .fit .ensures) _ (c .before .before .before .found .given .1) (u .ensures .held), halves-full (a .tariff) (a .root) (a .id) (a .wanted) (a .middle) (a .left) (a .right) w (v .result) (v .ensures .is) (c .before .before .before .before .before .before .before .child-place .result) (c .before .before .before .before .before .before .before .child-place .ensures .0) (u .result) (u .ensures .is) (c .before .before .before .before .before .fit .result) (c .before .before .before .before .before .fit .ensures) _ (c .before .before .before .found .given .1) (u .ensures .held))
+    (c13 .pre .0, c13 .pre .1, halves-there (a .tariff) (a .root) (a .id) (a .wanted) (a .middle) (a .left)
+    (a .right) w (v .result) (v .ensures .is) (c7 .child-place .result) (c7 .child-place .ensures .0) (u .result)
+    (u .ensures .is) (c5 .fit .result) (c5 .fit .ensures) _ (c3 .found .given .1) (u .ensures .held), halves-full
+    (a .tariff) (a .root) (a .id) (a .wanted) (a .middle) (a .left) (a .right) w (v .result) (v .ensures .is)
+    (c7 .child-place .result) (c7 .child-place .ensures .0) (u .result) (u .ensures .is) (c5 .fit .result)
+    (c5 .fit .ensures) _ (c3 .found .given .1) (u .ensures .held))
 
 same-length-3 : tie.Need-same-length-3
 same-length-3 c = search needs
@@ -62,10 +85,24 @@ same-length-4 c = search needs
 
 returns-2 : tie.Need-returns-2
 returns-2 c =
-    let a = c .before .before .before .before .before .before .before .before .before .before .before .before .before .before .before .before .before .before .args in
-    let v = c .before .before .before .before .before .before .before .before .before .before .before .before .before .node-at in
-    let u = c .before .before .before .before .before .before .before .before .before .before .before .pointed in
-    absorbed-is (c .before .before .before .before .split .ensures) (halves-split (a .tariff) (a .root) (a .id) (a .wanted) (a .middle) (a .left) (a .right) (world (pagesOf (a .pool .now)) (rowsOf (a .table .now)) (a .state)) (v .result) (v .ensures .is) (c .before .before .before .before .before .before .before .before .before .before .before .before .child-place .result) (c .before .before .before .before .before .before .before .before .before .before .before .before .child-place .ensures .0) (u .result) (u .ensures .is) (c .before .before .before .before .before .before .before .before .before .before .fit .result) (c .before .before .before .before .before .before .before .before .before .before .fit .ensures) _ (c .before .before .before .before .before .before .before .before .found .given .1))
+    let c4 = c .before .before .before .before in
+    let c8 = c4 .before .before .before .before in
+    let c10 = c8 .before .before in
+    let c11 = c10 .before in
+    let c12 = c11 .before in
+    let c13 = c12 .before in
+    let c18 = c13 .before .before .before .before .before in
+    let a = c18 .args in
+    let v = c13 .node-at in
+    let u = c11 .pointed in
+    absorbed-is (c4 .split .ensures)
+    (halves-split (a .tariff) (a .root) (a .id) (a .wanted) (a .middle) (a .left) (a .right)
+    (world (pagesOf (a .pool .now)) (rowsOf (a .table .now)) (a .state)) (v .result) (v .ensures .is)
+    (c12 .child-place .result) (c12 .child-place .ensures .0) (u .result) (u .ensures .is) (c10 .fit .result)
+    (c10 .fit .ensures) _ (c8 .found .given .1))
 
 pub absorb-halves-spec : {M : Type 1} → statement M
-absorb-halves-spec = tie.close (tie.spec node-at-requires child-place-requires pointed-requires fit-requires enum-told rename-requires absorb-edits-requires same-length same-length-2 returns enum-known-found split-requires same-length-3 same-length-4 returns-2)
+absorb-halves-spec = tie.close
+    (tie.spec node-at-requires child-place-requires pointed-requires fit-requires enum-told rename-requires
+    absorb-edits-requires same-length same-length-2 returns enum-known-found split-requires same-length-3
+    same-length-4 returns-2)

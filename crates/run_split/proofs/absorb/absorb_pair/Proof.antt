@@ -28,18 +28,33 @@ same-length-2 c = search needs
 
 returns : tie.Need-returns
 returns c =
-    let a = c .before .before .before .before .before .before .before .before .before .before .before .before .before .before .before .args in
-    absorbed-is (c .before .before .before .before .absorb-edit .ensures) (pair-fits (a .tariff) (a .root) (a .id) (a .key) (a .value) (world (pagesOf (a .pool .now)) (rowsOf (a .table .now)) (a .state)) (c .before .before .before .before .before .before .before .before .before .before .node-at .result) (c .before .before .before .before .before .before .before .before .before .before .node-at .ensures .is) (c .before .before .before .before .before .before .before .before .before .fit .result) (c .before .before .before .before .before .before .before .before .before .fit .ensures) (c .before .before .before .before .before .before .before .enum-told .given .1))
+    let c4 = c .before .before .before .before in
+    let c7 = c4 .before .before .before in
+    let c9 = c7 .before .before in
+    let c10 = c9 .before in
+    let c15 = c10 .before .before .before .before .before in
+    let a = c15 .args in
+    absorbed-is (c4 .absorb-edit .ensures)
+    (pair-fits (a .tariff) (a .root) (a .id) (a .key) (a .value)
+    (world (pagesOf (a .pool .now)) (rowsOf (a .table .now)) (a .state)) (c10 .node-at .result)
+    (c10 .node-at .ensures .is) (c9 .fit .result) (c9 .fit .ensures) (c7 .enum-told .given .1))
 
 enum-known-found : tie.Need-enum-known-found
 enum-known-found c = search needs
 
 split-requires : tie.Need-split-requires
 split-requires c κs =
-    let a = c .before .before .before .before .before .before .before .before .before .before .before .args in
-    let v = c .before .before .before .before .before .before .node-at in
+    let c3 = c .before .before .before in
+    let c5 = c3 .before .before in
+    let c6 = c5 .before in
+    let c11 = c6 .before .before .before .before .before in
+    let a = c11 .args in
+    let v = c6 .node-at in
     let w = world (pagesOf (a .pool .now)) (rowsOf (a .table .now)) (a .state) in
-    (c .before .before .before .before .before .before .before .before .before .before .before .pre .0, c .before .before .before .before .before .before .before .before .before .before .before .pre .1, pair-there (a .tariff) (a .root) (a .id) (a .key) (a .value) w (v .result) (v .ensures .is) (c .before .before .before .before .before .fit .result) (c .before .before .before .before .before .fit .ensures) _ (c .before .before .before .found .given .1) (v .ensures .held), pair-full (a .tariff) (a .root) (a .id) (a .key) (a .value) w (v .result) (v .ensures .is) (c .before .before .before .before .before .fit .result) (c .before .before .before .before .before .fit .ensures) _ (c .before .before .before .found .given .1) (v .ensures .held))
+    (c11 .pre .0, c11 .pre .1, pair-there (a .tariff) (a .root) (a .id) (a .key) (a .value) w (v .result)
+    (v .ensures .is) (c5 .fit .result) (c5 .fit .ensures) _ (c3 .found .given .1) (v .ensures .held), pair-full
+    (a .tariff) (a .root) (a .id) (a .key) (a .value) w (v .result) (v .ensures .is) (c5 .fit .result)
+    (c5 .fit .ensures) _ (c3 .found .given .1) (v .ensures .held))
 
 same-length-3 : tie.Need-same-length-3
 same-length-3 c = search needs
@@ -49,9 +64,18 @@ same-length-4 c = search needs
 
 returns-2 : tie.Need-returns-2
 returns-2 c =
-    let a = c .before .before .before .before .before .before .before .before .before .before .before .before .before .before .before .before .args in
-    let v = c .before .before .before .before .before .before .before .before .before .before .before .node-at in
-    absorbed-is (c .before .before .before .before .split .ensures) (pair-splits (a .tariff) (a .root) (a .id) (a .key) (a .value) (world (pagesOf (a .pool .now)) (rowsOf (a .table .now)) (a .state)) (v .result) (v .ensures .is) (c .before .before .before .before .before .before .before .before .before .before .fit .result) (c .before .before .before .before .before .before .before .before .before .before .fit .ensures) _ (c .before .before .before .before .before .before .before .before .found .given .1))
+    let c4 = c .before .before .before .before in
+    let c8 = c4 .before .before .before .before in
+    let c10 = c8 .before .before in
+    let c11 = c10 .before in
+    let c16 = c11 .before .before .before .before .before in
+    let a = c16 .args in
+    let v = c11 .node-at in
+    absorbed-is (c4 .split .ensures)
+    (pair-splits (a .tariff) (a .root) (a .id) (a .key) (a .value)
+    (world (pagesOf (a .pool .now)) (rowsOf (a .table .now)) (a .state)) (v .result) (v .ensures .is)
+    (c10 .fit .result) (c10 .fit .ensures) _ (c8 .found .given .1))
 
 pub absorb-pair-spec : {M : Type 1} → statement M
-absorb-pair-spec = tie.close (tie.spec node-at-requires fit-requires enum-told absorb-edit-requires same-length same-length-2 returns enum-known-found split-requires same-length-3 same-length-4 returns-2)
+absorb-pair-spec = tie.close (tie.spec node-at-requires fit-requires enum-told absorb-edit-requires same-length
+    same-length-2 returns enum-known-found split-requires same-length-3 same-length-4 returns-2)

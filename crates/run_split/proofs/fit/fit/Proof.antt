@@ -18,13 +18,21 @@ enum-known-found c = search needs
 
 returns : tie.Need-returns
 returns c =
-    let a = c .before .before .before .before .before .before .args in
-    sym (fit-room (a .key) (pairsIn (a .v)) _ (sym (c .before .before .before .before .before .find .ensures) ∙ c .before .before .before .found .given .1) (omega (arith, length-pairsIn (a .v) (c .before .before .before .before .before .before .pre .sized), c .if1 .taken)))
+    let c3 = c .before .before .before in
+    let c5 = c3 .before .before in
+    let c6 = c5 .before in
+    let a = c6 .args in
+    sym (fit-room (a .key) (pairsIn (a .v)) _ (sym (c5 .find .ensures) ∙ c3 .found .given .1)
+    (omega (arith, length-pairsIn (a .v) (c6 .pre .sized), c .if1 .taken)))
 
 returns-2 : tie.Need-returns-2
 returns-2 c =
-    let a = c .before .before .before .before .before .before .args in
-    sym (fit-full (a .key) (pairsIn (a .v)) _ (sym (c .before .before .before .before .before .find .ensures) ∙ c .before .before .before .found .given .1) (omega (arith, length-pairsIn (a .v) (c .before .before .before .before .before .before .pre .sized), c .if1 .left)))
+    let c3 = c .before .before .before in
+    let c5 = c3 .before .before in
+    let c6 = c5 .before in
+    let a = c6 .args in
+    sym (fit-full (a .key) (pairsIn (a .v)) _ (sym (c5 .find .ensures) ∙ c3 .found .given .1)
+    (omega (arith, length-pairsIn (a .v) (c6 .pre .sized), c .if1 .left)))
 
 returns-3 : tie.Need-returns-3
 returns-3 c =

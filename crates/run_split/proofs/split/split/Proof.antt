@@ -10,7 +10,9 @@ use Rattle.run_split.proofs.split.split.Statement.{statement}
 use Rattle.run_split.proofs.split.split.Tie as tie
 
 split-root-requires : tie.Need-split-root-requires
-split-root-requires c κs = (c .before .before .before .before .before .pre .0, c .before .before .before .before .before .pre .1, c .before .before .before .before .before .pre .3)
+split-root-requires c κs =
+    let c5 = c .before .before .before .before .before in
+    (c5 .pre .0, c5 .pre .1, c5 .pre .3)
 
 same-length : tie.Need-same-length
 same-length c = search needs
@@ -20,8 +22,13 @@ same-length-2 c = search needs
 
 returns : tie.Need-returns
 returns c =
-    let a = c .before .before .before .before .before .before .before .before .before .before .args in
-    absorbed-is (c .before .before .before .before .split-root .ensures) (split-as-root (a .tariff) (change (put (a .key) (a .pointer)) (nodeOf (a .v))) (world (pagesOf (a .pool .now)) (rowsOf (a .table .now)) (a .state)) (a .root) (a .id) (c .before .before .before .before .before .before .before .if1 .taken))
+    let c4 = c .before .before .before .before in
+    let c7 = c4 .before .before .before in
+    let c10 = c7 .before .before .before in
+    let a = c10 .args in
+    absorbed-is (c4 .split-root .ensures)
+    (split-as-root (a .tariff) (change (put (a .key) (a .pointer)) (nodeOf (a .v)))
+    (world (pagesOf (a .pool .now)) (rowsOf (a .table .now)) (a .state)) (a .root) (a .id) (c7 .if1 .taken))
 
 split-below-requires : tie.Need-split-below-requires
 split-below-requires c κs = c .before .before .before .before .before .pre
@@ -34,8 +41,13 @@ same-length-4 c = search needs
 
 returns-2 : tie.Need-returns-2
 returns-2 c =
-    let a = c .before .before .before .before .before .before .before .before .before .before .args in
-    absorbed-is (c .before .before .before .before .split-below .ensures) (split-as-below (a .tariff) (change (put (a .key) (a .pointer)) (nodeOf (a .v))) (world (pagesOf (a .pool .now)) (rowsOf (a .table .now)) (a .state)) (a .root) (a .id) (c .before .before .before .before .before .before .before .if1 .left))
+    let c4 = c .before .before .before .before in
+    let c7 = c4 .before .before .before in
+    let c10 = c7 .before .before .before in
+    let a = c10 .args in
+    absorbed-is (c4 .split-below .ensures)
+    (split-as-below (a .tariff) (change (put (a .key) (a .pointer)) (nodeOf (a .v)))
+    (world (pagesOf (a .pool .now)) (rowsOf (a .table .now)) (a .state)) (a .root) (a .id) (c7 .if1 .left))
 
 pub split-spec : {M : Type 1} → statement M
 split-spec = tie.close (tie.spec split-root-requires same-length same-length-2 returns split-below-requires same-length-3 same-length-4 returns-2)

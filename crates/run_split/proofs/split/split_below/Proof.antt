@@ -26,10 +26,17 @@ middle-requires : tie.Need-middle-requires
 middle-requires c κs = c .before .before .before .before .before .pre .3
 
 serve-rewrite-requires : tie.Need-serve-rewrite-requires
-serve-rewrite-requires c κs = (c .before .before .before .before .before .before .before .before .pre .0 .good, c .before .before .before .before .before .before .before .before .pre .1, c .before .before .before .before .lower .ensures .held .sized)
+serve-rewrite-requires c κs =
+    let c4 = c .before .before .before .before in
+    let c8 = c4 .before .before .before .before in
+    (c8 .pre .0 .good, c8 .pre .1, c4 .lower .ensures .held .sized)
 
 grow-requires : tie.Need-grow-requires
-grow-requires c κs = (growing-kept (c .before .before .before .before .before .before .before .before .before .before .before .before .before .before .before .before .pre .0) (c .before .before .before .before .before .before .before .serve-rewrite .ensures .kept), c .before .before .before .before .before .before .before .before .before .before .before .upper .ensures .held .sized)
+grow-requires c κs =
+    let c7 = c .before .before .before .before .before .before .before in
+    let c11 = c7 .before .before .before .before in
+    let c16 = c11 .before .before .before .before .before in
+    (growing-kept (c16 .pre .0) (c7 .serve-rewrite .ensures .kept), c11 .upper .ensures .held .sized)
 
 same-length : tie.Need-same-length
 same-length c = search needs
@@ -39,10 +46,21 @@ same-length-2 c = search needs
 
 returns : tie.Need-returns
 returns c =
-    let a = c .before .before .before .before .before .before .before .before .before .before .before .before .before .before .before .before .before .before .before .before .before .args in
-    let x = c .before .before .before .before .before .before .before .before .before .before .before .before .serve-rewrite in
-    let y = c .before .before .before .before .grow in
-    below-split (a .tariff) (change (put (a .key) (a .pointer)) (nodeOf (a .v))) (world (pagesOf (a .pool .now)) (rowsOf (a .table .now)) (a .state)) (a .id) (nodeOf (c .before .before .before .before .before .before .before .before .before .before .before .before .before .before .before .before .before .lower .result)) (nodeOf (c .before .before .before .before .before .before .before .before .before .before .before .before .before .before .before .before .upper .result)) (c .before .before .before .before .before .before .before .before .before .before .before .before .before .before .before .middle .result) (c .before .before .before .before .before .before .before .before .before .before .before .before .before .before .before .before .before .lower .ensures .is) (c .before .before .before .before .before .before .before .before .before .before .before .before .before .before .before .before .upper .ensures .is) (c .before .before .before .before .before .before .before .before .before .before .before .before .before .before .before .middle .ensures) (pagesOf (x .last .0)) (rowsOf (x .last .1 .0)) (x .result) (x .ensures) (pagesOf (y .last .0)) (rowsOf (y .last .1 .0)) (y .result) (y .ensures)
+    let c4 = c .before .before .before .before in
+    let c12 = c4 .before .before .before .before .before .before .before .before in
+    let c15 = c12 .before .before .before in
+    let c16 = c15 .before in
+    let c17 = c16 .before in
+    let c21 = c17 .before .before .before .before in
+    let a = c21 .args in
+    let x = c12 .serve-rewrite in
+    let y = c4 .grow in
+    below-split (a .tariff) (change (put (a .key) (a .pointer)) (nodeOf (a .v)))
+    (world (pagesOf (a .pool .now)) (rowsOf (a .table .now)) (a .state)) (a .id) (nodeOf (c17 .lower .result))
+    (nodeOf (c16 .upper .result)) (c15 .middle .result) (c17 .lower .ensures .is) (c16 .upper .ensures .is)
+    (c15 .middle .ensures) (pagesOf (x .last .0)) (rowsOf (x .last .1 .0)) (x .result) (x .ensures)
+    (pagesOf (y .last .0)) (rowsOf (y .last .1 .0)) (y .result) (y .ensures)
 
 pub split-below-spec : {M : Type 1} → statement M
-split-below-spec = tie.close (tie.spec cast-next cast-left lower-requires upper-requires middle-requires serve-rewrite-requires grow-requires same-length same-length-2 returns)
+split-below-spec = tie.close (tie.spec cast-next cast-left lower-requires upper-requires middle-requires
+    serve-rewrite-requires grow-requires same-length same-length-2 returns)

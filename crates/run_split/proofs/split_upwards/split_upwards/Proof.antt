@@ -19,7 +19,8 @@ few ids n e l = omega arith
 abbrev Inv-loop : tie.InvT-loop
 Inv-loop pool₀ table₀ tariff n key value ids s₀ charge₀ pending₀ i₀ pool table s charge pending i =
     (length ids ≡ 9) × (length pool ≡ length pool₀) × (length table ≡ length table₀) ×
-    SplittingUpwards (length pool) (length table) tariff key value (take n ids) i (world (pagesOf pool₀) (rowsOf table₀) s₀) (world (pagesOf pool) (rowsOf table) s) charge pending
+    SplittingUpwards (length pool) (length table) tariff key value (take n ids) i
+    (world (pagesOf pool₀) (rowsOf table₀) s₀) (world (pagesOf pool) (rowsOf table) s) charge pending
 
 abbrev μ-loop : tie.MeasureT-loop
 μ-loop pool₀ table₀ tariff n key value ids s₀ charge₀ pending₀ i₀ pool table s charge pending i = i
@@ -27,7 +28,10 @@ abbrev μ-loop : tie.MeasureT-loop
 loop-holds : tie.Need-loop-holds Inv-loop μ-loop
 loop-holds c =
     let a = c .before .before .args in
-    (search needs, refl, refl, splitting-start (a .tariff) (a .key) (a .value) (take (a .n) (a .t5)) (world (pagesOf (a .pool .now)) (rowsOf (a .table .now)) (a .state)) (c .before .before .pre .0) (a .n) (sym (length-take-le (a .n) (a .t5) (few (a .t5) (a .n) (search needs) (c .before .before .pre .3)))) (c .before .before .pre .2) (c .before .before .pre .3))
+    (search needs, refl, refl, splitting-start (a .tariff) (a .key) (a .value) (take (a .n) (a .t5))
+    (world (pagesOf (a .pool .now)) (rowsOf (a .table .now)) (a .state)) (c .before .before .pre .0) (a .n)
+    (sym (length-take-le (a .n) (a .t5) (few (a .t5) (a .n) (search needs) (c .before .before .pre .3))))
+    (c .before .before .pre .2) (c .before .before .pre .3))
 
 sub-i : tie.Need-sub-i Inv-loop μ-loop
 sub-i c = omega arith
@@ -36,45 +40,72 @@ mul-absorb : tie.Need-mul-absorb Inv-loop μ-loop
 mul-absorb c = search needs
 
 array-read-absorb : tie.Need-array-read-absorb Inv-loop μ-loop
-array-read-absorb c = let l = c .before .before .before .loop in omega (arith, l .inv .0, l .inv .3 .inside, length-take (c .before .before .before .before .before .before .args .n) (c .before .before .before .before .before .before .args .t5))
+array-read-absorb c =
+    let c3 = c .before .before .before in
+    let c6 = c3 .before .before .before in
+    let l = c3 .loop in omega (arith, l .inv .0, l .inv .3 .inside, length-take (c6 .args .n) (c6 .args .t5))
 
 absorb-requires : tie.Need-absorb-requires Inv-loop μ-loop
 absorb-requires c κs = (c .before .before .before .loop .inv .3 .growing, c .before .before .before .before .before .before .pre .1)
 
 add-charge : tie.Need-add-charge Inv-loop μ-loop
-add-charge c = omega (arith, c .before .before .before .before .before .before .before .before .before .before .loop .inv .3 .most, c .before .before .before .before .before .before .absorb .ensures .most)
+add-charge c =
+    let c6 = c .before .before .before .before .before .before in
+    let c10 = c6 .before .before .before .before in
+    omega (arith, c10 .loop .inv .3 .most, c6 .absorb .ensures .most)
 
 loop-less : tie.Need-loop-less Inv-loop μ-loop
 loop-less c = omega arith
 
 loop-again : tie.Need-loop-again Inv-loop μ-loop
 loop-again c =
-    let a = c .before .before .before .before .before .before .before .before .before .before .before .before .before .args in
-    let l = c .before .before .before .before .before .before .before .before .before .before .loop in
-    let x = c .before .before .before .before .before .before .absorb in (
+    let c6 = c .before .before .before .before .before .before in
+    let c9 = c6 .before .before .before in
+    let c10 = c9 .before in
+    let c13 = c10 .before .before .before in
+    let a = c13 .args in
+    let l = c10 .loop in
+    let x = c6 .absorb in (
       l .inv .0,
       x .kept .0 ∙ l .inv .1,
       x .kept .1 .0 ∙ l .inv .2,
-      splitting-next (l .inv .3) (pagesOf (x .last .0)) (rowsOf (x .last .1 .0)) (x .result) (c .before .before .before .before .before .before .before .before .before .loop-test .taken) (getD (a .t5) (l .i - 1) 0) (sym (getD-take (a .n) (a .t5) (l .i - 1) 0 (omega (arith, l .inv .3 .inside, l .inv .3 .some, length-take (a .n) (a .t5))))) (x .ensures),
+      splitting-next (l .inv .3) (pagesOf (x .last .0)) (rowsOf (x .last .1 .0)) (x .result) (c9 .loop-test .taken)
+      (getD (a .t5) (l .i - 1) 0) (sym
+      (getD-take (a .n) (a .t5) (l .i - 1) 0
+      (omega (arith, l .inv .3 .inside, l .inv .3 .some, length-take (a .n) (a .t5))))) (x .ensures),
     )
 
 absorb-requires-2 : tie.Need-absorb-requires-2 Inv-loop μ-loop
 absorb-requires-2 c κs = (c .before .before .before .loop .inv .3 .growing, c .before .before .before .before .before .before .pre .1)
 
 add-t30 : tie.Need-add-t30 Inv-loop μ-loop
-add-t30 c = omega (arith, c .before .before .before .before .before .before .before .before .before .before .loop .inv .3 .most, c .before .before .before .before .before .before .absorb2 .ensures .most)
+add-t30 c =
+    let c6 = c .before .before .before .before .before .before in
+    let c10 = c6 .before .before .before .before in
+    omega (arith, c10 .loop .inv .3 .most, c6 .absorb2 .ensures .most)
 
 same-length : tie.Need-same-length Inv-loop μ-loop
-same-length c = let l = c .before .before .before .before .before .before .before .before .before .before .loop in omega (arith, l .inv .1, c .before .before .before .before .before .before .absorb2 .kept .0)
+same-length c =
+    let c6 = c .before .before .before .before .before .before in
+    let c10 = c6 .before .before .before .before in
+    let l = c10 .loop in omega (arith, l .inv .1, c6 .absorb2 .kept .0)
 
 same-length-2 : tie.Need-same-length-2 Inv-loop μ-loop
-same-length-2 c = let l = c .before .before .before .before .before .before .before .before .before .before .loop in omega (arith, l .inv .2, c .before .before .before .before .before .before .absorb2 .kept .1 .0)
+same-length-2 c =
+    let c6 = c .before .before .before .before .before .before in
+    let c10 = c6 .before .before .before .before in
+    let l = c10 .loop in omega (arith, l .inv .2, c6 .absorb2 .kept .1 .0)
 
 returns : tie.Need-returns Inv-loop μ-loop
 returns c =
-    let l = c .before .before .before .before .before .before .before .before .before .before .loop in
-    let x = c .before .before .before .before .before .before .absorb2 in
-    splitting-end (l .inv .3) (pagesOf (x .last .0)) (rowsOf (x .last .1 .0)) (x .result) (c .before .before .before .before .before .before .before .before .before .loop-test .left) (x .ensures)
+    let c6 = c .before .before .before .before .before .before in
+    let c9 = c6 .before .before .before in
+    let c10 = c9 .before in
+    let l = c10 .loop in
+    let x = c6 .absorb2 in
+    splitting-end (l .inv .3) (pagesOf (x .last .0)) (rowsOf (x .last .1 .0)) (x .result) (c9 .loop-test .left) (x .ensures)
 
 pub split-upwards-spec : {M : Type 1} → statement M
-split-upwards-spec = tie.close (tie.spec Inv-loop μ-loop loop-holds sub-i mul-absorb array-read-absorb absorb-requires add-charge loop-less loop-again absorb-requires-2 add-t30 same-length same-length-2 returns)
+split-upwards-spec = tie.close
+    (tie.spec Inv-loop μ-loop loop-holds sub-i mul-absorb array-read-absorb absorb-requires add-charge loop-less
+    loop-again absorb-requires-2 add-t30 same-length same-length-2 returns)

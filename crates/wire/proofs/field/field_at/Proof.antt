@@ -33,7 +33,8 @@ may-have-requires c κs = search needs
 
 returns-4 : tie.Need-returns-4
 returns-4 c = record {
-  is = is-foreign-length _ _ _ (omega arith) _ (c .before .before .before .if3 .left) (c .before .before .read16 .ensures .is) (sym (c .before .may-have .ensures) ∙ c .if4 .left);
+  is = is-foreign-length _ _ _ (omega arith) _ (c .before .before .before .if3 .left)
+      (c .before .before .read16 .ensures .is) (sym (c .before .may-have .ensures) ∙ c .if4 .left);
   inside = tt;
 }
 
@@ -48,7 +49,9 @@ sub-if5 c = search needs
 
 returns-5 : tie.Need-returns-5
 returns-5 c = record {
-  is = is-overlong _ _ _ (omega arith) _ (c .before .before .before .before .if3 .left) (c .before .before .before .read16 .ensures .is) (sym (c .before .before .may-have .ensures) ∙ c .before .if4 .taken) (omega arith);
+  is = is-overlong _ _ _ (omega arith) _ (c .before .before .before .before .if3 .left)
+      (c .before .before .before .read16 .ensures .is)
+      (sym (c .before .before .may-have .ensures) ∙ c .before .if4 .taken) (omega arith);
   inside = tt;
 }
 
@@ -57,7 +60,9 @@ add-t9 c = search needs
 
 returns-6 : tie.Need-returns-6
 returns-6 c = record {
-  is = is-payload _ _ _ (omega arith) _ (c .before .before .before .before .if3 .left) (c .before .before .before .read16 .ensures .is) (sym (c .before .before .may-have .ensures) ∙ c .before .if4 .taken) (omega arith);
+  is = is-payload _ _ _ (omega arith) _ (c .before .before .before .before .if3 .left)
+      (c .before .before .before .read16 .ensures .is)
+      (sym (c .before .before .may-have .ensures) ∙ c .before .if4 .taken) (omega arith);
   inside = omega arith;
 }
 

@@ -19,9 +19,12 @@ enum-known-start c = search needs
 inside : (c : tie.After-known-told) →
     Inside (length (c .before .before .before .before .before .args .s .now)) (Payload (c .before .start .given .0 .0) (c .before .start .given .0 .1 .0))
 inside c =
-    let e : c .before .before .before .field-at .result ≡ Payload (c .before .start .given .0 .0) (c .before .start .given .0 .1 .0) = cc in
-    subst (λ (f : Field). Inside (length (c .before .before .before .before .before .args .s .now)) f) e
-    (c .before .before .before .field-at .ensures .inside)
+    let c1 = c .before in
+    let c3 = c1 .before .before in
+    let c5 = c3 .before .before in
+    let e : c3 .field-at .result ≡ Payload (c1 .start .given .0 .0) (c1 .start .given .0 .1 .0) = cc in
+    subst (λ (f : Field). Inside (length (c5 .args .s .now)) f) e
+    (c3 .field-at .ensures .inside)
 
 sub-result : tie.Need-sub-result
 sub-result c = inside c .0
@@ -52,21 +55,36 @@ slice-aggregate-result-3 c = search needs
 
 returns : tie.Need-returns
 unfolding payloadAt part
-returns c = let b = c .before .before .before .before in
-    let e : Payload (c .before .before .start .given .0 .0) (c .before .before .start .given .0 .1 .0) ≡ b .field-at .result = cc in
+returns c =
+    let c2 = c .before .before in
+    let c4 = c2 .before .before in
+    let b = c4 in
+    let e : Payload (c2 .start .given .0 .0) (c2 .start .given .0 .1 .0) ≡ b .field-at .result = cc in
     ap (λ (f : Field). payloadOf (b .before .before .args .s .now) f) (e ∙ b .field-at .ensures .is)
 
 returns-2 : tie.Need-returns-2
 unfolding payloadAt part
-returns-2 c = ap (λ (f : Field). payloadOf (c .before .before .before .before .before .args .s .now) f) (sym (c .before .enum-told .given .1) ∙ c .before .before .before .field-at .ensures .is)
+returns-2 c =
+    let c1 = c .before in
+    let c3 = c1 .before .before in
+    let c5 = c3 .before .before in
+    ap (λ (f : Field). payloadOf (c5 .args .s .now) f) (sym (c1 .enum-told .given .1) ∙ c3 .field-at .ensures .is)
 
 returns-3 : tie.Need-returns-3
 unfolding payloadAt part
-returns-3 c = ap (λ (f : Field). payloadOf (c .before .before .before .before .before .args .s .now) f) (sym (c .before .enum-told2 .given .1) ∙ c .before .before .before .field-at .ensures .is)
+returns-3 c =
+    let c1 = c .before in
+    let c3 = c1 .before .before in
+    let c5 = c3 .before .before in
+    ap (λ (f : Field). payloadOf (c5 .args .s .now) f) (sym (c1 .enum-told2 .given .1) ∙ c3 .field-at .ensures .is)
 
 returns-4 : tie.Need-returns-4
 unfolding payloadAt part
-returns-4 c = ap (λ (f : Field). payloadOf (c .before .before .before .before .before .args .s .now) f) (sym (c .before .enum-told3 .given .1) ∙ c .before .before .before .field-at .ensures .is)
+returns-4 c =
+    let c1 = c .before in
+    let c3 = c1 .before .before in
+    let c5 = c3 .before .before in
+    ap (λ (f : Field). payloadOf (c5 .args .s .now) f) (sym (c1 .enum-told3 .given .1) ∙ c3 .field-at .ensures .is)
 
 pub payload-spec : {M : Type 1} → statement M
 payload-spec =

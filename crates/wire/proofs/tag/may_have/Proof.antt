@@ -28,9 +28,13 @@ returns c = let a = c .before .before .before .before .args in
     ap (λ (x : Length). allowed x (a .bytes)) e
 
 returns-2 : tie.Need-returns-2
-returns-2 c = let a = c .before .before .before .before .args in
+returns-2 c =
+    let c1 = c .before in
+    let c3 = c1 .before .before in
+    let c4 = c3 .before in
+    let a = c4 .args in
     c .is-node-length .ensures ∙
-    ap (λ (x : Length). allowed x (a .bytes)) (sym (c .before .enum-told .given .1) ∙ c .before .before .before .length-of .ensures)
+    ap (λ (x : Length). allowed x (a .bytes)) (sym (c1 .enum-told .given .1) ∙ c3 .length-of .ensures)
 
 returns-3 : tie.Need-returns-3
 returns-3 c = let a = c .before .before .before .args in
