@@ -67,7 +67,8 @@ pub fn tariff_of(
     to_disk: u32,
     to_log: u32,
 ) -> Tariff
-    ensures { λ r. ⌜ r ≡ tariffs.tariffOf «log_read» «log_edit» «log_rewrite» «disk_read» «disk_edit» «disk_rewrite» «to_disk» «to_log» ⌝ }
+    ensures { λ r. ⌜ r
+        ≡ tariffs.tariffOf «log_read» «log_edit» «log_rewrite» «disk_read» «disk_edit» «disk_rewrite» «to_disk» «to_log» ⌝ }
 {
     Tariff {
         log: Costs {

@@ -90,11 +90,13 @@ module _ (pool table batch answers : List ℕ) {blocks : ℕ} (a : Accepts (leng
           leaves =
               λ cs are.
               let same : a .commands ≡ cs = same-some (a .commands) cs (sym (a .are) ∙ are) in
-              subst (λ (m : Mounted). Leaves (batchMounted m cs pool table answers) (record { number = 0; length = p .at; charge = p .charge }) pool′ table′ answers₁) (sym (o .is))
+              subst (λ (m : Mounted). Leaves (batchMounted m cs pool table answers) (record { number = 0; length = p .at; charge = p .charge }) pool′
+              table′ answers₁) (sym (o .is))
               (subst
               (λ (b : ℕ). Leaves (accept b t cs (o .state) table answers) (record { number = 0; length = p .at; charge = p .charge }) pool′ table′ answers₁)
               (sym blocks-are)
-              (subst (λ (ds : List Command). Leaves (accept blocks t ds (o .state) table answers) (record { number = 0; length = p .at; charge = p .charge }) pool′ table′ answers₁)
+              (subst (λ (ds : List Command). Leaves (accept blocks t ds (o .state) table answers)
+              (record { number = 0; length = p .at; charge = p .charge }) pool′ table′ answers₁)
               same by-commands));
         }
 
@@ -105,13 +107,15 @@ pub worked-by : {pool table batch answers : List ℕ} {blocks : ℕ} (a : Accept
     RunAs P T pages₁ rows₁ answers answers₁ p t (commandsIn batch) (world (pagesOf pool) rows st) → (pool′ : List ℕ) →
     Ended P₂ T₂ (p .state) (world (pagesOf pool′) rows₂ st₂) (checkpoint t (world pages₁ rows₁ (p .state))) → length pool′ ≡ length pool →
     Worked pool pool′ table table′ batch answers answers₁ (record { number = 0; length = p .at; charge = p .charge })
-worked-by {pool} {table} {batch} {answers} a table′ zero bytes {tableLength} {P} {T} {P₂} {T₂} {rows} {rows₁} {rows₂} {t} {st} {st₂} o {pages₁} {answers₁} {p} ran pool′ ended size =
+worked-by {pool} {table} {batch} {answers} a table′ zero bytes {tableLength} {P} {T} {P₂} {T₂} {rows} {rows₁} {rows₂} {t} {st} {st₂} o {pages₁}
+    {answers₁} {p} ran pool′ ended size =
     worked-done pool table batch answers a table′ zero bytes {P = P} {T = T} o
     (subst (λ (cs : List Command). RunAs P T pages₁ rows₁ answers answers₁ p t cs (world (pagesOf pool) rows st)) (commandsIn-is batch (a .commands) (a .are)) ran)
     pool′ (ended .is) (ended .blocks) size
 
 -- A pool that opens has what the commands and the checkpoint ask for.
-pub grows : {pool : List ℕ} {tableLength blocks : ℕ} {rows : List Row} {t : Tariff} {st : State} → Opens pool tableLength blocks rows t st → Growing (length pool) tableLength st
+pub grows : {pool : List ℕ} {tableLength blocks : ℕ} {rows : List Row} {t : Tariff} {st : State} → Opens pool tableLength blocks rows t st → Growing
+    (length pool) tableLength st
 grows {pool} {tableLength} {blocks} {rows} {t} {st} o =
     let here : st .blocks ≡ blocks = sym (o .runs .agrees .mirrors .pages .size) ∙ o .runs .sound .good .invariant .rules .size in
     record { good = o .good; limited = omega (arith, here, o .runs .agrees .nodes, o .runs .sound .good .invariant .nodes); noCheckpointPage = o .noCheckpointPage }

@@ -34,7 +34,8 @@ fn work(
     blocks: usize,
 ) -> Outcome
     requires { ⌜ Accepts (length (now pool)) (length (now table)) blocks (now commands) (length (now answers)) ⌝ }
-    ensures { λ r. ⌜ Worked (now (pool .entry)) (now (pool .exit)) (now (table .entry)) (now (table .exit)) (now (commands .entry)) (now (answers .entry)) (now (answers .exit)) r ⌝ }
+    ensures { λ r. ⌜ Worked (now (pool .entry)) (now (pool .exit)) (now (table .entry)) (now (table .exit))
+        (now (commands .entry)) (now (answers .entry)) (now (answers .exit)) r ⌝ }
 {
     let mounted = mount(pool, table, blocks);
     if mounted.refused == 0 {} else {
@@ -56,7 +57,8 @@ fn work(
 
 // A batch: refused with its number, or run.
 pub fn batch(pool: &mut [u8], table: &mut [u8], commands: &[u8], answers: &mut [u8]) -> Outcome
-    ensures { λ r. ⌜ Leaves (batchOf (now (pool .entry)) (now (table .entry)) (now (commands .entry)) (now (answers .entry))) r (now (pool .exit)) (now (table .exit)) (now (answers .exit)) ⌝ }
+    ensures { λ r. ⌜ Leaves (batchOf (now (pool .entry)) (now (table .entry)) (now (commands .entry))
+        (now (answers .entry))) r (now (pool .exit)) (now (table .exit)) (now (answers .exit)) ⌝ }
 {
     let blocks = pool_blocks(pool.len());
     if blocks == 0 {

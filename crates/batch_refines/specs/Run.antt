@@ -24,7 +24,8 @@ use Rattle.flash_allocate.specs.World.{World}
 use Rattle.run.specs.Run.{commandWorld, commandCharge, commandReply, runWorld, runCharge, runReplies}
 use Rattle.run_refines.specs.Commands.Lists.{servedAll, chargedAll, Runs, Ran}
 use Rattle.run_refines.specs.Commands.Commands.{command-runs}
-use Rattle.run_refines.specs.Commands.Lookups.{get-world, get-charge, get-answer, delete-world, delete-charge, delete-answer, scan-world, scan-charge, scan-answer}
+use Rattle.run_refines.specs.Commands.Lookups.{get-world, get-charge, get-answer, delete-world, delete-charge, delete-answer, scan-world}
+use Rattle.run_refines.specs.Commands.Lookups.{scan-charge, scan-answer}
 use Rattle.run_refines.specs.Put.Puts.{put-agrees}
 
 -- What one command leaves, by code and model.

@@ -146,7 +146,13 @@ read-on front (c ∷ cs) (both h hs) =
     let s = front ++ (commandBytes c ++ batchBytes cs) in
     let next = length front + length (commandBytes c) in
     let inside : length front < length s =
-    omega (arith, length-append front (commandBytes c ++ batchBytes cs), length-append (commandBytes c) (batchBytes cs), ap length (bytes-field c), length-field (tagOf c) (valuesOf c)) in
+    omega (
+      arith,
+      length-append front (commandBytes c ++ batchBytes cs),
+      length-append (commandBytes c) (batchBytes cs),
+      ap length (bytes-field c),
+      length-field (tagOf c) (valuesOf c),
+    ) in
     let rest = read-on (front ++ commandBytes c) cs hs in
     commandsFrom-next s (length front) inside c next (command-laid front (batchBytes cs) c h) ∙
     ap (before c)

@@ -14,7 +14,8 @@ use wire::number::write32;
 // Lays a field of a tag and one 32-bit number, and says where the next answer goes.
 fn lay_value(buffer: &mut [u8], at: usize, tag: u8, value: u32) -> usize
     requires { ⌜ at + 7 ≤ length (now buffer) ⌝ }
-    ensures { λ r. ⌜ (now (buffer .exit) ≡ lay (now (buffer .entry)) at (field tag (bigEndian 4 value))) × (r ≡ at + 7) ⌝ }
+    ensures { λ r. ⌜ (now (buffer .exit) ≡ lay (now (buffer .entry)) at (field tag (bigEndian 4 value)))
+        × (r ≡ at + 7) ⌝ }
 {
     lay_head(buffer, at, tag, 4);
     write32(buffer, at + 3, value);
@@ -33,7 +34,8 @@ fn lay_absent(buffer: &mut [u8], at: usize) -> usize
 // Lays a refusal with its number.
 fn lay_refused(buffer: &mut [u8], at: usize, number: u8) -> usize
     requires { ⌜ at + 4 ≤ length (now buffer) ⌝ }
-    ensures { λ r. ⌜ (now (buffer .exit) ≡ lay (now (buffer .entry)) at (answerBytes (Answer.Refused number))) × (r ≡ at + 4) ⌝ }
+    ensures { λ r. ⌜ (now (buffer .exit) ≡ lay (now (buffer .entry)) at (answerBytes (Answer.Refused number)))
+        × (r ≡ at + 4) ⌝ }
 {
     lay_head(buffer, at, 143, 1);
     lay_bytes(buffer, at + 3, &[number]);
@@ -43,7 +45,8 @@ fn lay_refused(buffer: &mut [u8], at: usize, number: u8) -> usize
 // Lays an answer of fixed length, and says where the next goes.
 pub fn lay_answer(buffer: &mut [u8], at: usize, answer: Answer) -> usize
     requires { ⌜ at + 7 ≤ length (now buffer) ⌝ }
-    ensures { λ r. ⌜ (now (buffer .exit) ≡ lay (now (buffer .entry)) at (answerBytes answer)) × (r ≡ at + length (answerBytes answer)) ⌝ }
+    ensures { λ r. ⌜ (now (buffer .exit) ≡ lay (now (buffer .entry)) at (answerBytes answer))
+        × (r ≡ at + length (answerBytes answer)) ⌝ }
 {
     match answer {
         Answer::Absent => lay_absent(buffer, at),

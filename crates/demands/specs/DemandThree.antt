@@ -37,7 +37,8 @@ use Rattle.model.specs.Mount.{stateOf}
 use Rattle.model.specs.Prepare.{firstBook}
 use Rattle.model.specs.Bytes.{cellsOf}
 use Rattle.model.specs.Call.{Outcome, blocksOf}
-use Rattle.model.specs.Calls.{Lent, outcome, outcomes, lastPool, bookIn, workOf, statesBy, allStates, allMoments, fed, commandsIn, fedBook, booksAfter, lastBook, allBooks, allCharges, allRequests, mapReplies, lastMap, sum}
+use Rattle.model.specs.Calls.{Lent, outcome, outcomes, lastPool, bookIn, workOf, statesBy, allStates, allMoments, fed, commandsIn, fedBook}
+use Rattle.model.specs.Calls.{booksAfter, lastBook, allBooks, allCharges, allRequests, mapReplies, lastMap, sum}
 use Rattle.demands.specs.Run.{map-append, serveAll-table, charges-append, runBook-requests, chargeBook-requests}
 use Rattle.demands.specs.OneCall.{OpenPool, Thin, bookIn-is, fedOf, called}
 

@@ -10,7 +10,8 @@ use flash_blocks::blank::next_blank;
 // The current block, or the next one, with room for a page.
 pub fn allocate(pool: &mut [u8], table: &mut [u8], state: State) -> State
     requires { ⌜ Good (length (now pool)) (length (now table)) state ⌝ }
-    ensures { λ r. ⌜ MadeIn (now (pool .exit)) (now (table .exit)) r (def.allocate (worldIn (now (pool .entry)) (now (table .entry)) state)) ⌝ }
+    ensures { λ r. ⌜ MadeIn (now (pool .exit)) (now (table .exit)) r
+        (def.allocate (worldIn (now (pool .entry)) (now (table .entry)) state)) ⌝ }
 {
     if state.fill < 32 {
         return state;

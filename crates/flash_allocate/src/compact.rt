@@ -17,8 +17,11 @@ fn copy_live(
     k: usize,
     fill: usize,
 ) -> usize
-    requires { ⌜ (k < 32) × (fill < 32) × (base + k < 2048) × (first < 2048) × (512 * (base + k) + 512 ≤ length (now pool)) × (512 * (first + fill) + 512 ≤ length (now pool)) ⌝ }
-    ensures { λ r. ⌜ (copying (pagesOf (now (pool .exit))) (now (places .exit)) r ≡ copyLive (now (live .entry)) base first k (copying (pagesOf (now (pool .entry))) (now (places .entry)) fill)) × (r ≤ fill + 1) ⌝ }
+    requires { ⌜ (k < 32) × (fill < 32) × (base + k < 2048) × (first < 2048)
+        × (512 * (base + k) + 512 ≤ length (now pool)) × (512 * (first + fill) + 512 ≤ length (now pool)) ⌝ }
+    ensures { λ r. ⌜ (copying (pagesOf (now (pool .exit))) (now (places .exit)) r
+        ≡ copyLive (now (live .entry)) base first k (copying (pagesOf (now (pool .entry))) (now (places .entry)) fill))
+        × (r ≤ fill + 1) ⌝ }
 {
     let from = base + k;
     if live[from] == 0 {
@@ -38,8 +41,11 @@ fn copy_block(
     base: usize,
     first: usize,
 ) -> usize
-    requires { ⌜ (base + 32 ≤ 2048) × (first + 32 ≤ 2048) × (512 * base + 16384 ≤ length (now pool)) × (512 * first + 16384 ≤ length (now pool)) ⌝ }
-    ensures { λ r. ⌜ (copying (pagesOf (now (pool .exit))) (now (places .exit)) r ≡ copyBlock (now (live .entry)) base first (copying (pagesOf (now (pool .entry))) (now (places .entry)) 0)) × (r ≤ 32) ⌝ }
+    requires { ⌜ (base + 32 ≤ 2048) × (first + 32 ≤ 2048) × (512 * base + 16384 ≤ length (now pool))
+        × (512 * first + 16384 ≤ length (now pool)) ⌝ }
+    ensures { λ r. ⌜ (copying (pagesOf (now (pool .exit))) (now (places .exit)) r
+        ≡ copyBlock (now (live .entry)) base first (copying (pagesOf (now (pool .entry))) (now (places .entry)) 0))
+        × (r ≤ 32) ⌝ }
 {
     let mut fill: usize = 0;
     let mut k: usize = 0;
@@ -53,7 +59,8 @@ fn copy_block(
 // Every row in use with the new places of its pages.
 fn rename_rows(table: &mut [u8], used: usize, base: usize, places: &[u16; 32])
     requires { ⌜ 16 * used ≤ length (now table) ⌝ }
-    ensures { λ _. ⌜ rowsOf (now (table .exit)) ≡ renameRows used base (now (places .entry)) (rowsOf (now (table .entry))) ⌝ }
+    ensures { λ _. ⌜ rowsOf (now (table .exit)) ≡ renameRows used base (now (places .entry))
+        (rowsOf (now (table .entry))) ⌝ }
 {
     let mut n: usize = 0;
     while n < used {
@@ -65,8 +72,11 @@ fn rename_rows(table: &mut [u8], used: usize, base: usize, places: &[u16; 32])
 
 // The block with fewest live pages compacted into the blank block `to`: how many pages are there then.
 pub fn compact(pool: &mut [u8], table: &mut [u8], used: usize, blocks: usize, to: usize) -> usize
-    requires { ⌜ (16 * used ≤ length (now table)) × (to < blocks) × (blocks ≤ 64) × (16384 * blocks ≤ length (now pool)) ⌝ }
-    ensures { λ r. ⌜ (compacted (pagesOf (now (pool .exit))) (rowsOf (now (table .exit))) r ≡ def.compact used blocks to (pagesOf (now (pool .entry))) (rowsOf (now (table .entry)))) × (r ≤ 32) ⌝ }
+    requires { ⌜ (16 * used ≤ length (now table)) × (to < blocks) × (blocks ≤ 64)
+        × (16384 * blocks ≤ length (now pool)) ⌝ }
+    ensures { λ r. ⌜ (compacted (pagesOf (now (pool .exit))) (rowsOf (now (table .exit))) r
+        ≡ def.compact used blocks to (pagesOf (now (pool .entry))) (rowsOf (now (table .entry))))
+        × (r ≤ 32) ⌝ }
 {
     let live = flash_live::live_map(table, used);
     let block = flash_live::victim(pool, &live, blocks);

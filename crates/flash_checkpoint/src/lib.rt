@@ -11,7 +11,8 @@ ghost use Rattle.flash_allocate.specs.World.{Good, worldIn};
 ghost use Rattle.flash_log.specs.Flush.{KeptIn};
 ghost use Rattle.flash_checkpoint.specs.Scores.{scoreOf, scoresOf, scoresBytes};
 ghost use Rattle.flash_checkpoint.specs.CheckpointPages as def;
-ghost use Rattle.flash_checkpoint.specs.CheckpointPages.{scoresBefore, ScoresOfPage, pageCount, checkpointImage, checkpointRow, pageCounted, writeCheckpointPage, CheckpointPageIn, Closing, EndedIn};
+ghost use Rattle.flash_checkpoint.specs.CheckpointPages.{scoresBefore, ScoresOfPage, pageCount, checkpointImage, checkpointRow};
+ghost use Rattle.flash_checkpoint.specs.CheckpointPages.{pageCounted, writeCheckpointPage, CheckpointPageIn, Closing, EndedIn};
 use account::Mode;
 use account::Tariff;
 use flash_allocate::allocate::allocate;
@@ -90,8 +91,10 @@ fn put_checkpoint_page(
     k: usize,
     nodes: usize,
 )
-    requires { ⌜ (512 * at + 512 ≤ length (now pool)) × (16 * nodes ≤ length (now table)) × (nodes ≤ 4096) × (k < pageCount nodes) ⌝ }
-    ensures { λ _. ⌜ pagesOf (now (pool .exit)) ≡ set (pagesOf (now (pool .entry))) at (checkpointImage number tariff k nodes (rowsOf (now (table .entry)))) ⌝ }
+    requires { ⌜ (512 * at + 512 ≤ length (now pool)) × (16 * nodes ≤ length (now table)) × (nodes ≤ 4096)
+        × (k < pageCount nodes) ⌝ }
+    ensures { λ _. ⌜ pagesOf (now (pool .exit)) ≡ set (pagesOf (now (pool .entry))) at
+        (checkpointImage number tariff k nodes (rowsOf (now (table .entry)))) ⌝ }
 {
     let from = scores_before(k);
     let n = scores_on(k, nodes);
@@ -131,7 +134,8 @@ fn write_checkpoint_page(
     k: usize,
 ) -> State
     requires { ⌜ (Good (length (now pool)) (length (now table)) state) × (Closing k state) × (state .fill < 32) ⌝ }
-    ensures { λ r. ⌜ CheckpointPageIn (now (pool .exit)) (now (table .exit)) state r (writeCheckpointPage tariff k (worldIn (now (pool .entry)) (now (table .entry)) state)) ⌝ }
+    ensures { λ r. ⌜ CheckpointPageIn (now (pool .exit)) (now (table .exit)) state r
+        (writeCheckpointPage tariff k (worldIn (now (pool .entry)) (now (table .entry)) state)) ⌝ }
 {
     let at = 32 * state.current + state.fill;
     let number = next_sequence(state.last);
@@ -149,7 +153,8 @@ fn checkpoint_page(
     k: usize,
 ) -> State
     requires { ⌜ (Good (length (now pool)) (length (now table)) state) × (Closing k state) ⌝ }
-    ensures { λ r. ⌜ CheckpointPageIn (now (pool .exit)) (now (table .exit)) state r (def.checkpointPage tariff k (worldIn (now (pool .entry)) (now (table .entry)) state)) ⌝ }
+    ensures { λ r. ⌜ CheckpointPageIn (now (pool .exit)) (now (table .exit)) state r
+        (def.checkpointPage tariff k (worldIn (now (pool .entry)) (now (table .entry)) state)) ⌝ }
 {
     let s = allocate(pool, table, state);
     if s.fill < 32 {
@@ -161,7 +166,8 @@ fn checkpoint_page(
 // The buffer written out where it is not empty.
 fn drain(pool: &mut [u8], table: &mut [u8], state: State) -> State
     requires { ⌜ Good (length (now pool)) (length (now table)) state ⌝ }
-    ensures { λ r. ⌜ KeptIn (now (pool .exit)) (now (table .exit)) state r (def.drain (worldIn (now (pool .entry)) (now (table .entry)) state)) ⌝ }
+    ensures { λ r. ⌜ KeptIn (now (pool .exit)) (now (table .exit)) state r
+        (def.drain (worldIn (now (pool .entry)) (now (table .entry)) state)) ⌝ }
 {
     if state.entries == 0 {
         return state;
@@ -171,8 +177,10 @@ fn drain(pool: &mut [u8], table: &mut [u8], state: State) -> State
 
 // All checkpoint pages, one after another.
 fn checkpoint_pages(pool: &mut [u8], table: &mut [u8], state: State, tariff: Tariff) -> State
-    requires { ⌜ (Good (length (now pool)) (length (now table)) state) × (state .nodes ≤ nodeLimit (state .blocks)) × (state .checkpoint ≡ 0) ⌝ }
-    ensures { λ r. ⌜ EndedIn (now (pool .exit)) (now (table .exit)) state r (def.checkpointPages tariff (worldIn (now (pool .entry)) (now (table .entry)) state)) ⌝ }
+    requires { ⌜ (Good (length (now pool)) (length (now table)) state)
+        × (state .nodes ≤ nodeLimit (state .blocks)) × (state .checkpoint ≡ 0) ⌝ }
+    ensures { λ r. ⌜ EndedIn (now (pool .exit)) (now (table .exit)) state r
+        (def.checkpointPages tariff (worldIn (now (pool .entry)) (now (table .entry)) state)) ⌝ }
 {
     let count = page_count(state.nodes);
     let mut s = state;
@@ -186,8 +194,10 @@ fn checkpoint_pages(pool: &mut [u8], table: &mut [u8], state: State, tariff: Tar
 
 // The end of a batch.
 pub fn checkpoint(pool: &mut [u8], table: &mut [u8], state: State, tariff: Tariff) -> State
-    requires { ⌜ (Good (length (now pool)) (length (now table)) state) × (state .nodes ≤ nodeLimit (state .blocks)) × (state .checkpoint ≡ 0) ⌝ }
-    ensures { λ r. ⌜ EndedIn (now (pool .exit)) (now (table .exit)) state r (def.checkpoint tariff (worldIn (now (pool .entry)) (now (table .entry)) state)) ⌝ }
+    requires { ⌜ (Good (length (now pool)) (length (now table)) state)
+        × (state .nodes ≤ nodeLimit (state .blocks)) × (state .checkpoint ≡ 0) ⌝ }
+    ensures { λ r. ⌜ EndedIn (now (pool .exit)) (now (table .exit)) state r
+        (def.checkpoint tariff (worldIn (now (pool .entry)) (now (table .entry)) state)) ⌝ }
 {
     let s = drain(pool, table, state);
     checkpoint_pages(pool, table, s, tariff)

@@ -79,7 +79,8 @@ pub fn count_live(live: &[u8; 2048], block: usize) -> usize
 // The better of a block and the best so far.
 fn weigh(pool: &[u8], live: &[u8; 2048], block: usize, best: Choice) -> Choice
     requires { ⌜ (block < 64) × (16384 * block + 16384 ≤ length (now pool)) ⌝ }
-    ensures { λ r. ⌜ def.Weighed (def.weigh (pagesOf (now (pool .entry))) (now (live .entry)) block best) block best r ⌝ }
+    ensures { λ r. ⌜ def.Weighed (def.weigh (pagesOf (now (pool .entry))) (now (live .entry)) block best) block
+        best r ⌝ }
 {
     if flash_blocks::blank::is_blank_block(pool, block) {
         return best;

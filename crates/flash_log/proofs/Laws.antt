@@ -55,7 +55,7 @@ unfolding append entered
 good-append {P} {T} id version c s g = go (ltb (s .entries) 27) refl
   where
     go : (b : Bool) → ltb (s .entries) 27 ≡ b → Good P T
-    (choose b (holding (s .entries + 1) (lay (s .buffer) (15 * s .entries) (entryBytes (entryOf id version c))) s) s)
+        (choose b (holding (s .entries + 1) (lay (s .buffer) (15 * s .entries) (entryBytes (entryOf id version c))) s) s)
     go true e =
         record {
           few = g .few;

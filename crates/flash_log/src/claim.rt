@@ -42,7 +42,8 @@ fn store_claim(table: &mut [u8], n: usize, claim: Claim)
 // The row of entry k claims the page, where its node exists.
 fn claim_entry(table: &mut [u8], buffer: &[u8; 405], nodes: usize, page: u16, k: usize)
     requires { ⌜ (k < 27) × (16 * nodes ≤ length (now table)) ⌝ }
-    ensures { λ _. ⌜ rowsOf (now (table .exit)) ≡ claimEntry (now (buffer .entry)) nodes page k (rowsOf (now (table .entry))) ⌝ }
+    ensures { λ _. ⌜ rowsOf (now (table .exit)) ≡ claimEntry (now (buffer .entry)) nodes page k
+        (rowsOf (now (table .entry))) ⌝ }
 {
     let id = read16(buffer, 15 * k) as usize;
     let version = read32(buffer, 15 * k + 2);
@@ -56,7 +57,8 @@ fn claim_entry(table: &mut [u8], buffer: &[u8; 405], nodes: usize, page: u16, k:
 // The rows of the first n entries claim the page.
 pub fn claim_entries(table: &mut [u8], buffer: &[u8; 405], n: usize, nodes: usize, page: u16)
     requires { ⌜ (n ≤ 27) × (16 * nodes ≤ length (now table)) ⌝ }
-    ensures { λ _. ⌜ rowsOf (now (table .exit)) ≡ claimEntries (now (buffer .entry)) nodes page n (rowsOf (now (table .entry))) ⌝ }
+    ensures { λ _. ⌜ rowsOf (now (table .exit)) ≡ claimEntries (now (buffer .entry)) nodes page n
+        (rowsOf (now (table .entry))) ⌝ }
 {
     let mut k: usize = 0;
     while k < n {

@@ -54,7 +54,8 @@ pub fn put_image(pool: &mut [u8], page: usize, image: [u8; 512])
 // The first n entries of the buffer written as a log page.
 fn put_log(pool: &mut [u8], page: usize, number: u32, buffer: &[u8; 405], n: usize)
     requires { ⌜ (512 * page + 512 ≤ length (now pool)) × (n ≤ 27) ⌝ }
-    ensures { λ _. ⌜ pagesOf (now (pool .exit)) ≡ set (pagesOf (now (pool .entry))) page (logImage number n (now (buffer .entry))) ⌝ }
+    ensures { λ _. ⌜ pagesOf (now (pool .exit)) ≡ set (pagesOf (now (pool .entry))) page
+        (logImage number n (now (buffer .entry))) ⌝ }
 {
     let image = log_image(number, buffer, n);
     put_image(pool, page, image);
@@ -63,7 +64,8 @@ fn put_log(pool: &mut [u8], page: usize, number: u32, buffer: &[u8; 405], n: usi
 // The buffer as the next page, in a block that has room.
 fn write_buffer(pool: &mut [u8], table: &mut [u8], state: State) -> State
     requires { ⌜ (Good (length (now pool)) (length (now table)) state) × (state .fill < 32) ⌝ }
-    ensures { λ r. ⌜ KeptIn (now (pool .exit)) (now (table .exit)) state r (writeBuffer (worldIn (now (pool .entry)) (now (table .entry)) state)) ⌝ }
+    ensures { λ r. ⌜ KeptIn (now (pool .exit)) (now (table .exit)) state r
+        (writeBuffer (worldIn (now (pool .entry)) (now (table .entry)) state)) ⌝ }
 {
     let page = 32 * state.current + state.fill;
     let number = next_sequence(state.last);
@@ -76,7 +78,8 @@ fn write_buffer(pool: &mut [u8], table: &mut [u8], state: State) -> State
 // A place, then the buffer as a page there.
 pub fn flush(pool: &mut [u8], table: &mut [u8], state: State) -> State
     requires { ⌜ Good (length (now pool)) (length (now table)) state ⌝ }
-    ensures { λ r. ⌜ KeptIn (now (pool .exit)) (now (table .exit)) state r (def.flush (worldIn (now (pool .entry)) (now (table .entry)) state)) ⌝ }
+    ensures { λ r. ⌜ KeptIn (now (pool .exit)) (now (table .exit)) state r
+        (def.flush (worldIn (now (pool .entry)) (now (table .entry)) state)) ⌝ }
 {
     let s = allocate(pool, table, state);
     if s.fill < 32 {
@@ -88,7 +91,8 @@ pub fn flush(pool: &mut [u8], table: &mut [u8], state: State) -> State
 // Room for k entries in the buffer.
 pub fn make_room(pool: &mut [u8], table: &mut [u8], state: State, k: usize) -> State
     requires { ⌜ (Good (length (now pool)) (length (now table)) state) × (k ≤ 27) ⌝ }
-    ensures { λ r. ⌜ KeptIn (now (pool .exit)) (now (table .exit)) state r (def.room k (worldIn (now (pool .entry)) (now (table .entry)) state)) ⌝ }
+    ensures { λ r. ⌜ KeptIn (now (pool .exit)) (now (table .exit)) state r
+        (def.room k (worldIn (now (pool .entry)) (now (table .entry)) state)) ⌝ }
 {
     if 27 < k + state.entries {
         return flush(pool, table, state);

@@ -23,7 +23,9 @@ pub fn edit(
     edited: NodeValue,
 ) -> State
     requires { ⌜ (Good (length (now pool)) (length (now table)) state) × (n < state .nodes) × (Sized edited) ⌝ }
-    ensures { λ r. ⌜ KeptIn (now (pool .exit)) (now (table .exit)) state r (def.edit n (changeOf change) (nodeOf edited) (worldIn (now (pool .entry)) (now (table .entry)) state)) ⌝ }
+    ensures { λ r. ⌜ KeptIn (now (pool .exit)) (now (table .exit)) state r
+        (def.edit n (changeOf change) (nodeOf edited) (worldIn (now (pool .entry)) (now (table .entry)) state))
+        ⌝ }
 {
     let s = make_room(pool, table, state, 1);
     let row = flash_rows::read_row(table, n);

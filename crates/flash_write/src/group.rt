@@ -75,7 +75,8 @@ fn append_node(state: State, id: usize, version: u32, v: NodeValue) -> State
 // A fresh start of a node whose row was this.
 fn start(table: &mut [u8], state: State, n: usize, row: Row, version: u32, v: NodeValue) -> State
     requires { ⌜ (16 * n + 16 ≤ length (now table)) × (Sized v) ⌝ }
-    ensures { λ r. ⌜ Started (rowsOf (now (table .entry))) state n row version (nodeOf v) (rowsOf (now (table .exit))) r ⌝ }
+    ensures { λ r. ⌜ Started (rowsOf (now (table .entry))) state n row version (nodeOf v)
+        (rowsOf (now (table .exit))) r ⌝ }
 {
     flash_rows::write_row(table, n, row.fresh(version, Mode::Log));
     append_node(with_sequence(state, version), n, version, v)
@@ -84,7 +85,8 @@ fn start(table: &mut [u8], state: State, n: usize, row: Row, version: u32, v: No
 // The whole content of a node under a new version. A page that it forces out takes its sequence number before.
 pub fn group(pool: &mut [u8], table: &mut [u8], state: State, n: usize, v: NodeValue) -> State
     requires { ⌜ (Good (length (now pool)) (length (now table)) state) × (n < state .nodes) × (Sized v) ⌝ }
-    ensures { λ r. ⌜ KeptIn (now (pool .exit)) (now (table .exit)) state r (def.group n (nodeOf v) (worldIn (now (pool .entry)) (now (table .entry)) state)) ⌝ }
+    ensures { λ r. ⌜ KeptIn (now (pool .exit)) (now (table .exit)) state r
+        (def.group n (nodeOf v) (worldIn (now (pool .entry)) (now (table .entry)) state)) ⌝ }
 {
     let s = make_room(pool, table, state, v.count + 1);
     let version = next_sequence(s.last);
@@ -94,8 +96,10 @@ pub fn group(pool: &mut [u8], table: &mut [u8], state: State, n: usize, v: NodeV
 
 // A new node, the next one, in log mode with score 0.
 pub fn create(pool: &mut [u8], table: &mut [u8], state: State, v: NodeValue) -> State
-    requires { ⌜ (Good (length (now pool)) (length (now table)) state) × (state .nodes + state .checkpoint < 64 * state .blocks) × (Sized v) ⌝ }
-    ensures { λ r. ⌜ GrownIn (now (pool .exit)) (now (table .exit)) state r (def.create (nodeOf v) (worldIn (now (pool .entry)) (now (table .entry)) state)) ⌝ }
+    requires { ⌜ (Good (length (now pool)) (length (now table)) state)
+        × (state .nodes + state .checkpoint < 64 * state .blocks) × (Sized v) ⌝ }
+    ensures { λ r. ⌜ GrownIn (now (pool .exit)) (now (table .exit)) state r
+        (def.create (nodeOf v) (worldIn (now (pool .entry)) (now (table .entry)) state)) ⌝ }
 {
     let s = make_room(pool, table, state, v.count + 1);
     let version = next_sequence(s.last);

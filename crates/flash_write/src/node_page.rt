@@ -23,7 +23,8 @@ use page_write::node_page::node_image;
 // A node written as a page of the pool.
 fn put_node(pool: &mut [u8], at: usize, number: u32, id: usize, v: NodeValue)
     requires { ⌜ (512 * at + 512 ≤ length (now pool)) × (id < 65536) × (Sized v) ⌝ }
-    ensures { λ _. ⌜ pagesOf (now (pool .exit)) ≡ set (pagesOf (now (pool .entry))) at (image (page number (whole id (nodeOf v)))) ⌝ }
+    ensures { λ _. ⌜ pagesOf (now (pool .exit)) ≡ set (pagesOf (now (pool .entry))) at
+        (image (page number (whole id (nodeOf v)))) ⌝ }
 {
     let shape = v.shape;
     let keys = v.keys;
@@ -43,8 +44,10 @@ fn node_page_row(table: &mut [u8], n: usize, number: u32, at: u16)
 
 // A node page as the next page, in a block that has room.
 fn write_node(pool: &mut [u8], table: &mut [u8], state: State, n: usize, v: NodeValue) -> State
-    requires { ⌜ (Good (length (now pool)) (length (now table)) state) × (state .fill < 32) × (n < state .nodes) × (Sized v) ⌝ }
-    ensures { λ r. ⌜ KeptIn (now (pool .exit)) (now (table .exit)) state r (writeNode n (nodeOf v) (worldIn (now (pool .entry)) (now (table .entry)) state)) ⌝ }
+    requires { ⌜ (Good (length (now pool)) (length (now table)) state) × (state .fill < 32) × (n < state .nodes)
+        × (Sized v) ⌝ }
+    ensures { λ r. ⌜ KeptIn (now (pool .exit)) (now (table .exit)) state r
+        (writeNode n (nodeOf v) (worldIn (now (pool .entry)) (now (table .entry)) state)) ⌝ }
 {
     let at = 32 * state.current + state.fill;
     let number = next_sequence(state.last);
@@ -56,7 +59,8 @@ fn write_node(pool: &mut [u8], table: &mut [u8], state: State, n: usize, v: Node
 // A place, then the node page there.
 pub fn node_page(pool: &mut [u8], table: &mut [u8], state: State, n: usize, v: NodeValue) -> State
     requires { ⌜ (Good (length (now pool)) (length (now table)) state) × (n < state .nodes) × (Sized v) ⌝ }
-    ensures { λ r. ⌜ KeptIn (now (pool .exit)) (now (table .exit)) state r (def.nodePage n (nodeOf v) (worldIn (now (pool .entry)) (now (table .entry)) state)) ⌝ }
+    ensures { λ r. ⌜ KeptIn (now (pool .exit)) (now (table .exit)) state r
+        (def.nodePage n (nodeOf v) (worldIn (now (pool .entry)) (now (table .entry)) state)) ⌝ }
 {
     let s = allocate(pool, table, state);
     if s.fill < 32 {

@@ -154,7 +154,23 @@ results =
     []
 
 pub worked : map found cases ≡ results
-unfolding found leftOf lawsUpdate.update lawsBigEndian.numberAt lawsLay.lay lawsLay.part pairsPairs.lookup pairsPairs.insert pairsPairs.delete pairsPairs.range pairsPairs.hasAbove pairsPairs.Within nodeReplay.redo nodeReplay.redoPiece nodeReplay.replayFrom nodeReplay.replay nodeHalves.lowerHalf nodeHalves.upperHalf nodeHalves.middleKey nodeAscends.ascends nodeSearch.place accountServe.serveOf accountRange.withinRange accountRange.costsInRange accountRange.inRange wireField.field wireField.fieldAt wireField.payloadAt wireField.standsAt wireTag.rows wireTag.find wireTag.lengthOf wireTag.isNodeBytes commandAnswer.answerBytes commandAnswer.scanBytes pageImage.entryBytes pageImage.pairsBytes pageImage.wholeBytes pageImage.tariffBytes pageImage.scoreBytes pageImage.fields pageImage.contentBytes pageImage.numbered pageImage.sumsField pageImage.sealed pageImage.image pageImage.blankBytes treeTable.slot treeTable.path treeTable.leafFor treeGet.getAnswer treePut.renamed treePut.settle treePut.work treePut.finish treePut.fullRun treePut.idsNeeded treePut.putRefused treePut.putRequests treeDelete.deleteRequests treeScan.stopsIn treeScan.pairsFrom treeScan.leavesAfter treeScan.scanRequests treeScan.scanAnswer treeSound.inOrder treeSound.visitLeaf treeSound.visitChildren treeSound.visitBranch treeSound.visit treeSound.leftmost treeSound.allMarked treeSound.complete treeSound.walkFrom treeSound.sound storeView.greatest storeView.pieces storeView.buffered storeView.pages storePool.above storeStore.draftOf storeStore.nodeOf storeStore.modeOf storeLive.carries storeLive.checkpointSince storeAllocate.spot storeWrite.found storeWrite.place storeWrite.flush storeWrite.enter storeWrite.start storeWrite.nodePage storeRun.written storeRun.write storeRun.makeRoom storeRun.writeGroup storeRun.writeEdit storeServe.serve storeServe.create storeCheckpoint.checkpoint_pages storeCheckpoint.close storeCheckpoint.collect storeCheckpoint.checkpointOf storeCheckpoint.scoreIn storeCheckpoint.complete storeReopen.cellsIn storeReopen.reopened storeReopen.blocksPass storeReopen.pagesPass bookBook.serve bookBook.charge bookCommand.requests bookCommand.refuses bookCommand.answer modelState.bookOf modelState.serve modelBatch.closed modelMount.stateOf modelMount.threePages modelMount.scoresBelow modelMount.treeSound modelMount.mountCells modelPrepare.prepared
+unfolding found leftOf lawsUpdate.update lawsBigEndian.numberAt lawsLay.lay lawsLay.part pairsPairs.lookup pairsPairs.insert pairsPairs.delete
+    pairsPairs.range pairsPairs.hasAbove pairsPairs.Within nodeReplay.redo nodeReplay.redoPiece nodeReplay.replayFrom nodeReplay.replay
+    nodeHalves.lowerHalf nodeHalves.upperHalf nodeHalves.middleKey nodeAscends.ascends nodeSearch.place accountServe.serveOf accountRange.withinRange
+    accountRange.costsInRange accountRange.inRange wireField.field wireField.fieldAt wireField.payloadAt wireField.standsAt wireTag.rows wireTag.find
+    wireTag.lengthOf wireTag.isNodeBytes commandAnswer.answerBytes commandAnswer.scanBytes pageImage.entryBytes pageImage.pairsBytes
+    pageImage.wholeBytes pageImage.tariffBytes pageImage.scoreBytes pageImage.fields pageImage.contentBytes pageImage.numbered pageImage.sumsField
+    pageImage.sealed pageImage.image pageImage.blankBytes treeTable.slot treeTable.path treeTable.leafFor treeGet.getAnswer treePut.renamed
+    treePut.settle treePut.work treePut.finish treePut.fullRun treePut.idsNeeded treePut.putRefused treePut.putRequests treeDelete.deleteRequests
+    treeScan.stopsIn treeScan.pairsFrom treeScan.leavesAfter treeScan.scanRequests treeScan.scanAnswer treeSound.inOrder treeSound.visitLeaf
+    treeSound.visitChildren treeSound.visitBranch treeSound.visit treeSound.leftmost treeSound.allMarked treeSound.complete treeSound.walkFrom
+    treeSound.sound storeView.greatest storeView.pieces storeView.buffered storeView.pages storePool.above storeStore.draftOf storeStore.nodeOf
+    storeStore.modeOf storeLive.carries storeLive.checkpointSince storeAllocate.spot storeWrite.found storeWrite.place storeWrite.flush
+    storeWrite.enter storeWrite.start storeWrite.nodePage storeRun.written storeRun.write storeRun.makeRoom storeRun.writeGroup storeRun.writeEdit
+    storeServe.serve storeServe.create storeCheckpoint.checkpoint_pages storeCheckpoint.close storeCheckpoint.collect storeCheckpoint.checkpointOf
+    storeCheckpoint.scoreIn storeCheckpoint.complete storeReopen.cellsIn storeReopen.reopened storeReopen.blocksPass storeReopen.pagesPass
+    bookBook.serve bookBook.charge bookCommand.requests bookCommand.refuses bookCommand.answer modelState.bookOf modelState.serve modelBatch.closed
+    modelMount.stateOf modelMount.threePages modelMount.scoresBelow modelMount.treeSound modelMount.mountCells modelPrepare.prepared
 worked = refl
 
 -- THE FIRST TRACE: "hang 7 with 100, look up 7, strip 7, look up 7": the answers, the charge, and four pages with their first bytes.
@@ -180,7 +196,23 @@ pub first-trace :
       charge = 14;
       images = (0x10 ∷ 0x00 ∷ 0x04 ∷ 0x00 ∷ 0x00 ∷ 0x00 ∷ 0x02 ∷ 0x12 ∷ 0x00 ∷ 0x0F ∷ 0x00 ∷ 0x00 ∷ 0x00 ∷ 0x00 ∷ 0x00 ∷ 0x01 ∷ 0x03 ∷ 0x00 ∷ 0x00 ∷ 0x00 ∷ 0x00 ∷ 0xFF ∷ 0xFF ∷ 0xFF ∷ 0xFF ∷ 0x1F ∷ 0x00 ∷ 0x04 ∷ 0x0E ∷ 0x7A ∷ 0x04 ∷ 0x38 ∷ []) ∷ (0x10 ∷ 0x00 ∷ 0x04 ∷ 0x00 ∷ 0x00 ∷ 0x00 ∷ 0x03 ∷ 0x13 ∷ 0x00 ∷ 0x20 ∷ 0x00 ∷ 0x00 ∷ 0x00 ∷ 0x03 ∷ 0x00 ∷ 0x00 ∷ 0x00 ∷ 0x01 ∷ 0x00 ∷ 0x00 ∷ 0x00 ∷ 0x02 ∷ 0x00 ∷ 0x00 ∷ 0x00 ∷ 0x01 ∷ 0x00 ∷ 0x00 ∷ 0x00 ∷ 0x04 ∷ 0x00 ∷ 0x00 ∷ 0x00 ∷ 0x04 ∷ 0x00 ∷ 0x00 ∷ 0x00 ∷ 0x03 ∷ 0x00 ∷ 0x00 ∷ 0x00 ∷ 0x02 ∷ 0x14 ∷ 0x00 ∷ 0x06 ∷ 0x00 ∷ 0x00 ∷ 0x00 ∷ 0x00 ∷ 0x00 ∷ 0x00 ∷ 0x15 ∷ 0x00 ∷ 0x02 ∷ 0x00 ∷ 0x01 ∷ 0x1F ∷ 0x00 ∷ 0x04 ∷ 0x12 ∷ 0xA5 ∷ 0x00 ∷ 0x91 ∷ []) ∷ (0x10 ∷ 0x00 ∷ 0x04 ∷ 0x00 ∷ 0x00 ∷ 0x00 ∷ 0x04 ∷ 0x12 ∷ 0x00 ∷ 0x0F ∷ 0x00 ∷ 0x00 ∷ 0x00 ∷ 0x00 ∷ 0x00 ∷ 0x01 ∷ 0x01 ∷ 0x00 ∷ 0x00 ∷ 0x00 ∷ 0x07 ∷ 0x00 ∷ 0x00 ∷ 0x00 ∷ 0x64 ∷ 0x12 ∷ 0x00 ∷ 0x0F ∷ 0x00 ∷ 0x00 ∷ 0x00 ∷ 0x00 ∷ 0x00 ∷ 0x01 ∷ 0x02 ∷ 0x00 ∷ 0x00 ∷ 0x00 ∷ 0x07 ∷ 0x00 ∷ 0x00 ∷ 0x00 ∷ 0x00 ∷ 0x1F ∷ 0x00 ∷ 0x04 ∷ 0x13 ∷ 0x50 ∷ 0x00 ∷ 0xD2 ∷ []) ∷ (0x10 ∷ 0x00 ∷ 0x04 ∷ 0x00 ∷ 0x00 ∷ 0x00 ∷ 0x05 ∷ 0x13 ∷ 0x00 ∷ 0x20 ∷ 0x00 ∷ 0x00 ∷ 0x00 ∷ 0x03 ∷ 0x00 ∷ 0x00 ∷ 0x00 ∷ 0x01 ∷ 0x00 ∷ 0x00 ∷ 0x00 ∷ 0x02 ∷ 0x00 ∷ 0x00 ∷ 0x00 ∷ 0x01 ∷ 0x00 ∷ 0x00 ∷ 0x00 ∷ 0x04 ∷ 0x00 ∷ 0x00 ∷ 0x00 ∷ 0x04 ∷ 0x00 ∷ 0x00 ∷ 0x00 ∷ 0x03 ∷ 0x00 ∷ 0x00 ∷ 0x00 ∷ 0x02 ∷ 0x14 ∷ 0x00 ∷ 0x06 ∷ 0x00 ∷ 0x00 ∷ 0x00 ∷ 0x00 ∷ 0x00 ∷ 0x03 ∷ 0x15 ∷ 0x00 ∷ 0x02 ∷ 0x00 ∷ 0x01 ∷ 0x1F ∷ 0x00 ∷ 0x04 ∷ 0x13 ∷ 0x1B ∷ 0x00 ∷ 0x96 ∷ []) ∷ [];
     }
-unfolding traced leftOf lawsUpdate.update lawsBigEndian.numberAt lawsLay.lay lawsLay.part pairsPairs.lookup pairsPairs.insert pairsPairs.delete pairsPairs.range pairsPairs.hasAbove pairsPairs.Within nodeReplay.redo nodeReplay.redoPiece nodeReplay.replayFrom nodeReplay.replay nodeHalves.lowerHalf nodeHalves.upperHalf nodeHalves.middleKey nodeAscends.ascends nodeSearch.place accountServe.serveOf accountRange.withinRange accountRange.costsInRange accountRange.inRange wireField.field wireField.fieldAt wireField.payloadAt wireField.standsAt wireTag.rows wireTag.find wireTag.lengthOf wireTag.isNodeBytes commandAnswer.answerBytes commandAnswer.scanBytes pageImage.entryBytes pageImage.pairsBytes pageImage.wholeBytes pageImage.tariffBytes pageImage.scoreBytes pageImage.fields pageImage.contentBytes pageImage.numbered pageImage.sumsField pageImage.sealed pageImage.image pageImage.blankBytes treeTable.slot treeTable.path treeTable.leafFor treeGet.getAnswer treePut.renamed treePut.settle treePut.work treePut.finish treePut.fullRun treePut.idsNeeded treePut.putRefused treePut.putRequests treeDelete.deleteRequests treeScan.stopsIn treeScan.pairsFrom treeScan.leavesAfter treeScan.scanRequests treeScan.scanAnswer treeSound.inOrder treeSound.visitLeaf treeSound.visitChildren treeSound.visitBranch treeSound.visit treeSound.leftmost treeSound.allMarked treeSound.complete treeSound.walkFrom treeSound.sound storeView.greatest storeView.pieces storeView.buffered storeView.pages storePool.above storeStore.draftOf storeStore.nodeOf storeStore.modeOf storeLive.carries storeLive.checkpointSince storeAllocate.spot storeWrite.found storeWrite.place storeWrite.flush storeWrite.enter storeWrite.start storeWrite.nodePage storeRun.written storeRun.write storeRun.makeRoom storeRun.writeGroup storeRun.writeEdit storeServe.serve storeServe.create storeCheckpoint.checkpoint_pages storeCheckpoint.close storeCheckpoint.collect storeCheckpoint.checkpointOf storeCheckpoint.scoreIn storeCheckpoint.complete storeReopen.cellsIn storeReopen.reopened storeReopen.blocksPass storeReopen.pagesPass bookBook.serve bookBook.charge bookCommand.requests bookCommand.refuses bookCommand.answer modelState.bookOf modelState.serve modelBatch.closed modelMount.stateOf modelMount.threePages modelMount.scoresBelow modelMount.treeSound modelMount.mountCells modelPrepare.prepared
+unfolding traced leftOf lawsUpdate.update lawsBigEndian.numberAt lawsLay.lay lawsLay.part pairsPairs.lookup pairsPairs.insert pairsPairs.delete
+    pairsPairs.range pairsPairs.hasAbove pairsPairs.Within nodeReplay.redo nodeReplay.redoPiece nodeReplay.replayFrom nodeReplay.replay
+    nodeHalves.lowerHalf nodeHalves.upperHalf nodeHalves.middleKey nodeAscends.ascends nodeSearch.place accountServe.serveOf accountRange.withinRange
+    accountRange.costsInRange accountRange.inRange wireField.field wireField.fieldAt wireField.payloadAt wireField.standsAt wireTag.rows wireTag.find
+    wireTag.lengthOf wireTag.isNodeBytes commandAnswer.answerBytes commandAnswer.scanBytes pageImage.entryBytes pageImage.pairsBytes
+    pageImage.wholeBytes pageImage.tariffBytes pageImage.scoreBytes pageImage.fields pageImage.contentBytes pageImage.numbered pageImage.sumsField
+    pageImage.sealed pageImage.image pageImage.blankBytes treeTable.slot treeTable.path treeTable.leafFor treeGet.getAnswer treePut.renamed
+    treePut.settle treePut.work treePut.finish treePut.fullRun treePut.idsNeeded treePut.putRefused treePut.putRequests treeDelete.deleteRequests
+    treeScan.stopsIn treeScan.pairsFrom treeScan.leavesAfter treeScan.scanRequests treeScan.scanAnswer treeSound.inOrder treeSound.visitLeaf
+    treeSound.visitChildren treeSound.visitBranch treeSound.visit treeSound.leftmost treeSound.allMarked treeSound.complete treeSound.walkFrom
+    treeSound.sound storeView.greatest storeView.pieces storeView.buffered storeView.pages storePool.above storeStore.draftOf storeStore.nodeOf
+    storeStore.modeOf storeLive.carries storeLive.checkpointSince storeAllocate.spot storeWrite.found storeWrite.place storeWrite.flush
+    storeWrite.enter storeWrite.start storeWrite.nodePage storeRun.written storeRun.write storeRun.makeRoom storeRun.writeGroup storeRun.writeEdit
+    storeServe.serve storeServe.create storeCheckpoint.checkpoint_pages storeCheckpoint.close storeCheckpoint.collect storeCheckpoint.checkpointOf
+    storeCheckpoint.scoreIn storeCheckpoint.complete storeReopen.cellsIn storeReopen.reopened storeReopen.blocksPass storeReopen.pagesPass
+    bookBook.serve bookBook.charge bookCommand.requests bookCommand.refuses bookCommand.answer modelState.bookOf modelState.serve modelBatch.closed
+    modelMount.stateOf modelMount.threePages modelMount.scoresBelow modelMount.treeSound modelMount.mountCells modelPrepare.prepared
 first-trace = refl
 
 -- THE SECOND TRACE: "tariff 0 0 0, 0 0 0, 1 1", keys 0 to 24: the stamps of the pages, how the nodes are filled, and page 0.
@@ -199,5 +231,21 @@ second l = record { stamps = map sequence (l .pages); sizes = l .sizes; first = 
 pub second-trace :
     second (leftOf (tariffOf 0 0 0 0 0 0 1 1) (puts 25)) ≡
     record { stamps = 2 ∷ 3 ∷ 4 ∷ 7 ∷ 9 ∷ 10 ∷ []; sizes = 1 ∷ 12 ∷ 13 ∷ []; first = 0x10 ∷ 0x00 ∷ 0x04 ∷ 0x00 ∷ 0x00 ∷ 0x00 ∷ 0x02 ∷ 0x12 ∷ 0x00 ∷ 0x0F ∷ 0x00 ∷ 0x00 ∷ 0x00 ∷ 0x00 ∷ 0x00 ∷ 0x01 ∷ 0x03 ∷ 0x00 ∷ 0x00 ∷ 0x00 ∷ 0x00 ∷ 0xFF ∷ 0xFF ∷ 0xFF ∷ 0xFF ∷ 0x1F ∷ 0x00 ∷ 0x04 ∷ 0x0E ∷ 0x7A ∷ 0x04 ∷ 0x38 ∷ [] }
-unfolding second leftOf lawsUpdate.update lawsBigEndian.numberAt lawsLay.lay lawsLay.part pairsPairs.lookup pairsPairs.insert pairsPairs.delete pairsPairs.range pairsPairs.hasAbove pairsPairs.Within nodeReplay.redo nodeReplay.redoPiece nodeReplay.replayFrom nodeReplay.replay nodeHalves.lowerHalf nodeHalves.upperHalf nodeHalves.middleKey nodeAscends.ascends nodeSearch.place accountServe.serveOf accountRange.withinRange accountRange.costsInRange accountRange.inRange wireField.field wireField.fieldAt wireField.payloadAt wireField.standsAt wireTag.rows wireTag.find wireTag.lengthOf wireTag.isNodeBytes commandAnswer.answerBytes commandAnswer.scanBytes pageImage.entryBytes pageImage.pairsBytes pageImage.wholeBytes pageImage.tariffBytes pageImage.scoreBytes pageImage.fields pageImage.contentBytes pageImage.numbered pageImage.sumsField pageImage.sealed pageImage.image pageImage.blankBytes treeTable.slot treeTable.path treeTable.leafFor treeGet.getAnswer treePut.renamed treePut.settle treePut.work treePut.finish treePut.fullRun treePut.idsNeeded treePut.putRefused treePut.putRequests treeDelete.deleteRequests treeScan.stopsIn treeScan.pairsFrom treeScan.leavesAfter treeScan.scanRequests treeScan.scanAnswer treeSound.inOrder treeSound.visitLeaf treeSound.visitChildren treeSound.visitBranch treeSound.visit treeSound.leftmost treeSound.allMarked treeSound.complete treeSound.walkFrom treeSound.sound storeView.greatest storeView.pieces storeView.buffered storeView.pages storePool.above storeStore.draftOf storeStore.nodeOf storeStore.modeOf storeLive.carries storeLive.checkpointSince storeAllocate.spot storeWrite.found storeWrite.place storeWrite.flush storeWrite.enter storeWrite.start storeWrite.nodePage storeRun.written storeRun.write storeRun.makeRoom storeRun.writeGroup storeRun.writeEdit storeServe.serve storeServe.create storeCheckpoint.checkpoint_pages storeCheckpoint.close storeCheckpoint.collect storeCheckpoint.checkpointOf storeCheckpoint.scoreIn storeCheckpoint.complete storeReopen.cellsIn storeReopen.reopened storeReopen.blocksPass storeReopen.pagesPass bookBook.serve bookBook.charge bookCommand.requests bookCommand.refuses bookCommand.answer modelState.bookOf modelState.serve modelBatch.closed modelMount.stateOf modelMount.threePages modelMount.scoresBelow modelMount.treeSound modelMount.mountCells modelPrepare.prepared
+unfolding second leftOf lawsUpdate.update lawsBigEndian.numberAt lawsLay.lay lawsLay.part pairsPairs.lookup pairsPairs.insert pairsPairs.delete
+    pairsPairs.range pairsPairs.hasAbove pairsPairs.Within nodeReplay.redo nodeReplay.redoPiece nodeReplay.replayFrom nodeReplay.replay
+    nodeHalves.lowerHalf nodeHalves.upperHalf nodeHalves.middleKey nodeAscends.ascends nodeSearch.place accountServe.serveOf accountRange.withinRange
+    accountRange.costsInRange accountRange.inRange wireField.field wireField.fieldAt wireField.payloadAt wireField.standsAt wireTag.rows wireTag.find
+    wireTag.lengthOf wireTag.isNodeBytes commandAnswer.answerBytes commandAnswer.scanBytes pageImage.entryBytes pageImage.pairsBytes
+    pageImage.wholeBytes pageImage.tariffBytes pageImage.scoreBytes pageImage.fields pageImage.contentBytes pageImage.numbered pageImage.sumsField
+    pageImage.sealed pageImage.image pageImage.blankBytes treeTable.slot treeTable.path treeTable.leafFor treeGet.getAnswer treePut.renamed
+    treePut.settle treePut.work treePut.finish treePut.fullRun treePut.idsNeeded treePut.putRefused treePut.putRequests treeDelete.deleteRequests
+    treeScan.stopsIn treeScan.pairsFrom treeScan.leavesAfter treeScan.scanRequests treeScan.scanAnswer treeSound.inOrder treeSound.visitLeaf
+    treeSound.visitChildren treeSound.visitBranch treeSound.visit treeSound.leftmost treeSound.allMarked treeSound.complete treeSound.walkFrom
+    treeSound.sound storeView.greatest storeView.pieces storeView.buffered storeView.pages storePool.above storeStore.draftOf storeStore.nodeOf
+    storeStore.modeOf storeLive.carries storeLive.checkpointSince storeAllocate.spot storeWrite.found storeWrite.place storeWrite.flush
+    storeWrite.enter storeWrite.start storeWrite.nodePage storeRun.written storeRun.write storeRun.makeRoom storeRun.writeGroup storeRun.writeEdit
+    storeServe.serve storeServe.create storeCheckpoint.checkpoint_pages storeCheckpoint.close storeCheckpoint.collect storeCheckpoint.checkpointOf
+    storeCheckpoint.scoreIn storeCheckpoint.complete storeReopen.cellsIn storeReopen.reopened storeReopen.blocksPass storeReopen.pagesPass
+    bookBook.serve bookBook.charge bookCommand.requests bookCommand.refuses bookCommand.answer modelState.bookOf modelState.serve modelBatch.closed
+    modelMount.stateOf modelMount.threePages modelMount.scoresBelow modelMount.treeSound modelMount.mountCells modelPrepare.prepared
 second-trace = refl

@@ -16,7 +16,8 @@ use mount_survey::survey;
 // Mounts a pool, with a table lent for the rows; of a pool that is refused, what the table holds means nothing.
 pub fn mount(pool: &[u8], table: &mut [u8], blocks: usize) -> Mount
     requires { ⌜ Sized (length (now pool)) (length (now table)) blocks ⌝ }
-    ensures { λ r. ⌜ MountedAs (now (pool .entry)) (length (now (table .exit))) blocks (rowsOf (now (table .exit))) r ⌝ }
+    ensures { λ r. ⌜ MountedAs (now (pool .entry)) (length (now (table .exit))) blocks
+        (rowsOf (now (table .exit))) r ⌝ }
 {
     let found = survey(pool, table, blocks);
     if found.ok {} else {

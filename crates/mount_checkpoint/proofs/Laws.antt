@@ -94,8 +94,11 @@ module _ (since nodes : ℕ) (b : List ℕ) (rows : List Row) (n : ℕ) (own : n
 
 -- The tariff of no bytes.
 pub tariff-none : _≡_ {A = Tariff}
-    (record { log = record { read = 0; edit = 0; rewrite = 0; enter = 0 }; disk = record
-    { read = 0; edit = 0; rewrite = 0; enter = 0 } }) (tariffOf [])
+    (record {
+      log = record { read = 0; edit = 0; rewrite = 0; enter = 0 };
+      disk = record
+          { read = 0; edit = 0; rewrite = 0; enter = 0 };
+    }) (tariffOf [])
 unfolding tariffOf numberAt part
 tariff-none = refl
 

@@ -45,7 +45,8 @@ fn mark_page(page: &[u8], marks: &mut [u8], since: u32, start: usize)
 // Marks the ids on all pages from a number on.
 fn mark_pages(pool: &[u8], marks: &mut [u8], pages: usize, since: u32, start: usize)
     requires { ⌜ 512 * pages ≤ length (now pool) ⌝ }
-    ensures { λ _. ⌜ now (marks .exit) ≡ markPages (pagesOf (now (pool .entry))) pages since start (now (marks .entry)) ⌝ }
+    ensures { λ _. ⌜ now (marks .exit) ≡ markPages (pagesOf (now (pool .entry))) pages since start
+        (now (marks .entry)) ⌝ }
 {
     let mut q: usize = 0;
     while q < pages {
@@ -79,7 +80,8 @@ fn window(
     size: usize,
 ) -> bool
     requires { ⌜ (512 * pages ≤ length (now pool)) × (size ≤ length (now marks)) ⌝ }
-    ensures { λ r. ⌜ Windowed (pagesOf (now (pool .entry))) pages since start size (length (now (marks .entry))) (now (marks .exit)) r ⌝ }
+    ensures { λ r. ⌜ Windowed (pagesOf (now (pool .entry))) pages since start size
+        (length (now (marks .entry))) (now (marks .exit)) r ⌝ }
 {
     fill(marks, 0);
     mark_pages(pool, marks, pages, since, start);
@@ -89,7 +91,8 @@ fn window(
 // Whether each id below the node count has a score. There are never more scores than two windows of the table hold.
 pub fn covers(pool: &[u8], marks: &mut [u8], pages: usize, since: u32, nodes: usize) -> bool
     requires { ⌜ 512 * pages ≤ length (now pool) ⌝ }
-    ensures { λ r. ⌜ Covered (pagesOf (now (pool .entry))) pages since nodes (length (now (marks .entry))) (now (marks .exit)) r ⌝ }
+    ensures { λ r. ⌜ Covered (pagesOf (now (pool .entry))) pages since nodes (length (now (marks .entry)))
+        (now (marks .exit)) r ⌝ }
 {
     let width = marks.len();
     if nodes <= width {

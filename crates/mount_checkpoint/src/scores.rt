@@ -26,7 +26,8 @@ fn take_score(table: &mut [u8], nodes: usize, id: usize, score: u32)
 // The scores on a page, where its number is not below the first.
 fn take_page(page: &[u8], table: &mut [u8], since: u32, nodes: usize)
     requires { ⌜ 16 * nodes ≤ length (now table) ⌝ }
-    ensures { λ _. ⌜ rowsOf (now (table .exit)) ≡ takePage since nodes (now (page .entry)) (rowsOf (now (table .entry))) ⌝ }
+    ensures { λ _. ⌜ rowsOf (now (table .exit)) ≡ takePage since nodes (now (page .entry))
+        (rowsOf (now (table .entry))) ⌝ }
 {
     if sequence(page) < since {
         return;
@@ -45,7 +46,8 @@ fn take_page(page: &[u8], table: &mut [u8], since: u32, nodes: usize)
 // The scores of all pages from a number on, each in its node's row.
 pub fn take_scores(pool: &[u8], table: &mut [u8], blocks: usize, since: u32, nodes: usize)
     requires { ⌜ (blockBytes * blocks ≤ length (now pool)) × (16 * nodes ≤ length (now table)) ⌝ }
-    ensures { λ _. ⌜ rowsOf (now (table .exit)) ≡ takePages (pagesOf (now (pool .entry))) (32 * blocks) since nodes (rowsOf (now (table .entry))) ⌝ }
+    ensures { λ _. ⌜ rowsOf (now (table .exit)) ≡ takePages (pagesOf (now (pool .entry))) (32 * blocks) since
+        nodes (rowsOf (now (table .entry))) ⌝ }
 {
     let pages = 32 * blocks;
     let mut q: usize = 0;

@@ -14,7 +14,9 @@ use mount_tree::is_sound;
 
 // Whether restored rows pass: the tariff in range, the scores below its limit, the tree sound.
 fn rows_pass<'a>(pool: &'a [u8], table: &'a [u8], state: State, tariff: Tariff) -> bool
-    requires { ⌜ (fewestBlocks ≤ state .blocks) × (state .blocks ≤ mostBlocks) × (length (now table) ≡ tableBytes (state .blocks)) × (state .nodes ≤ nodeLimit (state .blocks)) × (state .entries ≡ 0) ⌝ }
+    requires { ⌜ (fewestBlocks ≤ state .blocks) × (state .blocks ≤ mostBlocks)
+        × (length (now table) ≡ tableBytes (state .blocks)) × (state .nodes ≤ nodeLimit (state .blocks))
+        × (state .entries ≡ 0) ⌝ }
     ensures { λ r. ⌜ r ≡ rowsPass tariff state (pagesOf (now (pool .entry))) (rowsOf (now (table .entry))) ⌝ }
 {
     if tariff.in_range() {} else {
@@ -28,7 +30,9 @@ fn rows_pass<'a>(pool: &'a [u8], table: &'a [u8], state: State, tariff: Tariff) 
 
 // Question 7. A count above the limit has no rows to restore.
 fn tree_passes(pool: &[u8], table: &mut [u8], state: State, tariff: Tariff, since: u32) -> bool
-    requires { ⌜ (fewestBlocks ≤ state .blocks) × (state .blocks ≤ mostBlocks) × (length (now pool) ≡ blockBytes * state .blocks) × (length (now table) ≡ tableBytes (state .blocks)) × (state .entries ≡ 0) ⌝ }
+    requires { ⌜ (fewestBlocks ≤ state .blocks) × (state .blocks ≤ mostBlocks)
+        × (length (now pool) ≡ blockBytes * state .blocks) × (length (now table) ≡ tableBytes (state .blocks))
+        × (state .entries ≡ 0) ⌝ }
     ensures { λ r. ⌜ Judged tariff state since (pagesOf (now (pool .entry))) (rowsOf (now (table .exit))) r ⌝ }
 {
     if 10 * (state.blocks - 2) < state.nodes {
@@ -42,7 +46,9 @@ fn tree_passes(pool: &[u8], table: &mut [u8], state: State, tariff: Tariff, sinc
 
 // Questions 7 and 8 of a state to begin with: the number of the one that fails, or 0.
 pub fn refusal(pool: &[u8], table: &mut [u8], state: State, tariff: Tariff, since: u32) -> u32
-    requires { ⌜ (fewestBlocks ≤ state .blocks) × (state .blocks ≤ mostBlocks) × (length (now pool) ≡ blockBytes * state .blocks) × (length (now table) ≡ tableBytes (state .blocks)) × (state .entries ≡ 0) ⌝ }
+    requires { ⌜ (fewestBlocks ≤ state .blocks) × (state .blocks ≤ mostBlocks)
+        × (length (now pool) ≡ blockBytes * state .blocks) × (length (now table) ≡ tableBytes (state .blocks))
+        × (state .entries ≡ 0) ⌝ }
     ensures { λ r. ⌜ Asked tariff state since (pagesOf (now (pool .entry))) (rowsOf (now (table .exit))) r ⌝ }
 {
     if tree_passes(pool, table, state, tariff, since) {} else {

@@ -12,7 +12,8 @@ use wire::bytes::fill;
 
 // Restores the rows of all nodes; whether no node lies on more than three pages.
 pub fn restore_rows(pool: &[u8], table: &mut [u8], blocks: usize, nodes: usize, since: u32) -> bool
-    requires { ⌜ (blocks ≤ mostBlocks) × (length (now pool) ≡ blockBytes * blocks) × (length (now table) ≡ tableBytes blocks) × (nodes ≤ nodeLimit blocks) ⌝ }
+    requires { ⌜ (blocks ≤ mostBlocks) × (length (now pool) ≡ blockBytes * blocks)
+        × (length (now table) ≡ tableBytes blocks) × (nodes ≤ nodeLimit blocks) ⌝ }
     ensures { λ r. ⌜ Restored blocks nodes since (pagesOf (now (pool .entry))) (rowsOf (now (table .exit))) r ⌝ }
 {
     fill(table, 0);

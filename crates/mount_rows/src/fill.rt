@@ -12,7 +12,8 @@ use super::pieces::see_node;
 // The pieces on one page of the pool.
 fn see_page(pool: &[u8], table: &mut [u8], nodes: usize, page: usize)
     requires { ⌜ (page < 2048) × (512 * page + 512 ≤ length (now pool)) × (16 * nodes ≤ length (now table)) ⌝ }
-    ensures { λ _. ⌜ rowsOf (now (table .exit)) ≡ seenPage nodes (pagesOf (now (pool .entry))) page (rowsOf (now (table .entry))) ⌝ }
+    ensures { λ _. ⌜ rowsOf (now (table .exit)) ≡ seenPage nodes (pagesOf (now (pool .entry))) page
+        (rowsOf (now (table .entry))) ⌝ }
 {
     let from = 512 * page;
     let to = from + 512;
@@ -24,8 +25,10 @@ fn see_page(pool: &[u8], table: &mut [u8], nodes: usize, page: usize)
 
 // The pieces on all pages.
 fn see_pages(pool: &[u8], table: &mut [u8], blocks: usize, nodes: usize)
-    requires { ⌜ (blocks ≤ mostBlocks) × (length (now pool) ≡ blockBytes * blocks) × (16 * nodes ≤ length (now table)) ⌝ }
-    ensures { λ _. ⌜ rowsOf (now (table .exit)) ≡ filled blocks nodes (pagesOf (now (pool .entry))) (rowsOf (now (table .entry))) ⌝ }
+    requires { ⌜ (blocks ≤ mostBlocks) × (length (now pool) ≡ blockBytes * blocks)
+        × (16 * nodes ≤ length (now table)) ⌝ }
+    ensures { λ _. ⌜ rowsOf (now (table .exit)) ≡ filled blocks nodes (pagesOf (now (pool .entry)))
+        (rowsOf (now (table .entry))) ⌝ }
 {
     let pages = 32 * blocks;
     let mut page: usize = 0;
@@ -53,8 +56,10 @@ fn within_three(table: &[u8], nodes: usize) -> bool
 
 // Fills the rows from the pages; whether no node lies on more than three of them.
 pub fn fill_rows(pool: &[u8], table: &mut [u8], blocks: usize, nodes: usize) -> bool
-    requires { ⌜ (blocks ≤ mostBlocks) × (length (now pool) ≡ blockBytes * blocks) × (length (now table) ≡ tableBytes blocks) × (nodes ≤ nodeLimit blocks) ⌝ }
-    ensures { λ r. ⌜ Filled blocks nodes (pagesOf (now (pool .entry))) (rowsOf (now (table .entry))) (rowsOf (now (table .exit))) r ⌝ }
+    requires { ⌜ (blocks ≤ mostBlocks) × (length (now pool) ≡ blockBytes * blocks)
+        × (length (now table) ≡ tableBytes blocks) × (nodes ≤ nodeLimit blocks) ⌝ }
+    ensures { λ r. ⌜ Filled blocks nodes (pagesOf (now (pool .entry))) (rowsOf (now (table .entry)))
+        (rowsOf (now (table .exit))) r ⌝ }
 {
     see_pages(pool, table, blocks, nodes);
     within_three(table, nodes)

@@ -15,7 +15,8 @@ use wire::number::read32;
 // One entry of a log page.
 fn see_entry(entry: &[u8], table: &mut [u8], nodes: usize, page: u16)
     requires { ⌜ (length (now entry) ≡ 15) × (16 * nodes ≤ length (now table)) ⌝ }
-    ensures { λ _. ⌜ rowsOf (now (table .exit)) ≡ seenEntry nodes page (now (entry .entry)) (rowsOf (now (table .entry))) ⌝ }
+    ensures { λ _. ⌜ rowsOf (now (table .exit)) ≡ seenEntry nodes page (now (entry .entry))
+        (rowsOf (now (table .entry))) ⌝ }
 {
     let id = read16(entry, 0) as usize;
     let version = read32(entry, 2);
@@ -25,7 +26,8 @@ fn see_entry(entry: &[u8], table: &mut [u8], nodes: usize, page: u16)
 // The entries of a page, in order.
 pub fn see_entries(bytes: &[u8], table: &mut [u8], nodes: usize, page: u16)
     requires { ⌜ 16 * nodes ≤ length (now table) ⌝ }
-    ensures { λ _. ⌜ rowsOf (now (table .exit)) ≡ seenRun nodes page mostEntries (now (bytes .entry)) 7 (rowsOf (now (table .entry))) ⌝ }
+    ensures { λ _. ⌜ rowsOf (now (table .exit)) ≡ seenRun nodes page mostEntries (now (bytes .entry)) 7
+        (rowsOf (now (table .entry))) ⌝ }
 {
     let mut at: usize = 7;
     let mut left: usize = 27;
@@ -43,7 +45,8 @@ pub fn see_entries(bytes: &[u8], table: &mut [u8], nodes: usize, page: u16)
 // The node of a page, whose version is the page's sequence number.
 pub fn see_node(bytes: &[u8], table: &mut [u8], nodes: usize, page: u16)
     requires { ⌜ 16 * nodes ≤ length (now table) ⌝ }
-    ensures { λ _. ⌜ rowsOf (now (table .exit)) ≡ seenNode nodes page (now (bytes .entry)) (rowsOf (now (table .entry))) ⌝ }
+    ensures { λ _. ⌜ rowsOf (now (table .exit)) ≡ seenNode nodes page (now (bytes .entry))
+        (rowsOf (now (table .entry))) ⌝ }
 {
     let p = payload(bytes, 7, 0x11);
     if p.len() < 7 {

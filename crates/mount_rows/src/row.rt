@@ -36,7 +36,8 @@ fn lacks(row: Row, version: u32, page: u16) -> bool
 // The row of a node after a piece of a version was met on a page.
 fn see_row(table: &mut [u8], id: usize, version: u32, mode: Mode, page: u16)
     requires { ⌜ 16 * id + 16 ≤ length (now table) ⌝ }
-    ensures { λ _. ⌜ rowsOf (now (table .exit)) ≡ set (rowsOf (now (table .entry))) id (def.seen version mode page (getD (rowsOf (now (table .entry))) id noRow)) ⌝ }
+    ensures { λ _. ⌜ rowsOf (now (table .exit)) ≡ set (rowsOf (now (table .entry))) id
+        (def.seen version mode page (getD (rowsOf (now (table .entry))) id noRow)) ⌝ }
 {
     let row = flash_rows::read_row(table, id);
     if row.version < version {

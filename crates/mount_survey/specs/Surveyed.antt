@@ -131,5 +131,6 @@ module _ (pool : List ℕ) (bytes : Bytes pool) (blocks : ℕ) (size : length po
         passed : (c : Cells) → cellsOf pool ≡ some c → pagesPass blocks c ≡ true
         passed c q = sym (ap (allPass blocks pages) (sym (own c q)) ∙ all-pass pool bytes blocks size c q) ∙ t
 
-        current : (c : Cells) → cellsOf pool ≡ some c → blockOf blocks pages (greatest sequences) ≡ Model.blockOf (Model.newest (blocksIn 32 blocks c)) (blocksIn 32 blocks c)
+        current : (c : Cells) → cellsOf pool ≡ some c → blockOf blocks pages (greatest sequences) ≡ Model.blockOf
+            (Model.newest (blocksIn 32 blocks c)) (blocksIn 32 blocks c)
         current c q = ap (λ (ss : List ℕ). blockOf blocks pages (greatest ss)) (sym (own c q)) ∙ current-is pool bytes blocks size c q (passed c q)

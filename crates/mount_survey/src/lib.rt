@@ -35,7 +35,8 @@ fn numbers_pass(pool: &[u8], table: &mut [u8], n: usize, blocks: usize, newest: 
 
 // Surveys a pool, with a table lent for the work; what the table holds afterwards means nothing.
 pub fn survey(pool: &[u8], scratch: &mut [u8], blocks: usize) -> Survey
-    requires { ⌜ (length (now pool) ≡ blockBytes * blocks) × (fewestBlocks ≤ blocks) × (blocks ≤ mostBlocks) × (length (now scratch) ≡ tableBytes blocks) ⌝ }
+    requires { ⌜ (length (now pool) ≡ blockBytes * blocks) × (fewestBlocks ≤ blocks) × (blocks ≤ mostBlocks)
+        × (length (now scratch) ≡ tableBytes blocks) ⌝ }
     ensures { λ r. ⌜ Surveyed (now (pool .entry)) blocks r ⌝ }
 {
     let collected = collect(pool, scratch, 32 * blocks);

@@ -212,7 +212,8 @@ module _ (pages : List (List ℕ)) (c : Cells) (B : ℕ) (size : length c ≡ 32
       go (ltb 0 (count (numbered s) (blockIn (cellsAt c i)))) ∙
       ap (λ (d : Cells). i + hereOrNext (ltb 0 (count (numbered s) (blockIn (cellsAt c i)))) (Model.blockOf s (blocksIn 32 k d))) (sym (drop-next c i))
     where
-      go : (t : Bool) → choose t i (i + 1 + Model.blockOf s (blocksIn 32 k (drop (32 * (i + 1)) c))) ≡ i + hereOrNext t (Model.blockOf s (blocksIn 32 k (drop (32 * (i + 1)) c)))
+      go : (t : Bool) → choose t i (i + 1 + Model.blockOf s (blocksIn 32 k (drop (32 * (i + 1)) c))) ≡ i + hereOrNext t
+          (Model.blockOf s (blocksIn 32 k (drop (32 * (i + 1)) c)))
       go true = sym (add-zero i)
       go false = omega arith
 

@@ -30,7 +30,8 @@ use Rattle.mount_sequences.specs.Differ.{differs}
 use Rattle.mount_blocks.specs.All.{allFrom}
 use Rattle.mount_blocks.specs.Rules.{sequenceOn, blankAt, blocksPass, blockOf, fillOf}
 use Rattle.mount_pages.specs.Versions.{pageApart, pagesApart}
-use Rattle.mount_survey_refines.specs.Written.{pagesIn, pagesOver, sequencesIn, pagesIn-blocks, tally-pages, every-pages, count-sequences, greatest-pages, differs-pages}
+use Rattle.mount_survey_refines.specs.Written.{pagesIn, pagesOver, sequencesIn, pagesIn-blocks, tally-pages, every-pages, count-sequences}
+use Rattle.mount_survey_refines.specs.Written.{greatest-pages, differs-pages}
 use Rattle.mount_survey_refines.specs.Cells.{Spells, noPage, onePage, Spelled, length-pool, pool-spelled}
 use Rattle.mount_survey_refines.specs.PageCells.{blank-read, sequence-read, cellPasses, apart-read}
 use Rattle.mount_survey_refines.specs.BlockCells.{Stretch, blocks-pass, block-of, fill-of}
@@ -160,7 +161,8 @@ module _ (pool : List ℕ) (bytes : Bytes pool) (blocks : ℕ) (size : length po
             eq-eqb (length c) (32 * blocks) length-cells,
             t,
           )
-          (never-filled (differs (sequencesIn c) && pagesApart (sequencesIn c) (32 * blocks) pages) (fullOrAll 32 (greatest (sequencesIn c)) bs) (leb 1 (blanks bs)) (everyPage (pagePasses bs) bs))
+          (never-filled (differs (sequencesIn c) && pagesApart (sequencesIn c) (32 * blocks) pages) (fullOrAll 32 (greatest (sequencesIn c)) bs)
+          (leb 1 (blanks bs)) (everyPage (pagePasses bs) bs))
 
   -- AND WHERE THEY PASS, the newest page, its block, and how far that is filled
   module _ (passed : pagesPass blocks c ≡ true) where

@@ -19,7 +19,8 @@ pub struct FirstLeaf {
 // At most 9 nodes are read: a sound tree has no more levels.
 pub fn first_leaf<'a>(pool: &'a [u8], table: &'a [u8], state: State) -> FirstLeaf
     requires { ⌜ Readable state (now table) ⌝ }
-    ensures { λ r. ⌜ leftmostOf r ≡ leftmost 9 (tableOf (pagesOf (now (pool .entry))) (rowsOf (now (table .entry))) state) 0 0 ⌝ }
+    ensures { λ r. ⌜ leftmostOf r
+        ≡ leftmost 9 (tableOf (pagesOf (now (pool .entry))) (rowsOf (now (table .entry))) state) 0 0 ⌝ }
 {
     let mut depth: usize = 0;
     let mut leaf: usize = 0;

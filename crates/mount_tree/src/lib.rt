@@ -20,7 +20,8 @@ use walk::visit;
 // Whether the nodes of the table are a sound tree of at most `limit`. One of more than 8 levels of branches is none, since it has too many nodes.
 pub fn is_sound<'a>(pool: &'a [u8], table: &'a [u8], state: State, limit: usize) -> bool
     requires { ⌜ (state .entries ≤ 27) × (limit ≤ 620) × (16 * limit ≤ length (now table)) ⌝ }
-    ensures { λ r. ⌜ r ≡ sound limit (state .nodes) (tableOf (pagesOf (now (pool .entry))) (rowsOf (now (table .entry))) state) ⌝ }
+    ensures { λ r. ⌜ r ≡ sound limit (state .nodes)
+        (tableOf (pagesOf (now (pool .entry))) (rowsOf (now (table .entry))) state) ⌝ }
 {
     if limit < state.nodes {
         return false;

@@ -131,7 +131,10 @@ pub fn visit<'a>(
     w: WalkValue,
 ) -> WalkValue
     requires { ⌜ (Readable state (now table)) × (Room w) ⌝ }
-    ensures { λ r. ⌜ Walked r (state .nodes) (andThen (soFar (state .nodes) w) (def.visit depth (tableOf (pagesOf (now (pool .entry))) (rowsOf (now (table .entry))) state) id low high)) ⌝ }
+    ensures { λ r. ⌜ Walked r (state .nodes)
+        (andThen (soFar (state .nodes) w)
+        (def.visit depth (tableOf (pagesOf (now (pool .entry))) (rowsOf (now (table .entry))) state) id low
+        high)) ⌝ }
 {
     if w.passed {} else {
         return w;

@@ -59,7 +59,8 @@ module _ (v : NodeValue) (s : Sized v) where
 
   pub stands-repointed :
       (at p : ℕ) → at < v .count →
-      Stands (record { shape = v .shape; count = v .count; keys = v .keys; pointers = set (v .pointers) at p; link = v .link }) (node (v .shape) (set (pairsIn v) at (keyAt (pairsIn v) at, p)) (v .link))
+      Stands (record { shape = v .shape; count = v .count; keys = v .keys; pointers = set (v .pointers) at p; link = v .link })
+      (node (v .shape) (set (pairsIn v) at (keyAt (pairsIn v) at, p)) (v .link))
   unfolding pairsIn
   stands-repointed at p h =
       let k = getD (v .keys) at 0 in

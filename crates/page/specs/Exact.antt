@@ -20,7 +20,9 @@ use Rattle.wire.specs.Field.{field, payloadAt}
 use Rattle.wire.specs.FieldLaws.{stands-payload, part-payload, bytes-payload, allowed-payload}
 use Rattle.page.specs.Page.{Entry, Score, Content, log, whole, checkpoint, Page, page, sequence, contentOf}
 use Rattle.page.specs.Image.{entryBytes, tariffBytes, scoreBytes, countBytes, fields, fieldIf, contentBytes, numbered, sealed, image}
-use Rattle.page.specs.Decode.{Decoded, written, bad, found, taken, sealedAt, allBlank, run, payloads, entryOk, entryOf, nodeOk, nodeOf, tariffOf, scoreOk, scoreOf, readIf, mostScores, decodeLog, decodeNode, decodeScores, decodeCounted, decodeCheckpoint, decodeContent, decodeWritten, decode}
+use Rattle.page.specs.Decode.{Decoded, written, bad, found, taken, sealedAt, allBlank, run, payloads, entryOk, entryOf, nodeOk, nodeOf}
+use Rattle.page.specs.Decode.{tariffOf, scoreOk, scoreOf, readIf, mostScores, decodeLog, decodeNode, decodeScores, decodeCounted}
+use Rattle.page.specs.Decode.{decodeCheckpoint, decodeContent, decodeWritten, decode}
 use Rattle.page.specs.Limits.{TariffIfFits, Filled, given, Fits, PageFits}
 use Rattle.page.specs.Cases.{decode-blank, decode-other, written-zero, written-from, content-log, content-node, content-checkpoint, when-passed}
 use Rattle.page.specs.Tags.{allowed-11, only-10, only-13, only-15}

@@ -21,8 +21,11 @@ use Rattle.wire.specs.Tag.{lengthOf, allowed, isNodeBytes, nodeBytes}
 use Rattle.wire.specs.Field.{field, payloadAt}
 use Rattle.wire.specs.FieldLaws.{length-field, payloadAt-field, payloadAt-other}
 use Rattle.page.specs.Page.{Entry, Score, Content, log, whole, checkpoint, Page, page}
-use Rattle.page.specs.Image.{entryBytes, wholeBytes, tariffBytes, scoreBytes, countBytes, fields, fieldIf, contentBytes, numbered, sumsField, sealed, image}
-use Rattle.page.specs.Decode.{written, found, taken, sealedAt, allBlank, run, payloads, entryOk, entryOf, tariffOf, scoreOk, scoreOf, readIf, when, mostScores, decodeLog, decodeNode, decodeScores, decodeCounted, decodeCheckpoint, decodeContent, decodeWritten, decode}
+use Rattle.page.specs.Image.{entryBytes, wholeBytes, tariffBytes, scoreBytes, countBytes, fields, fieldIf, contentBytes, numbered, sumsField}
+use Rattle.page.specs.Image.{sealed, image}
+use Rattle.page.specs.Decode.{written, found, taken, sealedAt, allBlank, run, payloads, entryOk, entryOf, tariffOf, scoreOk, scoreOf, readIf}
+use Rattle.page.specs.Decode.{when, mostScores, decodeLog, decodeNode, decodeScores, decodeCounted, decodeCheckpoint, decodeContent}
+use Rattle.page.specs.Decode.{decodeWritten, decode}
 use Rattle.page.specs.Limits.{TariffIfFits, given, Filled, Fits, PageFits}
 use Rattle.page.specs.Cases.{content-log, content-node, content-checkpoint}
 use Rattle.page.specs.Tags.{allowed-10, allowed-11, allowed-12, allowed-13, allowed-14, allowed-15}
@@ -213,7 +216,8 @@ payloadIf bytes none = []
 payloadIf bytes (some a) = bytes a
 
 -- It is found, or nothing is where another field is in its place.
-module _ {A : Type 0} (tag len : ℕ) (bytes : A → List ℕ) (fits : len < 256 ^ 2) (may : allowed (lengthOf tag) len ≡ true) (size : (a : A) → length (bytes a) ≡ len) where
+module _ {A : Type 0} (tag len : ℕ) (bytes : A → List ℕ) (fits : len < 256 ^ 2) (may : allowed (lengthOf tag) len ≡ true)
+    (size : (a : A) → length (bytes a) ≡ len) where
   if-found : (o : Option A) (front rest : List ℕ) → payloadAt (front ++ rest) (length front) tag ≡ [] →
       payloadAt (front ++ (fieldIf tag bytes o ++ rest)) (length front) tag ≡ payloadIf bytes o
   if-found none front rest other = other

@@ -15,7 +15,8 @@ use Rattle.wire.specs.Field.{field}
 use Rattle.wire.specs.FieldLaws.{length-field}
 use Rattle.page.specs.Page.{Content, log, whole, checkpoint, Page, page}
 use Rattle.page.specs.Image.{entryBytes, wholeBytes, tariffBytes, scoreBytes, countBytes, fields, fieldIf, contentBytes, numbered, image, blankBytes}
-use Rattle.page.specs.Decode.{Decoded, blank, bad, allBlank, when, mostScores, decodeLog, decodeNode, decodeScores, decodeCounted, decodeCheckpoint, decodeContent, decodeWritten, decode}
+use Rattle.page.specs.Decode.{Decoded, blank, bad, allBlank, when, mostScores, decodeLog, decodeNode, decodeScores, decodeCounted}
+use Rattle.page.specs.Decode.{decodeCheckpoint, decodeContent, decodeWritten, decode}
 use Rattle.page.specs.Limits.{given, ContentFits, PageFits}
 use Rattle.page.specs.Cases.{
   decode-blank,

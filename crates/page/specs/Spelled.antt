@@ -238,7 +238,8 @@ tariffOf-bytes t h =
     let n : (v : ℕ) → v < bound32 → number (bigEndian 4 v) ≡ v = λ v l. number-bigEndian 4 v l in
     ap₂ tariff-of
     (costs-eq _ _ _ _ _ _ _ _ (n (t .log .read) (h .log .read)) (n (t .log .edit) (h .log .edit)) (n (t .log .rewrite) (h .log .rewrite)) (n (t .log .enter) (h .log .enter)))
-    (costs-eq _ _ _ _ _ _ _ _ (n (t .disk .read) (h .disk .read)) (n (t .disk .edit) (h .disk .edit)) (n (t .disk .rewrite) (h .disk .rewrite)) (n (t .disk .enter) (h .disk .enter)))
+    (costs-eq _ _ _ _ _ _ _ _ (n (t .disk .read) (h .disk .read)) (n (t .disk .edit) (h .disk .edit)) (n (t .disk .rewrite) (h .disk .rewrite))
+    (n (t .disk .enter) (h .disk .enter)))
 
 module _ (p : List ℕ) (b : Bytes p) (l : length p ≡ 32) where
   four : (at : ℕ) → at + 4 ≤ 32 → bigEndian 4 (numberAt 4 p at) ≡ part p at 4

@@ -32,7 +32,8 @@ pub fn lay_score(records: &mut [u8], at: usize, id: u32, score: u32)
 // Lays three numbers: what reads, edits and rewrites cost in one mode.
 fn lay_costs(p: &mut [u8], at: usize, read: u32, edit: u32, rewrite: u32)
     requires { ⌜ at + 12 ≤ length (now p) ⌝ }
-    ensures { λ _. ⌜ now (p .exit) ≡ lay (now (p .entry)) at (bigEndian 4 read ++ (bigEndian 4 edit ++ bigEndian 4 rewrite)) ⌝ }
+    ensures { λ _. ⌜ now (p .exit) ≡ lay (now (p .entry)) at
+        (bigEndian 4 read ++ (bigEndian 4 edit ++ bigEndian 4 rewrite)) ⌝ }
 {
     write32(p, at, read);
     write32(p, at + 4, edit);
@@ -89,8 +90,10 @@ fn lay_checkpoint(
     last: bool,
     count: u32,
 )
-    requires { ⌜ (length (now p) ≡ pageBytes) × ((n ≤ mostScores first) × ((6 * n ≤ length (now records)) × (count < 65536))) ⌝ }
-    ensures { λ _. ⌜ now (p .exit) ≡ lay (now (p .entry)) 0 (summed (bodyOf (recordsPage sequence first tariff n (now (records .entry)) last count))) ⌝ }
+    requires { ⌜ (length (now p) ≡ pageBytes)
+        × ((n ≤ mostScores first) × ((6 * n ≤ length (now records)) × (count < 65536))) ⌝ }
+    ensures { λ _. ⌜ now (p .exit) ≡ lay (now (p .entry)) 0
+        (summed (bodyOf (recordsPage sequence first tariff n (now (records .entry)) last count))) ⌝ }
 {
     lay_sequence(p, sequence);
     let at = lay_front(p, first, tariff);

@@ -14,7 +14,9 @@ use Rattle.laws.specs.BigEndian.{number, numberAt}
 use Rattle.wire.specs.Sum.{sumsOf}
 use Rattle.wire.specs.Field.{payloadAt}
 use Rattle.page.specs.Page.{log, whole, checkpoint, Page, page}
-use Rattle.page.specs.Decode.{written, found, taken, allBlank, sealedAt, run, payloads, changeOk, entryOk, entryOf, pairsIn, shapeOfNumber, nodeOk, nodeOf, tariffOf, scoreOk, scoreOf, readIf, when, mostScores, decodeLog, decodeNode, decodeScores, decodeCounted, decodeCheckpoint}
+use Rattle.page.specs.Decode.{written, found, taken, allBlank, sealedAt, run, payloads, changeOk, entryOk, entryOf, pairsIn, shapeOfNumber, nodeOk}
+use Rattle.page.specs.Decode.{nodeOf, tariffOf, scoreOk, scoreOf, readIf, when, mostScores, decodeLog, decodeNode, decodeScores, decodeCounted}
+use Rattle.page.specs.Decode.{decodeCheckpoint}
 use Rattle.page.specs.Limits.{given}
 use Rattle.page.specs.Runs.{run-goes, run-stops, length-payloads}
 use Rattle.page.specs.SpelledNode.{length-pairsFrom}

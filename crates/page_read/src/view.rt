@@ -53,7 +53,8 @@ pub enum PageView {
 // A log page.
 fn view_log(page: &[u8], sequence: u32) -> PageView
     requires { ⌜ length (now page) ≡ pageBytes ⌝ }
-    ensures { λ r. ⌜ r ≡ view (decodeLog sequence (run (entryOk sequence) 0x12 18 mostEntries (now (page .entry)) 7) (now (page .entry))) ⌝ }
+    ensures { λ r. ⌜ r ≡ view (decodeLog sequence
+        (run (entryOk sequence) 0x12 18 mostEntries (now (page .entry)) 7) (now (page .entry))) ⌝ }
 {
     let n = count_entries(page, sequence);
     if n < 1 {
@@ -124,7 +125,8 @@ fn view_scores(
     most: usize,
 ) -> PageView
     requires { ⌜ Asked (now page) first at n most ⌝ }
-    ensures { λ r. ⌜ r ≡ view (decodeCounted sequence (payloadAt (now (page .entry)) 7 0x13) at n (now (page .entry))) ⌝ }
+    ensures { λ r. ⌜ r ≡ view (decodeCounted sequence (payloadAt (now (page .entry)) 7 0x13) at n
+        (now (page .entry))) ⌝ }
 {
     if n < 1 {
         return PageView::Bad;

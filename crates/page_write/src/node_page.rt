@@ -42,7 +42,8 @@ fn lay_node_head(p: &mut [u8], at: usize, id: u32, shape: Shape, link: u32, n: u
 // Lays the first n keys, each with its pointer.
 fn lay_pairs(p: &mut [u8], at: usize, keys: &[u32], pointers: &[u32], n: usize)
     requires { ⌜ (at + 8 * n ≤ length (now p)) × ((n ≤ length (now keys)) × (n ≤ length (now pointers))) ⌝ }
-    ensures { λ _. ⌜ now (p .exit) ≡ lay (now (p .entry)) at (pairsBytes (firstPairs n (now (keys .entry)) (now (pointers .entry)) 0)) ⌝ }
+    ensures { λ _. ⌜ now (p .exit) ≡ lay (now (p .entry)) at
+        (pairsBytes (firstPairs n (now (keys .entry)) (now (pointers .entry)) 0)) ⌝ }
 {
     let mut place = at;
     let mut i = 0;
@@ -67,7 +68,8 @@ fn lay_node(
 )
     requires { ⌜ (length (now p) ≡ pageBytes) × ((id < 65536) × (n ≤ mostKeys)) ⌝ }
     requires { ⌜ (n ≤ length (now keys)) × (n ≤ length (now pointers)) ⌝ }
-    ensures { λ _. ⌜ now (p .exit) ≡ lay (now (p .entry)) 0 (summed (bodyOf (nodePage sequence id shape n (now (keys .entry)) (now (pointers .entry)) link))) ⌝ }
+    ensures { λ _. ⌜ now (p .exit) ≡ lay (now (p .entry)) 0
+        (summed (bodyOf (nodePage sequence id shape n (now (keys .entry)) (now (pointers .entry)) link))) ⌝ }
 {
     lay_sequence(p, sequence);
     lay_node_head(p, 7, id, shape, link, n);

@@ -59,7 +59,7 @@ module _ (pool : List ℕ) (t : Tariff) where
     refused-tariff e = rw (h .question, e) (record { number = refl; pool = refl })
 
     pub prepared-pool : inRange t ≡ true → (a b left : List ℕ) → a ≡ image rootPage → b ≡ image (checkpointPage t) →
-    length a ≡ pageBytes → length b ≡ pageBytes →
+        length a ≡ pageBytes → length b ≡ pageBytes →
         left ≡ firstBytes (length pool) a b → Leaves (prepareOf pool t) 0 left
     unfolding prepareOf
     prepared-pool e a b left ea eb la lb is =

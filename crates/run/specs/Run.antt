@@ -71,7 +71,8 @@ abbrev pub mostRequests : ℕ
 mostRequests = 9 + nodeLimit mostBlocks
 
 -- What the code of one command leaves: this world, this charge, and its reply laid at a place of the answer buffer.
-pub record CommandAs (poolLength tableLength : ℕ) (pages : List (List ℕ)) (rows : List Row) (before after : List ℕ) (r : Progress) (t : Tariff) (c : Command) (at : ℕ) (w : World) : Type 0 where
+pub record CommandAs (poolLength tableLength : ℕ) (pages : List (List ℕ)) (rows : List Row) (before after : List ℕ) (r : Progress) (t : Tariff)
+    (c : Command) (at : ℕ) (w : World) : Type 0 where
   pub is : world pages rows (r .state) ≡ commandWorld t c w
   pub growing : Growing poolLength tableLength (r .state)
   pub blocks : r .state .blocks ≡ w .state .blocks
@@ -85,7 +86,8 @@ abbrev pub CommandIn : List ℕ → List ℕ → List ℕ → List ℕ → Progr
 CommandIn pool table before after r t c at w = CommandAs (length pool) (length table) (pagesOf pool) (rowsOf table) before after r t c at w
 
 -- What the code of a whole batch leaves.
-pub record RunAs (poolLength tableLength : ℕ) (pages : List (List ℕ)) (rows : List Row) (before after : List ℕ) (r : Progress) (t : Tariff) (cs : List Command) (w : World) : Type 0 where
+pub record RunAs (poolLength tableLength : ℕ) (pages : List (List ℕ)) (rows : List Row) (before after : List ℕ) (r : Progress) (t : Tariff)
+    (cs : List Command) (w : World) : Type 0 where
   pub is : world pages rows (r .state) ≡ runWorld t cs w
   pub growing : Growing poolLength tableLength (r .state)
   pub blocks : r .state .blocks ≡ w .state .blocks

@@ -26,8 +26,11 @@ pub fn run_get(
     key: u32,
     at: usize,
 ) -> Progress
-    requires { ⌜ (Growing (length (now pool)) (length (now table)) state) × (Ranged tariff) × (at + 7 ≤ length (now answers)) ⌝ }
-    ensures { λ r. ⌜ CommandIn (now (pool .exit)) (now (table .exit)) (now (answers .entry)) (now (answers .exit)) r tariff (Command.Get key) at (worldIn (now (pool .entry)) (now (table .entry)) state) ⌝ }
+    requires { ⌜ (Growing (length (now pool)) (length (now table)) state) × (Ranged tariff)
+        × (at + 7 ≤ length (now answers)) ⌝ }
+    ensures { λ r. ⌜ CommandIn (now (pool .exit)) (now (table .exit)) (now (answers .entry))
+        (now (answers .exit)) r tariff (Command.Get key) at
+        (worldIn (now (pool .entry)) (now (table .entry)) state) ⌝ }
 {
     let done = get(pool, table, state, tariff, key);
     let s = done.state;
@@ -51,8 +54,11 @@ pub fn run_put(
     value: u32,
     at: usize,
 ) -> Progress
-    requires { ⌜ (Growing (length (now pool)) (length (now table)) state) × (Ranged tariff) × (at + 7 ≤ length (now answers)) ⌝ }
-    ensures { λ r. ⌜ CommandIn (now (pool .exit)) (now (table .exit)) (now (answers .entry)) (now (answers .exit)) r tariff (Command.Put key value) at (worldIn (now (pool .entry)) (now (table .entry)) state) ⌝ }
+    requires { ⌜ (Growing (length (now pool)) (length (now table)) state) × (Ranged tariff)
+        × (at + 7 ≤ length (now answers)) ⌝ }
+    ensures { λ r. ⌜ CommandIn (now (pool .exit)) (now (table .exit)) (now (answers .entry))
+        (now (answers .exit)) r tariff (Command.Put key value) at
+        (worldIn (now (pool .entry)) (now (table .entry)) state) ⌝ }
 {
     let done = put(pool, table, state, tariff, key, value);
     let s = done.state;
@@ -75,8 +81,11 @@ pub fn run_delete(
     key: u32,
     at: usize,
 ) -> Progress
-    requires { ⌜ (Growing (length (now pool)) (length (now table)) state) × (Ranged tariff) × (at + 7 ≤ length (now answers)) ⌝ }
-    ensures { λ r. ⌜ CommandIn (now (pool .exit)) (now (table .exit)) (now (answers .entry)) (now (answers .exit)) r tariff (Command.Delete key) at (worldIn (now (pool .entry)) (now (table .entry)) state) ⌝ }
+    requires { ⌜ (Growing (length (now pool)) (length (now table)) state) × (Ranged tariff)
+        × (at + 7 ≤ length (now answers)) ⌝ }
+    ensures { λ r. ⌜ CommandIn (now (pool .exit)) (now (table .exit)) (now (answers .entry))
+        (now (answers .exit)) r tariff (Command.Delete key) at
+        (worldIn (now (pool .entry)) (now (table .entry)) state) ⌝ }
 {
     let done = delete(pool, table, state, tariff, key);
     let s = done.state;
@@ -101,8 +110,11 @@ pub fn run_scan(
     most: u32,
     at: usize,
 ) -> Progress
-    requires { ⌜ (Growing (length (now pool)) (length (now table)) state) × (Ranged tariff) × (1 ≤ most) × (most ≤ 32) × (at + (3 + 8 * most) ≤ length (now answers)) ⌝ }
-    ensures { λ r. ⌜ CommandIn (now (pool .exit)) (now (table .exit)) (now (answers .entry)) (now (answers .exit)) r tariff (Command.Scan low high most) at (worldIn (now (pool .entry)) (now (table .entry)) state) ⌝ }
+    requires { ⌜ (Growing (length (now pool)) (length (now table)) state) × (Ranged tariff) × (1 ≤ most)
+        × (most ≤ 32) × (at + (3 + 8 * most) ≤ length (now answers)) ⌝ }
+    ensures { λ r. ⌜ CommandIn (now (pool .exit)) (now (table .exit)) (now (answers .entry))
+        (now (answers .exit)) r tariff (Command.Scan low high most) at
+        (worldIn (now (pool .entry)) (now (table .entry)) state) ⌝ }
 {
     let done = scan(pool, table, state, tariff, low, high, most);
     let s = done.state;

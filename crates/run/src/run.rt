@@ -28,8 +28,10 @@ pub fn run_command(
     command: Command,
     at: usize,
 ) -> Progress
-    requires { ⌜ (Growing (length (now pool)) (length (now table)) state) × (Ranged tariff) × (InRange command) × (at + roomFor command ≤ length (now answers)) ⌝ }
-    ensures { λ r. ⌜ CommandIn (now (pool .exit)) (now (table .exit)) (now (answers .entry)) (now (answers .exit)) r tariff command at (worldIn (now (pool .entry)) (now (table .entry)) state) ⌝ }
+    requires { ⌜ (Growing (length (now pool)) (length (now table)) state) × (Ranged tariff) × (InRange command)
+        × (at + roomFor command ≤ length (now answers)) ⌝ }
+    ensures { λ r. ⌜ CommandIn (now (pool .exit)) (now (table .exit)) (now (answers .entry))
+        (now (answers .exit)) r tariff command at (worldIn (now (pool .entry)) (now (table .entry)) state) ⌝ }
 {
     match command {
         Command::Get { key } => {
@@ -56,8 +58,10 @@ pub fn run_commands(
     state: State,
     tariff: Tariff,
 ) -> Progress
-    requires { ⌜ (Growing (length (now pool)) (length (now table)) state) × (Ranged tariff) × (Fits (now batch) (length (now answers))) ⌝ }
-    ensures { λ r. ⌜ RunIn (now (pool .exit)) (now (table .exit)) (now (answers .entry)) (now (answers .exit)) r tariff (commandsIn (now (batch .entry))) (worldIn (now (pool .entry)) (now (table .entry)) state) ⌝ }
+    requires { ⌜ (Growing (length (now pool)) (length (now table)) state) × (Ranged tariff)
+        × (Fits (now batch) (length (now answers))) ⌝ }
+    ensures { λ r. ⌜ RunIn (now (pool .exit)) (now (table .exit)) (now (answers .entry)) (now (answers .exit))
+        r tariff (commandsIn (now (batch .entry))) (worldIn (now (pool .entry)) (now (table .entry)) state) ⌝ }
 {
     let mut s = state;
     let mut charge: u64 = 0;

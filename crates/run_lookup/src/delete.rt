@@ -18,8 +18,10 @@ use run_serve::request::serve_edit;
 
 // The reads to the leaf, then one edit of it where the key is there.
 pub fn delete(pool: &mut [u8], table: &mut [u8], state: State, tariff: Tariff, key: u32) -> Done
-    requires { ⌜ (Good (length (now pool)) (length (now table)) state) × (Ranged tariff) × (state .nodes ≤ nodeLimit mostBlocks) ⌝ }
-    ensures { λ r. ⌜ DeletedIn (now (pool .exit)) (now (table .exit)) r tariff key (worldIn (now (pool .entry)) (now (table .entry)) state) ⌝ }
+    requires { ⌜ (Good (length (now pool)) (length (now table)) state) × (Ranged tariff)
+        × (state .nodes ≤ nodeLimit mostBlocks) ⌝ }
+    ensures { λ r. ⌜ DeletedIn (now (pool .exit)) (now (table .exit)) r tariff key
+        (worldIn (now (pool .entry)) (now (table .entry)) state) ⌝ }
 {
     let path = path_to(pool, table, state, key);
     let leaf = path.leaf;

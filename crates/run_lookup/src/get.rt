@@ -15,8 +15,10 @@ use run_path::reads::serve_reads;
 
 // The value at a key: the answer is that of the nodes before they are read as requests.
 pub fn get(pool: &mut [u8], table: &mut [u8], state: State, tariff: Tariff, key: u32) -> Done
-    requires { ⌜ (Good (length (now pool)) (length (now table)) state) × (Ranged tariff) × (state .nodes ≤ nodeLimit mostBlocks) ⌝ }
-    ensures { λ r. ⌜ GotIn (now (pool .exit)) (now (table .exit)) r tariff key (worldIn (now (pool .entry)) (now (table .entry)) state) ⌝ }
+    requires { ⌜ (Good (length (now pool)) (length (now table)) state) × (Ranged tariff)
+        × (state .nodes ≤ nodeLimit mostBlocks) ⌝ }
+    ensures { λ r. ⌜ GotIn (now (pool .exit)) (now (table .exit)) r tariff key
+        (worldIn (now (pool .entry)) (now (table .entry)) state) ⌝ }
 {
     let path = path_to(pool, table, state, key);
     let leaf = path.leaf;

@@ -111,4 +111,5 @@ module _ {table : Table} {k : ℕ} {ids : List ℕ} {id i : ℕ} (d : Down table
       let here : i ≡ 8 = omega (arith, d .steps) in
       let nine : i + 1 ≡ 9 = omega arith in
       subst (λ (n : ℕ). PathTo table k (record { ids = set ids 8 id; length = n; leaf = v })) nine
-      (subst (λ (n : ℕ). PathTo table k (record { ids = set ids n id; length = i + 1; leaf = v })) here (down-end (ap (λ (n : ℕ). path n table k id) none) (ap (λ (n : ℕ). leafFor n table k id) none) v b))
+      (subst (λ (n : ℕ). PathTo table k (record { ids = set ids n id; length = i + 1; leaf = v })) here
+      (down-end (ap (λ (n : ℕ). path n table k id) none) (ap (λ (n : ℕ). leafFor n table k id) none) v b))

@@ -18,8 +18,10 @@ pub fn read_nodes(
     tariff: Tariff,
     ids: &[usize],
 ) -> Charged
-    requires { ⌜ (Good (length (now pool)) (length (now table)) state) × (Ranged tariff) × (length (now ids) ≤ nodeLimit mostBlocks) ⌝ }
-    ensures { λ r. ⌜ ReadIn (now (pool .exit)) (now (table .exit)) r tariff (length (now (ids .entry))) (now (ids .entry)) (worldIn (now (pool .entry)) (now (table .entry)) state) ⌝ }
+    requires { ⌜ (Good (length (now pool)) (length (now table)) state) × (Ranged tariff)
+        × (length (now ids) ≤ nodeLimit mostBlocks) ⌝ }
+    ensures { λ r. ⌜ ReadIn (now (pool .exit)) (now (table .exit)) r tariff (length (now (ids .entry)))
+        (now (ids .entry)) (worldIn (now (pool .entry)) (now (table .entry)) state) ⌝ }
 {
     let mut s = state;
     let mut charge: u64 = 0;
@@ -43,7 +45,8 @@ pub fn serve_reads(
     n: usize,
 ) -> Charged
     requires { ⌜ (Good (length (now pool)) (length (now table)) state) × (Ranged tariff) × (n ≤ 9) ⌝ }
-    ensures { λ r. ⌜ ReadIn (now (pool .exit)) (now (table .exit)) r tariff n (take n ids) (worldIn (now (pool .entry)) (now (table .entry)) state) ⌝ }
+    ensures { λ r. ⌜ ReadIn (now (pool .exit)) (now (table .exit)) r tariff n (take n ids)
+        (worldIn (now (pool .entry)) (now (table .entry)) state) ⌝ }
 {
     read_nodes(pool, table, state, tariff, &ids[0..n])
 }

@@ -20,8 +20,11 @@ pub fn ids_needed<'a>(
     ids: [usize; 9],
     n: usize,
 ) -> usize
-    requires { ⌜ (Readable state (now table)) × (1 ≤ n) × (n ≤ 9) × (mostKeys ≤ sizeAt (tableOf (pagesOf (now pool)) (rowsOf (now table)) state) (getD ids (n - 1) 0)) ⌝ }
-    ensures { λ r. ⌜ (r ≡ idsNeeded (tableOf (pagesOf (now (pool .entry))) (rowsOf (now (table .entry))) state) (take n ids)) × (r ≤ 10) ⌝ }
+    requires { ⌜ (Readable state (now table)) × (1 ≤ n) × (n ≤ 9)
+        × (mostKeys ≤ sizeAt (tableOf (pagesOf (now pool)) (rowsOf (now table)) state) (getD ids (n - 1) 0)) ⌝ }
+    ensures { λ r. ⌜ (r ≡ idsNeeded (tableOf (pagesOf (now (pool .entry))) (rowsOf (now (table .entry))) state)
+        (take n ids))
+        × (r ≤ 10) ⌝ }
 {
     let mut i = n - 1;
     while 0 < i {

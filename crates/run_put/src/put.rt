@@ -67,7 +67,9 @@ fn read_and_edit(
     value: u32,
 ) -> Charged
     requires { ⌜ (Growing (length (now pool)) (length (now table)) state) × (Ranged tariff) × (1 ≤ n) × (n ≤ 9) ⌝ }
-    ensures { λ r. ⌜ RequestsIn (now (pool .exit)) (now (table .exit)) r state (def.readAndEdit tariff (take n ids) (def.lastOf n ids) key value (worldIn (now (pool .entry)) (now (table .entry)) state)) ⌝ }
+    ensures { λ r. ⌜ RequestsIn (now (pool .exit)) (now (table .exit)) r state
+        (def.readAndEdit tariff (take n ids) (def.lastOf n ids) key value
+        (worldIn (now (pool .entry)) (now (table .entry)) state)) ⌝ }
 {
     let reads = serve_reads(pool, table, state, tariff, ids, n);
     let s = reads.state;
@@ -95,7 +97,9 @@ fn read_and_split(
     value: u32,
 ) -> Charged
     requires { ⌜ (Growing (length (now pool)) (length (now table)) state) × (Ranged tariff) × (1 ≤ n) × (n ≤ 9) ⌝ }
-    ensures { λ r. ⌜ RequestsIn (now (pool .exit)) (now (table .exit)) r state (def.readAndSplit tariff (take n ids) key value (worldIn (now (pool .entry)) (now (table .entry)) state)) ⌝ }
+    ensures { λ r. ⌜ RequestsIn (now (pool .exit)) (now (table .exit)) r state
+        (def.readAndSplit tariff (take n ids) key value
+        (worldIn (now (pool .entry)) (now (table .entry)) state)) ⌝ }
 {
     let reads = serve_reads(pool, table, state, tariff, ids, n);
     let s = reads.state;
@@ -118,8 +122,12 @@ fn put_splitting(
     key: u32,
     value: u32,
 ) -> Done
-    requires { ⌜ (Growing (length (now pool)) (length (now table)) state) × (Ranged tariff) × (1 ≤ n) × (n ≤ 9) × (mostKeys ≤ sizeAt (tableOf (pagesOf (now pool)) (rowsOf (now table)) state) (def.lastOf n ids)) ⌝ }
-    ensures { λ r. ⌜ DoneIn (now (pool .exit)) (now (table .exit)) r state (def.putSplitting tariff (take n ids) (idsNeeded (tableOf (pagesOf (now (pool .entry))) (rowsOf (now (table .entry))) state) (take n ids)) key value (worldIn (now (pool .entry)) (now (table .entry)) state)) ⌝ }
+    requires { ⌜ (Growing (length (now pool)) (length (now table)) state) × (Ranged tariff) × (1 ≤ n) × (n ≤ 9)
+        × (mostKeys ≤ sizeAt (tableOf (pagesOf (now pool)) (rowsOf (now table)) state) (def.lastOf n ids)) ⌝ }
+    ensures { λ r. ⌜ DoneIn (now (pool .exit)) (now (table .exit)) r state
+        (def.putSplitting tariff (take n ids)
+        (idsNeeded (tableOf (pagesOf (now (pool .entry))) (rowsOf (now (table .entry))) state) (take n ids))
+        key value (worldIn (now (pool .entry)) (now (table .entry)) state)) ⌝ }
 {
     let needed = ids_needed(pool, table, state, ids, n);
     if 10 * (state.blocks - 2) < state.nodes + needed {
@@ -150,7 +158,8 @@ pub fn put(
     value: u32,
 ) -> Done
     requires { ⌜ (Growing (length (now pool)) (length (now table)) state) × (Ranged tariff) ⌝ }
-    ensures { λ r. ⌜ DoneIn (now (pool .exit)) (now (table .exit)) r state (def.put tariff key value (worldIn (now (pool .entry)) (now (table .entry)) state)) ⌝ }
+    ensures { λ r. ⌜ DoneIn (now (pool .exit)) (now (table .exit)) r state
+        (def.put tariff key value (worldIn (now (pool .entry)) (now (table .entry)) state)) ⌝ }
 {
     let path = path_to(pool, table, state, key);
     let leaf = path.leaf;

@@ -74,7 +74,8 @@ module _ (high m : ℕ) (leaf : NodeValue) (got : List Pair) where
   goes-on e l n = rw (e, lt-leb m (length got) l, ne-eqb (leaf .link) noLeaf n) refl
 
 -- After so many links: the pairs found and the leaves gone to so far, and the leaf that the scan has come to.
-pub record Along (first : ℕ) (table : Table) (nodes low high most : ℕ) (keys values : List ℕ) (count : ℕ) (leaves : List ℕ) (visited : ℕ) (leaf : NodeValue) : Type 0 where
+pub record Along (first : ℕ) (table : Table) (nodes low high most : ℕ) (keys values : List ℕ) (count : ℕ) (leaves : List ℕ) (visited : ℕ)
+    (leaf : NodeValue) : Type 0 where
   pub id : ℕ
   pub here : Becomes leaf (table id)
   pub links : visited ≤ nodes
@@ -153,7 +154,8 @@ module _ {first : ℕ} {table : Table} {nodes low high most : ℕ} {keys values 
       (ap (λ (n : ℕ). leavesAfter n table low high (most - count) (a .id)) none)
 
   -- on to the next leaf
-  pub along-next : nodes ≤ nodeLimit mostBlocks → count′ < most → (visited ≡ nodes → ⊥) → stopsIn high (most - count) (nodeOf leaf) given ≡ false → (v : NodeValue) →
+  pub along-next : nodes ≤ nodeLimit mostBlocks → count′ < most → (visited ≡ nodes → ⊥) → stopsIn high (most - count) (nodeOf leaf) given ≡ false →
+      (v : NodeValue) →
       Becomes v (table (leaf .link)) → Along first table nodes low high most keys′ values′ count′ (set leaves visited (leaf .link)) (visited + 1) v
   along-next limit w o e v b =
       let fuel : nodes - visited ≡ suc (nodes - (visited + 1)) = omega (arith, a .links) in

@@ -62,7 +62,8 @@ module _ {first : ℕ} {table : Table} {nodes low high most : ℕ} {keys₀ valu
         let out = taking-end bound (a .here .held .sized) t l in
         along-out bound a keys values count (t .keyRoom) (t .valueRoom) few (out .0) e
 
-    pub gathering-next : nodes ≤ nodeLimit mostBlocks → (leaf .link ≡ noLeaf → ⊥) → (visited ≡ nodes → ⊥) → (v : NodeValue) → Becomes v (table (leaf .link)) →
+    pub gathering-next : nodes ≤ nodeLimit mostBlocks → (leaf .link ≡ noLeaf → ⊥) → (visited ≡ nodes → ⊥) → (v : NodeValue) → Becomes v
+        (table (leaf .link)) →
         Along first table nodes low high most keys values count (set leaves visited (leaf .link)) (visited + 1) v
     gathering-next limit e o v b =
         let out = taking-end bound (a .here .held .sized) t l in

@@ -61,7 +61,8 @@ pub taking-start : (low high most : ℕ) (leaf : NodeValue) (keys values : List 
 taking-start low high most leaf keys values count e f l =
     record { inside = omega arith; keyRoom = e; valueRoom = f; wanted = l; since = omega arith; taken = refl; above = refl }
 
-module _ {low high most : ℕ} {leaf : NodeValue} {keys₀ values₀ : List ℕ} {count₀ : ℕ} {keys values : List ℕ} {count i : ℕ} (bound : most ≤ mostPairs) (s : Sized leaf)
+module _ {low high most : ℕ} {leaf : NodeValue} {keys₀ values₀ : List ℕ} {count₀ : ℕ} {keys values : List ℕ} {count i : ℕ} (bound : most ≤ mostPairs)
+    (s : Sized leaf)
     (t : Taking low high most leaf keys₀ values₀ count₀ keys values count i) where
   abbrev key : ℕ
   key = getD (leaf .keys) i 0

@@ -12,7 +12,8 @@ use command::answers::lay_scan_head;
 // Lays the pairs behind the place of the head, then the head, and says where the next answer goes.
 pub fn lay_scan(buffer: &mut [u8], at: usize, pairs: Pairs) -> usize
     requires { ⌜ (Sized pairs) × (at + (3 + 8 * pairs .count) ≤ length (now buffer)) ⌝ }
-    ensures { λ r. ⌜ (now (buffer .exit) ≡ lay (now (buffer .entry)) at (scanBytes (pairsOf pairs))) × (r ≡ at + length (scanBytes (pairsOf pairs))) ⌝ }
+    ensures { λ r. ⌜ (now (buffer .exit) ≡ lay (now (buffer .entry)) at (scanBytes (pairsOf pairs)))
+        × (r ≡ at + length (scanBytes (pairsOf pairs))) ⌝ }
 {
     let keys = pairs.keys;
     let values = pairs.values;

@@ -27,8 +27,11 @@ pub fn gather<'a>(
     high: u32,
     most: usize,
 ) -> Gathered
-    requires { ⌜ (Readable state (now table)) × (PathTo (tableOf (pagesOf (now pool)) (rowsOf (now table)) state) low path) × (low ≤ high) × (1 ≤ most) × (most ≤ 32) ⌝ }
-    ensures { λ r. ⌜ GatheredAs (tableOf (pagesOf (now (pool .entry))) (rowsOf (now (table .entry))) state) (state .nodes) low high most r ⌝ }
+    requires { ⌜ (Readable state (now table))
+        × (PathTo (tableOf (pagesOf (now pool)) (rowsOf (now table)) state) low path) × (low ≤ high)
+        × (1 ≤ most) × (most ≤ 32) ⌝ }
+    ensures { λ r. ⌜ GatheredAs (tableOf (pagesOf (now (pool .entry))) (rowsOf (now (table .entry))) state)
+        (state .nodes) low high most r ⌝ }
 {
     let mut keys = [0u32; 32];
     let mut values = [0u32; 32];

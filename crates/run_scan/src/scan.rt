@@ -30,8 +30,10 @@ pub fn scan(
     high: u32,
     most: u32,
 ) -> Scanned
-    requires { ⌜ (Good (length (now pool)) (length (now table)) state) × (Ranged tariff) × (state .nodes ≤ nodeLimit mostBlocks) × (1 ≤ most) × (most ≤ 32) ⌝ }
-    ensures { λ r. ⌜ ScannedIn (now (pool .exit)) (now (table .exit)) r tariff low high most (worldIn (now (pool .entry)) (now (table .entry)) state) ⌝ }
+    requires { ⌜ (Good (length (now pool)) (length (now table)) state) × (Ranged tariff)
+        × (state .nodes ≤ nodeLimit mostBlocks) × (1 ≤ most) × (most ≤ 32) ⌝ }
+    ensures { λ r. ⌜ ScannedIn (now (pool .exit)) (now (table .exit)) r tariff low high most
+        (worldIn (now (pool .entry)) (now (table .entry)) state) ⌝ }
 {
     if high < low {
         let pairs = Pairs {

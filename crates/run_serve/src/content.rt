@@ -30,7 +30,8 @@ pub fn edited_content<'a>(
     change: ChangeValue,
 ) -> NodeValue
     requires { ⌜ (state .entries ≤ 27) × (16 * n + 16 ≤ length (now table)) ⌝ }
-    ensures { λ r. ⌜ Becomes r (editedOf (changeOf change) n (worldIn (now (pool .entry)) (now (table .entry)) state)) ⌝ }
+    ensures { λ r. ⌜ Becomes r (editedOf (changeOf change) n
+        (worldIn (now (pool .entry)) (now (table .entry)) state)) ⌝ }
 {
     let d = content(pool, table, state, n);
     let e = redo(d, change);

@@ -31,7 +31,8 @@ pub fn serve_read(
     n: usize,
 ) -> Charged
     requires { ⌜ (Good (length (now pool)) (length (now table)) state) × (Ranged tariff) ⌝ }
-    ensures { λ r. ⌜ ServedIn (now (pool .exit)) (now (table .exit)) r tariff n work.read (worldIn (now (pool .entry)) (now (table .entry)) state) ⌝ }
+    ensures { λ r. ⌜ ServedIn (now (pool .exit)) (now (table .exit)) r tariff n work.read
+        (worldIn (now (pool .entry)) (now (table .entry)) state) ⌝ }
 {
     if n < state.nodes {
         let settled = settle(pool, table, state, tariff, n, Request::Read);
@@ -54,7 +55,8 @@ pub fn serve_edit(
     change: ChangeValue,
 ) -> Charged
     requires { ⌜ (Good (length (now pool)) (length (now table)) state) × (Ranged tariff) ⌝ }
-    ensures { λ r. ⌜ ServedIn (now (pool .exit)) (now (table .exit)) r tariff n (work.edit (changeOf change)) (worldIn (now (pool .entry)) (now (table .entry)) state) ⌝ }
+    ensures { λ r. ⌜ ServedIn (now (pool .exit)) (now (table .exit)) r tariff n (work.edit (changeOf change))
+        (worldIn (now (pool .entry)) (now (table .entry)) state) ⌝ }
 {
     if n < state.nodes {
         let new = edited_content(pool, table, state, n, change);
@@ -80,7 +82,8 @@ pub fn serve_rewrite(
     v: NodeValue,
 ) -> Charged
     requires { ⌜ (Good (length (now pool)) (length (now table)) state) × (Ranged tariff) × (Sized v) ⌝ }
-    ensures { λ r. ⌜ ServedIn (now (pool .exit)) (now (table .exit)) r tariff n (work.rewrite (nodeOf v)) (worldIn (now (pool .entry)) (now (table .entry)) state) ⌝ }
+    ensures { λ r. ⌜ ServedIn (now (pool .exit)) (now (table .exit)) r tariff n (work.rewrite (nodeOf v))
+        (worldIn (now (pool .entry)) (now (table .entry)) state) ⌝ }
 {
     if n < state.nodes {
         let settled = settle(pool, table, state, tariff, n, Request::Rewrite);

@@ -63,7 +63,8 @@ fn rescore(table: &mut [u8], n: usize, score: u32)
 // A switch where the modes differ: the content that the node has, whole in the other mode.
 fn switch(pool: &mut [u8], table: &mut [u8], state: State, n: usize, from: Mode, to: Mode) -> State
     requires { ⌜ (Good (length (now pool)) (length (now table)) state) × (n < state .nodes) ⌝ }
-    ensures { λ r. ⌜ KeptIn (now (pool .exit)) (now (table .exit)) state r (def.switch from to n (worldIn (now (pool .entry)) (now (table .entry)) state)) ⌝ }
+    ensures { λ r. ⌜ KeptIn (now (pool .exit)) (now (table .exit)) state r
+        (def.switch from to n (worldIn (now (pool .entry)) (now (table .entry)) state)) ⌝ }
 {
     if same_mode(from, to) {
         return state;
@@ -82,7 +83,8 @@ pub fn settle(
     request: Request,
 ) -> Settled
     requires { ⌜ (Good (length (now pool)) (length (now table)) state) × (n < state .nodes) × (Ranged tariff) ⌝ }
-    ensures { λ r. ⌜ SettledIn (now (pool .exit)) (now (table .exit)) r tariff request n (worldIn (now (pool .entry)) (now (table .entry)) state) ⌝ }
+    ensures { λ r. ⌜ SettledIn (now (pool .exit)) (now (table .exit)) r tariff request n
+        (worldIn (now (pool .entry)) (now (table .entry)) state) ⌝ }
 {
     let row = flash_rows::read_row(table, n);
     let account = account_in(row);

@@ -24,7 +24,8 @@ pub fn write_whole(
     v: NodeValue,
 ) -> State
     requires { ⌜ (Good (length (now pool)) (length (now table)) state) × (n < state .nodes) × (Sized v) ⌝ }
-    ensures { λ r. ⌜ KeptIn (now (pool .exit)) (now (table .exit)) state r (writeWhole mode n (nodeOf v) (worldIn (now (pool .entry)) (now (table .entry)) state)) ⌝ }
+    ensures { λ r. ⌜ KeptIn (now (pool .exit)) (now (table .exit)) state r
+        (writeWhole mode n (nodeOf v) (worldIn (now (pool .entry)) (now (table .entry)) state)) ⌝ }
 {
     match mode {
         Mode::Log => {
@@ -47,7 +48,9 @@ pub fn write_edit(
     edited: NodeValue,
 ) -> State
     requires { ⌜ (Good (length (now pool)) (length (now table)) state) × (n < state .nodes) × (Sized edited) ⌝ }
-    ensures { λ r. ⌜ KeptIn (now (pool .exit)) (now (table .exit)) state r (writeEdit mode n (changeOf change) (nodeOf edited) (worldIn (now (pool .entry)) (now (table .entry)) state)) ⌝ }
+    ensures { λ r. ⌜ KeptIn (now (pool .exit)) (now (table .exit)) state r
+        (writeEdit mode n (changeOf change) (nodeOf edited)
+        (worldIn (now (pool .entry)) (now (table .entry)) state)) ⌝ }
 {
     match mode {
         Mode::Log => {

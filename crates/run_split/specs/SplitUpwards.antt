@@ -33,7 +33,8 @@ unfoldable pub splitUpwards : Tariff → ℕ → ℕ → List ℕ → World → 
 splitUpwards t key value ids w = upward t key true 0 (splitUpwardsBelow t key (drop 1 ids) (absorbing w 0 (Pair key value)))
 
 -- What the code of it leaves.
-pub record SplitUpwardsAs (poolLength tableLength : ℕ) (pages : List (List ℕ)) (rows : List Row) (r : Charged) (t : Tariff) (key value : ℕ) (ids : List ℕ) (w : World) : Type 0 where
+pub record SplitUpwardsAs (poolLength tableLength : ℕ) (pages : List (List ℕ)) (rows : List Row) (r : Charged) (t : Tariff) (key value : ℕ)
+    (ids : List ℕ) (w : World) : Type 0 where
   pub is : world pages rows (r .state) ≡ splitUpwards t key value ids w .now
   pub charge : r .charge ≡ splitUpwards t key value ids w .charge
   pub growing : Growing poolLength tableLength (r .state)

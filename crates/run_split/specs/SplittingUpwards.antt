@@ -19,7 +19,8 @@ use Rattle.run_split.specs.Absorb as Turn
 use Rattle.run_split.specs.SplitUpwards.{afterIt, upward, splitUpwardsBelow, splitUpwards, SplitUpwardsAs}
 
 -- Before the node at place i - 1 takes what is pending.
-pub record SplittingUpwards (poolLength tableLength : ℕ) (t : Tariff) (key value : ℕ) (ids : List ℕ) (i : ℕ) (start now : World) (paid : ℕ) (pending : Pending) : Type 0 where
+pub record SplittingUpwards (poolLength tableLength : ℕ) (t : Tariff) (key value : ℕ) (ids : List ℕ) (i : ℕ) (start now : World) (paid : ℕ)
+    (pending : Pending) : Type 0 where
   pub growing : Growing poolLength tableLength (now .state)
   pub blocks : now .state .blocks ≡ start .state .blocks
   pub some : 1 ≤ i
@@ -27,7 +28,8 @@ pub record SplittingUpwards (poolLength tableLength : ℕ) (t : Tariff) (key val
   pub is : absorbing now paid pending ≡ splitUpwardsBelow t key (drop i ids) (absorbing start 0 (Pair key value))
   pub most : paid + mostCharge * (2 * i) ≤ mostCharge * 18
 
-pub splitting-start : {P T : ℕ} (t : Tariff) (key value : ℕ) (ids : List ℕ) (w : World) → Growing P T (w .state) → (n : ℕ) → n ≡ length ids → 1 ≤ n → n ≤ 9 →
+pub splitting-start : {P T : ℕ} (t : Tariff) (key value : ℕ) (ids : List ℕ) (w : World) → Growing P T (w .state) → (n : ℕ) → n ≡ length ids → 1 ≤ n →
+    n ≤ 9 →
     SplittingUpwards P T t key value ids n w w 0 (Pair key value)
 unfolding splitUpwardsBelow
 splitting-start t key value ids w g n e some few =

@@ -49,7 +49,8 @@ fn absorb_edit(
     edit: ChangeValue,
 ) -> Absorbed
     requires { ⌜ (Growing (length (now pool)) (length (now table)) state) × (Ranged tariff) ⌝ }
-    ensures { λ r. ⌜ AbsorbedIn (now (pool .exit)) (now (table .exit)) r state (def.absorbEdit tariff id (changeOf edit) (worldIn (now (pool .entry)) (now (table .entry)) state)) ⌝ }
+    ensures { λ r. ⌜ AbsorbedIn (now (pool .exit)) (now (table .exit)) r state
+        (def.absorbEdit tariff id (changeOf edit) (worldIn (now (pool .entry)) (now (table .entry)) state)) ⌝ }
 {
     let served = serve_edit(pool, table, state, tariff, id, edit);
     let s = served.state;
@@ -72,7 +73,9 @@ fn absorb_edits(
     second: ChangeValue,
 ) -> Absorbed
     requires { ⌜ (Growing (length (now pool)) (length (now table)) state) × (Ranged tariff) ⌝ }
-    ensures { λ r. ⌜ AbsorbedIn (now (pool .exit)) (now (table .exit)) r state (def.absorbEdits tariff id (changeOf first) (changeOf second) (worldIn (now (pool .entry)) (now (table .entry)) state)) ⌝ }
+    ensures { λ r. ⌜ AbsorbedIn (now (pool .exit)) (now (table .exit)) r state
+        (def.absorbEdits tariff id (changeOf first) (changeOf second)
+        (worldIn (now (pool .entry)) (now (table .entry)) state)) ⌝ }
 {
     let one = serve_edit(pool, table, state, tariff, id, first);
     let s = one.state;
@@ -98,7 +101,8 @@ fn absorb_pair(
     value: u32,
 ) -> Absorbed
     requires { ⌜ (Growing (length (now pool)) (length (now table)) state) × (Ranged tariff) ⌝ }
-    ensures { λ r. ⌜ AbsorbedIn (now (pool .exit)) (now (table .exit)) r state (def.absorbPair tariff root id key value (worldIn (now (pool .entry)) (now (table .entry)) state)) ⌝ }
+    ensures { λ r. ⌜ AbsorbedIn (now (pool .exit)) (now (table .exit)) r state
+        (def.absorbPair tariff root id key value (worldIn (now (pool .entry)) (now (table .entry)) state)) ⌝ }
 {
     let v = node_at(pool, table, state, id);
     let found = fit(v, key);
@@ -131,7 +135,9 @@ fn absorb_halves(
     right: u32,
 ) -> Absorbed
     requires { ⌜ (Growing (length (now pool)) (length (now table)) state) × (Ranged tariff) ⌝ }
-    ensures { λ r. ⌜ AbsorbedIn (now (pool .exit)) (now (table .exit)) r state (def.absorbHalves tariff root id wanted middle left right (worldIn (now (pool .entry)) (now (table .entry)) state)) ⌝ }
+    ensures { λ r. ⌜ AbsorbedIn (now (pool .exit)) (now (table .exit)) r state
+        (def.absorbHalves tariff root id wanted middle left right
+        (worldIn (now (pool .entry)) (now (table .entry)) state)) ⌝ }
 {
     let v = node_at(pool, table, state, id);
     let child = child_place(v, wanted);
@@ -175,7 +181,8 @@ pub fn absorb(
     pending: Pending,
 ) -> Absorbed
     requires { ⌜ (Growing (length (now pool)) (length (now table)) state) × (Ranged tariff) ⌝ }
-    ensures { λ r. ⌜ AbsorbedIn (now (pool .exit)) (now (table .exit)) r state (def.absorb tariff wanted root id pending (worldIn (now (pool .entry)) (now (table .entry)) state)) ⌝ }
+    ensures { λ r. ⌜ AbsorbedIn (now (pool .exit)) (now (table .exit)) r state
+        (def.absorb tariff wanted root id pending (worldIn (now (pool .entry)) (now (table .entry)) state)) ⌝ }
 {
     match pending {
         Pending::Nothing => {

@@ -29,7 +29,8 @@ use run_serve::request::serve_rewrite;
 // A node more, where the limit leaves an id for it.
 fn grow(pool: &mut [u8], table: &mut [u8], state: State, v: NodeValue) -> State
     requires { ⌜ (Growing (length (now pool)) (length (now table)) state) × (Sized v) ⌝ }
-    ensures { λ r. ⌜ GrewIn (now (pool .exit)) (now (table .exit)) state r (def.grow (nodeOf v) (worldIn (now (pool .entry)) (now (table .entry)) state)) ⌝ }
+    ensures { λ r. ⌜ GrewIn (now (pool .exit)) (now (table .exit)) state r
+        (def.grow (nodeOf v) (worldIn (now (pool .entry)) (now (table .entry)) state)) ⌝ }
 {
     if state.nodes < 10 * (state.blocks - 2) {
         return create(pool, table, state, v);
@@ -57,8 +58,11 @@ fn split_below(
     key: u32,
     pointer: u32,
 ) -> Absorbed
-    requires { ⌜ (Growing (length (now pool)) (length (now table)) state) × (Ranged tariff) × (id < state .nodes) × (Splits v at key) ⌝ }
-    ensures { λ r. ⌜ AbsorbedIn (now (pool .exit)) (now (table .exit)) r state (def.splitBelow tariff id (change (put key pointer) (nodeOf v)) (worldIn (now (pool .entry)) (now (table .entry)) state)) ⌝ }
+    requires { ⌜ (Growing (length (now pool)) (length (now table)) state) × (Ranged tariff)
+        × (id < state .nodes) × (Splits v at key) ⌝ }
+    ensures { λ r. ⌜ AbsorbedIn (now (pool .exit)) (now (table .exit)) r state
+        (def.splitBelow tariff id (change (put key pointer) (nodeOf v))
+        (worldIn (now (pool .entry)) (now (table .entry)) state)) ⌝ }
 {
     let next = state.nodes as u32;
     let left = id as u32;
@@ -92,7 +96,9 @@ fn split_root(
     pointer: u32,
 ) -> Absorbed
     requires { ⌜ (Growing (length (now pool)) (length (now table)) state) × (Ranged tariff) × (Splits v at key) ⌝ }
-    ensures { λ r. ⌜ AbsorbedIn (now (pool .exit)) (now (table .exit)) r state (def.splitRoot tariff (change (put key pointer) (nodeOf v)) (worldIn (now (pool .entry)) (now (table .entry)) state)) ⌝ }
+    ensures { λ r. ⌜ AbsorbedIn (now (pool .exit)) (now (table .exit)) r state
+        (def.splitRoot tariff (change (put key pointer) (nodeOf v))
+        (worldIn (now (pool .entry)) (now (table .entry)) state)) ⌝ }
 {
     let left = state.nodes as u32;
     let right = left + 1;
@@ -125,8 +131,11 @@ pub fn split(
     key: u32,
     pointer: u32,
 ) -> Absorbed
-    requires { ⌜ (Growing (length (now pool)) (length (now table)) state) × (Ranged tariff) × (id < state .nodes) × (Splits v at key) ⌝ }
-    ensures { λ r. ⌜ AbsorbedIn (now (pool .exit)) (now (table .exit)) r state (def.split tariff root id (change (put key pointer) (nodeOf v)) (worldIn (now (pool .entry)) (now (table .entry)) state)) ⌝ }
+    requires { ⌜ (Growing (length (now pool)) (length (now table)) state) × (Ranged tariff)
+        × (id < state .nodes) × (Splits v at key) ⌝ }
+    ensures { λ r. ⌜ AbsorbedIn (now (pool .exit)) (now (table .exit)) r state
+        (def.split tariff root id (change (put key pointer) (nodeOf v))
+        (worldIn (now (pool .entry)) (now (table .entry)) state)) ⌝ }
 {
     if root {
         return split_root(pool, table, state, tariff, v, at, key, pointer);

@@ -23,7 +23,8 @@ pub fn split_upwards(
     value: u32,
 ) -> Charged
     requires { ⌜ (Growing (length (now pool)) (length (now table)) state) × (Ranged tariff) × (1 ≤ n) × (n ≤ 9) ⌝ }
-    ensures { λ r. ⌜ SplitUpwardsIn (now (pool .exit)) (now (table .exit)) r tariff key value (take n ids) (worldIn (now (pool .entry)) (now (table .entry)) state) ⌝ }
+    ensures { λ r. ⌜ SplitUpwardsIn (now (pool .exit)) (now (table .exit)) r tariff key value (take n ids)
+        (worldIn (now (pool .entry)) (now (table .entry)) state) ⌝ }
 {
     let mut s = state;
     let mut charge: u64 = 0;

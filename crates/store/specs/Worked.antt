@@ -129,7 +129,9 @@ pub record Ran : Type 0 where
   pub order : nodeOf foreign 0 ≡ node Leaf ((7, 2) ∷ []) noLeaf
 
 pub ran : Ran
-unfolding prepared preparedRun above greatest pages pieces draftOf nodeOf modeOf carries checkpointSince spot found place enter start written write makeRoom writeGroup writeEdit serve create checkpointPages close collect checkpointOf cellsIn blocksPass pagesPass Pairs.insert redo redoPiece replayFrom replay
+unfolding prepared preparedRun above greatest pages pieces draftOf nodeOf modeOf carries checkpointSince spot found place enter start written write
+    makeRoom writeGroup writeEdit serve create checkpointPages close collect checkpointOf cellsIn blocksPass pagesPass Pairs.insert redo redoPiece
+    replayFrom replay
 ran =
     record {
       three = refl;

@@ -16,7 +16,8 @@ use Rattle.laws.specs.Counts.{bit, count}
 use Rattle.layout.specs.Layout.{firstScores, otherScores, mostBlocks, nodeLimit}
 use Rattle.account.specs.declared.Tariff.{Tariff}
 use Rattle.page.specs.Page.{Score}
-use Rattle.store.specs.Checkpoint.{checkpointPage, scoresFrom, parts, countIfLast, laterCheckpointPages, laterParts, checkpointPages, tariffIn, scoresIn, countIn, scoreIn, countLast, scoreOf, onceBelow, complete}
+use Rattle.store.specs.Checkpoint.{checkpointPage, scoresFrom, parts, countIfLast, laterCheckpointPages, laterParts, checkpointPages, tariffIn}
+use Rattle.store.specs.Checkpoint.{scoresIn, countIn, scoreIn, countLast, scoreOf, onceBelow, complete}
 use Rattle.store_laws.specs.Placing.{mostCheckpointPages}
 
 pub length-laterCheckpointPages : (n : ℕ) (xs : List (List Score)) → length (laterCheckpointPages n xs) ≡ length xs
@@ -119,7 +120,8 @@ onceBelow-true zero scores h = refl
 onceBelow-true (suc n) scores h =
     and-both (eqb (count (scoreOf n) scores) 1) (onceBelow n scores) (eq-eqb _ 1 (h n (omega arith))) (onceBelow-true n scores (λ i l. h i (omega arith)))
 
-countLast-checkpoint-pages : (o : Option Tariff) (n : ℕ) (c : List Score) (xs : List (List Score)) → countLast (checkpointPage o c (countIfLast n xs) ∷ laterCheckpointPages n xs) ≡ true
+countLast-checkpoint-pages : (o : Option Tariff) (n : ℕ) (c : List Score) (xs : List (List Score)) → countLast
+    (checkpointPage o c (countIfLast n xs) ∷ laterCheckpointPages n xs) ≡ true
 countLast-checkpoint-pages o n c [] = refl
 countLast-checkpoint-pages o n c (x ∷ xs) = countLast-checkpoint-pages none n x xs
 

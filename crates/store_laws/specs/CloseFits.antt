@@ -106,7 +106,8 @@ checkpoint-pages-fit t f scores e least few =
     (laterCheckpointPages-fit (length scores) (length scores) few (drop firstScores scores) (every-drop firstScores scores e))
 
 -- The checkpoint pages are written one after another.
-pub writeCheckpointPages-fits : (closing : Page → Bool) (xs : List CheckpointPage) {run : Run} → RunFits run → Every CheckpointPageFits xs → length xs + last run < bound32 →
+pub writeCheckpointPages-fits : (closing : Page → Bool) (xs : List CheckpointPage) {run : Run} → RunFits run → Every CheckpointPageFits xs → length
+    xs + last run < bound32 →
     RunFits (writeCheckpointPages closing xs run)
 writeCheckpointPages-fits closing [] h none b = h
 writeCheckpointPages-fits closing (x ∷ xs) {run} h (both f e) b =

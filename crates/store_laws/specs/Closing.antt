@@ -62,7 +62,8 @@ use Rattle.store_laws.specs.Good.{LeanAt, Good, Keep, keep-refl, keep-tr
 use Rattle.store_laws.specs.Keeps.{Keeps, keep-holds}
 use Rattle.store_laws.specs.Numbers.{last, write-last}
 use Rattle.store_laws.specs.Opening.{none-closing, opened, own-passes, reopen}
-use Rattle.store_laws.specs.CheckpointPageLaws.{checkpoint-pages-few, scoresIn-checkpoint-pages, countIn-checkpoint-pages, tariffIn-checkpoint-pages, length-scoresFrom, scoreIn-scoresFrom, checkpoint-pages-complete}
+use Rattle.store_laws.specs.CheckpointPageLaws.{checkpoint-pages-few, scoresIn-checkpoint-pages, countIn-checkpoint-pages}
+use Rattle.store_laws.specs.CheckpointPageLaws.{tariffIn-checkpoint-pages, length-scoresFrom, scoreIn-scoresFrom, checkpoint-pages-complete}
 
 -- What a checkpoint page, or several, leave of a run.
 pub record Left (B : ℕ) (closing : Page → Bool) (run run′ : Run) : Type 0 where
@@ -165,9 +166,11 @@ abbrev Stand : Blocks → ℕ → List CheckpointPage → Type 0
 Stand bs k [] = Unit {0}
 Stand bs k (x ∷ xs) = (find (suc k) bs ≡ some (page (suc k) (checkpointPageContent x))) × Stand bs (suc k) xs
 
-writeCheckpointPages-stand : {B : ℕ} {closing : Page → Bool} (xs : List CheckpointPage) (run : Run) → Invariant B (run .nodes) closing (run .now) → VersionRules (run .now) →
+writeCheckpointPages-stand : {B : ℕ} {closing : Page → Bool} (xs : List CheckpointPage) (run : Run) → Invariant B (run .nodes) closing (run .now) →
+    VersionRules (run .now) →
     Every LeanAt (run .passed) → tally closing (run .now .blocks) + length xs ≤ mostCheckpointPages →
-    ((s : ℕ) (x : CheckpointPage) → last run < s → closing (page s (checkpointPageContent x)) ≡ true) → Stand (writeCheckpointPages closing xs run .now .blocks) (last run) xs
+    ((s : ℕ) (x : CheckpointPage) → last run < s → closing (page s (checkpointPageContent x)) ≡ true) → Stand
+    (writeCheckpointPages closing xs run .now .blocks) (last run) xs
 writeCheckpointPages-stand [] run v r p l c = tt
 writeCheckpointPages-stand {closing = closing} (x ∷ xs) run v r p l c =
     let a = writeCheckpointPage-left run v x r p (omega arith) in

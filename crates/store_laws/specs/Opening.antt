@@ -25,7 +25,8 @@ use Rattle.store.specs.Store.{Store, view, draftOf, nodeOf, modeOf}
 use Rattle.store.specs.Live.{noCheckpoint}
 use Rattle.store.specs.Run.{Run}
 use Rattle.store.specs.Checkpoint.{collect, checkpointOf, complete}
-use Rattle.store.specs.Reopen.{Cells, blocksIn, newest, blockOf, storeOf, reopened, poolOf, blocksPass, versionPasses, versionsPass, pagePasses, everyPage, pagesPass}
+use Rattle.store.specs.Reopen.{Cells, blocksIn, newest, blockOf, storeOf, reopened, poolOf, blocksPass, versionPasses, versionsPass, pagePasses}
+use Rattle.store.specs.Reopen.{everyPage, pagesPass}
 use Rattle.store_laws.specs.ViewLaws.{gather-nil, Reached, greatestTo-reached}
 use Rattle.store_laws.specs.BlockRules.{BlockRules}
 use Rattle.store_laws.specs.Versions.{versionIs, VersionRules, InLog, OnPage, InMode, mode-is}

@@ -110,7 +110,9 @@ record Splits : Type 0 where
   sound330 : sound limit (puts 330 .count) (puts 330 .table) ≡ true
 
 splits : Splits
-unfolding prepared limit afterPut afterPuts puts sizes putOn putRequests putRefused getAnswer lookup leafFor path fullRun idsNeeded work settle finish insert slot update lowerHalf upperHalf middleKey renamed joinPointers pairsOfNode pairsBelow ascends inOrder visitLeaf visitChildren visitBranch visit leftmost allMarked complete walkFrom sound
+unfolding prepared limit afterPut afterPuts puts sizes putOn putRequests putRefused getAnswer lookup leafFor path fullRun idsNeeded work settle
+    finish insert slot update lowerHalf upperHalf middleKey renamed joinPointers pairsOfNode pairsBelow ascends inOrder visitLeaf visitChildren
+    visitBranch visit leftmost allMarked complete walkFrom sound
 splits =
     record { keys24 = refl; keys25 = refl; rootSplit = refl; leafSplit = refl; branchSplit = refl; nodes330 = refl; pairs330 = refl; sound330 = refl }
 
@@ -166,7 +168,9 @@ record Cases : Type 0 where
   pairs : scanAnswer 4 (between .table) 130 201 32 ≡ run 4 130 ++ run 2 200
 
 cases : Cases
-unfolding between limit putOn scanOn putRequests putRefused getAnswer lookup leafFor path fullRun idsNeeded work settle finish insert slot update lowerHalf upperHalf middleKey renamed deleteRequests range hasAbove stopsIn pairsFrom leavesAfter scanRequests scanAnswer ascends inOrder visitLeaf visitChildren visitBranch visit leftmost allMarked complete walkFrom sound
+unfolding between limit putOn scanOn putRequests putRefused getAnswer lookup leafFor path fullRun idsNeeded work settle finish insert slot update
+    lowerHalf upperHalf middleKey renamed deleteRequests range hasAbove stopsIn pairsFrom leavesAfter scanRequests scanAnswer ascends inOrder
+    visitLeaf visitChildren visitBranch visit leftmost allMarked complete walkFrom sound
 cases =
     record {
       foreign = refl;

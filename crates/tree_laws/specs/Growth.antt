@@ -21,7 +21,11 @@ use Rattle.tree.specs.Table.{Table, slot}
 use Rattle.tree.specs.NodeRequest.{changeAll}
 use Rattle.tree.specs.Put.{renamed, parentEdits}
 use Rattle.tree.specs.Tree.{keysOf, Tree, rootOf, firstLeaf, pairsIn, reached, Holds, Stands}
-use Rattle.tree_laws.specs.Children.{lowAt, highAt, nextAt, before, behind, others, length-keysOf, each-childAt, joinOf-childAt, sumOf-childAt, Leads, slot-leads, before-within, behind-within, swapChild, swapLast, keysOf-swap, idOf-swap, length-swap, joinOf-swap, sumOf-swap, firstOf-swap, splitChild, length-split, joinOf-split, sumOf-split, firstOf-split, within-split, insert-split, insert-split-last, swapLast-inside, swapLast-behind, each-swap, each-split}
+use Rattle.tree_laws.specs.Children.{lowAt, highAt, nextAt, before, behind, others, length-keysOf, each-childAt, joinOf-childAt}
+use Rattle.tree_laws.specs.Children.{sumOf-childAt, Leads, slot-leads, before-within, behind-within, swapChild, swapLast, keysOf-swap}
+use Rattle.tree_laws.specs.Children.{idOf-swap, length-swap, joinOf-swap, sumOf-swap, firstOf-swap, splitChild, length-split, joinOf-split}
+use Rattle.tree_laws.specs.Children.{sumOf-split, firstOf-split, within-split, insert-split, insert-split-last, swapLast-inside}
+use Rattle.tree_laws.specs.Children.{swapLast-behind, each-swap, each-split}
 use Rattle.tree_laws.specs.Ids.{id-same, id-self, used-le, used-below, used-suc}
 use Rattle.tree_laws.specs.Standing.{Once, reached-root, stands-keep, holds-keep, holds-size, stands-within}
 use Rattle.tree_laws.specs.LeafOfKey.{childOf}

@@ -15,7 +15,8 @@ use Rattle.node.specs.declared.Shape.the-variants.{Leaf}
 use Rattle.node.specs.Node.{Node, node, pairsOf}
 use Rattle.tree.specs.Table.{Table, slot, childFor, path, leafFor}
 use Rattle.tree.specs.Tree.{keysOf, Tree, rootOf, firstLeaf, pairsIn, Holds, Stands}
-use Rattle.tree_laws.specs.Children.{childAt, lowAt, highAt, before, behind, pointerAt-keysOf, each-childAt, joinOf-childAt, slot-leads, before-within, behind-within}
+use Rattle.tree_laws.specs.Children.{childAt, lowAt, highAt, before, behind, pointerAt-keysOf, each-childAt, joinOf-childAt, slot-leads}
+use Rattle.tree_laws.specs.Children.{before-within, behind-within}
 use Rattle.tree_laws.specs.Standing.{Once, root-used, once-child, stands-within}
 
 -- The child of a standing branch that a key leads to.

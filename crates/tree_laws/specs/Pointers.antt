@@ -40,7 +40,8 @@ reached-first (suc d) t = go (t .1) (reached-first d)
 
 module _ {X : Type 0} (count : ℕ) (first : X → ℕ) (reach : X → ℕ → ℕ) (S : X → ℕ → ℕ → ℕ → Type 0) (P : ℕ → Type 0)
     (reached-first : (x : X) → 1 ≤ reach x (first x))
-    (child : (x : X) (low high next : ℕ) → ((i : ℕ) → 1 ≤ reach x i → i < count) → Link count next → S x low high next → (i : ℕ) → 1 ≤ reach x i → P i) where
+    (child : (x : X) (low high next : ℕ) → ((i : ℕ) → 1 ≤ reach x i → i < count) → Link count next → S x low high next → (i : ℕ) → 1 ≤ reach x i → P
+    i) where
   firstOf-used : (xs : List (X × ℕ)) (last : X) → ((i : ℕ) → 1 ≤ sumOf (λ c. reach c i) xs last → i < count) → firstOf first xs last < count
   firstOf-used [] last u = u (first last) (reached-first last)
   firstOf-used (x ∷ xs) last u = u (first (x .0)) (omega (arith, reached-first (x .0)))

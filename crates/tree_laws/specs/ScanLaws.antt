@@ -150,7 +150,8 @@ module _ (table : Table) (count : ℕ) (pairs : List Pair) (s : Spells table cou
           (omega (arith, o .used)) (o .chained .chain) ∙
           (sym (range-append-below low high most 0 (o .bound) (o .skipped) (o .left) (o .from) (o .below)) ∙ ap (range low high most) all-pairs))
 
-  scan-leaves : Every (λ i. i < count) (leavesAfter count table low high most start) × (suc (length (leavesAfter count table low high most start)) ≤ scan-onward .chained .length)
+  scan-leaves : Every (λ i. i < count) (leavesAfter count table low high most start) ×
+      (suc (length (leavesAfter count table low high most start)) ≤ scan-onward .chained .length)
   scan-leaves =
       leavesAfter-used table count low high small count (scan-onward .chained .length) most start (scan-onward .left)
       (omega (arith, scan-onward .used)) (scan-onward .chained .chain)

@@ -26,7 +26,8 @@ use Rattle.tree.specs.Tree.{keysOf, Tree, rootOf, firstLeaf, pairsIn, reached, 
 use Rattle.tree_laws.specs.Children.{lowAt, highAt, nextAt, splitChild, length-keysOf, length-split, lowAt-le}
 use Rattle.tree_laws.specs.Standing.{Once, root-used, once-child, holds-keys, holds-most, neat-within}
 use Rattle.tree_laws.specs.LeafOfKey.{childOf, childFor-branch, childFor-leaf, path-leaf, path-step}
-use Rattle.tree_laws.specs.Growth.{Changed, Parted, takes-whole, takes-halves, child-leads, child-stands, self-kept, rises-whole, widened, rises-parted, edits-widen}
+use Rattle.tree_laws.specs.Growth.{Changed, Parted, takes-whole, takes-halves, child-leads, child-stands, self-kept, rises-whole, widened}
+use Rattle.tree_laws.specs.Growth.{rises-parted, edits-widen}
 use Rattle.tree_laws.specs.Requests.{applyAll-append, edits-same, edits-other, fits-append, NeatAll, fits-edits}
 
 pub stands-top-neat : (d : ℕ) (table : Table) (t : Tree d) (low high link : ℕ) → high ≤ bound32 → Stands d table t low high link → Neat (table (rootOf d t))

@@ -21,7 +21,10 @@ pub extern "C" fn wall_book_prepare(
     to_disk: u32,
     to_log: u32,
 ) -> u32
-    ensures { λ r. ⌜ Prepare.Leaves (prepareOf (now (pool .entry)) (tariffOf «log_read» «log_edit» «log_rewrite» «disk_read» «disk_edit» «disk_rewrite» «to_disk» «to_log»)) r (now (pool .exit)) ⌝ }
+    ensures { λ r. ⌜ Prepare.Leaves
+        (prepareOf (now (pool .entry))
+        (tariffOf «log_read» «log_edit» «log_rewrite» «disk_read» «disk_edit» «disk_rewrite» «to_disk»
+        «to_log»)) r (now (pool .exit)) ⌝ }
 {
     let log = Costs {
         read: log_read,
@@ -48,7 +51,9 @@ pub extern "C" fn wall_book_batch(
     length: &mut usize,
     charge: &mut u64,
 ) -> u32
-    ensures { λ r. ⌜ Leaves (batchOf (now (pool .entry)) (now (table .entry)) (now (commands .entry)) (now (answers .entry))) (outcome r (now (length .exit)) (now (charge .exit))) (now (pool .exit)) (now (table .exit)) (now (answers .exit)) ⌝ }
+    ensures { λ r. ⌜ Leaves (batchOf (now (pool .entry)) (now (table .entry)) (now (commands .entry))
+        (now (answers .entry))) (outcome r (now (length .exit)) (now (charge .exit))) (now (pool .exit))
+        (now (table .exit)) (now (answers .exit)) ⌝ }
 {
     let done = batch(pool, table, commands, answers);
     *length = done.length;

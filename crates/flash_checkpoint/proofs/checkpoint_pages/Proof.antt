@@ -27,10 +27,12 @@ page-count-requires c κs = omega arith
 loop-holds : tie.Need-loop-holds Inv-loop μ-loop
 loop-holds c =
     let c3 = c .before .before .before in
-    let a = c3 .args in
-    (between-begin (a .state) (c .page-count .result) (c3 .pre .0) (c3 .pre .2), steps-begin
-    (checkpointPage (a .tariff)) (c .page-count .result)
-    (world (pagesOf (a .pool .now)) (rowsOf (a .table .now)) (a .state)))
+    let a = c3 .args in (
+      between-begin (a .state) (c .page-count .result) (c3 .pre .0) (c3 .pre .2),
+      steps-begin
+          (checkpointPage (a .tariff)) (c .page-count .result)
+          (world (pagesOf (a .pool .now)) (rowsOf (a .table .now)) (a .state)),
+    )
 
 checkpoint-page-requires : tie.Need-checkpoint-page-requires Inv-loop μ-loop
 checkpoint-page-requires c κs =
@@ -39,9 +41,11 @@ checkpoint-page-requires c κs =
     let c4 = c3 .before in
     let c7 = c4 .before .before .before in
     let a = c7 .args in
-    let l = c3 .loop in
-    (l .inv .0 .good, between-closing (a .state) (l .s) (l .k) (c4 .page-count .result) (l .inv .0)
-    (c4 .page-count .ensures) (c7 .pre .1) (c2 .loop-test .taken))
+    let l = c3 .loop in (
+      l .inv .0 .good,
+      between-closing (a .state) (l .s) (l .k) (c4 .page-count .result) (l .inv .0)
+          (c4 .page-count .ensures) (c7 .pre .1) (c2 .loop-test .taken),
+    )
 
 add-k : tie.Need-add-k Inv-loop μ-loop
 add-k c = omega arith
@@ -63,9 +67,9 @@ loop-again c =
     let w = world (pagesOf (l .pool)) (rowsOf (l .table)) (l .s) in
     let made = world (pagesOf (x .last .0)) (rowsOf (x .last .1 .0)) (x .result) in (
       between-more (a .state) (l .s) (l .k) (n .result) made (checkpointPage (a .tariff) (l .k) w) (l .inv .0)
-      (c7 .loop-test .taken) (x .kept .0) (x .kept .1 .0) (x .ensures),
+          (c7 .loop-test .taken) (x .kept .0) (x .kept .1 .0) (x .ensures),
       ap (steps (checkpointPage (a .tariff)) (n .result - (l .k + 1)) (l .k + 1)) (x .ensures .is) ∙ steps-more
-      (checkpointPage (a .tariff)) (n .result) (l .k) w (c7 .loop-test .taken) ∙ l .inv .1,
+          (checkpointPage (a .tariff)) (n .result) (l .k) w (c7 .loop-test .taken) ∙ l .inv .1,
     )
 
 same-length : tie.Need-same-length Inv-loop μ-loop

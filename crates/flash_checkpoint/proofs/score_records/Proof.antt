@@ -48,11 +48,13 @@ loop-less c = omega arith
 
 loop-again : tie.Need-loop-again Inv-loop μ-loop
 loop-again c = let l = c .before .before .before .before .before .loop in
-    let a = c .before .before .before .before .before .before .before .args in
-    (omega (arith, c .before .lay-score .kept .0), rw
-    (c .before .lay-score .ensures, c .before .before .before .read-row .ensures)
-    (records-more (rowsOf (a .table .now)) (a .from) (a .n) (l .records) (l .i) (omega arith) (omega arith) ∙
-    l .inv .1))
+    let a = c .before .before .before .before .before .before .before .args in (
+      omega (arith, c .before .lay-score .kept .0),
+      rw
+          (c .before .lay-score .ensures, c .before .before .before .read-row .ensures)
+          (records-more (rowsOf (a .table .now)) (a .from) (a .n) (l .records) (l .i) (omega arith) (omega arith) ∙
+          l .inv .1),
+    )
 
 returns : tie.Need-returns Inv-loop μ-loop
 returns c = let l = c .before .loop in

@@ -41,9 +41,11 @@ loop-less c = omega arith
 loop-again : tie.Need-loop-again Inv-loop μ-loop
 unfolding liveBit
 loop-again c = let l = c .before .before .before .loop in
-    let a = c .before .before .before .before .args in
-    (omega (arith, c .mark-bit .ensures .1), rw (c .mark-bit .ensures .0)
-    (sum-more (liveBit (a .live .now) (a .block)) 32 (l .k) (l .n) (omega arith) ∙ l .inv .1))
+    let a = c .before .before .before .before .args in (
+      omega (arith, c .mark-bit .ensures .1),
+      rw (c .mark-bit .ensures .0)
+          (sum-more (liveBit (a .live .now) (a .block)) 32 (l .k) (l .n) (omega arith) ∙ l .inv .1),
+    )
 
 returns : tie.Need-returns Inv-loop μ-loop
 unfolding liveIn

@@ -36,9 +36,11 @@ loop-less c = omega arith
 loop-again : tie.Need-loop-again Inv-loop μ-loop
 unfolding markNth
 loop-again c = let l = c .before .before .before .before .loop in
-    let a = c .before .before .before .before .before .before .args in
-    (omega arith, rw (c .mark-row .ensures, c .before .read-row .ensures)
-    (steps-more (markNth (rowsOf (a .table .now))) (a .used) (l .n) (l .live) (omega arith) ∙ l .inv .1))
+    let a = c .before .before .before .before .before .before .args in (
+      omega arith,
+      rw (c .mark-row .ensures, c .before .read-row .ensures)
+          (steps-more (markNth (rowsOf (a .table .now))) (a .used) (l .n) (l .live) (omega arith) ∙ l .inv .1),
+    )
 
 returns : tie.Need-returns Inv-loop μ-loop
 unfolding liveMap

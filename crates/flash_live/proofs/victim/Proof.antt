@@ -32,18 +32,22 @@ loop-less c = omega arith
 
 loop-again : tie.Need-loop-again Inv-loop μ-loop
 loop-again c = let l = c .before .before .loop in
-    let a = c .before .before .before .before .args in
-    (omega (arith, c .weigh .ensures .inside), rw (c .weigh .ensures .is)
-    (steps-more (weigh (pagesOf (a .pool .now)) (a .live .now)) (a .blocks) (l .block) (l .best) (omega arith) ∙
-    l .inv .1))
+    let a = c .before .before .before .before .args in (
+      omega (arith, c .weigh .ensures .inside),
+      rw (c .weigh .ensures .is)
+          (steps-more (weigh (pagesOf (a .pool .now)) (a .live .now)) (a .blocks) (l .block) (l .best) (omega arith) ∙
+          l .inv .1),
+    )
 
 returns : tie.Need-returns Inv-loop μ-loop
 unfolding victim best
 returns c = let l = c .before .loop in
-    let a = c .before .before .before .args in
-    (ap (λ (x : Choice). x .block)
-    (sym (steps-done (weigh (pagesOf (a .pool .now)) (a .live .now)) (a .blocks) (l .block) (l .best) (omega arith))
-    ∙ l .inv .1), omega arith)
+    let a = c .before .before .before .args in (
+      ap (λ (x : Choice). x .block)
+          (sym (steps-done (weigh (pagesOf (a .pool .now)) (a .live .now)) (a .blocks) (l .block) (l .best) (omega arith))
+          ∙ l .inv .1),
+      omega arith,
+    )
 
 pub victim-spec : {M : Type 1} → statement M
 victim-spec =

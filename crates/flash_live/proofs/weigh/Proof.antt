@@ -19,15 +19,27 @@ count-live-requires c κs = search needs
 
 returns-2 : tie.Need-returns-2
 unfolding weigh
-returns-2 c = record { is = rw
-    (sym (c .before .before .before .before .is-blank-block .ensures) ∙ c .before .before .before .if1 .left, sym
-    (c .before .before .count-live .ensures .0), lt-ltb _ _ (c .if2 .taken)) refl; inside = omega arith }
+returns-2 c = record {
+  is = rw (
+    sym (c .before .before .before .before .is-blank-block .ensures) ∙ c .before .before .before .if1 .left,
+    sym
+        (c .before .before .count-live .ensures .0),
+    lt-ltb _ _ (c .if2 .taken),
+  ) refl;
+  inside = omega arith;
+}
 
 returns-3 : tie.Need-returns-3
 unfolding weigh
-returns-3 c = record { is = rw
-    (sym (c .before .before .before .before .is-blank-block .ensures) ∙ c .before .before .before .if1 .left, sym
-    (c .before .before .count-live .ensures .0), le-ltb _ _ (c .if2 .left)) refl; inside = omega arith }
+returns-3 c = record {
+  is = rw (
+    sym (c .before .before .before .before .is-blank-block .ensures) ∙ c .before .before .before .if1 .left,
+    sym
+        (c .before .before .count-live .ensures .0),
+    le-ltb _ _ (c .if2 .left),
+  ) refl;
+  inside = omega arith;
+}
 
 pub weigh-spec : {M : Type 1} → statement M
 weigh-spec =

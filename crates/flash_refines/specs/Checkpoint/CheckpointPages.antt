@@ -101,7 +101,8 @@ module _ (t : Tariff) (score : ℕ → ℕ) (nodes : ℕ) where
       let e : scoresBefore k + otherScores ≡ scoresBefore (k + 1) = omega arith in
       drop-scores score otherScores (scoresBefore k) m ∙ ap (λ (i : ℕ). scoresFrom i (m - otherScores) score) e
 
-  checkpoint-page-first : checkpointPage (some t) (take firstScores scores) (countIfLast nodes (parts nodes otherScores (drop firstScores scores))) ≡ checkpointPageOf t score nodes 0
+  checkpoint-page-first : checkpointPage (some t) (take firstScores scores) (countIfLast nodes (parts nodes otherScores (drop firstScores scores))) ≡
+      checkpointPageOf t score nodes 0
   unfolding checkpointPageOf
   checkpoint-page-first =
       let size : min firstScores nodes ≡ scoresOfPage 0 nodes = omega (arith, size-is 0 nodes) in

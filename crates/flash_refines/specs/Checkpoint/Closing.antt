@@ -34,14 +34,16 @@ use Rattle.flash_allocate.specs.World.{World, world, used, spot}
 use Rattle.flash_allocate.specs.Allocate.{allocate}
 use Rattle.flash_log.specs.Flush.{nextSequence, flush}
 use Rattle.page_checkpoint.specs.Checkpoint.{onlyIf}
-use Rattle.flash_checkpoint.specs.CheckpointPages.{scoresBefore, scoresOfPage, pageCount, checkpointImage, checkpointRow, pageCounted, writeCheckpointPage, checkpointPage, checkpointPages, drain, checkpoint}
+use Rattle.flash_checkpoint.specs.CheckpointPages.{scoresBefore, scoresOfPage, pageCount, checkpointImage, checkpointRow, pageCounted}
+use Rattle.flash_checkpoint.specs.CheckpointPages.{writeCheckpointPage, checkpointPage, checkpointPages, drain, checkpoint}
 use Rattle.flash_refines.specs.Store.Mirror.{rowAt, test, PagesAre, Owners, Mirrors}
 use Rattle.flash_refines.specs.Store.Allocate.{Kept}
 use Rattle.flash_refines.specs.Store.Follows.{Follows, Writable}
 use Rattle.flash_refines.specs.Store.Followed.{few-blocks, invariant-here}
 use Rattle.flash_refines.specs.Write.Flush.{flush-follows}
 use Rattle.flash_refines.specs.Store.Placed.{nextNumber-is, kept-found, step-found}
-use Rattle.flash_refines.specs.Checkpoint.CheckpointPages.{scoresOf-is, checkpoint-page-inside, checkpointPageOf, checkpointPagesFrom, checkpoint-pages-are}
+use Rattle.flash_refines.specs.Checkpoint.CheckpointPages.{scoresOf-is, checkpoint-page-inside, checkpointPageOf, checkpointPagesFrom}
+use Rattle.flash_refines.specs.Checkpoint.CheckpointPages.{checkpoint-pages-are}
 use Rattle.flash_refines.specs.Checkpoint.CheckpointPage.{owner, owner-node, owners-closing, row-kept, checkpoint-page-mirrors}
 
 -- A world stands for a store while a checkpoint is written, `base` being the last number taken before it and k the checkpoint pages written: as many rows
@@ -157,7 +159,8 @@ module _ (score : ℕ → ℕ) (base : ℕ) (t : Tariff) where
 
   -- the checkpoint pages that are left, from checkpoint page k on
   closes-rest : (m k : ℕ) (w : World) (run : Run) → w .state .nodes ≡ run .nodes → Closes score base k w (run .now) → k + m ≡ pageCount (run .nodes) →
-      base + pageCount (run .nodes) < bound32 → Closed (steps (checkpointPage t) m k w) (writeCheckpointPages (checkpointSince base) (checkpointPagesFrom t score (run .nodes) m k) run)
+      base + pageCount (run .nodes) < bound32 → Closed (steps (checkpointPage t) m k w)
+      (writeCheckpointPages (checkpointSince base) (checkpointPagesFrom t score (run .nodes) m k) run)
   unfolding steps write
   closes-rest zero k w run e h s l =
       record { pages = h .mirrors .pages; current = h .mirrors .current; fill = h .mirrors .fill; last = h .mirrors .last; nodes = e }
@@ -214,10 +217,10 @@ module _ {B : ℕ} {score : ℕ → ℕ} {w : World} {run : Run} (b : Writable B
 
   -- ALL SHEETS: the pages left are the images of the store's.
   pub checkpoint-pages-close : 12 + run .now .last < bound32 → (t : Tariff) →
-      Closed (checkpointPages t w) (writeCheckpointPages (checkpointSince (run .now .last)) (Model.checkpoint_pages t (scoresFrom 0 (run .nodes) score)) run)
+      Closed (checkpointPages t w) (writeCheckpointPages (checkpointSince (run .now .last)) (Model.checkpointPages t (scoresFrom 0 (run .nodes) score)) run)
   unfolding checkpointPages
   checkpoint-pages-close low t =
-      subst (λ (n : ℕ). goal n (Model.checkpoint_pages t (scoresFrom 0 (run .nodes) score))) (sym (f .nodes))
+      subst (λ (n : ℕ). goal n (Model.checkpointPages t (scoresFrom 0 (run .nodes) score))) (sym (f .nodes))
       (subst (goal (run .nodes)) (sym (checkpoint-pages-are t score (run .nodes)))
       (closes-rest score (st .last) t (pageCount (run .nodes)) 0 w run (f .nodes) closes-begin (omega arith)
       (omega (arith, b .few, b .good .invariant .nodes))))
@@ -235,7 +238,9 @@ checkpoint-follows {B} {score} {w} {run} b low t f = go (run .now .buffer) refl
     flushed l = record { few = b .few; good = flushRun-good (b .good); fits = flush-fits (b .fits) (omega arith) noCheckpoint (run .nodes) l }
 
     go : (es : List Entry) → run .now .buffer ≡ es →
-        Closed (checkpointPages t (drain w)) (writeCheckpointPages (checkpointSince (drainBy es run .now .last)) (Model.checkpoint_pages t (scoresFrom 0 (run .nodes) score)) (drainBy es run))
+        Closed (checkpointPages t (drain w))
+        (writeCheckpointPages (checkpointSince (drainBy es run .now .last)) (Model.checkpointPages t (scoresFrom 0 (run .nodes) score))
+        (drainBy es run))
     go [] e = rw (eq-eqb (w .state .entries) 0 (f .buffer .number ∙ ap length e)) (checkpoint-pages-close b f (omega arith) t)
     go (x ∷ es) e =
         rw (ne-eqb (w .state .entries) 0 (λ z. omega (arith, f .buffer .number, ap length e)))

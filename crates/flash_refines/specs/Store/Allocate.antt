@@ -65,7 +65,8 @@ pub record Allocated (image : Page → List ℕ) (own : ℕ → Page → Bool) (
   pub stands : Stands image own w′ (place .blocks) (place .current)
   pub kept : Kept w w′
 
-module _ (image : Page → List ℕ) (written : Images image) (own : ℕ → Page → Bool) (keep : Page → Bool) (ps : List (List ℕ)) (rows : List Row) (s : State) (bs : Blocks)
+module _ (image : Page → List ℕ) (written : Images image) (own : ℕ → Page → Bool) (keep : Page → Bool) (ps : List (List ℕ)) (rows : List Row)
+    (s : State) (bs : Blocks)
     (small : s .blocks ≤ 64) (r : Stands image own (world ps rows s) bs (s .current)) (o : Owned keep own (used s) bs) (inside : s .current < s .blocks) where
   blank-is : (i : ℕ) → i < length bs → blankBlock ps i ≡ empty (block bs i)
   blank-is i l = blank-block (r .pages) written i (omega (arith, r .pages .size))
@@ -83,7 +84,9 @@ module _ (image : Page → List ℕ) (written : Images image) (own : ℕ → Pag
   next-is =
       ap (λ (n : ℕ). nextBlank n (s .current) ps) (sym (r .pages .size)) ∙ nextBlank-is ps bs blank-is (s .current) (omega (arith, r .pages .size))
 
-  module _ (blank : BlankAt bs (λ i. Unit {0})) (moves : leb 2 (blanks bs) ≡ false → Moves bs (Model.victim keep bs) (Model.nextBlank bs (s .current)) × (count keep (block bs (Model.victim keep bs)) < 32)) where
+  module _ (blank : BlankAt bs (λ i. Unit {0}))
+      (moves : leb 2 (blanks bs) ≡ false → Moves bs (Model.victim keep bs) (Model.nextBlank bs (s .current)) ×
+      (count keep (block bs (Model.victim keep bs)) < 32)) where
     stays : (n : ℕ) → n < used s → (g : ℕ → ℕ) × (rowAt rows n ≡ mapped g (rowAt rows n))
     stays n l = ((λ x. x), refl)
 
@@ -100,7 +103,8 @@ module _ (image : Page → List ℕ) (written : Images image) (own : ℕ → Pag
         full : 32 ≤ s .fill → ltb (length (block bs (s .current))) 32 ≡ false
         full l = le-ltb (length (block bs (s .current))) 32 (omega (arith, r .fill))
 
-        go : (32 ≤ s .fill) ⊎ (s .fill < 32) → (two : Bool) → leb 2 (blanks bs) ≡ two → goal (ltb (length (block bs (s .current))) 32) (leb 2 (blanks bs)) (allocate (world ps rows s))
+        go : (32 ≤ s .fill) ⊎ (s .fill < 32) → (two : Bool) → leb 2 (blanks bs) ≡ two → goal (ltb (length (block bs (s .current))) 32)
+            (leb 2 (blanks bs)) (allocate (world ps rows s))
         go (inr l) two e =
             rw (lt-ltb (length (block bs (s .current))) 32 (omega (arith, r .fill)))
             (subst (goal true (leb 2 (blanks bs))) (allocate-room (world ps rows s) l)
@@ -109,7 +113,13 @@ module _ (image : Page → List ℕ) (written : Images image) (own : ℕ → Pag
             rw (full l, e)
             (subst (goal false true) (allocate-next ps rows s j (blanks bs) l (sym next-is) (sym blanks-is) (leb-true 2 (blanks bs) e) (inBlock j 0 s) refl)
             (record {
-              stands = record { pages = r .pages; names = r .names; current = refl; fill = rw (nextBlank-blank bs (s .current) (blank .number) (blank .inside) (blank .blank) .1) refl };
+              stands = record {
+                pages = r .pages;
+                names = r .names;
+                current = refl;
+                fill = rw
+                    (nextBlank-blank bs (s .current) (blank .number) (blank .inside) (blank .blank) .1) refl;
+              };
               kept = record { blocks = refl; nodes = refl; checkpoint = refl; last = refl; entries = refl; buffer = refl; table = refl; rows = stays };
             }))
         go (inl l) false e =
@@ -161,9 +171,14 @@ live-cases w closing (suc k) p e = go (carries w k p) refl e (λ h. live-cases w
 owned-live : {own : ℕ → Page → Bool} {closing : Page → Bool} {N C : ℕ} {st : Store} → tally (above (st .last)) (st .blocks) ≡ 0 → Owners own closing N C st →
     Owned (live (view st) closing N) own (N + C) (st .blocks)
 owned-live {own} {closing} {N} {C} {st} within h =
-    record { owner = λ i q p d e. owner p (page-within (st .last) (st .blocks) within i q p d) (live-cases (view st) closing N p e); owned = λ n l p e. owned n l p e (le-or N n) }
+    record {
+      owner = λ i q p d e. owner p (page-within (st .last) (st .blocks) within i q p d) (live-cases (view st) closing N p e);
+      owned = λ n l p
+          e. owned n l p e (le-or N n);
+    }
   where
-    owner : (p : Page) → sequence p ≤ st .last → ((n : ℕ) × (n < N) × (carries (view st) n p ≡ true)) ⊎ (closing p ≡ true) → (n : ℕ) × (n < N + C) × (own n p ≡ true)
+    owner : (p : Page) → sequence p ≤ st .last → ((n : ℕ) × (n < N) × (carries (view st) n p ≡ true)) ⊎ (closing p ≡ true) → (n : ℕ) × (n < N + C) ×
+        (own n p ≡ true)
     owner p w (inl f) = (f .0, omega (arith, f .1), h .nodes (f .0) (f .1) p ∙ f .2)
     owner p w (inr f) = let x = h .checkpointPages p w f in (x .0, x .2, x .3)
 
@@ -199,7 +214,8 @@ module _ {image : Page → List ℕ} {own : ℕ → Page → Bool} {closing : Pa
       record {
         pages = a .stands .pages;
         names = a .stands .names;
-        owners = subst (λ (n : ℕ). Owners own closing n (allocate w .state .checkpoint) st′) (sym (a .kept .nodes)) (subst (λ (n : ℕ). Owners own closing (w .state .nodes) n st′) (sym (a .kept .checkpoint)) owners);
+        owners = subst (λ (n : ℕ). Owners own closing n (allocate w .state .checkpoint) st′) (sym (a .kept .nodes))
+            (subst (λ (n : ℕ). Owners own closing (w .state .nodes) n st′) (sym (a .kept .checkpoint)) owners);
         rows = subst (λ (n : ℕ). RowsSay n (allocate w .rows) st′) (sym (a .kept .nodes)) rows;
         current = a .stands .current;
         fill = a .stands .fill;

@@ -53,7 +53,8 @@ module _ (live : Page → Bool) (ps : List (List ℕ)) (m : List ℕ) where
   best-merge (c ∷ cs) b x h g =
       let e : blankBlock ps b ≡ empty c = ap (blankBlock ps) (sym (add-zero b)) ∙ h 0 (omega arith) in
       let d : liveIn m b ≡ count live c = ap (liveIn m) (sym (add-zero b)) ∙ g 0 (omega arith) in
-      best-merge cs (b + 1) (weigh ps m b x) (λ i l. ap (blankBlock ps) (omega arith) ∙ h (suc i) (suc-le-suc l)) (λ i l. ap (liveIn m) (omega arith) ∙ g (suc i) (suc-le-suc l)) ∙
+      best-merge cs (b + 1) (weigh ps m b x) (λ i l. ap (blankBlock ps) (omega arith) ∙ h (suc i) (suc-le-suc l))
+      (λ i l. ap (liveIn m) (omega arith) ∙ g (suc i) (suc-le-suc l)) ∙
       ap (λ (y : Choice). merge y (fewest live cs) (b + 1)) (ap₂ (λ (t : Bool) (n : ℕ). weighed t n b x) e d) ∙
       merge-more (empty c) (count live c) b x (fewest live cs)
 

@@ -61,7 +61,8 @@ module _ (f : Page → Bool) where
       behind : (r s : ℕ) → From b s p → bit (f x) + s ≡ r → From (x ∷ b) r p
       behind r s h d = record { place = suc (h .place); here = h .here; passes = h .passes; ranked = omega (arith, h .ranked) }
 
-      go : (t : Bool) → f x ≡ t → (r : ℕ) → getElem? (consIf t x (filter f b)) r ≡ some p → ((s : ℕ) → getElem? (filter f b) s ≡ some p → From b s p) → From (x ∷ b) r p
+      go : (t : Bool) → f x ≡ t → (r : ℕ) → getElem? (consIf t x (filter f b)) r ≡ some p →
+          ((s : ℕ) → getElem? (filter f b) s ≡ some p → From b s p) → From (x ∷ b) r p
       go true d zero h rec = record { place = 0; here = h; passes = (let q : x ≡ p = cc in rw (← q) d); ranked = refl }
       go true d (suc r) h rec = behind (suc r) r (rec r h) (omega (arith, ap bit d))
       go false d r h rec = behind r r (rec r h) (omega (arith, ap bit d))
@@ -118,12 +119,14 @@ module _ {B : ℕ} {image : Page → List ℕ} (live : Page → Bool) {ps : List
       omega (arith, length-filter live (take k (block bs i)), count-le-length live (take k (block bs i)), length-take k (block bs i))
 
   -- nothing to copy at place k
-  copied-stays : (k : ℕ) (w : Copying) → filter live (take (k + 1) (block bs i)) ≡ filter live (take k (block bs i)) → rank live (k + 1) (block bs i) ≡ rank live k (block bs i) →
+  copied-stays : (k : ℕ) (w : Copying) → filter live (take (k + 1) (block bs i)) ≡ filter live (take k (block bs i)) → rank live (k + 1)
+      (block bs i) ≡ rank live k (block bs i) →
       ((p : Page) → getElem? (block bs i) k ≡ some p → live p ≡ true → ⊥) → Copied k w → Copied (k + 1) w
   copied-stays k w same count dead h =
       record { pages = rw same (h .pages); fill = h .fill ∙ sym count; long = h .long; places = λ q l p e t. go q l p e t (eq-or q k) }
     where
-      go : (q : ℕ) → q < k + 1 → (p : Page) → getElem? (block bs i) q ≡ some p → live p ≡ true → (q ≡ k) ⊎ (q ≡ k → ⊥) → getD (w .places) q 0 ≡ 32 * j + rank live q (block bs i)
+      go : (q : ℕ) → q < k + 1 → (p : Page) → getElem? (block bs i) q ≡ some p → live p ≡ true → (q ≡ k) ⊎ (q ≡ k → ⊥) → getD (w .places) q 0 ≡ 32 *
+          j + rank live q (block bs i)
       go q l p e t (inl d) = absurd (dead p (rw d at e) t)
       go q l p e t (inr d) = h .places q (below (le-or k q)) p e t
         where
@@ -132,7 +135,8 @@ module _ {B : ℕ} {image : Page → List ℕ} (live : Page → Bool) {ps : List
           below (inr g) = g
 
   -- a live page
-  copied-moves : (k : ℕ) (w : Copying) → k < 32 → (p : Page) → getElem? (block bs i) k ≡ some p → live p ≡ true → Copied k w → Copied (k + 1) (copyPage (32 * i) (32 * j) k w)
+  copied-moves : (k : ℕ) (w : Copying) → k < 32 → (p : Page) → getElem? (block bs i) k ≡ some p → live p ≡ true → Copied k w → Copied (k + 1)
+      (copyPage (32 * i) (32 * j) k w)
   unfolding copyPage copied
   copied-moves k w l p e t h =
       record {

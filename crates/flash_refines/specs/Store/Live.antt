@@ -117,7 +117,8 @@ unfolding markNth
 marked-more rows k m h =
     record {
       long = length-markRow (rowAt rows k) m ∙ h .long;
-      is = λ x l. mark-row (rowAt rows k) m x (h .long) l ∙ ap (λ (t : Bool). names x (rowAt rows k) || t) (h .is x l) ∙ ap (λ (n : ℕ). anyNames n x rows) (sym (add-one k));
+      is = λ x l. mark-row (rowAt rows k) m x (h .long) l ∙ ap (λ (t : Bool). names x (rowAt rows k) || t) (h .is x l) ∙ ap
+          (λ (n : ℕ). anyNames n x rows) (sym (add-one k));
     }
 
 pub map-names : (used : ℕ) (rows : List Row) (x : ℕ) → x < 2048 → marked (getD (liveMap used rows) x 0) ≡ anyNames used x rows
@@ -135,7 +136,8 @@ module _ {B rowsUsed : ℕ} {own : ℕ → Page → Bool} {rows : List Row} {bs 
     (small : B ≤ 64) (named : RowsName B rowsUsed own rows bs) (o : Owned live own rowsUsed bs) where
   -- the map says of a place what the model says of the page there
   pub mark-live : (i q : ℕ) → i < B → q < 32 → marked (getD (liveMap rowsUsed rows) (32 * i + q) 0) ≡ test live (getElem? (block bs i) q)
-  mark-live i q li lq = map-names rowsUsed rows (32 * i + q) (omega arith) ∙ same-test (anyNames rowsUsed (32 * i + q) rows) (test live (getElem? (block bs i) q)) to (from (getElem? (block bs i) q) refl)
+  mark-live i q li lq = map-names rowsUsed rows (32 * i + q) (omega arith) ∙ same-test (anyNames rowsUsed (32 * i + q) rows)
+      (test live (getElem? (block bs i) q)) to (from (getElem? (block bs i) q) refl)
     where
       raise : (n : ℕ) → n < rowsUsed → (c : Option Page) → test (own n) c ≡ true → test live c ≡ true
       raise n l none e = e

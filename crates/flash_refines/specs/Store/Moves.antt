@@ -51,7 +51,8 @@ module _ {B rowsUsed : ℕ} {own : ℕ → Page → Bool} {rows : List Row} {bs 
 
   -- where a page that a row names was, and where it is now
   data Origin (n x : ℕ) : Type 0 where
-    inside : (q : ℕ) (p : Page) → q < 32 → x ≡ 32 * i + q → getElem? (block bs i) q ≡ some p → own n p ≡ true → newPlace (32 * i) places x ≡ 32 * j + rank live q (block bs i) → Origin n x
+    inside : (q : ℕ) (p : Page) → q < 32 → x ≡ 32 * i + q → getElem? (block bs i) q ≡ some p → own n p ≡ true → newPlace (32 * i) places x ≡ 32 * j +
+        rank live q (block bs i) → Origin n x
     outside : (x < 32 * i) ⊎ (32 * i + 32 ≤ x) → newPlace (32 * i) places x ≡ x → Origin n x
 
   origin : (n x : ℕ) → n < rowsUsed → names x (rowAt rows n) ≡ true → Origin n x
@@ -62,7 +63,8 @@ module _ {B rowsUsed : ℕ} {own : ℕ → Page → Bool} {rows : List Row} {bs 
           let z = ap (test (own n)) (sym g) ∙ sym (named .each n i q ln (omega (arith, v .from)) lq) ∙ ap (λ (y : ℕ). names y (rowAt rows n)) (sym d) ∙ e in
           absurd (test-clash false z refl)
       within q lq d (some p) g =
-          let mine : own n p ≡ true = ap (test (own n)) (sym g) ∙ sym (named .each n i q ln (omega (arith, v .from)) lq) ∙ ap (λ (y : ℕ). names y (rowAt rows n)) (sym d) ∙ e in
+          let mine : own n p ≡ true = ap (test (own n)) (sym g) ∙ sym (named .each n i q ln (omega (arith, v .from)) lq) ∙ ap
+          (λ (y : ℕ). names y (rowAt rows n)) (sym d) ∙ e in
           inside q p lq d g mine (ap (newPlace (32 * i) places) d ∙ new-inside (32 * i) places q lq ∙ went q lq p g (o .owned n ln p mine))
 
       go : (32 * i ≤ x) ⊎ (x < 32 * i) → (32 * i + 32 ≤ x) ⊎ (x < 32 * i + 32) → Origin n x
@@ -77,7 +79,8 @@ module _ {B rowsUsed : ℕ} {own : ℕ → Page → Bool} {rows : List Row} {bs 
         let u = names-unmapped (newPlace (32 * i) places) (rowAt rows n) (32 * a + r) e in
         go (u .0) (u .2) (u .1) (origin n (u .0) ln (u .1)) (eq-or a i) (eq-or a j)
       where
-        go : (x : ℕ) → newPlace (32 * i) places x ≡ 32 * a + r → names x (rowAt rows n) ≡ true → Origin n x → (a ≡ i) ⊎ (a ≡ i → ⊥) → (a ≡ j) ⊎ (a ≡ j → ⊥) →
+        go : (x : ℕ) → newPlace (32 * i) places x ≡ 32 * a + r → names x (rowAt rows n) ≡ true → Origin n x → (a ≡ i) ⊎ (a ≡ i → ⊥) → (a ≡ j) ⊎
+            (a ≡ j → ⊥) →
             test (own n) (getElem? (block (Model.compact live bs i j) a) r) ≡ true
         go x d g (inside q p lq xq here mine now) ai (inl aj) =
             let z : r ≡ rank live q (block bs i) = omega (arith, d, now, aj) in
@@ -91,16 +94,19 @@ module _ {B rowsUsed : ℕ} {own : ℕ → Page → Bool} {rows : List Row} {bs 
             apart (inr h) = omega (arith, d, now, ai)
         go x d g (outside side now) (inr ai) (inl aj) =
             let y : 32 * a + r ≡ x = sym d ∙ now in
-            let z = sym (named .each n a r ln la lr ∙ ap (λ (k : List Page). test (own n) (getElem? k r)) (ap (block bs) aj ∙ v .blank)) ∙ ap (λ (k : ℕ). names k (rowAt rows n)) y ∙ g in
+            let z = sym (named .each n a r ln la lr ∙ ap (λ (k : List Page). test (own n) (getElem? k r)) (ap (block bs) aj ∙ v .blank)) ∙ ap
+            (λ (k : ℕ). names k (rowAt rows n)) y ∙ g in
             absurd (test-clash false z refl)
         go x d g (outside side now) (inr ai) (inr aj) =
-            ap (λ (k : List Page). test (own n) (getElem? k r)) (compact-other live v a ai aj) ∙ sym (named .each n a r ln la lr) ∙ ap (λ (k : ℕ). names k (rowAt rows n)) (sym d ∙ now) ∙ g
+            ap (λ (k : List Page). test (own n) (getElem? k r)) (compact-other live v a ai aj) ∙ sym (named .each n a r ln la lr) ∙ ap
+            (λ (k : ℕ). names k (rowAt rows n)) (sym d ∙ now) ∙ g
 
     -- and the row's own pages are named
     own-named : test (own n) (getElem? (block (Model.compact live bs i j) a) r) ≡ true → names (32 * a + r) (mapped (newPlace (32 * i) places) (rowAt rows n)) ≡ true
     own-named e = go (eq-or a i) (eq-or a j)
       where
-        came : (c : Option Page) → getElem? (filter live (block bs i)) r ≡ c → test (own n) c ≡ true → a ≡ j → names (32 * a + r) (mapped (newPlace (32 * i) places) (rowAt rows n)) ≡ true
+        came : (c : Option Page) → getElem? (filter live (block bs i)) r ≡ c → test (own n) c ≡ true → a ≡ j → names (32 * a + r)
+            (mapped (newPlace (32 * i) places) (rowAt rows n)) ≡ true
         came none d t aj = absurd (test-clash false t refl)
         came (some p) d t aj =
             let h = rank-filter live (block bs i) r p d in
@@ -108,7 +114,8 @@ module _ {B rowsUsed : ℕ} {own : ℕ → Page → Bool} {rows : List Row} {bs 
             let was : names (32 * i + h .place) (rowAt rows n) ≡ true = named .each n i (h .place) ln (omega (arith, v .from)) lq ∙ ap (test (own n)) (h .here) ∙ t in
             let now : newPlace (32 * i) places (32 * i + h .place) ≡ 32 * a + r =
             new-inside (32 * i) places (h .place) lq ∙ went (h .place) lq p (h .here) (h .passes) ∙ omega (arith, h .ranked, aj) in
-            ap (λ (k : ℕ). names k (mapped (newPlace (32 * i) places) (rowAt rows n))) (sym now) ∙ names-mapped (newPlace (32 * i) places) (rowAt rows n) (32 * i + h .place) was
+            ap (λ (k : ℕ). names k (mapped (newPlace (32 * i) places) (rowAt rows n))) (sym now) ∙ names-mapped (newPlace (32 * i) places)
+            (rowAt rows n) (32 * i + h .place) was
 
         go : (a ≡ i) ⊎ (a ≡ i → ⊥) → (a ≡ j) ⊎ (a ≡ j → ⊥) → names (32 * a + r) (mapped (newPlace (32 * i) places) (rowAt rows n)) ≡ true
         go (inl ai) aj =
@@ -142,14 +149,16 @@ module _ {B rowsUsed : ℕ} {own : ℕ → Page → Bool} {rows : List Row} {bs 
       }
 
 -- The whole compaction.
-pub record Compaction (B : ℕ) (image : Page → List ℕ) (rowsUsed : ℕ) (own : ℕ → Page → Bool) (rows : List Row) (bs : Blocks) (live : Page → Bool) (i j : ℕ) (c : Compacted) : Type 0 where
+pub record Compaction (B : ℕ) (image : Page → List ℕ) (rowsUsed : ℕ) (own : ℕ → Page → Bool) (rows : List Row) (bs : Blocks) (live : Page → Bool)
+    (i j : ℕ) (c : Compacted) : Type 0 where
   pub pages : PagesAre B image (c .pages) (Model.compact live bs i j)
   pub names : RowsName B rowsUsed own (c .rows) (Model.compact live bs i j)
   pub fill : c .fill ≡ length (block (Model.compact live bs i j) j)
   pub long : length (c .rows) ≡ length rows
   pub same : (n : ℕ) → n < rowsUsed → (g : ℕ → ℕ) × (rowAt (c .rows) n ≡ mapped g (rowAt rows n))
 
-module _ {B rowsUsed : ℕ} {image : Page → List ℕ} {own : ℕ → Page → Bool} {ps : List (List ℕ)} {rows : List Row} {bs : Blocks} (live : Page → Bool) {i j : ℕ} (v : Moves bs i j)
+module _ {B rowsUsed : ℕ} {image : Page → List ℕ} {own : ℕ → Page → Bool} {ps : List (List ℕ)} {rows : List Row} {bs : Blocks} (live : Page → Bool)
+    {i j : ℕ} (v : Moves bs i j)
     (pages : PagesAre B image ps bs) (named : RowsName B rowsUsed own rows bs) (o : Owned live own rowsUsed bs) (m : List ℕ)
     (mark : (q : ℕ) → q < 32 → marked (getD m (32 * i + q) 0) ≡ test live (getElem? (block bs i) q)) where
   pub compactBlock-is : Compaction B image rowsUsed own rows bs live i j (compactBlock i m rowsUsed j ps rows)

@@ -112,7 +112,8 @@ module _ {B : ℕ} {image : Page → List ℕ} {ps : List (List ℕ)} {bs : Bloc
             below (inl g) = absurd (e (omega arith))
             below (inr g) = omega arith
 
-        each : (i q : ℕ) → i < B → q < 32 → (i ≡ j) ⊎ (i ≡ j → ⊥) → getD (erased j ps) (32 * i + q) blankPage ≡ imageAt image (getElem? (block (set bs j []) i) q)
+        each : (i q : ℕ) → i < B → q < 32 → (i ≡ j) ⊎ (i ≡ j → ⊥) → getD (erased j ps) (32 * i + q) blankPage ≡ imageAt image
+            (getElem? (block (set bs j []) i) q)
         each i q li lq (inl e) =
             rw (e, here) (get-setRun-inside blankPage blankPage 32 (32 * j) ps (32 * j + q) (omega arith) (omega arith) (omega (arith, r .long)))
         each i q li lq (inr e) =

@@ -52,7 +52,8 @@ module _ {image : Page → List ℕ} {own : ℕ → Page → Bool} {w : World} {
       added : block (addTo bs here p) here ≡ block bs here ++ (p ∷ [])
       added = getD-set-same bs here (block bs here ++ (p ∷ [])) [] (omega (arith, r .pages .size))
 
-      each : (n i q : ℕ) → n < rowsUsed → i < w .state .blocks → q < 32 → (i ≡ here) ⊎ (i ≡ here → ⊥) → (q ≡ length (block bs here)) ⊎ (q ≡ length (block bs here) → ⊥) →
+      each : (n i q : ℕ) → n < rowsUsed → i < w .state .blocks → q < 32 → (i ≡ here) ⊎ (i ≡ here → ⊥) → (q ≡ length (block bs here)) ⊎
+          (q ≡ length (block bs here) → ⊥) →
           names (32 * i + q) (rowAt rows′ n) ≡ test (own′ n) (getElem? (block (addTo bs here p) i) q)
       each n i q ln li lq (inl e) (inl d) =
           let z : 32 * i + q ≡ spot (w .state) = omega (arith, spot-is) in
@@ -65,7 +66,8 @@ module _ {image : Page → List ℕ} {own : ℕ → Page → Bool} {w : World} {
           sym (ap (λ (b : List Page). test (own′ n) (getElem? b q)) (getD-set-other bs here i (block bs here ++ (p ∷ [])) [] e))
 
   -- ONE PAGE WRITTEN, with the rows that follow it
-  pub stands-written : (p : Page) (own′ : ℕ → Page → Bool) (rows′ : List Row) (s′ : State) → s′ .blocks ≡ w .state .blocks → s′ .current ≡ w .state .current →
+  pub stands-written : (p : Page) (own′ : ℕ → Page → Bool) (rows′ : List Row) (s′ : State) → s′ .blocks ≡ w .state .blocks → s′ .current ≡
+      w .state .current →
       s′ .fill ≡ w .state .fill + 1 → Named p (used s′) own′ rows′ →
       Stands image own′ (world (set (w .pages) (spot (w .state)) (image p)) rows′ s′) (addTo bs here p) here
   stands-written p own′ rows′ s′ eb ec ef h =

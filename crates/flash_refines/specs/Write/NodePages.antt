@@ -211,13 +211,15 @@ module _ {B : ℕ} {score : ℕ → ℕ} {w : World} {run : Run} (b : Writable B
   unfolding Code.nodePage Code.writeNode diskRow advanced nodePage write place
   node-page-follows =
       subst (λ (z : World). Follows score z (writeNode n x run)) (sym (step-found few v (f .mirrors) (Code.writeNode n x)))
-      (subst (λ (k : ℕ). Follows score (world (set (before .pages) at (image (page k (whole n x)))) (diskRow n k at (before .rows)) (advanced k (before .state))) (writeNode n x run))
+      (subst (λ (k : ℕ). Follows score
+      (world (set (before .pages) at (image (page k (whole n x)))) (diskRow n k at (before .rows)) (advanced k (before .state))) (writeNode n x run))
       (sym (ap nextSequence (same .last ∙ f .mirrors .last) ∙ nextNumber-is (st .last) room))
       (record {
         table = length-set (before .rows) n row ∙ same .table ∙ f .table ∙ ap (λ (k : ℕ). 64 * k) (sym (same .blocks));
         nodes = same .nodes ∙ f .nodes;
         noCheckpointPage = same .checkpoint ∙ f .noCheckpointPage;
-        mirrors = subst (λ (k : ℕ). Mirrors image (carries (view (nodePage noCheckpoint k n x st))) noCheckpoint (world (set (before .pages) at (image p)) rows′ s′) (nodePage noCheckpoint k n x st)) (f .nodes) mirrored;
+        mirrors = subst (λ (k : ℕ). Mirrors image (carries (view (nodePage noCheckpoint k n x st))) noCheckpoint
+            (world (set (before .pages) at (image p)) rows′ s′) (nodePage noCheckpoint k n x st)) (f .nodes) mirrored;
         buffer = buffer-same (f .buffer) (same .entries) (same .buffer);
         scores = λ m l. score-of m l (eq-or n m);
       }))

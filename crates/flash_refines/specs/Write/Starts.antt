@@ -50,7 +50,8 @@ use Rattle.flash_refines.specs.Store.Ownership.{none-owned, owned-same, 
 -- Node n, whose row was this, begins anew with these changes; there are N′ nodes then, and their scores are score′.
 module _ {B : ℕ} {score : ℕ → ℕ} {w : World} {run : Run} (b : Writable B run) (f : Follows score w run) (n : ℕ) (c : Change) (cs : List Change)
     (fits : length (c ∷ cs) + length (run .now .buffer) ≤ mostEntries) (row : Row) (N′ : ℕ) (count : N′ ≡ max (run .nodes) (suc n)) (next : n ≤ run .nodes)
-    (limit : N′ ≤ nodeLimit B) (score′ : ℕ → ℕ) (own-score : row .score ≡ score′ n) (other-score : (m : ℕ) → m < N′ → (n ≡ m → ⊥) → score′ m ≡ score m) where
+    (limit : N′ ≤ nodeLimit B) (score′ : ℕ → ℕ) (own-score : row .score ≡ score′ n)
+    (other-score : (m : ℕ) → m < N′ → (n ≡ m → ⊥) → score′ m ≡ score m) where
   abbrev st : Store
   st = run .now
 
@@ -164,7 +165,8 @@ module _ {B : ℕ} {score : ℕ → ℕ} {w : World} {run : Run} (b : Writable B
       })
     where
       joined : BufferIs s′ (after .buffer)
-      joined = appendAll-is n v (c ∷ cs) {s = numbered v (w .state)} {es = st .buffer} (record { size = f .buffer .size; number = f .buffer .number; bytes = f .buffer .bytes }) (omega arith)
+      joined = appendAll-is n v (c ∷ cs) {s = numbered v (w .state)} {es = st .buffer}
+          (record { size = f .buffer .size; number = f .buffer .number; bytes = f .buffer .bytes }) (omega arith)
 
       score-of : (m : ℕ) → m < N′ → (n ≡ m) ⊎ (n ≡ m → ⊥) → rowAt rows′ m .score ≡ score′ m
       score-of m l (inl e) = rw (← e) (ap (λ (r : Row). r .score) row-here ∙ own-score)
@@ -217,8 +219,10 @@ module _ {B : ℕ} {score : ℕ → ℕ} {w : World} {run : Run} (b : Writable B
   unfolding Code.start noRow decode numberAt part
   startNext-follows limit =
       subst (λ (n : ℕ). Follows (update score n 0) (startNext x w) (begin n (changesOf x) run)) (f .nodes)
-      (subst (λ (v : ℕ). Follows score′ (world (w .pages) (startRow n noRow v (w .rows)) (withNodes (n + 1) (startState n v x (w .state)))) (begin n (changesOf x) run)) version
-      (subst (λ (cs : List Change). Follows score′ (world (w .pages) (startRow n noRow v (w .rows)) (withNodes (n + 1) (appendAll n v cs (numbered v (w .state))))) (begin n cs run))
+      (subst (λ (v : ℕ). Follows score′ (world (w .pages) (startRow n noRow v (w .rows)) (withNodes (n + 1) (startState n v x (w .state))))
+      (begin n (changesOf x) run)) version
+      (subst (λ (cs : List Change). Follows score′
+      (world (w .pages) (startRow n noRow v (w .rows)) (withNodes (n + 1) (appendAll n v cs (numbered v (w .state))))) (begin n cs run))
       (sym (s .is))
       (begin-follows b f n (s .first) (s .rest) fits′ noRow (n + 1) (omega (arith, f .nodes)) (omega (arith, f .nodes)) (omega (arith, f .nodes)) score′
       (sym (update-same score n 0 n refl)) (λ m l d. update-other score n 0 m (λ e. d (sym e))))))

@@ -28,9 +28,15 @@ cast-result-3 c = search needs
 
 returns-3 : tie.Need-returns-3
 unfolding markOf
-returns-3 c = let a = c .before .before .before .args in
-    (rw (lt-leb 64 (a .blocks) (c .before .before .if1 .left), lt-leb 32 (a .blocks) (c .before .if2 .left), le-leb
-    16 (a .blocks) (c .if3 .taken)) refl, omega arith)
+returns-3 c = let a = c .before .before .before .args in (
+  rw (
+    lt-leb 64 (a .blocks) (c .before .before .if1 .left),
+    lt-leb 32 (a .blocks) (c .before .if2 .left),
+    le-leb
+        16 (a .blocks) (c .if3 .taken),
+  ) refl,
+  omega arith,
+)
 
 cast-result-4 : tie.Need-cast-result-4
 cast-result-4 c = search needs
@@ -38,9 +44,14 @@ cast-result-4 c = search needs
 returns-4 : tie.Need-returns-4
 unfolding markOf
 returns-4 c = let a = c .before .before .before .before .args in (
-  rw (lt-leb 64 (a .blocks) (c .before .before .before .if1 .left), lt-leb 32 (a .blocks)
-      (c .before .before .if2 .left), lt-leb 16 (a .blocks) (c .before .if3 .left), le-leb 8 (a .blocks)
-      (c .if4 .taken)) refl,
+  rw (
+    lt-leb 64 (a .blocks) (c .before .before .before .if1 .left),
+    lt-leb 32 (a .blocks)
+        (c .before .before .if2 .left),
+    lt-leb 16 (a .blocks) (c .before .if3 .left),
+    le-leb 8 (a .blocks)
+        (c .if4 .taken),
+  ) refl,
   omega arith,
 )
 
@@ -50,9 +61,14 @@ cast-result-5 c = search needs
 returns-5 : tie.Need-returns-5
 unfolding markOf
 returns-5 c = let a = c .before .before .before .before .args in (
-  rw (lt-leb 64 (a .blocks) (c .before .before .before .if1 .left), lt-leb 32 (a .blocks)
-      (c .before .before .if2 .left), lt-leb 16 (a .blocks) (c .before .if3 .left), lt-leb 8 (a .blocks)
-      (c .if4 .left)) refl,
+  rw (
+    lt-leb 64 (a .blocks) (c .before .before .before .if1 .left),
+    lt-leb 32 (a .blocks)
+        (c .before .before .if2 .left),
+    lt-leb 16 (a .blocks) (c .before .if3 .left),
+    lt-leb 8 (a .blocks)
+        (c .if4 .left),
+  ) refl,
   omega arith,
 )
 

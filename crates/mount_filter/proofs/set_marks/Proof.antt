@@ -73,11 +73,11 @@ loop-again c = let a = c .before .before .before .before .before .before .before
       omega arith,
       rw (c .before .before .put .ensures) (
         row-marked (l .table) (a .n) (a .blocks) (l .i) (v .result) (m .result) (r .result) room
-        (c .before .before .before .before .before .before .before .before .before .before .before .loop-test .taken)
-        (v .ensures .is) (m .ensures .0) (m .ensures .1) byte (a .n) (omega arith) ∙ l .inv .1 .0,
+            (c .before .before .before .before .before .before .before .before .before .before .before .loop-test .taken)
+            (v .ensures .is) (m .ensures .0) (m .ensures .1) byte (a .n) (omega arith) ∙ l .inv .1 .0,
         tells-marked (l .table) (a .n) (a .blocks) (l .i) (v .result) (m .result) (r .result) room
-        (c .before .before .before .before .before .before .before .before .before .before .before .loop-test .taken)
-        (v .ensures .is) (m .ensures .0) (m .ensures .1) byte (l .inv .1 .1),
+            (c .before .before .before .before .before .before .before .before .before .before .before .loop-test .taken)
+            (v .ensures .is) (m .ensures .0) (m .ensures .1) byte (l .inv .1 .1),
       ),
     )
 

@@ -34,7 +34,8 @@ clash : {A : Type 0} → true ≡ false → A
 clash e = absurd (let z : _≡_ {A = ℕ} 0 1 = cc in omega arith)
 
 -- one page taken: the first of the set, or one within it
-collect-first : (x : Option Page) (later : List CheckpointPage) (rest : List CheckpointPage → List CheckpointPage) → opens x ≡ true → collectAt x later rest ≡ consCheckpointPage x later
+collect-first : (x : Option Page) (later : List CheckpointPage) (rest : List CheckpointPage → List CheckpointPage) → opens x ≡ true → collectAt x
+    later rest ≡ consCheckpointPage x later
 collect-first none later rest e = clash (sym e)
 collect-first (some (page s (log es))) later rest e = clash (sym e)
 collect-first (some (page s (whole n x))) later rest e = clash (sym e)

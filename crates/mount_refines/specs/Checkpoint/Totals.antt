@@ -127,7 +127,8 @@ fitsIn-is newest counted b = go (eqb (getD b 7 0) 0x12)
     go false = refl
 
 module _ (since : ℕ) (b : List ℕ) (x : Option Page) (h : Header b x) where
-  pub adds : (f : List ℕ → ℕ) (g : CheckpointPage → ℕ) → f b ≡ g (checkpointPageIn x) → fromBytes since f b ≡ choose (ltb (numberIn x) since) 0 (g (checkpointPageIn x))
+  pub adds : (f : List ℕ → ℕ) (g : CheckpointPage → ℕ) → f b ≡ g (checkpointPageIn x) → fromBytes since f b ≡ choose (ltb (numberIn x) since) 0
+      (g (checkpointPageIn x))
   adds f g e = ap₂ (λ (n m : ℕ). choose (ltb n since) 0 m) (h .seq) e
 
   adds-scores : fromBytes since scoresOn b ≡ choose (ltb (numberIn x) since) 0 (scoreCount (checkpointPageIn x))
@@ -212,7 +213,8 @@ module _ {pool : List ℕ} {blocks : ℕ} {c : Cells} (j : Judged pool blocks c)
     abbrev xs : List CheckpointPage
     xs = gathered at s k []
 
-    pub by-checkpoint-pages : (h : CheckpointPage → ℕ) → h noCheckpointPage ≡ 0 → (f : List ℕ → ℕ) → ((q : ℕ) → q < 32 * blocks → f (pageAt ps q) ≡ h (checkpointPageIn (getD c q none))) →
+    pub by-checkpoint-pages : (h : CheckpointPage → ℕ) → h noCheckpointPage ≡ 0 → (f : List ℕ → ℕ) →
+        ((q : ℕ) → q < 32 * blocks → f (pageAt ps q) ≡ h (checkpointPageIn (getD c q none))) →
         sumFrom (λ q. fromBytes (suc s) f (pageAt ps q)) (32 * blocks) 0 ≡ sumCheckpointPages h xs
     by-checkpoint-pages h z f e =
         by-number (λ x. choose (ltb (numberIn x) (suc s)) 0 (h (checkpointPageIn x))) (none-out s (h noCheckpointPage)) (λ q. fromBytes (suc s) f (pageAt ps q))

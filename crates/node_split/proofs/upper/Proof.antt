@@ -18,9 +18,12 @@ values-from-requires c κs =
 
 values-from-requires-2 : tie.Need-values-from-requires-2
 values-from-requires-2 c κs =
-    let entry = c .before .before .before .before in
-    (splits-at (entry .args .v) (entry .args .at) (entry .args .key) (entry .pre), omega
-    (arith, c .before .upper-from .ensures), omega (arith, c .before .upper-from .ensures))
+    let entry = c .before .before .before .before in (
+      splits-at (entry .args .v) (entry .args .at) (entry .args .key) (entry .pre),
+      omega
+          (arith, c .before .upper-from .ensures),
+      omega (arith, c .before .upper-from .ensures),
+    )
 
 returns : tie.Need-returns
 returns c =

@@ -45,7 +45,7 @@ loop-again c =
       omega arith,
       simp length-set (turn .inv .1),
       part-turn (insertAt (a .at) (a .x) (a .a)) (turn .b) (a .from) (turn .i) (c .value-at .result) (omega arith)
-      (omega arith) (c .value-at .ensures) (turn .inv .2),
+          (omega arith) (c .value-at .ensures) (turn .inv .2),
     )
 
 returns : tie.Need-returns Inv-loop μ-loop

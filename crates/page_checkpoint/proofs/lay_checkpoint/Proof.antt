@@ -25,8 +25,14 @@ lay-run-requires c κs =
     let c7 = c3 .before .before .before .before in
     let c11 = c7 .before .before .before .before in
     let a = c11 .args in
-    omega (arith, scores-room (a .first) (a .tariff) (a .n) (c11 .pre .1 .0), c3 .lay-front .ensures .behind,
-    c3 .lay-front .kept .0, c7 .lay-sequence .kept .0, c11 .pre)
+    omega (
+      arith,
+      scores-room (a .first) (a .tariff) (a .n) (c11 .pre .1 .0),
+      c3 .lay-front .ensures .behind,
+      c3 .lay-front .kept .0,
+      c7 .lay-sequence .kept .0,
+      c11 .pre,
+    )
 
 mul-lay-end : tie.Need-mul-lay-end
 mul-lay-end c = search needs
@@ -45,8 +51,15 @@ lay-end-requires c κs =
     let c11 = c7 .before .before .before .before in
     let c15 = c11 .before .before .before .before in
     let a = c15 .args in
-    omega (arith, scores-room (a .first) (a .tariff) (a .n) (c15 .pre .1 .0), c7 .lay-front .ensures .behind,
-    c3 .lay-run .kept .0, c7 .lay-front .kept .0, c11 .lay-sequence .kept .0, c15 .pre)
+    omega (
+      arith,
+      scores-room (a .first) (a .tariff) (a .n) (c15 .pre .1 .0),
+      c7 .lay-front .ensures .behind,
+      c3 .lay-run .kept .0,
+      c7 .lay-front .kept .0,
+      c11 .lay-sequence .kept .0,
+      c15 .pre,
+    )
 
 lay-sums-requires : tie.Need-lay-sums-requires
 lay-sums-requires c κs =
@@ -56,9 +69,18 @@ lay-sums-requires c κs =
     let c15 = c11 .before .before .before .before in
     let c19 = c15 .before .before .before .before in
     let a = c19 .args in
-    omega (arith, scores-room (a .first) (a .tariff) (a .n) (c19 .pre .1 .0), count-room (a .last) (a .count),
-    c3 .lay-end .ensures .behind, c11 .lay-front .ensures .behind, c3 .lay-end .kept .0, c7 .lay-run .kept .0,
-    c11 .lay-front .kept .0, c15 .lay-sequence .kept .0, c19 .pre)
+    omega (
+      arith,
+      scores-room (a .first) (a .tariff) (a .n) (c19 .pre .1 .0),
+      count-room (a .last) (a .count),
+      c3 .lay-end .ensures .behind,
+      c11 .lay-front .ensures .behind,
+      c3 .lay-end .kept .0,
+      c7 .lay-run .kept .0,
+      c11 .lay-front .kept .0,
+      c15 .lay-sequence .kept .0,
+      c19 .pre,
+    )
 
 same-length : tie.Need-same-length
 same-length c = search needs

@@ -38,8 +38,11 @@ returns c = let a = c .before .before .before .before .before .before .before .b
 
 returns-2 : tie.Need-returns-2
 returns-2 c = rw (c .if1 .left)
-    (record { is = sym (lay-nil (c .before .before .args .p .now) (c .before .before .args .at)); behind = sym
-    (add-zero (c .before .before .args .at)) })
+    (record {
+      is = sym (lay-nil (c .before .before .args .p .now) (c .before .before .args .at));
+      behind = sym
+          (add-zero (c .before .before .args .at));
+    })
 
 pub lay-end-spec : {M : Type 1} → statement M
 lay-end-spec =

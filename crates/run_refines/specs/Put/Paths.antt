@@ -42,7 +42,8 @@ unfolding reached
 reached-below d t j ids e = every-weaken (λ i l. omega (arith, sumOf-childAt (λ c. reached d c i) (t .1) (t .2) j)) e
 
 -- A path below a node.
-longer : (table : Table) (id child : ℕ) (ids rest : List ℕ) → ids ≡ child ∷ rest → shapeOf (table id) ≡ Branch → Others id ids → Paths table ids → Paths table (id ∷ ids)
+longer : (table : Table) (id child : ℕ) (ids rest : List ℕ) → ids ≡ child ∷ rest → shapeOf (table id) ≡ Branch → Others id ids → Paths table ids →
+    Paths table (id ∷ ids)
 longer table id child ids rest e b o w = rw e (b, rw e at o, rw e at w)
 
 pub path-head : (fuel : ℕ) (table : Table) (k id : ℕ) → (rest : List ℕ) × (path fuel table k id ≡ id ∷ rest)

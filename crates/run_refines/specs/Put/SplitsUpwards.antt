@@ -209,7 +209,8 @@ module _ {B : ℕ} {t : Tariff} {table : Table} {count : ℕ} {w : World} {all :
           ap (λ (z : List NodeRequest). absorbing (servedAll t z w) (chargedAll t z w) Nothing) is
 
   -- THE WHOLE WAY
-  pub splitUpwards-is : (ids : List ℕ) → Paths table (0 ∷ ids) → Every (λ (i : ℕ). i < count) (0 ∷ ids) → finish table (work table k (put k value) count (0 ∷ ids)) ≡ all →
+  pub splitUpwards-is : (ids : List ℕ) → Paths table (0 ∷ ids) → Every (λ (i : ℕ). i < count) (0 ∷ ids) → finish table
+      (work table k (put k value) count (0 ∷ ids)) ≡ all →
       splitUpwards t k value (0 ∷ ids) w ≡ absorbing (servedAll t all w) (chargedAll t all w) Nothing
   unfolding splitUpwards
   splitUpwards-is ids onPath (both l used) e =

@@ -117,4 +117,6 @@ module _ (t : Tariff) (k : ℕ) (root : Bool) (id : ℕ) (w : World) where
   turned n neat e (Pair key value) edits a = rw a (pair-turned n neat e key value (fitOf key (pairsOf n)) refl)
   turned (node Leaf ps last) neat e (Halves middle left right) edits a = no-leaf (a .1)
   turned (node Branch ps last) neat e (Halves middle left right) edits a =
-      rw (a .0, renamed-is k right ps last) (halves-turned ps last neat e middle left right (fitOf middle (pairsOf (change (renaming k right (node Branch ps last)) (node Branch ps last)))) refl)
+      rw (a .0, renamed-is k right ps last)
+      (halves-turned ps last neat e middle left right
+      (fitOf middle (pairsOf (change (renaming k right (node Branch ps last)) (node Branch ps last)))) refl)

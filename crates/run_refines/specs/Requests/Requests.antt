@@ -71,7 +71,8 @@ module _ (t : Tariff) (s : State) (w : World) (a : Agrees w s) (n : ℕ) (there 
   charge-said : {B : ℕ} → Writable B (s .run) → charge t n work w ≡ serveOf t (bookOf s .account n) (requestOf work) .charge
   charge-said b = charge-follows b a n there t work ∙ ap (λ (z : Account). serveOf t z (requestOf work) .charge) (sym account-said)
 
-  serve-said : {B count : ℕ} {table : Table} {modes : ℕ → Mode} → Writable B (s .run) → Keeps B count table modes (s .run) → Narrow (table n) → Fits work (table n) →
+  serve-said : {B count : ℕ} {table : Table} {modes : ℕ → Mode} → Writable B (s .run) → Keeps B count table modes (s .run) → Narrow (table n) → Fits
+      work (table n) →
       5 + s .run .now .last < bound32 →
       let after = serveOf t (bookOf s .account n) (requestOf work) .account in
       Follows (update (s .score) n (after .score)) (serve t n work w) (Store.serve (after .mode) n work (s .run))

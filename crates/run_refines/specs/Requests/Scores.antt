@@ -32,7 +32,8 @@ module _ (rows : List Row) (n score : ℕ) where
   unfolding rescored
   row-other m d = getD-set-other rows n m (scored score (rowAt rows n)) noRow (λ e. d (sym e))
 
-  row-says : {A : Type 0} (f : Row → A) → ((r : Row) → f (scored score r) ≡ f r) → n < length rows → (m : ℕ) → f (rowAt (rescored n score rows) m) ≡ f (rowAt rows m)
+  row-says : {A : Type 0} (f : Row → A) → ((r : Row) → f (scored score r) ≡ f r) → n < length rows → (m : ℕ) → f (rowAt (rescored n score rows) m) ≡
+      f (rowAt rows m)
   row-says f same l m = go (eq-or n m)
     where
       go : (n ≡ m) ⊎ (n ≡ m → ⊥) → f (rowAt (rescored n score rows) m) ≡ f (rowAt rows m)

@@ -116,7 +116,8 @@ module _ {B : ℕ} {score : ℕ → ℕ} {w : World} {run : Run} (b : Writable B
     own =
         rw (lt-ltb n (w .state .nodes) inside, after-is work fits)
         (subst
-        (λ (a : Account). Follows (update score n (served .account .score)) (write (serveOf t a (requestOf work) .account .mode) n work (workOn work x) (settle t (requestOf work) n w))
+        (λ (a : Account). Follows (update score n (served .account .score))
+        (write (serveOf t a (requestOf work) .account .mode) n work (workOn work x) (settle t (requestOf work) n w))
         (Store.work (served .account .mode) n work x switched))
         (sym account-is)
         (own-follows (left .writable) settled n (omega (arith, left .nodes)) x (omega (arith, left .last)) (served .account .mode) work fits))

@@ -5,7 +5,8 @@ use native.Mathlib.Omega.{arith}
 use Rattle.command.specs.declared.Command.the-variants.{Get, Put, Delete}
 use Rattle.command.specs.declared.Step.the-variants.{Next}
 use Rattle.command.specs.Command.{commandOf, stepAs}
-use Rattle.command.specs.CommandLaws.{payload-get, payload-put, payload-delete, payload-scan, commandOf-get, commandOf-put, commandOf-delete, commandOf-other}
+use Rattle.command.specs.CommandLaws.{payload-get, payload-put, payload-delete, payload-scan, commandOf-get, commandOf-put, commandOf-delete}
+use Rattle.command.specs.CommandLaws.{commandOf-other}
 use Rattle.command.proofs.batch.command_of.Statement.{statement}
 use Rattle.command.proofs.batch.command_of.Tie as tie
 

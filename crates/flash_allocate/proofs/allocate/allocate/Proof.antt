@@ -33,10 +33,10 @@ returns-2 c = let a = c .before .before .before .before .before .before .before 
     let b = c .before .before .count-blank in
     record {
       is = allocate-next (pagesOf (a .pool .now)) (rowsOf (a .table .now)) (a .state) (n .result) (b .result)
-      (c .before .before .before .before .before .before .if1 .left) (n .ensures .0) (b .ensures)
-      (c .before .if2 .taken) (c .in-block .result) (c .in-block .ensures);
+          (c .before .before .before .before .before .before .if1 .left) (n .ensures .0) (b .ensures)
+          (c .before .if2 .taken) (c .in-block .result) (c .in-block .ensures);
       good = good-in-block (c .before .before .before .before .before .before .before .before .before .before .pre)
-      refl refl (n .ensures .1) (omega arith) (c .in-block .ensures);
+          refl refl (n .ensures .1) (omega arith) (c .in-block .ensures);
     }
 
 add-compact : tie.Need-add-compact
@@ -68,8 +68,8 @@ returns-3 c =
     let m = c5 .compact in
     record {
       is = allocate-compact (pagesOf (a .pool .now)) (rowsOf (a .table .now)) (a .state) (n .result) (b .result)
-      (c14 .if1 .left) (n .ensures .0) (b .ensures) (c9 .if2 .left) (pagesOf (m .last .0)) (rowsOf (m .last .1 .0))
-      (m .result) (m .ensures .0) (c .in-block2 .result) (c .in-block2 .ensures);
+          (c14 .if1 .left) (n .ensures .0) (b .ensures) (c9 .if2 .left) (pagesOf (m .last .0)) (rowsOf (m .last .1 .0))
+          (m .result) (m .ensures .0) (c .in-block2 .result) (c .in-block2 .ensures);
       good = good-in-block (c18 .pre) (m .kept .0) (m .kept .1 .0) (n .ensures .1) (m .ensures .1) (c .in-block2 .ensures);
     }
 

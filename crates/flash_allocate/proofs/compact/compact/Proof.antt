@@ -49,10 +49,12 @@ returns c =
     let v = c15 .victim in
     let k = c11 .copy-block in
     let r = c6 .rename-rows in
-    let e = c2 .erase-block in
-    (compact-steps (a .used) (a .blocks) (a .to) (pagesOf (a .pool .now)) (rowsOf (a .table .now)) (m .result)
-    (v .result) (m .ensures) (v .ensures .0) (pagesOf (k .last .0)) (k .last .1 .0) (k .result) (k .ensures .0)
-    (rowsOf (r .last .0)) (r .ensures) (pagesOf (e .last .0)) (e .ensures), k .ensures .1)
+    let e = c2 .erase-block in (
+      compact-steps (a .used) (a .blocks) (a .to) (pagesOf (a .pool .now)) (rowsOf (a .table .now)) (m .result)
+          (v .result) (m .ensures) (v .ensures .0) (pagesOf (k .last .0)) (k .last .1 .0) (k .result) (k .ensures .0)
+          (rowsOf (r .last .0)) (r .ensures) (pagesOf (e .last .0)) (e .ensures),
+      k .ensures .1,
+    )
 
 pub compact-spec : {M : Type 1} → statement M
 compact-spec =

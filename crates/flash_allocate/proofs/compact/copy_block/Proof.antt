@@ -35,9 +35,11 @@ loop-again : tie.Need-loop-again Inv-loop μ-loop
 loop-again c = let l = c .before .before .before .before .before .before .loop in
     let a = c .before .before .before .before .before .before .before .before .args in
     let f = copyLive (a .live .now) (a .base) (a .first) in
-    let o = c .before .before .copy-live in
-    (omega (arith, o .ensures .1), ap (λ (w : Copying). steps f (32 - (l .k + 1)) (l .k + 1) w) (o .ensures .0) ∙
-    (steps-more f 32 (l .k) (copying (pagesOf (l .pool)) (l .places) (l .fill)) (omega arith) ∙ l .inv .1))
+    let o = c .before .before .copy-live in (
+      omega (arith, o .ensures .1),
+      ap (λ (w : Copying). steps f (32 - (l .k + 1)) (l .k + 1) w) (o .ensures .0) ∙
+          (steps-more f 32 (l .k) (copying (pagesOf (l .pool)) (l .places) (l .fill)) (omega arith) ∙ l .inv .1),
+    )
 
 same-length : tie.Need-same-length Inv-loop μ-loop
 same-length c = omega arith
@@ -45,9 +47,11 @@ same-length c = omega arith
 returns : tie.Need-returns Inv-loop μ-loop
 unfolding copyBlock
 returns c = let l = c .before .loop in
-    let a = c .before .before .before .args in
-    (sym (steps-done (copyLive (a .live .now) (a .base) (a .first)) 32 (l .k)
-    (copying (pagesOf (l .pool)) (l .places) (l .fill)) (omega arith)) ∙ l .inv .1, omega arith)
+    let a = c .before .before .before .args in (
+      sym (steps-done (copyLive (a .live .now) (a .base) (a .first)) 32 (l .k)
+          (copying (pagesOf (l .pool)) (l .places) (l .fill)) (omega arith)) ∙ l .inv .1,
+      omega arith,
+    )
 
 pub copy-block-spec : {M : Type 1} → statement M
 copy-block-spec =

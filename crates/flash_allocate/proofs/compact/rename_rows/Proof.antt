@@ -39,11 +39,16 @@ loop-less c = omega arith
 loop-again : tie.Need-loop-again Inv-loop μ-loop
 unfolding renameRow
 loop-again c = let l = c .before .before .before .before .before .before .before .before .loop in
-    let a = c .before .before .before .before .before .before .before .before .before .before .args in
-    (omega arith, rw (c .before .before .write-row .ensures, c .before .before .before .moved .ensures,
-    c .before .before .before .before .before .read-row .ensures)
-    (steps-more (renameRow (a .base) (a .places .now)) (a .used) (l .n) (rowsOf (l .table)) (omega arith) ∙
-    l .inv .1))
+    let a = c .before .before .before .before .before .before .before .before .before .before .args in (
+      omega arith,
+      rw (
+        c .before .before .write-row .ensures,
+        c .before .before .before .moved .ensures,
+        c .before .before .before .before .before .read-row .ensures,
+      )
+          (steps-more (renameRow (a .base) (a .places .now)) (a .used) (l .n) (rowsOf (l .table)) (omega arith) ∙
+          l .inv .1),
+    )
 
 same-length : tie.Need-same-length Inv-loop μ-loop
 same-length c = omega arith

@@ -25,9 +25,11 @@ is-blank-block-requires c κs = omega arith
 returns : tie.Need-returns Inv-loop μ-loop
 unfolding blankFrom
 returns c = let l = c .before .before .before .loop in
-    let a = c .before .before .before .before .before .args in
-    (first-found (blankBlock (pagesOf (a .pool .now))) (a .blocks) (l .block) (omega arith)
-    (sym (c .before .is-blank-block .ensures) ∙ c .if1 .taken) ∙ l .inv .1, omega arith)
+    let a = c .before .before .before .before .before .args in (
+      first-found (blankBlock (pagesOf (a .pool .now))) (a .blocks) (l .block) (omega arith)
+          (sym (c .before .is-blank-block .ensures) ∙ c .if1 .taken) ∙ l .inv .1,
+      omega arith,
+    )
 
 add-block : tie.Need-add-block Inv-loop μ-loop
 add-block c = omega arith
@@ -37,9 +39,11 @@ loop-less c = omega arith
 
 loop-again : tie.Need-loop-again Inv-loop μ-loop
 loop-again c = let l = c .before .before .before .loop in
-    let a = c .before .before .before .before .before .args in
-    (omega arith, first-more (blankBlock (pagesOf (a .pool .now))) (a .blocks) (l .block) (omega arith)
-    (sym (c .before .is-blank-block .ensures) ∙ c .if1 .left) ∙ l .inv .1)
+    let a = c .before .before .before .before .before .args in (
+      omega arith,
+      first-more (blankBlock (pagesOf (a .pool .now))) (a .blocks) (l .block) (omega arith)
+          (sym (c .before .is-blank-block .ensures) ∙ c .if1 .left) ∙ l .inv .1,
+    )
 
 returns-2 : tie.Need-returns-2 Inv-loop μ-loop
 unfolding blankFrom

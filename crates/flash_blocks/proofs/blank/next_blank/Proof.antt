@@ -28,16 +28,20 @@ returns-2 c =
     let c5 = c3 .before .before in
     let a = c5 .args in
     let x = c3 .blank-from in
-    let y = c1 .blank-from2 in
-    (next-lowest (a .blocks) (a .current) (pagesOf (a .pool .now)) (x .result) (x .ensures .0) (y .result)
-    (y .ensures .0) (c2 .if1 .left) (c .if2 .taken), c .if2 .taken)
+    let y = c1 .blank-from2 in (
+      next-lowest (a .blocks) (a .current) (pagesOf (a .pool .now)) (x .result) (x .ensures .0) (y .result)
+          (y .ensures .0) (c2 .if1 .left) (c .if2 .taken),
+      c .if2 .taken,
+    )
 
 returns-3 : tie.Need-returns-3
 returns-3 c = let a = c .before .before .before .before .before .args in
     let x = c .before .before .before .blank-from in
-    let y = c .before .blank-from2 in
-    (next-none (a .blocks) (a .current) (pagesOf (a .pool .now)) (x .result) (x .ensures .0) (y .result)
-    (y .ensures .0) (c .before .before .if1 .left) (c .if2 .left), omega arith)
+    let y = c .before .blank-from2 in (
+      next-none (a .blocks) (a .current) (pagesOf (a .pool .now)) (x .result) (x .ensures .0) (y .result)
+          (y .ensures .0) (c .before .before .if1 .left) (c .if2 .left),
+      omega arith,
+    )
 
 pub next-blank-spec : {M : Type 1} → statement M
 next-blank-spec =

@@ -32,10 +32,12 @@ loop-less c = omega arith
 
 loop-again : tie.Need-loop-again Inv-loop μ-loop
 loop-again c = let l = c .before .before .before .before .before .loop in
-    let a = c .before .before .before .before .before .before .before .args in
-    (omega arith, rw (c .before .before .claim-entry .ensures)
-    (steps-more (claimEntry (a .buffer .now) (a .nodes) (a .page)) (a .n) (l .k) (rowsOf (l .table)) (omega arith) ∙
-    l .inv .1))
+    let a = c .before .before .before .before .before .before .before .args in (
+      omega arith,
+      rw (c .before .before .claim-entry .ensures)
+          (steps-more (claimEntry (a .buffer .now) (a .nodes) (a .page)) (a .n) (l .k) (rowsOf (l .table)) (omega arith) ∙
+          l .inv .1),
+    )
 
 same-length : tie.Need-same-length Inv-loop μ-loop
 same-length c = omega arith

@@ -70,8 +70,8 @@ loop-again c = let a = c .before .before .before .before .before .args in
         (
           length-set (l .pointers) (l .i) (c .read322 .result) ∙ l .inv .1 .1 .0,
           pairs-more (a .p .now) (a .n) (l .keys) (l .pointers) (l .i) (c .before .before .loop-test .taken)
-          (omega arith) (l .inv .1 .0) (l .inv .1 .1 .0) (c .before .read32 .result) (c .read322 .result)
-          (c .before .read32 .ensures .is) (c .read322 .ensures .is) ∙ l .inv .1 .1 .1,
+              (omega arith) (l .inv .1 .0) (l .inv .1 .1 .0) (c .before .read32 .result) (c .read322 .result)
+              (c .before .read32 .ensures .is) (c .read322 .ensures .is) ∙ l .inv .1 .1 .1,
         ),
       ),
     )

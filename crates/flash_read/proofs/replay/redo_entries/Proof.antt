@@ -42,9 +42,11 @@ part-redo-entry-end c = search needs
 
 redo-entry-requires : tie.Need-redo-entry-requires Inv-loop μ-loop
 redo-entry-requires c κs = let a = c .before .before .before .before .args in
-    let l = c .before .before .loop in
-    (rw (length-take-le (15 * l .k + 15 - 15 * l .k) (drop (15 * l .k) (a .buffer .now))
-    (rw (length-drop (15 * l .k) (a .buffer .now)) (omega arith))) (omega arith), l .inv .1 .0)
+    let l = c .before .before .loop in (
+      rw (length-take-le (15 * l .k + 15 - 15 * l .k) (drop (15 * l .k) (a .buffer .now))
+          (rw (length-drop (15 * l .k) (a .buffer .now)) (omega arith))) (omega arith),
+      l .inv .1 .0,
+    )
 
 add-k : tie.Need-add-k Inv-loop μ-loop
 add-k c = search needs

@@ -46,10 +46,12 @@ loop-less c = omega arith
 
 loop-again : tie.Need-loop-again Inv-loop μ-loop
 loop-again c = let a = c .before .before .before .before .before .before .args in
-    let l = c .before .before .before .loop in
-    (omega arith, rw (c .append .ensures)
-    (entries-more (a .id) (a .version) (a .v .keys) (a .v .pointers) (a .v .count) (l .i) (l .s)
-    (c .before .if1 .taken) ∙ l .inv .1))
+    let l = c .before .before .before .loop in (
+      omega arith,
+      rw (c .append .ensures)
+          (entries-more (a .id) (a .version) (a .v .keys) (a .v .pointers) (a .v .count) (l .i) (l .s)
+          (c .before .if1 .taken) ∙ l .inv .1),
+    )
 
 returns : tie.Need-returns Inv-loop μ-loop
 returns c =

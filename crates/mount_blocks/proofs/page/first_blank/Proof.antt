@@ -29,7 +29,7 @@ returns c = let a = c .before .before .before .before .before .args in
     let l = c .before .before .before .loop in
     let ps = pagesOf (a .pool .now) in (
       in-found (blankAt ps) (a .to) (l .page) (c .before .before .loop-test .taken)
-      (blank-at ps (l .page) true (sym (c .before .is-blank .ensures) ∙ c .if1 .taken)) ∙ l .inv .1,
+          (blank-at ps (l .page) true (sym (c .before .is-blank .ensures) ∙ c .if1 .taken)) ∙ l .inv .1,
       omega arith,
       omega arith,
     )
@@ -46,7 +46,7 @@ loop-again c = let a = c .before .before .before .before .before .args in
     let ps = pagesOf (a .pool .now) in (
       omega arith,
       in-more (blankAt ps) (a .to) (l .page) (c .before .before .loop-test .taken)
-      (blank-at ps (l .page) false (sym (c .before .is-blank .ensures) ∙ c .if1 .left)) ∙ l .inv .1,
+          (blank-at ps (l .page) false (sym (c .before .is-blank .ensures) ∙ c .if1 .left)) ∙ l .inv .1,
     )
 
 returns-2 : tie.Need-returns-2 Inv-loop μ-loop

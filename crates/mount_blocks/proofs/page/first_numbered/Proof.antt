@@ -49,7 +49,7 @@ loop-again c = let a = c .before .before .before .before .before .args in
     let ps = pagesOf (a .pool .now) in (
       omega arith,
       in-more (numberedAt ps (a .number)) (a .to) (l .page) (c .before .before .loop-test .taken)
-      (other-at ps (l .page) (a .number) (s .result) (s .ensures) (c .if1 .left)) ∙ l .inv .1,
+          (other-at ps (l .page) (a .number) (s .result) (s .ensures) (c .if1 .left)) ∙ l .inv .1,
     )
 
 returns-2 : tie.Need-returns-2 Inv-loop μ-loop

@@ -36,7 +36,7 @@ loop-again c = let a = c .before .before .before .before .before .args in
     let ps = pagesOf (a .pool .now) in (
       omega arith,
       in-more (writtenAt ps) (a .to) (l .page) (c .before .before .loop-test .taken)
-      (written-at ps (l .page) true (sym (c .before .is-blank .ensures) ∙ c .if1 .taken)) ∙ l .inv .1,
+          (written-at ps (l .page) true (sym (c .before .is-blank .ensures) ∙ c .if1 .taken)) ∙ l .inv .1,
     )
 
 returns : tie.Need-returns Inv-loop μ-loop

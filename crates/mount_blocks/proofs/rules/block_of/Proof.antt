@@ -27,9 +27,11 @@ holds-requires c κs = search needs
 returns : tie.Need-returns Inv-loop μ-loop
 unfolding blockOf
 returns c = let a = c .before .before .before .before .before .args in
-    let l = c .before .before .before .loop in
-    (first-found (holds (pagesOf (a .pool .now)) (a .number)) (a .blocks) (l .block)
-    (c .before .before .loop-test .taken) (sym (c .before .holds .ensures) ∙ c .if1 .taken) ∙ l .inv .1, omega arith)
+    let l = c .before .before .before .loop in (
+      first-found (holds (pagesOf (a .pool .now)) (a .number)) (a .blocks) (l .block)
+          (c .before .before .loop-test .taken) (sym (c .before .holds .ensures) ∙ c .if1 .taken) ∙ l .inv .1,
+      omega arith,
+    )
 
 add-block : tie.Need-add-block Inv-loop μ-loop
 add-block c = search needs
@@ -39,9 +41,11 @@ loop-less c = search needs
 
 loop-again : tie.Need-loop-again Inv-loop μ-loop
 loop-again c = let a = c .before .before .before .before .before .args in
-    let l = c .before .before .before .loop in
-    (omega arith, first-more (holds (pagesOf (a .pool .now)) (a .number)) (a .blocks) (l .block)
-    (c .before .before .loop-test .taken) (sym (c .before .holds .ensures) ∙ c .if1 .left) ∙ l .inv .1)
+    let l = c .before .before .before .loop in (
+      omega arith,
+      first-more (holds (pagesOf (a .pool .now)) (a .number)) (a .blocks) (l .block)
+          (c .before .before .loop-test .taken) (sym (c .before .holds .ensures) ∙ c .if1 .left) ∙ l .inv .1,
+    )
 
 returns-2 : tie.Need-returns-2 Inv-loop μ-loop
 unfolding blockOf

@@ -43,9 +43,11 @@ loop-less c = search needs
 
 loop-again : tie.Need-loop-again Inv-loop μ-loop
 loop-again c = let a = c .before .before .before .before .before .args in
-    let l = c .before .before .before .loop in
-    (omega arith, all-more (blockPasses (pagesOf (a .pool .now)) (a .newest)) (a .blocks) (l .block)
-    (c .before .before .loop-test .taken) (sym (c .before .passes .ensures) ∙ c .if1 .taken) ∙ l .inv .1)
+    let l = c .before .before .before .loop in (
+      omega arith,
+      all-more (blockPasses (pagesOf (a .pool .now)) (a .newest)) (a .blocks) (l .block)
+          (c .before .before .loop-test .taken) (sym (c .before .passes .ensures) ∙ c .if1 .taken) ∙ l .inv .1,
+    )
 
 returns-2 : tie.Need-returns-2 Inv-loop μ-loop
 returns-2 c = let a = c .before .before .before .args in

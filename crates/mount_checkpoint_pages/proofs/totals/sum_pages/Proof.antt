@@ -57,8 +57,15 @@ loop-again c = let l = c .before .before .before .loop in
     let r = c .add-page .ensures in
     let e : c .add-page .result ≡ addPage (a .since) (a .newest) (pageAt ps (l .q)) (l .t) = r .is ∙
     ap (λ (b : List ℕ). addPage (a .since) (a .newest) b (l .t)) (c .before .page-in .ensures) in (
-      (omega arith, record { misfits = omega (arith, f .misfits, r .misfits); scores = omega
-      (arith, f .scores, r .scores); nodes = omega (arith, f .nodes, r .nodes) }),
+      (
+        omega arith,
+        record {
+          misfits = omega (arith, f .misfits, r .misfits);
+          scores = omega
+              (arith, f .scores, r .scores);
+          nodes = omega (arith, f .nodes, r .nodes);
+        },
+      ),
       rw e (steps-more (λ i. addPage (a .since) (a .newest) (pageAt ps i)) (a .pages) (l .q) (l .t) (omega arith) ∙ l .inv .1),
     )
 

@@ -42,7 +42,7 @@ loop-again c = let a = c .before .before .before .before .before .before .before
     let l = c .before .before .before .before .loop in (
       omega arith,
       collect-blank (pagesOf (a .pool .now)) (a .pages) (l .page) (c .before .before .before .loop-test .taken)
-      (row (l .count) 0 (l .table)) (sym (c .before .before .see .ensures) ∙ c .enum-told .given .1) ∙ l .inv .1,
+          (row (l .count) 0 (l .table)) (sym (c .before .before .see .ensures) ∙ c .enum-told .given .1) ∙ l .inv .1,
     )
 
 enum-known-sequence : tie.Need-enum-known-sequence Inv-loop μ-loop

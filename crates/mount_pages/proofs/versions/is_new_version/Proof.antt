@@ -76,9 +76,9 @@ loop-again c = let a = c .before .before .before .before .before .before .before
     let h = has (row (a .n) 0 (a .table .now)) in (
       omega arith,
       apart-more h (a .page .now) (l .at) (l .left) (c .before .before .before .before .before .loop-test .taken)
-      (sym (c .before .before .before .before .read8 .ensures .0) ∙ c .before .before .before .if1 .left)
-      (ap h (sym (c .before .before .read32 .ensures .is)) ∙ sym (c .before .has-marked .ensures) ∙ c .if2 .left) ∙
-      l .inv .1,
+          (sym (c .before .before .before .before .read8 .ensures .0) ∙ c .before .before .before .if1 .left)
+          (ap h (sym (c .before .before .read32 .ensures .is)) ∙ sym (c .before .has-marked .ensures) ∙ c .if2 .left) ∙
+          l .inv .1,
     )
 
 returns-3 : tie.Need-returns-3 Inv-loop μ-loop

@@ -45,10 +45,12 @@ loop-less c = search needs
 
 loop-again : tie.Need-loop-again Inv-loop μ-loop
 loop-again c = let a = c .before .before .before .before .before .before .args in
-    let l = c .before .before .before .loop in
-    (omega arith, all-more (pageApart (row (a .n) 0 (a .table .now)) (pagesOf (a .pool .now))) (a .pages) (l .page)
-    (c .before .before .loop-test .taken) (sym (c .before .page-versions-are-new .ensures) ∙ c .if1 .taken) ∙
-    l .inv .1)
+    let l = c .before .before .before .loop in (
+      omega arith,
+      all-more (pageApart (row (a .n) 0 (a .table .now)) (pagesOf (a .pool .now))) (a .pages) (l .page)
+          (c .before .before .loop-test .taken) (sym (c .before .page-versions-are-new .ensures) ∙ c .if1 .taken) ∙
+          l .inv .1,
+    )
 
 returns-2 : tie.Need-returns-2 Inv-loop μ-loop
 unfolding pagesApart

@@ -36,10 +36,12 @@ loop-less c = omega arith
 
 loop-again : tie.Need-loop-again Inv-loop μ-loop
 loop-again c = let a = c .before .before .before .before .before .before .before .before .args in
-    let l = c .before .before .before .before .before .loop in
-    (omega arith, rw (c .before .before .see-page .ensures)
-    (steps-more (seenPage (a .nodes) (pagesOf (a .pool .now))) (32 * a .blocks) (l .page) (rowsOf (l .table))
-    (omega arith) ∙ l .inv .1))
+    let l = c .before .before .before .before .before .loop in (
+      omega arith,
+      rw (c .before .before .see-page .ensures)
+          (steps-more (seenPage (a .nodes) (pagesOf (a .pool .now))) (32 * a .blocks) (l .page) (rowsOf (l .table))
+          (omega arith) ∙ l .inv .1),
+    )
 
 same-length : tie.Need-same-length Inv-loop μ-loop
 same-length c = omega arith

@@ -40,9 +40,11 @@ loop-less c = omega arith
 loop-again : tie.Need-loop-again Inv-loop μ-loop
 loop-again c = let a = c .before .before .before .before .before .before .args in
     let l = c .before .before .before .before .loop in
-    let x = c .before .before .read-row in
-    (omega arith, three-more (rowsOf (a .table .now)) (l .left) (x .result)
-    (c .before .before .before .loop-test .taken) (x .ensures) (c .if1 .left) ∙ l .inv .1)
+    let x = c .before .before .read-row in (
+      omega arith,
+      three-more (rowsOf (a .table .now)) (l .left) (x .result)
+          (c .before .before .before .loop-test .taken) (x .ensures) (c .if1 .left) ∙ l .inv .1,
+    )
 
 returns-2 : tie.Need-returns-2 Inv-loop μ-loop
 returns-2 c = let a = c .before .before .before .args in

@@ -53,8 +53,8 @@ loop-again c = let a = c .before .before .before .before .before .before .args i
       omega arith,
       (
         none-below (a .table .now) (a .n) (l .low + (l .high - l .low) / 2) (a .v)
-        (c .before .before .read32 .result) (omega arith) (c .before .before .read32 .ensures .is)
-        (c .before .before .before .before .before .before .pre .ascends) (c .if2 .taken),
+            (c .before .before .read32 .result) (omega arith) (c .before .before .read32 .ensures .is)
+            (c .before .before .before .before .before .before .pre .ascends) (c .if2 .taken),
         l .inv .1 .1,
       ),
     )
@@ -71,7 +71,7 @@ loop-again-2 c = let a = c .before .before .before .before .before .before .args
       (
         l .inv .1 .0,
         none-above (a .table .now) (a .n) (l .low + (l .high - l .low) / 2) (a .v) (x .result) (omega arith)
-        (x .ensures .is) (c .before .before .before .before .before .before .pre .ascends) more,
+            (x .ensures .is) (c .before .before .before .before .before .before .pre .ascends) more,
       ),
     )
 

@@ -33,9 +33,11 @@ wide-requires c κs = search needs
 returns : tie.Need-returns Inv-loop μ-loop
 returns c =
     let entry = c .before .before .before .before .before in
-    let turn = c .before .before .before .loop in
-    (place-value (entry .args .v) (entry .pre) (entry .args .wanted) (turn .i) (turn .inv .0)
-    (λ z. omega (arith, c .before .wide .ensures)) (turn .inv .1), omega arith)
+    let turn = c .before .before .before .loop in (
+      place-value (entry .args .v) (entry .pre) (entry .args .wanted) (turn .i) (turn .inv .0)
+          (λ z. omega (arith, c .before .wide .ensures)) (turn .inv .1),
+      omega arith,
+    )
 
 loop-less : tie.Need-loop-less Inv-loop μ-loop
 loop-less c = omega arith

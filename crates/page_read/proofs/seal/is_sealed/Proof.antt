@@ -28,16 +28,23 @@ slice-aggregate-sum-bytes c =
     let c2 = c1 .before in
     let c4 = c2 .before .before in
     sym (length-take-le (c4 .args .end) (c4 .args .page .now)
-    (omega (arith, sums-within (c4 .args .page .now) (c4 .args .end)
-    (ap length (sym (c2 .payload .ensures)) ∙ c1 .if1 .left))))
+    (omega (
+      arith,
+      sums-within (c4 .args .page .now) (c4 .args .end)
+          (ap length (sym (c2 .payload .ensures)) ∙ c1 .if1 .left),
+    )))
 
 sum-bytes-requires : tie.Need-sum-bytes-requires
 sum-bytes-requires c κs =
     let w = sums-within (c .before .before .before .before .args .page .now)
     (c .before .before .before .before .args .end)
     (ap length (sym (c .before .before .payload .ensures)) ∙ c .before .if1 .left) in
-    omega (arith, length-take-le (c .before .before .before .before .args .end)
-    (c .before .before .before .before .args .page .now) (omega arith), c .before .before .before .before .pre)
+    omega (
+      arith,
+      length-take-le (c .before .before .before .before .args .end)
+          (c .before .before .before .before .args .page .now) (omega arith),
+      c .before .before .before .before .pre,
+    )
 
 read16-requires : tie.Need-read16-requires
 read16-requires c κs = search needs

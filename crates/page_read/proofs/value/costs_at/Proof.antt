@@ -24,8 +24,12 @@ read32-requires-4 c κs = search needs
 
 returns : tie.Need-returns
 unfolding costsAt
-returns c = rw (c .before .before .before .read32 .ensures .is, c .before .before .read322 .ensures .is,
-    c .before .read323 .ensures .is, c .read324 .ensures .is)
+returns c = rw (
+  c .before .before .before .read32 .ensures .is,
+  c .before .before .read322 .ensures .is,
+  c .before .read323 .ensures .is,
+  c .read324 .ensures .is,
+)
 
 pub costs-at-spec : {M : Type 1} → statement M
 costs-at-spec =

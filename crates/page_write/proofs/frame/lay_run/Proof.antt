@@ -33,8 +33,11 @@ part-lay-field-start : tie.Need-part-lay-field-start Inv-loop μ-loop
 part-lay-field-start c = omega arith
 
 part-lay-field-end : tie.Need-part-lay-field-end Inv-loop μ-loop
-part-lay-field-end c = omega (arith, mul-split (c .before .before .before .before .before .args .size)
-    (c .before .before .loop .left) (c .before .loop-test .taken))
+part-lay-field-end c = omega (
+  arith,
+  mul-split (c .before .before .before .before .before .args .size)
+      (c .before .before .loop .left) (c .before .loop-test .taken),
+)
 
 lay-field-requires : tie.Need-lay-field-requires Inv-loop μ-loop
 lay-field-requires c κs = let l = c .before .before .before .loop in

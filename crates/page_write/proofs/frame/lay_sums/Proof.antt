@@ -50,8 +50,10 @@ same-length c = search needs
 returns : tie.Need-returns
 returns c = let a = c .before .before .before .before .before .before .before .before .before .before .before .before .before .before .before .args in
     c .before .before .write162 .ensures ∙
-    rw (c .before .before .before .before .before .before .write16 .ensures,
-    c .before .before .before .before .before .before .before .before .before .before .lay-head .ensures)
+    rw (
+      c .before .before .before .before .before .before .write16 .ensures,
+      c .before .before .before .before .before .before .before .before .before .before .lay-head .ensures,
+    )
     (sums-laid (a .p .now) (a .end) (take (a .end) (a .p .now)) _ _ (omega arith)
     (ap (λ (s : Sums). s .a) (c .before .before .before .before .before .before .before .before .before .before .before .before .sum-bytes .ensures))
     (ap (λ (s : Sums). s .b) (c .before .before .before .before .before .before .before .before .before .before .before .before .sum-bytes .ensures)))

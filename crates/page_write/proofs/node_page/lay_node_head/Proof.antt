@@ -45,9 +45,11 @@ same-length c = search needs
 returns : tie.Need-returns
 returns c = let a = c .before .before .before .before .before .before .before .before .before .before .before .before .before .before .before .before .before .before .args in
     c .before .before .write32 .ensures ∙
-    rw (c .before .before .before .before .before .before .lay-byte .ensures,
-    c .before .before .before .before .before .before .before .before .before .before .write16 .ensures,
-    c .before .before .before .before .before .before .before .before .before .before .before .before .before .before .lay-head .ensures)
+    rw (
+      c .before .before .before .before .before .before .lay-byte .ensures,
+      c .before .before .before .before .before .before .before .before .before .before .write16 .ensures,
+      c .before .before .before .before .before .before .before .before .before .before .before .before .before .before .lay-head .ensures,
+    )
     (nodeHead-laid (a .p .now) (a .at) (a .id)
     (c .before .before .before .before .before .before .before .before .before .before .before .before .before .before .before .before .shape-number .result)
     (a .shape) (a .link) (a .n) (omega arith)

@@ -42,9 +42,13 @@ onward k = rw (step-is k) at (commandAt-onward
 loop-holds : tie.Need-loop-holds Inv-loop μ-loop
 loop-holds c =
     let c4 = c .before .before .before .before in
-    let a = c4 .args in
-    (refl, refl, refl, running-start _ _ (a .tariff) (a .batch .now) (a .answers .now)
-    (world (pagesOf (a .pool .now)) (rowsOf (a .table .now)) (a .state)) (c4 .pre .0) (c4 .pre .2))
+    let a = c4 .args in (
+      refl,
+      refl,
+      refl,
+      running-start _ _ (a .tariff) (a .batch .now) (a .answers .now)
+          (world (pagesOf (a .pool .now)) (rowsOf (a .table .now)) (a .state)) (c4 .pre .0) (c4 .pre .2),
+    )
 
 command-at-requires : tie.Need-command-at-requires Inv-loop μ-loop
 command-at-requires c κs = search needs
@@ -58,9 +62,13 @@ run-command-requires c κs =
     let c7 = c3 .before .before .before .before in
     let c8 = c7 .before in
     let c13 = c8 .before .before .before .before .before in
-    let l = c8 .loop in
-    (l .inv .3 .growing, c13 .pre .1, command-range (c13 .args .batch .now) (l .at) _ _ (step-is (c3)), omega
-    (arith, running-room (l .inv .3) (c7 .loop-test .taken) _ _ (step-is (c3)), l .inv .2))
+    let l = c8 .loop in (
+      l .inv .3 .growing,
+      c13 .pre .1,
+      command-range (c13 .args .batch .now) (l .at) _ _ (step-is (c3)),
+      omega
+          (arith, running-room (l .inv .3) (c7 .loop-test .taken) _ _ (step-is (c3)), l .inv .2),
+    )
 
 add-charge : tie.Need-add-charge Inv-loop μ-loop
 add-charge c =
@@ -90,8 +98,8 @@ loop-again c =
       x .kept .1 .0 ∙ l .inv .1,
       x .kept .1 .1 .0 ∙ l .inv .2,
       running-next (l .inv .3) (c16 .loop-test .taken) _ _ (step-is (c12)) (length (x .last .0))
-      (length (x .last .1 .0)) (pagesOf (x .last .0)) (rowsOf (x .last .1 .0)) (x .last .1 .1 .0) (x .result)
-      (further .0) (further .1) (x .ensures),
+          (length (x .last .1 .0)) (pagesOf (x .last .0)) (rowsOf (x .last .1 .0)) (x .last .1 .1 .0) (x .result)
+          (further .0) (further .1) (x .ensures),
     )
 
 enum-told : tie.Need-enum-told Inv-loop μ-loop

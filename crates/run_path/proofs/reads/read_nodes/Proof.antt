@@ -20,9 +20,13 @@ abbrev μ-loop : tie.MeasureT-loop
 μ-loop pool₀ table₀ tariff ids s₀ charge₀ i₀ pool table s charge i = length ids - i
 
 loop-holds : tie.Need-loop-holds Inv-loop μ-loop
-loop-holds c = let a = c .before .before .before .args in
-    (omega arith, refl, refl, reading-start _ _ (a .tariff) (a .ids .now)
-    (world (pagesOf (a .pool .now)) (rowsOf (a .table .now)) (a .state)) (c .before .before .before .pre .0))
+loop-holds c = let a = c .before .before .before .args in (
+  omega arith,
+  refl,
+  refl,
+  reading-start _ _ (a .tariff) (a .ids .now)
+      (world (pagesOf (a .pool .now)) (rowsOf (a .table .now)) (a .state)) (c .before .before .before .pre .0),
+)
 
 mul-serve-read : tie.Need-mul-serve-read Inv-loop μ-loop
 mul-serve-read c = search needs
@@ -59,7 +63,7 @@ loop-again c = let a = c .before .before .before .before .before .before .before
       x .kept .0 ∙ l .inv .1,
       x .kept .1 .0 ∙ l .inv .2,
       reading-next (l .inv .3) (length (x .last .0)) (length (x .last .1 .0)) (pagesOf (x .last .0))
-      (rowsOf (x .last .1 .0)) (x .result) (getD (a .ids .now) (l .i) 0) inside refl (x .ensures),
+          (rowsOf (x .last .1 .0)) (x .result) (getD (a .ids .now) (l .i) 0) inside refl (x .ensures),
     )
 
 same-length : tie.Need-same-length Inv-loop μ-loop

@@ -26,10 +26,12 @@ sub-i c = omega (arith, c .before .before .pre .1)
 
 loop-holds : tie.Need-loop-holds Inv-loop μ-loop
 loop-holds c =
-    let a = c .before .before .args in
-    (search needs, leaf-counted (tableOf (pagesOf (a .pool .now)) (rowsOf (a .table .now)) (a .state)) (a .t4) (a .n)
-    (few (a .t4) (a .n) (search needs) (c .before .before .pre .2)) (c .before .before .pre .1)
-    (c .before .before .pre .3))
+    let a = c .before .before .args in (
+      search needs,
+      leaf-counted (tableOf (pagesOf (a .pool .now)) (rowsOf (a .table .now)) (a .state)) (a .t4) (a .n)
+          (few (a .t4) (a .n) (search needs) (c .before .before .pre .2)) (c .before .before .pre .1)
+          (c .before .before .pre .3),
+    )
 
 sub-above : tie.Need-sub-above Inv-loop μ-loop
 sub-above c = omega arith
@@ -65,8 +67,12 @@ returns c =
     let l = c4 .loop in
     let nodes = tableOf (pagesOf (a .pool .now)) (rowsOf (a .table .now)) (a .state) in (
       gap-counted nodes (a .t4) (a .n) (few (a .t4) (a .n) (l .inv .0) (c7 .pre .2)) (l .i) (l .inv .1)
-      (c3 .loop-test .taken) (omega (arith, size-read nodes (getD (a .t4) (l .i - 1) 0) (c2 .node-at .result)
-      (c2 .node-at .ensures), c .if1 .taken)),
+          (c3 .loop-test .taken) (omega (
+            arith,
+            size-read nodes (getD (a .t4) (l .i - 1) 0) (c2 .node-at .result)
+                (c2 .node-at .ensures),
+            c .if1 .taken,
+          )),
       omega (arith, c7 .pre .2),
     )
 
@@ -81,10 +87,16 @@ loop-again c =
     let c7 = c4 .before .before .before in
     let a = c7 .args in
     let l = c4 .loop in
-    let nodes = tableOf (pagesOf (a .pool .now)) (rowsOf (a .table .now)) (a .state) in
-    (l .inv .0, above-counted nodes (a .t4) (a .n) (few (a .t4) (a .n) (l .inv .0) (c7 .pre .2)) (l .i) (l .inv .1)
-    (c3 .loop-test .taken) (omega (arith, size-read nodes (getD (a .t4) (l .i - 1) 0) (c2 .node-at .result)
-    (c2 .node-at .ensures), c .if1 .left)))
+    let nodes = tableOf (pagesOf (a .pool .now)) (rowsOf (a .table .now)) (a .state) in (
+      l .inv .0,
+      above-counted nodes (a .t4) (a .n) (few (a .t4) (a .n) (l .inv .0) (c7 .pre .2)) (l .i) (l .inv .1)
+          (c3 .loop-test .taken) (omega (
+            arith,
+            size-read nodes (getD (a .t4) (l .i - 1) 0) (c2 .node-at .result)
+                (c2 .node-at .ensures),
+            c .if1 .left,
+          )),
+    )
 
 add-result : tie.Need-add-result Inv-loop μ-loop
 add-result c = omega (arith, c .before .before .before .before .pre .2)
@@ -94,9 +106,11 @@ returns-2 c =
     let c1 = c .before in
     let c4 = c1 .before .before .before in
     let a = c4 .args in
-    let l = c1 .loop in
-    (all-counted (tableOf (pagesOf (a .pool .now)) (rowsOf (a .table .now)) (a .state)) (a .t4) (a .n)
-    (few (a .t4) (a .n) (l .inv .0) (c4 .pre .2)) (l .i) (l .inv .1) (c .loop-test .left), omega (arith, c4 .pre .2))
+    let l = c1 .loop in (
+      all-counted (tableOf (pagesOf (a .pool .now)) (rowsOf (a .table .now)) (a .state)) (a .t4) (a .n)
+          (few (a .t4) (a .n) (l .inv .0) (c4 .pre .2)) (l .i) (l .inv .1) (c .loop-test .left),
+      omega (arith, c4 .pre .2),
+    )
 
 pub ids-needed-spec : {M : Type 1} → statement M
 ids-needed-spec = tie.close (tie.spec Inv-loop μ-loop sub-i loop-holds sub-above mul-node-at array-read-node-at

@@ -59,10 +59,15 @@ put-splitting-requires c κs =
     let c12 = c7 .before .before .before .before .before in
     let a = c12 .args in
     let p = c7 .path-to in
-    let f = c4 .fit in
-    (c12 .pre .0, c12 .pre .1, p .ensures .some, p .ensures .few, leaf-full (a .tariff) (a .key) (a .value)
-    (world (pagesOf (a .pool .now)) (rowsOf (a .table .now)) (a .state)) (p .result) (p .ensures) (f .result)
-    (f .ensures) _ (c2 .enum-told2 .given .1))
+    let f = c4 .fit in (
+      c12 .pre .0,
+      c12 .pre .1,
+      p .ensures .some,
+      p .ensures .few,
+      leaf-full (a .tariff) (a .key) (a .value)
+          (world (pagesOf (a .pool .now)) (rowsOf (a .table .now)) (a .state)) (p .result) (p .ensures) (f .result)
+          (f .ensures) _ (c2 .enum-told2 .given .1),
+    )
 
 same-length-3 : tie.Need-same-length-3
 same-length-3 c = search needs

@@ -69,10 +69,13 @@ loop-again c =
     let c10 = c6 .before .before .before .before in
     let entry = c10 in
     let l = c6 .loop in
-    let x = c2 .lay-pair in
-    (omega (arith, c4 .if1 .taken), x .kept .0 ∙ l .inv .1, laid-more (entry .args .buffer .now) (entry .args .at)
-    (entry .args .pairs) (entry .pre .0) (entry .pre .1) (l .buffer) _ (l .i) (l .inv .2) (c4 .if1 .taken)
-    (x .ensures))
+    let x = c2 .lay-pair in (
+      omega (arith, c4 .if1 .taken),
+      x .kept .0 ∙ l .inv .1,
+      laid-more (entry .args .buffer .now) (entry .args .at)
+          (entry .args .pairs) (entry .pre .0) (entry .pre .1) (l .buffer) _ (l .i) (l .inv .2) (c4 .if1 .taken)
+          (x .ensures),
+    )
 
 lay-scan-head-requires : tie.Need-lay-scan-head-requires Inv-loop μ-loop
 lay-scan-head-requires c κs =

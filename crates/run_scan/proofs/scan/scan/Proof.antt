@@ -49,10 +49,13 @@ read-nodes-requires c κs =
     let c23 = c14 .before .before .before .before .before .before .before .before .before in
     let entry = c23 in
     let found = c14 .gather in
-    let few : found .result .visited ≤ length (found .result .leaves) = omega (arith, found .ensures .few, found .ensures .room, entry .pre .2) in
-    (c10 .serve-reads .ensures .kept .good, entry .pre .1, rw
-    (sub-zero, length-take-le (found .result .visited) (found .result .leaves) few)
-    (omega (arith, few, found .ensures .room)))
+    let few : found .result .visited ≤ length (found .result .leaves) = omega (arith, found .ensures .few, found .ensures .room, entry .pre .2) in (
+      c10 .serve-reads .ensures .kept .good,
+      entry .pre .1,
+      rw
+          (sub-zero, length-take-le (found .result .visited) (found .result .leaves) few)
+          (omega (arith, few, found .ensures .room)),
+    )
 
 add-t43 : tie.Need-add-t43
 add-t43 c =

@@ -69,13 +69,17 @@ split-requires c κs =
     let a = c13 .args in
     let v = c8 .node-at in
     let u = c6 .pointed in
-    let w = world (pagesOf (a .pool .now)) (rowsOf (a .table .now)) (a .state) in
-    (c13 .pre .0, c13 .pre .1, halves-there (a .tariff) (a .root) (a .id) (a .wanted) (a .middle) (a .left)
-    (a .right) w (v .result) (v .ensures .is) (c7 .child-place .result) (c7 .child-place .ensures .0) (u .result)
-    (u .ensures .is) (c5 .fit .result) (c5 .fit .ensures) _ (c3 .found .given .1) (u .ensures .held), halves-full
-    (a .tariff) (a .root) (a .id) (a .wanted) (a .middle) (a .left) (a .right) w (v .result) (v .ensures .is)
-    (c7 .child-place .result) (c7 .child-place .ensures .0) (u .result) (u .ensures .is) (c5 .fit .result)
-    (c5 .fit .ensures) _ (c3 .found .given .1) (u .ensures .held))
+    let w = world (pagesOf (a .pool .now)) (rowsOf (a .table .now)) (a .state) in (
+      c13 .pre .0,
+      c13 .pre .1,
+      halves-there (a .tariff) (a .root) (a .id) (a .wanted) (a .middle) (a .left)
+          (a .right) w (v .result) (v .ensures .is) (c7 .child-place .result) (c7 .child-place .ensures .0) (u .result)
+          (u .ensures .is) (c5 .fit .result) (c5 .fit .ensures) _ (c3 .found .given .1) (u .ensures .held),
+      halves-full
+          (a .tariff) (a .root) (a .id) (a .wanted) (a .middle) (a .left) (a .right) w (v .result) (v .ensures .is)
+          (c7 .child-place .result) (c7 .child-place .ensures .0) (u .result) (u .ensures .is) (c5 .fit .result)
+          (c5 .fit .ensures) _ (c3 .found .given .1) (u .ensures .held),
+    )
 
 same-length-3 : tie.Need-same-length-3
 same-length-3 c = search needs

@@ -50,11 +50,15 @@ split-requires c κs =
     let c11 = c6 .before .before .before .before .before in
     let a = c11 .args in
     let v = c6 .node-at in
-    let w = world (pagesOf (a .pool .now)) (rowsOf (a .table .now)) (a .state) in
-    (c11 .pre .0, c11 .pre .1, pair-there (a .tariff) (a .root) (a .id) (a .key) (a .value) w (v .result)
-    (v .ensures .is) (c5 .fit .result) (c5 .fit .ensures) _ (c3 .found .given .1) (v .ensures .held), pair-full
-    (a .tariff) (a .root) (a .id) (a .key) (a .value) w (v .result) (v .ensures .is) (c5 .fit .result)
-    (c5 .fit .ensures) _ (c3 .found .given .1) (v .ensures .held))
+    let w = world (pagesOf (a .pool .now)) (rowsOf (a .table .now)) (a .state) in (
+      c11 .pre .0,
+      c11 .pre .1,
+      pair-there (a .tariff) (a .root) (a .id) (a .key) (a .value) w (v .result)
+          (v .ensures .is) (c5 .fit .result) (c5 .fit .ensures) _ (c3 .found .given .1) (v .ensures .held),
+      pair-full
+          (a .tariff) (a .root) (a .id) (a .key) (a .value) w (v .result) (v .ensures .is) (c5 .fit .result)
+          (c5 .fit .ensures) _ (c3 .found .given .1) (v .ensures .held),
+    )
 
 same-length-3 : tie.Need-same-length-3
 same-length-3 c = search needs

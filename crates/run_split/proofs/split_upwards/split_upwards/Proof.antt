@@ -27,11 +27,15 @@ abbrev μ-loop : tie.MeasureT-loop
 
 loop-holds : tie.Need-loop-holds Inv-loop μ-loop
 loop-holds c =
-    let a = c .before .before .args in
-    (search needs, refl, refl, splitting-start (a .tariff) (a .key) (a .value) (take (a .n) (a .t5))
-    (world (pagesOf (a .pool .now)) (rowsOf (a .table .now)) (a .state)) (c .before .before .pre .0) (a .n)
-    (sym (length-take-le (a .n) (a .t5) (few (a .t5) (a .n) (search needs) (c .before .before .pre .3))))
-    (c .before .before .pre .2) (c .before .before .pre .3))
+    let a = c .before .before .args in (
+      search needs,
+      refl,
+      refl,
+      splitting-start (a .tariff) (a .key) (a .value) (take (a .n) (a .t5))
+          (world (pagesOf (a .pool .now)) (rowsOf (a .table .now)) (a .state)) (c .before .before .pre .0) (a .n)
+          (sym (length-take-le (a .n) (a .t5) (few (a .t5) (a .n) (search needs) (c .before .before .pre .3))))
+          (c .before .before .pre .2) (c .before .before .pre .3),
+    )
 
 sub-i : tie.Need-sub-i Inv-loop μ-loop
 sub-i c = omega arith
@@ -70,9 +74,9 @@ loop-again c =
       x .kept .0 ∙ l .inv .1,
       x .kept .1 .0 ∙ l .inv .2,
       splitting-next (l .inv .3) (pagesOf (x .last .0)) (rowsOf (x .last .1 .0)) (x .result) (c9 .loop-test .taken)
-      (getD (a .t5) (l .i - 1) 0) (sym
-      (getD-take (a .n) (a .t5) (l .i - 1) 0
-      (omega (arith, l .inv .3 .inside, l .inv .3 .some, length-take (a .n) (a .t5))))) (x .ensures),
+          (getD (a .t5) (l .i - 1) 0) (sym
+          (getD-take (a .n) (a .t5) (l .i - 1) 0
+          (omega (arith, l .inv .3 .inside, l .inv .3 .some, length-take (a .n) (a .t5))))) (x .ensures),
     )
 
 absorb-requires-2 : tie.Need-absorb-requires-2 Inv-loop μ-loop
