@@ -12,6 +12,7 @@ use answer::refused;
 use command::Asked;
 use command::batch::asked;
 use flash_checkpoint::checkpoint;
+use layout::TABLE_BYTES;
 use mount::mount;
 use prepare::pool_blocks;
 use run::run::run_commands;
@@ -64,7 +65,7 @@ pub fn batch(pool: &mut [u8], table: &mut [u8], commands: &[u8], answers: &mut [
     if blocks == 0 {
         return refused(1);
     }
-    let bytes = 1024 * blocks;
+    let bytes = TABLE_BYTES * blocks;
     if table.len() < bytes {
         return refused(2);
     }

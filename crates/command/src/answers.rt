@@ -6,6 +6,7 @@ ghost use Rattle.laws.specs.Lay.{lay};
 ghost use Rattle.wire.specs.Field.{field, head};
 ghost use Rattle.laws.specs.BigEndian.{bigEndian};
 ghost use Rattle.command.specs.Answer.{answerBytes, pairBytes, scanTag};
+ghost use Rattle.layout.specs.Layout.{mostPairs};
 use crate::Answer;
 use wire::bytes::lay_bytes;
 use wire::field::lay_head;
@@ -68,7 +69,7 @@ pub fn lay_pair(buffer: &mut [u8], at: usize, key: u32, value: u32)
 
 // Lays the tag and the length of a scan's answer, in front of its pairs.
 pub fn lay_scan_head(buffer: &mut [u8], at: usize, pairs: usize)
-    requires { ⌜ (at + 3 ≤ length (now buffer)) × (pairs ≤ 32) ⌝ }
+    requires { ⌜ (at + 3 ≤ length (now buffer)) × (pairs ≤ mostPairs) ⌝ }
     ensures { λ _. ⌜ now (buffer .exit) ≡ lay (now (buffer .entry)) at (head scanTag (8 * pairs)) ⌝ }
 {
     let bytes = (8 * pairs) as u32;

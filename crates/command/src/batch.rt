@@ -8,6 +8,7 @@ ghost use Rattle.command.specs.Batch.{roomFor, askedOf};
 use crate::Asked;
 use crate::Command;
 use crate::Step;
+use layout::MOST_BATCH_BYTES;
 use wire::field::Field;
 use wire::field::field_at;
 use wire::number::read16;
@@ -95,7 +96,7 @@ pub fn room_for(command: Command) -> usize
 pub fn asked(s: &[u8]) -> Asked
     ensures { λ r. ⌜ r ≡ askedOf (now (s .entry)) ⌝ }
 {
-    if 32768 < s.len() {
+    if MOST_BATCH_BYTES < s.len() {
         return Asked::Invalid;
     }
     let mut at: usize = 0;

@@ -6,6 +6,7 @@ use super::compact::compact;
 use super::state::State;
 use flash_blocks::blank::count_blank;
 use flash_blocks::blank::next_blank;
+use layout::PAGES_IN_BLOCK;
 
 // The current block, or the next one, with room for a page.
 pub fn allocate(pool: &mut [u8], table: &mut [u8], state: State) -> State
@@ -13,7 +14,7 @@ pub fn allocate(pool: &mut [u8], table: &mut [u8], state: State) -> State
     ensures { λ r. ⌜ MadeIn (now (pool .exit)) (now (table .exit)) r
         (def.allocate (worldIn (now (pool .entry)) (now (table .entry)) state)) ⌝ }
 {
-    if state.fill < 32 {
+    if state.fill < PAGES_IN_BLOCK {
         return state;
     }
     let to = next_blank(pool, state.blocks, state.current);

@@ -2,23 +2,26 @@
 ghost use mathlib.Core.Path.{_≡_};
 ghost use Prim.Native.Nat.{_+_, _*_, _≤_, _<_};
 ghost use lib.ListN.{length};
-ghost use Rattle.flash_rows.specs.Row.{rowsOf};
+ghost use Rattle.flash_rows.specs.Row.{rowsOf, rowBytes};
 ghost use Rattle.flash_blocks.specs.Pages.{pagesOf};
 ghost use Rattle.flash_allocate.specs.Compact.{copying, copyLive, copyBlock, renameRows, compacted};
 ghost use Rattle.flash_allocate.specs.Compact as def;
+ghost use Rattle.layout.specs.Layout.{blockBytes, mostBlocks, mostPages, pageBytes, pagesInBlock};
+use layout::MOST_PAGES;
+use layout::PAGES_IN_BLOCK;
 
 // Page k of the block at `base`, where it is live, copied to the block at `first` behind the pages that went before.
 fn copy_live(
     pool: &mut [u8],
-    places: &mut [u16; 32],
-    live: &[u8; 2048],
+    places: &mut [u16; PAGES_IN_BLOCK],
+    live: &[u8; MOST_PAGES],
     base: usize,
     first: usize,
     k: usize,
     fill: usize,
 ) -> usize
-    requires { ⌜ (k < 32) × (fill < 32) × (base + k < 2048) × (first < 2048)
-        × (512 * (base + k) + 512 ≤ length (now pool)) × (512 * (first + fill) + 512 ≤ length (now pool)) ⌝ }
+    requires { ⌜ (k < pagesInBlock) × (fill < pagesInBlock) × (base + k < mostPages) × (first < mostPages)
+        × (pageBytes * (base + k) + pageBytes ≤ length (now pool)) × (pageBytes * (first + fill) + pageBytes ≤ length (now pool)) ⌝ }
     ensures { λ r. ⌜ (copying (pagesOf (now (pool .exit))) (now (places .exit)) r
         ≡ copyLive (now (live .entry)) base first k (copying (pagesOf (now (pool .entry))) (now (places .entry)) fill))
         × (r ≤ fill + 1) ⌝ }
@@ -36,20 +39,20 @@ fn copy_live(
 // The live pages of the block at `base`, copied to the block at `first`: how many went, and where each went.
 fn copy_block(
     pool: &mut [u8],
-    places: &mut [u16; 32],
-    live: &[u8; 2048],
+    places: &mut [u16; PAGES_IN_BLOCK],
+    live: &[u8; MOST_PAGES],
     base: usize,
     first: usize,
 ) -> usize
-    requires { ⌜ (base + 32 ≤ 2048) × (first + 32 ≤ 2048) × (512 * base + 16384 ≤ length (now pool))
-        × (512 * first + 16384 ≤ length (now pool)) ⌝ }
+    requires { ⌜ (base + pagesInBlock ≤ mostPages) × (first + pagesInBlock ≤ mostPages) × (pageBytes * base + blockBytes ≤ length (now pool))
+        × (pageBytes * first + blockBytes ≤ length (now pool)) ⌝ }
     ensures { λ r. ⌜ (copying (pagesOf (now (pool .exit))) (now (places .exit)) r
         ≡ copyBlock (now (live .entry)) base first (copying (pagesOf (now (pool .entry))) (now (places .entry)) 0))
-        × (r ≤ 32) ⌝ }
+        × (r ≤ pagesInBlock) ⌝ }
 {
     let mut fill: usize = 0;
     let mut k: usize = 0;
-    while k < 32 {
+    while k < PAGES_IN_BLOCK {
         fill = copy_live(pool, places, live, base, first, k, fill);
         k += 1;
     }
@@ -57,8 +60,8 @@ fn copy_block(
 }
 
 // Every row in use with the new places of its pages.
-fn rename_rows(table: &mut [u8], used: usize, base: usize, places: &[u16; 32])
-    requires { ⌜ 16 * used ≤ length (now table) ⌝ }
+fn rename_rows(table: &mut [u8], used: usize, base: usize, places: &[u16; PAGES_IN_BLOCK])
+    requires { ⌜ rowBytes * used ≤ length (now table) ⌝ }
     ensures { λ _. ⌜ rowsOf (now (table .exit)) ≡ renameRows used base (now (places .entry))
         (rowsOf (now (table .entry))) ⌝ }
 {
@@ -72,17 +75,23 @@ fn rename_rows(table: &mut [u8], used: usize, base: usize, places: &[u16; 32])
 
 // The block with fewest live pages compacted into the blank block `to`: how many pages are there then.
 pub fn compact(pool: &mut [u8], table: &mut [u8], used: usize, blocks: usize, to: usize) -> usize
-    requires { ⌜ (16 * used ≤ length (now table)) × (to < blocks) × (blocks ≤ 64)
-        × (16384 * blocks ≤ length (now pool)) ⌝ }
+    requires { ⌜ (rowBytes * used ≤ length (now table)) × (to < blocks) × (blocks ≤ mostBlocks)
+        × (blockBytes * blocks ≤ length (now pool)) ⌝ }
     ensures { λ r. ⌜ (compacted (pagesOf (now (pool .exit))) (rowsOf (now (table .exit))) r
         ≡ def.compact used blocks to (pagesOf (now (pool .entry))) (rowsOf (now (table .entry))))
-        × (r ≤ 32) ⌝ }
+        × (r ≤ pagesInBlock) ⌝ }
 {
     let live = flash_live::live_map(table, used);
     let block = flash_live::victim(pool, &live, blocks);
-    let mut places = [0u16; 32];
-    let fill = copy_block(pool, &mut places, &live, 32 * block, 32 * to);
-    rename_rows(table, used, 32 * block, &places);
+    let mut places = [0u16; PAGES_IN_BLOCK];
+    let fill = copy_block(
+        pool,
+        &mut places,
+        &live,
+        PAGES_IN_BLOCK * block,
+        PAGES_IN_BLOCK * to,
+    );
+    rename_rows(table, used, PAGES_IN_BLOCK * block, &places);
     flash_blocks::page::erase_block(pool, block);
     fill
 }

@@ -1,6 +1,7 @@
 // The state of a batch, by value.
 ghost use mathlib.Core.Path.{_≡_};
 ghost use Rattle.flash_allocate.specs.Allocate as def;
+use layout::BUFFER_BYTES;
 
 // What a batch knows of the pool beside the rows: the current block and its fill, the number of nodes and of checkpoint pages being written,
 // the last sequence number, and the log buffer with its entries of 15 bytes.
@@ -12,7 +13,7 @@ pub struct State {
     pub checkpoint: usize,
     pub last: u32,
     pub entries: usize,
-    pub buffer: [u8; 405],
+    pub buffer: [u8; BUFFER_BYTES],
 }
 
 impl State {

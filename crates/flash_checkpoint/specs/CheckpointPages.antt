@@ -7,7 +7,7 @@ use lib.Dec.{eqb, leb}
 use lib.ListN.{set, length}
 use Rattle.laws.specs.Tests.{choose}
 use Rattle.laws.specs.Loops.{steps}
-use Rattle.layout.specs.Layout.{firstScores, otherScores, nodeLimit}
+use Rattle.layout.specs.Layout.{firstScores, otherScores, scoresLess, nodeLimit}
 use Rattle.account.specs.declared.Mode.the-variants.{Disk}
 use Rattle.account.specs.declared.Tariff.{Tariff}
 use Rattle.flash_rows.specs.Row.{noRow}
@@ -26,7 +26,7 @@ use Rattle.flash_checkpoint.specs.Scores.{scoresOf}
 
 -- The node whose score is the first of checkpoint page k: 0, 50, 104, ..
 abbrev pub scoresBefore : ℕ → ℕ
-scoresBefore k = otherScores * k - 4
+scoresBefore k = otherScores * k - scoresLess
 
 -- How many scores stand on checkpoint page k: up to the first of the next checkpoint page, or up to the last node.
 unfoldable pub scoresOfPage : ℕ → ℕ → ℕ
@@ -42,7 +42,7 @@ pub record ScoresOfPage (k nodes r : ℕ) : Type 0 where
 
 -- How many checkpoint pages hold the scores of so many nodes: 1 up to 50 nodes, then one for every 54.
 abbrev pub pageCount : ℕ → ℕ
-pageCount nodes = (nodes + 57) / otherScores
+pageCount nodes = (nodes + (scoresLess + (otherScores - 1))) / otherScores
 
 -- The bytes of checkpoint page k: the tariff on the first, the node count on the last.
 unfoldable pub checkpointImage : ℕ → Tariff → ℕ → ℕ → List Row → List ℕ

@@ -3,8 +3,8 @@ ghost use mathlib.Core.Path.{_≡_};
 ghost use Prim.Native.Nat.{_+_, _*_, _≤_, _<_};
 ghost use lib.ListN.{length, set, replicate};
 ghost use Rattle.laws.specs.Lay.{lay};
-ghost use Rattle.layout.specs.Layout.{nodeLimit};
-ghost use Rattle.flash_rows.specs.Row.{rowsOf};
+ghost use Rattle.layout.specs.Layout.{nodeLimit, pageBytes, pagesInBlock};
+ghost use Rattle.flash_rows.specs.Row.{rowsOf, rowBytes};
 ghost use Rattle.flash_blocks.specs.Pages.{pagesOf};
 ghost use Rattle.page.specs.Image.{scoreBytes};
 ghost use Rattle.flash_allocate.specs.World.{Good, worldIn};
@@ -21,6 +21,12 @@ use flash_log::claim::no_row;
 use flash_log::flush::flush;
 use flash_log::flush::next_sequence;
 use flash_log::flush::put_image;
+use layout::FIRST_SCORES;
+use layout::OTHER_SCORES;
+use layout::PAGES_IN_BLOCK;
+use layout::SCORE_BYTES;
+use layout::SCORES_LESS;
+use layout::SCORES_ROUND_UP;
 use page_checkpoint::checkpoint_image;
 use wire::number::write16;
 use wire::number::write32;
@@ -33,7 +39,7 @@ fn scores_before(k: usize) -> usize
     if k == 0 {
         return 0;
     }
-    54 * k - 4
+    OTHER_SCORES * k - SCORES_LESS
 }
 
 // How many scores stand on checkpoint page k.
@@ -42,7 +48,7 @@ fn scores_on(k: usize, nodes: usize) -> usize
     ensures { λ r. ⌜ ScoresOfPage k nodes r ⌝ }
 {
     let start = scores_before(k);
-    let end = 54 * k + 50;
+    let end = OTHER_SCORES * k + FIRST_SCORES;
     if end <= nodes {
         return end - start;
     }
@@ -54,7 +60,7 @@ fn page_count(nodes: usize) -> usize
     requires { ⌜ nodes ≤ 4096 ⌝ }
     ensures { λ r. ⌜ r ≡ pageCount nodes ⌝ }
 {
-    (nodes + 57) / 54
+    (nodes + SCORES_ROUND_UP) / OTHER_SCORES
 }
 
 // Lays the record of a score.
@@ -67,11 +73,11 @@ fn lay_score(records: &mut [u8], at: usize, id: usize, score: u32)
 }
 
 // The records of n scores from a node on.
-fn score_records(table: &[u8], from: usize, n: usize) -> [u8; 324]
-    requires { ⌜ (n ≤ 54) × (from + n ≤ 4096) × (16 * (from + n) ≤ length (now table)) ⌝ }
+fn score_records(table: &[u8], from: usize, n: usize) -> [u8; SCORE_BYTES * OTHER_SCORES]
+    requires { ⌜ (n ≤ 54) × (from + n ≤ 4096) × (rowBytes * (from + n) ≤ length (now table)) ⌝ }
     ensures { λ r. ⌜ r ≡ lay (replicate 324 0) 0 (scoresBytes (scoresOf (rowsOf (now (table .entry))) from n)) ⌝ }
 {
-    let mut records = [0u8; 324];
+    let mut records = [0u8; SCORE_BYTES * OTHER_SCORES];
     let mut i: usize = 0;
     while i < n {
         let row = flash_rows::read_row(table, from + i);
@@ -91,7 +97,7 @@ fn put_checkpoint_page(
     k: usize,
     nodes: usize,
 )
-    requires { ⌜ (512 * at + 512 ≤ length (now pool)) × (16 * nodes ≤ length (now table)) × (nodes ≤ 4096)
+    requires { ⌜ (pageBytes * at + pageBytes ≤ length (now pool)) × (rowBytes * nodes ≤ length (now table)) × (nodes ≤ 4096)
         × (k < pageCount nodes) ⌝ }
     ensures { λ _. ⌜ pagesOf (now (pool .exit)) ≡ set (pagesOf (now (pool .entry))) at
         (checkpointImage number tariff k nodes (rowsOf (now (table .entry)))) ⌝ }
@@ -106,7 +112,7 @@ fn put_checkpoint_page(
 
 // The row of a checkpoint page, behind the nodes' rows.
 fn store_checkpoint_page(table: &mut [u8], n: usize, number: u32, at: u16)
-    requires { ⌜ 16 * n + 16 ≤ length (now table) ⌝ }
+    requires { ⌜ rowBytes * n + rowBytes ≤ length (now table) ⌝ }
     ensures { λ _. ⌜ rowsOf (now (table .exit)) ≡ set (rowsOf (now (table .entry))) n (checkpointRow number at) ⌝ }
 {
     let row = no_row().fresh(number, Mode::Disk);
@@ -115,7 +121,7 @@ fn store_checkpoint_page(table: &mut [u8], n: usize, number: u32, at: u16)
 
 // The state once a checkpoint page of this sequence number is written.
 fn count_page(state: State, number: u32) -> State
-    requires { ⌜ (state .fill < 32) × (state .checkpoint < 4096) ⌝ }
+    requires { ⌜ (state .fill < pagesInBlock) × (state .checkpoint < 4096) ⌝ }
     ensures { λ r. ⌜ r ≡ pageCounted number state ⌝ }
 {
     let mut s = state;
@@ -133,11 +139,11 @@ fn write_checkpoint_page(
     tariff: Tariff,
     k: usize,
 ) -> State
-    requires { ⌜ (Good (length (now pool)) (length (now table)) state) × (Closing k state) × (state .fill < 32) ⌝ }
+    requires { ⌜ (Good (length (now pool)) (length (now table)) state) × (Closing k state) × (state .fill < pagesInBlock) ⌝ }
     ensures { λ r. ⌜ CheckpointPageIn (now (pool .exit)) (now (table .exit)) state r
         (writeCheckpointPage tariff k (worldIn (now (pool .entry)) (now (table .entry)) state)) ⌝ }
 {
-    let at = 32 * state.current + state.fill;
+    let at = PAGES_IN_BLOCK * state.current + state.fill;
     let number = next_sequence(state.last);
     put_checkpoint_page(pool, table, at, number, tariff, k, state.nodes);
     store_checkpoint_page(table, state.nodes + state.checkpoint, number, at as u16);
@@ -157,7 +163,7 @@ fn checkpoint_page(
         (def.checkpointPage tariff k (worldIn (now (pool .entry)) (now (table .entry)) state)) ⌝ }
 {
     let s = allocate(pool, table, state);
-    if s.fill < 32 {
+    if s.fill < PAGES_IN_BLOCK {
         return write_checkpoint_page(pool, table, s, tariff, k);
     }
     s

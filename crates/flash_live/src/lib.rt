@@ -2,12 +2,15 @@
 ghost use mathlib.Core.Path.{_≡_};
 ghost use Prim.Native.Nat.{_+_, _*_, _≤_, _<_};
 ghost use lib.ListN.{length};
-ghost use Rattle.flash_rows.specs.Row.{rowsOf};
+ghost use Rattle.flash_rows.specs.Row.{rowsOf, rowBytes};
 ghost use Rattle.flash_blocks.specs.Pages.{pagesOf};
 ghost use Rattle.flash_live.specs.Live.{markSlot, markRow, liveMap, marked, liveIn};
 ghost use Rattle.flash_live.specs.Choose as def;
 ghost use Rattle.laws.specs.Counts.{bit};
+ghost use Rattle.layout.specs.Layout.{blockBytes, mostBlocks, pagesInBlock};
 use flash_rows::Row;
+use layout::MOST_PAGES;
+use layout::PAGES_IN_BLOCK;
 
 // A block, and how many live pages it has.
 pub struct Choice {
@@ -16,12 +19,12 @@ pub struct Choice {
 }
 
 // Marks the page of slot k, where the slot is in use.
-fn mark_slot(live: &mut [u8; 2048], k: u8, pages: u8, slot: u16)
+fn mark_slot(live: &mut [u8; MOST_PAGES], k: u8, pages: u8, slot: u16)
     ensures { λ _. ⌜ now (live .exit) ≡ markSlot k pages slot (now (live .entry)) ⌝ }
 {
     if k < pages {
         let page = slot as usize;
-        if page < 2048 {
+        if page < MOST_PAGES {
             live[page] = 1;
             return;
         }
@@ -30,7 +33,7 @@ fn mark_slot(live: &mut [u8; 2048], k: u8, pages: u8, slot: u16)
 }
 
 // Marks the pages of a row.
-fn mark_row(live: &mut [u8; 2048], r: Row)
+fn mark_row(live: &mut [u8; MOST_PAGES], r: Row)
     ensures { λ _. ⌜ now (live .exit) ≡ markRow r (now (live .entry)) ⌝ }
 {
     mark_slot(live, 0, r.pages, r.first);
@@ -39,11 +42,11 @@ fn mark_row(live: &mut [u8; 2048], r: Row)
 }
 
 // The live pages, by the rows in use.
-pub fn live_map(table: &[u8], used: usize) -> [u8; 2048]
-    requires { ⌜ 16 * used ≤ length (now table) ⌝ }
+pub fn live_map(table: &[u8], used: usize) -> [u8; MOST_PAGES]
+    requires { ⌜ rowBytes * used ≤ length (now table) ⌝ }
     ensures { λ r. ⌜ r ≡ liveMap used (rowsOf (now (table .entry))) ⌝ }
 {
-    let mut live = [0u8; 2048];
+    let mut live = [0u8; MOST_PAGES];
     let mut n: usize = 0;
     while n < used {
         mark_row(&mut live, flash_rows::read_row(table, n));
@@ -63,22 +66,22 @@ fn mark_bit(mark: u8) -> usize
 }
 
 // How many pages of a block are live.
-pub fn count_live(live: &[u8; 2048], block: usize) -> usize
-    requires { ⌜ block < 64 ⌝ }
-    ensures { λ r. ⌜ (r ≡ liveIn (now (live .entry)) block) × (r ≤ 32) ⌝ }
+pub fn count_live(live: &[u8; MOST_PAGES], block: usize) -> usize
+    requires { ⌜ block < mostBlocks ⌝ }
+    ensures { λ r. ⌜ (r ≡ liveIn (now (live .entry)) block) × (r ≤ pagesInBlock) ⌝ }
 {
     let mut n: usize = 0;
     let mut k: usize = 0;
-    while k < 32 {
-        n += mark_bit(live[32 * block + k]);
+    while k < PAGES_IN_BLOCK {
+        n += mark_bit(live[PAGES_IN_BLOCK * block + k]);
         k += 1;
     }
     n
 }
 
 // The better of a block and the best so far.
-fn weigh(pool: &[u8], live: &[u8; 2048], block: usize, best: Choice) -> Choice
-    requires { ⌜ (block < 64) × (16384 * block + 16384 ≤ length (now pool)) ⌝ }
+fn weigh(pool: &[u8], live: &[u8; MOST_PAGES], block: usize, best: Choice) -> Choice
+    requires { ⌜ (block < mostBlocks) × (blockBytes * block + blockBytes ≤ length (now pool)) ⌝ }
     ensures { λ r. ⌜ def.Weighed (def.weigh (pagesOf (now (pool .entry))) (now (live .entry)) block best) block
         best r ⌝ }
 {
@@ -93,8 +96,8 @@ fn weigh(pool: &[u8], live: &[u8; 2048], block: usize, best: Choice) -> Choice
 }
 
 // The written block with fewest live pages, the lowest on a tie.
-pub fn victim(pool: &[u8], live: &[u8; 2048], blocks: usize) -> usize
-    requires { ⌜ (0 < blocks) × (blocks ≤ 64) × (16384 * blocks ≤ length (now pool)) ⌝ }
+pub fn victim(pool: &[u8], live: &[u8; MOST_PAGES], blocks: usize) -> usize
+    requires { ⌜ (0 < blocks) × (blocks ≤ mostBlocks) × (blockBytes * blocks ≤ length (now pool)) ⌝ }
     ensures { λ r. ⌜ (r ≡ def.victim blocks (pagesOf (now (pool .entry))) (now (live .entry))) × (r < blocks) ⌝ }
 {
     let mut best = Choice { block: 0, live: 33 };

@@ -2,12 +2,15 @@
 ghost use mathlib.Core.Path.{_≡_};
 ghost use Prim.Native.Nat.{_+_, _*_, _≤_, _<_};
 ghost use lib.ListN.{length};
-ghost use Rattle.flash_rows.specs.Row.{rowsOf, noRow};
+ghost use Rattle.flash_rows.specs.Row.{rowsOf, noRow, rowBytes};
 ghost use Rattle.flash_rows.specs.Step.{settled};
 ghost use Rattle.flash_log.specs.Claim.{claimEntry, claimEntries};
+ghost use Rattle.layout.specs.Layout.{mostEntries};
 use account::Mode;
 use flash_rows::Claim;
 use flash_rows::Row;
+use layout::BUFFER_BYTES;
+use layout::ENTRY_BYTES;
 use wire::number::read16;
 use wire::number::read32;
 
@@ -28,7 +31,7 @@ pub fn no_row() -> Row
 
 // Stores what a claim made of a row.
 fn store_claim(table: &mut [u8], n: usize, claim: Claim)
-    requires { ⌜ 16 * n + 16 ≤ length (now table) ⌝ }
+    requires { ⌜ rowBytes * n + rowBytes ≤ length (now table) ⌝ }
     ensures { λ _. ⌜ rowsOf (now (table .exit)) ≡ settled claim n (rowsOf (now (table .entry))) ⌝ }
 {
     match claim {
@@ -40,13 +43,13 @@ fn store_claim(table: &mut [u8], n: usize, claim: Claim)
 }
 
 // The row of entry k claims the page, where its node exists.
-fn claim_entry(table: &mut [u8], buffer: &[u8; 405], nodes: usize, page: u16, k: usize)
-    requires { ⌜ (k < 27) × (16 * nodes ≤ length (now table)) ⌝ }
+fn claim_entry(table: &mut [u8], buffer: &[u8; BUFFER_BYTES], nodes: usize, page: u16, k: usize)
+    requires { ⌜ (k < mostEntries) × (rowBytes * nodes ≤ length (now table)) ⌝ }
     ensures { λ _. ⌜ rowsOf (now (table .exit)) ≡ claimEntry (now (buffer .entry)) nodes page k
         (rowsOf (now (table .entry))) ⌝ }
 {
-    let id = read16(buffer, 15 * k) as usize;
-    let version = read32(buffer, 15 * k + 2);
+    let id = read16(buffer, ENTRY_BYTES * k) as usize;
+    let version = read32(buffer, ENTRY_BYTES * k + 2);
     if id < nodes {
         let row = flash_rows::read_row(table, id);
         store_claim(table, id, row.claim(version, page));
@@ -55,8 +58,14 @@ fn claim_entry(table: &mut [u8], buffer: &[u8; 405], nodes: usize, page: u16, k:
 }
 
 // The rows of the first n entries claim the page.
-pub fn claim_entries(table: &mut [u8], buffer: &[u8; 405], n: usize, nodes: usize, page: u16)
-    requires { ⌜ (n ≤ 27) × (16 * nodes ≤ length (now table)) ⌝ }
+pub fn claim_entries(
+    table: &mut [u8],
+    buffer: &[u8; BUFFER_BYTES],
+    n: usize,
+    nodes: usize,
+    page: u16,
+)
+    requires { ⌜ (n ≤ mostEntries) × (rowBytes * nodes ≤ length (now table)) ⌝ }
     ensures { λ _. ⌜ rowsOf (now (table .exit)) ≡ claimEntries (now (buffer .entry)) nodes page n
         (rowsOf (now (table .entry))) ⌝ }
 {

@@ -6,7 +6,11 @@ ghost use Rattle.node.specs.Drafts.{changeOf};
 ghost use Rattle.page.specs.Image.{shapeNumber, changeNumber, changeKey, changePointer, entryBytes};
 ghost use Rattle.flash_log.specs.Entry as def;
 ghost use Rattle.flash_log.specs.Entry.{entryOf};
+ghost use Rattle.layout.specs.Layout.{entrySize, mostEntries};
 use flash_allocate::state::State;
+use layout::BUFFER_BYTES;
+use layout::ENTRY_BYTES;
+use layout::MOST_ENTRIES;
 use node::ChangeValue;
 use node::Shape;
 use wire::bytes::lay_bytes;
@@ -55,7 +59,7 @@ fn change_pointer(change: ChangeValue) -> u32
 }
 
 // The fifteen bytes of an entry.
-fn entry_bytes(id: usize, version: u32, change: ChangeValue) -> [u8; 15]
+fn entry_bytes(id: usize, version: u32, change: ChangeValue) -> [u8; ENTRY_BYTES]
     ensures { λ r. ⌜ r ≡ entryBytes (entryOf id version (changeOf change)) ⌝ }
 {
     let number = change_number(change);
@@ -81,18 +85,18 @@ fn entry_bytes(id: usize, version: u32, change: ChangeValue) -> [u8; 15]
 }
 
 // Lays an entry behind the first n of the buffer.
-fn lay_entry(buffer: &mut [u8; 405], n: usize, bytes: &[u8; 15])
-    requires { ⌜ n < 27 ⌝ }
-    ensures { λ _. ⌜ now (buffer .exit) ≡ lay (now (buffer .entry)) (15 * n) (now (bytes .entry)) ⌝ }
+fn lay_entry(buffer: &mut [u8; BUFFER_BYTES], n: usize, bytes: &[u8; ENTRY_BYTES])
+    requires { ⌜ n < mostEntries ⌝ }
+    ensures { λ _. ⌜ now (buffer .exit) ≡ lay (now (buffer .entry)) (entrySize * n) (now (bytes .entry)) ⌝ }
 {
-    lay_bytes(buffer, 15 * n, bytes);
+    lay_bytes(buffer, ENTRY_BYTES * n, bytes);
 }
 
 // The state with one entry more in the buffer, where it has room.
 pub fn append(state: State, id: usize, version: u32, change: ChangeValue) -> State
     ensures { λ r. ⌜ r ≡ def.append id version (changeOf change) state ⌝ }
 {
-    if state.entries < 27 {
+    if state.entries < MOST_ENTRIES {
         let bytes = entry_bytes(id, version, change);
         let mut s = state;
         lay_entry(&mut s.buffer, state.entries, &bytes);

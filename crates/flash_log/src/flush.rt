@@ -7,9 +7,15 @@ ghost use Rattle.flash_allocate.specs.World.{Good, worldIn};
 ghost use Rattle.page_write.specs.Pages.{logImage};
 ghost use Rattle.flash_log.specs.Flush as def;
 ghost use Rattle.flash_log.specs.Flush.{KeptIn, nextSequence, advanced, emptied, writeBuffer};
+ghost use Rattle.layout.specs.Layout.{mostEntries, pageBytes, pagesInBlock};
 use super::claim::claim_entries;
 use flash_allocate::allocate::allocate;
 use flash_allocate::state::State;
+use layout::BUFFER_BYTES;
+use layout::MOST_ENTRIES;
+use layout::MOST_SEQUENCE;
+use layout::PAGE_BYTES;
+use layout::PAGES_IN_BLOCK;
 use page_write::frame::write_page;
 use page_write::log_page::log_image;
 
@@ -17,7 +23,7 @@ use page_write::log_page::log_image;
 pub fn next_sequence(last: u32) -> u32
     ensures { λ r. ⌜ r ≡ nextSequence last ⌝ }
 {
-    if last < 4294967295 {
+    if last < MOST_SEQUENCE {
         return last + 1;
     }
     last
@@ -25,7 +31,7 @@ pub fn next_sequence(last: u32) -> u32
 
 // The state once a page of this sequence number is written.
 pub fn advance(state: State, number: u32) -> State
-    requires { ⌜ state .fill < 32 ⌝ }
+    requires { ⌜ state .fill < pagesInBlock ⌝ }
     ensures { λ r. ⌜ r ≡ advanced number state ⌝ }
 {
     let mut s = state;
@@ -44,16 +50,16 @@ fn without_entries(state: State) -> State
 }
 
 // An image written as a page of the pool.
-pub fn put_image(pool: &mut [u8], page: usize, image: [u8; 512])
-    requires { ⌜ 512 * page + 512 ≤ length (now pool) ⌝ }
+pub fn put_image(pool: &mut [u8], page: usize, image: [u8; PAGE_BYTES])
+    requires { ⌜ pageBytes * page + pageBytes ≤ length (now pool) ⌝ }
     ensures { λ _. ⌜ pagesOf (now (pool .exit)) ≡ set (pagesOf (now (pool .entry))) page image ⌝ }
 {
-    write_page(pool, 512 * page, image);
+    write_page(pool, PAGE_BYTES * page, image);
 }
 
 // The first n entries of the buffer written as a log page.
-fn put_log(pool: &mut [u8], page: usize, number: u32, buffer: &[u8; 405], n: usize)
-    requires { ⌜ (512 * page + 512 ≤ length (now pool)) × (n ≤ 27) ⌝ }
+fn put_log(pool: &mut [u8], page: usize, number: u32, buffer: &[u8; BUFFER_BYTES], n: usize)
+    requires { ⌜ (pageBytes * page + pageBytes ≤ length (now pool)) × (n ≤ mostEntries) ⌝ }
     ensures { λ _. ⌜ pagesOf (now (pool .exit)) ≡ set (pagesOf (now (pool .entry))) page
         (logImage number n (now (buffer .entry))) ⌝ }
 {
@@ -63,11 +69,11 @@ fn put_log(pool: &mut [u8], page: usize, number: u32, buffer: &[u8; 405], n: usi
 
 // The buffer as the next page, in a block that has room.
 fn write_buffer(pool: &mut [u8], table: &mut [u8], state: State) -> State
-    requires { ⌜ (Good (length (now pool)) (length (now table)) state) × (state .fill < 32) ⌝ }
+    requires { ⌜ (Good (length (now pool)) (length (now table)) state) × (state .fill < pagesInBlock) ⌝ }
     ensures { λ r. ⌜ KeptIn (now (pool .exit)) (now (table .exit)) state r
         (writeBuffer (worldIn (now (pool .entry)) (now (table .entry)) state)) ⌝ }
 {
-    let page = 32 * state.current + state.fill;
+    let page = PAGES_IN_BLOCK * state.current + state.fill;
     let number = next_sequence(state.last);
     let buffer = state.buffer;
     put_log(pool, page, number, &buffer, state.entries);
@@ -82,7 +88,7 @@ pub fn flush(pool: &mut [u8], table: &mut [u8], state: State) -> State
         (def.flush (worldIn (now (pool .entry)) (now (table .entry)) state)) ⌝ }
 {
     let s = allocate(pool, table, state);
-    if s.fill < 32 {
+    if s.fill < PAGES_IN_BLOCK {
         return write_buffer(pool, table, s);
     }
     s
@@ -90,11 +96,11 @@ pub fn flush(pool: &mut [u8], table: &mut [u8], state: State) -> State
 
 // Room for k entries in the buffer.
 pub fn make_room(pool: &mut [u8], table: &mut [u8], state: State, k: usize) -> State
-    requires { ⌜ (Good (length (now pool)) (length (now table)) state) × (k ≤ 27) ⌝ }
+    requires { ⌜ (Good (length (now pool)) (length (now table)) state) × (k ≤ mostEntries) ⌝ }
     ensures { λ r. ⌜ KeptIn (now (pool .exit)) (now (table .exit)) state r
         (def.room k (worldIn (now (pool .entry)) (now (table .entry)) state)) ⌝ }
 {
-    if 27 < k + state.entries {
+    if MOST_ENTRIES < k + state.entries {
         return flush(pool, table, state);
     }
     state

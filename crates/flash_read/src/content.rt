@@ -1,12 +1,13 @@
 // The content of a node.
 ghost use Prim.Native.Nat.{_+_, _*_, _≤_};
 ghost use lib.ListN.{length};
-ghost use Rattle.flash_rows.specs.Row.{rowsOf};
+ghost use Rattle.flash_rows.specs.Row.{rowsOf, rowBytes};
 ghost use Rattle.flash_blocks.specs.Pages.{pagesOf};
 ghost use Rattle.node.specs.Value.{Held};
 ghost use Rattle.node.specs.Drafts.{draftOf, Redone};
 ghost use Rattle.flash_read.specs.Content as def;
 ghost use Rattle.flash_read.specs.Content.{redoPages, logContent, contentBy};
+ghost use Rattle.layout.specs.Layout.{mostEntries};
 use super::node_page::node_page_at;
 use super::replay::redo_buffer;
 use super::slot::redo_one;
@@ -41,7 +42,7 @@ fn redo_pages(pool: &[u8], row: Row, n: usize, d: DraftValue) -> DraftValue
 
 // The content of node n, whose row this is: its entries on pages, then those in the buffer.
 pub fn log_content(pool: &[u8], state: State, row: Row, n: usize) -> DraftValue
-    requires { ⌜ state .entries ≤ 27 ⌝ }
+    requires { ⌜ state .entries ≤ mostEntries ⌝ }
     ensures { λ r. ⌜ Redone r (logContent (pagesOf (now (pool .entry))) state row n) ⌝ }
 {
     let d = redo_pages(pool, row, n, empty_draft());
@@ -51,7 +52,7 @@ pub fn log_content(pool: &[u8], state: State, row: Row, n: usize) -> DraftValue
 
 // The content of node n, whose row this is.
 fn content_by(pool: &[u8], state: State, row: Row, n: usize) -> DraftValue
-    requires { ⌜ state .entries ≤ 27 ⌝ }
+    requires { ⌜ state .entries ≤ mostEntries ⌝ }
     ensures { λ r. ⌜ Redone r (contentBy (pagesOf (now (pool .entry))) state row n) ⌝ }
 {
     let mode = row.mode;
@@ -63,7 +64,7 @@ fn content_by(pool: &[u8], state: State, row: Row, n: usize) -> DraftValue
 
 // The content of node n.
 pub fn content<'a>(pool: &'a [u8], table: &'a [u8], state: State, n: usize) -> DraftValue
-    requires { ⌜ (state .entries ≤ 27) × (16 * n + 16 ≤ length (now table)) ⌝ }
+    requires { ⌜ (state .entries ≤ mostEntries) × (rowBytes * n + rowBytes ≤ length (now table)) ⌝ }
     ensures { λ r. ⌜ Redone r (def.content (pagesOf (now (pool .entry))) (rowsOf (now (table .entry))) state n) ⌝ }
 {
     let row = flash_rows::read_row(table, n);

@@ -10,6 +10,9 @@ ghost use Rattle.node.specs.Drafts.{Redone};
 ghost use Rattle.wire.specs.Field.{payloadAt};
 ghost use Rattle.page.specs.Decode as decode;
 ghost use Rattle.flash_read.specs.NodePage.{nodeOfPayload, nodePageAt};
+ghost use Rattle.layout.specs.Layout.{mostKeys};
+use layout::MOST_KEYS;
+use layout::PAGE_BYTES;
 use node::DraftState;
 use node::DraftValue;
 use node::NodeValue;
@@ -42,11 +45,11 @@ fn shape_of(number: u8) -> Shape
 
 // A node of the first n pairs of a payload.
 fn read_pairs(p: &[u8], n: usize, shape: Shape, link: u32) -> NodeValue
-    requires { ⌜ (n ≤ 24) × (7 + 8 * n ≤ length (now p)) ⌝ }
+    requires { ⌜ (n ≤ mostKeys) × (7 + 8 * n ≤ length (now p)) ⌝ }
     ensures { λ r. ⌜ Stands r (node shape (decode.pairsFrom n (now (p .entry)) 7) link) ⌝ }
 {
-    let mut keys = [0u32; 24];
-    let mut pointers = [0u32; 24];
+    let mut keys = [0u32; MOST_KEYS];
+    let mut pointers = [0u32; MOST_KEYS];
     let mut i: usize = 0;
     while i < n {
         let key = read32(p, 7 + 8 * i);
@@ -73,7 +76,7 @@ fn node_of_payload(p: &[u8]) -> DraftValue
         return no_node();
     }
     let n = (bytes - 7) / 8;
-    if 24 < n {
+    if MOST_KEYS < n {
         return no_node();
     }
     let shape = shape_of(p[2]);
@@ -100,8 +103,8 @@ fn read_node(page: &[u8]) -> DraftValue
 pub fn node_page_at(pool: &[u8], page: u16) -> DraftValue
     ensures { λ r. ⌜ Redone r (nodePageAt (pagesOf (now (pool .entry))) page) ⌝ }
 {
-    let from = 512 * (page as usize);
-    let to = from + 512;
+    let from = PAGE_BYTES * (page as usize);
+    let to = from + PAGE_BYTES;
     if to <= pool.len() {
         return read_node(&pool[from..to]);
     }

@@ -2,11 +2,14 @@
 ghost use mathlib.Core.Path.{_≡_};
 ghost use Prim.Native.Nat.{_*_, _≤_};
 ghost use lib.ListN.{length};
-ghost use Rattle.layout.specs.Layout.{mostEntries};
+ghost use Rattle.layout.specs.Layout.{mostEntries, entrySize};
 ghost use Rattle.node.specs.Value.{Held};
 ghost use Rattle.node.specs.Drafts.{draftOf, changeOf, Redone};
 ghost use Rattle.page.specs.Decode as decode;
 ghost use Rattle.flash_read.specs.Replay.{redoEntry, redoRun, redoBuffer};
+use layout::BUFFER_BYTES;
+use layout::ENTRY_BYTES;
+use layout::MOST_ENTRIES;
 use node::ChangeValue;
 use node::DraftValue;
 use node::Shape;
@@ -39,7 +42,7 @@ fn change_of(number: u8, key: u32, pointer: u32) -> ChangeValue
 
 // One entry more, where it is the node's and of the version.
 fn redo_entry(entry: &[u8], id: usize, version: u32, d: DraftValue) -> DraftValue
-    requires { ⌜ (length (now entry) ≡ 15) × (Held (d .node)) ⌝ }
+    requires { ⌜ (length (now entry) ≡ entrySize) × (Held (d .node)) ⌝ }
     ensures { λ r. ⌜ Redone r (redoEntry id version (decode.entryOf (now (entry .entry))) (draftOf d)) ⌝ }
 {
     let own = read16(entry, 0) as usize;
@@ -63,10 +66,10 @@ pub fn redo_page(page: &[u8], id: usize, version: u32, d: DraftValue) -> DraftVa
 {
     let mut r = d;
     let mut at: usize = 7;
-    let mut left: usize = 27;
+    let mut left: usize = MOST_ENTRIES;
     while 0 < left {
         let entry = payload(page, at, 0x12);
-        if entry.len() != 15 {
+        if entry.len() != ENTRY_BYTES {
             return r;
         }
         r = redo_entry(entry, id, version, r);
@@ -78,14 +81,14 @@ pub fn redo_page(page: &[u8], id: usize, version: u32, d: DraftValue) -> DraftVa
 
 // The first n entries of some bytes, in order.
 fn redo_entries(buffer: &[u8], n: usize, id: usize, version: u32, d: DraftValue) -> DraftValue
-    requires { ⌜ (n ≤ 27) × (15 * n ≤ length (now buffer)) × (Held (d .node)) ⌝ }
+    requires { ⌜ (n ≤ mostEntries) × (entrySize * n ≤ length (now buffer)) × (Held (d .node)) ⌝ }
     ensures { λ r. ⌜ Redone r (redoBuffer id version (now (buffer .entry)) n (draftOf d)) ⌝ }
 {
     let mut r = d;
     let mut k: usize = 0;
     while k < n {
-        let from = 15 * k;
-        let to = from + 15;
+        let from = ENTRY_BYTES * k;
+        let to = from + ENTRY_BYTES;
         r = redo_entry(&buffer[from..to], id, version, r);
         k += 1;
     }
@@ -94,13 +97,13 @@ fn redo_entries(buffer: &[u8], n: usize, id: usize, version: u32, d: DraftValue)
 
 // The first n entries of the buffer, in order.
 pub fn redo_buffer(
-    buffer: &[u8; 405],
+    buffer: &[u8; BUFFER_BYTES],
     n: usize,
     id: usize,
     version: u32,
     d: DraftValue,
 ) -> DraftValue
-    requires { ⌜ (n ≤ 27) × (Held (d .node)) ⌝ }
+    requires { ⌜ (n ≤ mostEntries) × (Held (d .node)) ⌝ }
     ensures { λ r. ⌜ Redone r (redoBuffer id version (now (buffer .entry)) n (draftOf d)) ⌝ }
 {
     redo_entries(buffer, n, id, version, d)

@@ -4,9 +4,11 @@ ghost use Prim.Native.Nat.{_+_, _*_, _≤_, _<_};
 ghost use lib.ListN.{length, getD, set};
 ghost use Rattle.laws.specs.BigEndian.{numberAt};
 ghost use Rattle.flash_rows.specs.Row as def;
-ghost use Rattle.flash_rows.specs.Row.{modeByte, modeFrom, rowsOf, noRow};
+ghost use Rattle.flash_rows.specs.Row.{modeByte, modeFrom, rowsOf, noRow, rowBytes};
 ghost use Rattle.flash_rows.specs.Step as step;
 use account::Mode;
+use layout::PAGES_IN_BLOCK;
+use layout::ROW_BYTES;
 use wire::bytes::lay_bytes;
 use wire::number::read16;
 use wire::number::read32;
@@ -80,7 +82,7 @@ fn read_page_number(part: &[u8], at: usize) -> u16
 }
 
 // The sixteen bytes of a row.
-fn encode(r: Row) -> [u8; 16]
+fn encode(r: Row) -> [u8; ROW_BYTES]
     ensures { λ b. ⌜ b ≡ def.encode r ⌝ }
 {
     let mode = r.mode;
@@ -107,21 +109,21 @@ fn encode(r: Row) -> [u8; 16]
 
 // The row of a node, or of a checkpoint page being written.
 pub fn read_row(table: &[u8], n: usize) -> Row
-    requires { ⌜ 16 * n + 16 ≤ length (now table) ⌝ }
+    requires { ⌜ rowBytes * n + rowBytes ≤ length (now table) ⌝ }
     ensures { λ r. ⌜ r ≡ getD (rowsOf (now (table .entry))) n noRow ⌝ }
 {
-    let from = 16 * n;
-    let to = from + 16;
+    let from = ROW_BYTES * n;
+    let to = from + ROW_BYTES;
     decode(&table[from..to])
 }
 
 // The row laid in its place.
 pub fn write_row(table: &mut [u8], n: usize, r: Row)
-    requires { ⌜ 16 * n + 16 ≤ length (now table) ⌝ }
+    requires { ⌜ rowBytes * n + rowBytes ≤ length (now table) ⌝ }
     ensures { λ _. ⌜ rowsOf (now (table .exit)) ≡ set (rowsOf (now (table .entry))) n r ⌝ }
 {
     let bytes = encode(r);
-    lay_bytes(table, 16 * n, &bytes);
+    lay_bytes(table, ROW_BYTES * n, &bytes);
 }
 
 // Whether slot k is one of the slots in use and holds the page.
@@ -135,7 +137,7 @@ fn holds(k: u8, pages: u8, slot: u16, page: u16) -> bool
 }
 
 // Where a page lies after the 32 pages from `base` on moved.
-fn new_place(base: usize, places: &[u16; 32], page: u16) -> u16
+fn new_place(base: usize, places: &[u16; PAGES_IN_BLOCK], page: u16) -> u16
     ensures { λ r. ⌜ r ≡ step.newPlace base (now (places .entry)) page ⌝ }
 {
     let p = page as usize;
@@ -143,7 +145,7 @@ fn new_place(base: usize, places: &[u16; 32], page: u16) -> u16
         return page;
     }
     let k = p - base;
-    if k < 32 {
+    if k < PAGES_IN_BLOCK {
         return places[k];
     }
     page
@@ -230,7 +232,7 @@ impl Row {
     }
 
     // The row after the 32 pages from `base` on moved.
-    pub fn moved(self, base: usize, places: &[u16; 32]) -> Row
+    pub fn moved(self, base: usize, places: &[u16; PAGES_IN_BLOCK]) -> Row
         ensures { λ r. ⌜ r ≡ step.moved base (now (places .entry)) self ⌝ }
     {
         let mut r = self;

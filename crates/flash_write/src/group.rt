@@ -2,7 +2,7 @@
 ghost use mathlib.Core.Path.{_≡_};
 ghost use Prim.Native.Nat.{_+_, _*_, _≤_, _<_};
 ghost use lib.ListN.{length};
-ghost use Rattle.flash_rows.specs.Row.{rowsOf};
+ghost use Rattle.flash_rows.specs.Row.{rowsOf, rowBytes};
 ghost use Rattle.node.specs.Change.{puts, changesOf};
 ghost use Rattle.node.specs.Value.{pairsIn, nodeOf, Sized};
 ghost use Rattle.flash_allocate.specs.World.{Good, worldIn};
@@ -74,7 +74,7 @@ fn append_node(state: State, id: usize, version: u32, v: NodeValue) -> State
 
 // A fresh start of a node whose row was this.
 fn start(table: &mut [u8], state: State, n: usize, row: Row, version: u32, v: NodeValue) -> State
-    requires { ⌜ (16 * n + 16 ≤ length (now table)) × (Sized v) ⌝ }
+    requires { ⌜ (rowBytes * n + rowBytes ≤ length (now table)) × (Sized v) ⌝ }
     ensures { λ r. ⌜ Started (rowsOf (now (table .entry))) state n row version (nodeOf v)
         (rowsOf (now (table .exit))) r ⌝ }
 {

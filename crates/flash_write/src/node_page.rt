@@ -2,7 +2,7 @@
 ghost use mathlib.Core.Path.{_≡_};
 ghost use Prim.Native.Nat.{_+_, _*_, _≤_, _<_};
 ghost use lib.ListN.{length, set};
-ghost use Rattle.flash_rows.specs.Row.{rowsOf};
+ghost use Rattle.flash_rows.specs.Row.{rowsOf, rowBytes};
 ghost use Rattle.flash_blocks.specs.Pages.{pagesOf};
 ghost use Rattle.node.specs.Value.{nodeOf, Sized};
 ghost use Rattle.page.specs.Page.{page, whole};
@@ -11,18 +11,20 @@ ghost use Rattle.flash_allocate.specs.World.{Good, worldIn};
 ghost use Rattle.flash_log.specs.Flush.{KeptIn};
 ghost use Rattle.flash_write.specs.NodePage as def;
 ghost use Rattle.flash_write.specs.NodePage.{diskRow, writeNode};
+ghost use Rattle.layout.specs.Layout.{pageBytes, pagesInBlock};
 use account::Mode;
 use flash_allocate::allocate::allocate;
 use flash_allocate::state::State;
 use flash_log::flush::advance;
 use flash_log::flush::next_sequence;
 use flash_log::flush::put_image;
+use layout::PAGES_IN_BLOCK;
 use node::NodeValue;
 use page_write::node_page::node_image;
 
 // A node written as a page of the pool.
 fn put_node(pool: &mut [u8], at: usize, number: u32, id: usize, v: NodeValue)
-    requires { ⌜ (512 * at + 512 ≤ length (now pool)) × (id < 65536) × (Sized v) ⌝ }
+    requires { ⌜ (pageBytes * at + pageBytes ≤ length (now pool)) × (id < 65536) × (Sized v) ⌝ }
     ensures { λ _. ⌜ pagesOf (now (pool .exit)) ≡ set (pagesOf (now (pool .entry))) at
         (image (page number (whole id (nodeOf v)))) ⌝ }
 {
@@ -35,7 +37,7 @@ fn put_node(pool: &mut [u8], at: usize, number: u32, id: usize, v: NodeValue)
 
 // The row of a node that has this page for its version, alone.
 fn node_page_row(table: &mut [u8], n: usize, number: u32, at: u16)
-    requires { ⌜ 16 * n + 16 ≤ length (now table) ⌝ }
+    requires { ⌜ rowBytes * n + rowBytes ≤ length (now table) ⌝ }
     ensures { λ _. ⌜ rowsOf (now (table .exit)) ≡ diskRow n number at (rowsOf (now (table .entry))) ⌝ }
 {
     let row = flash_rows::read_row(table, n).fresh(number, Mode::Disk);
@@ -44,12 +46,12 @@ fn node_page_row(table: &mut [u8], n: usize, number: u32, at: u16)
 
 // A node page as the next page, in a block that has room.
 fn write_node(pool: &mut [u8], table: &mut [u8], state: State, n: usize, v: NodeValue) -> State
-    requires { ⌜ (Good (length (now pool)) (length (now table)) state) × (state .fill < 32) × (n < state .nodes)
+    requires { ⌜ (Good (length (now pool)) (length (now table)) state) × (state .fill < pagesInBlock) × (n < state .nodes)
         × (Sized v) ⌝ }
     ensures { λ r. ⌜ KeptIn (now (pool .exit)) (now (table .exit)) state r
         (writeNode n (nodeOf v) (worldIn (now (pool .entry)) (now (table .entry)) state)) ⌝ }
 {
-    let at = 32 * state.current + state.fill;
+    let at = PAGES_IN_BLOCK * state.current + state.fill;
     let number = next_sequence(state.last);
     put_node(pool, at, number, n, v);
     node_page_row(table, n, number, at as u16);
@@ -63,7 +65,7 @@ pub fn node_page(pool: &mut [u8], table: &mut [u8], state: State, n: usize, v: N
         (def.nodePage n (nodeOf v) (worldIn (now (pool .entry)) (now (table .entry)) state)) ⌝ }
 {
     let s = allocate(pool, table, state);
-    if s.fill < 32 {
+    if s.fill < PAGES_IN_BLOCK {
         return write_node(pool, table, s, n, v);
     }
     s

@@ -17,9 +17,15 @@ fewestBlocks = 4
 abbrev pub mostBlocks : ℕ
 mostBlocks = 64
 
+abbrev pub mostPages : ℕ
+mostPages = pagesInBlock * mostBlocks
+
 -- Node limit: 10 × (B − 2).
 abbrev pub nodeLimit : ℕ → ℕ
 nodeLimit blocks = 10 * (blocks - 2)
+
+abbrev pub mostNodes : ℕ
+mostNodes = nodeLimit mostBlocks
 
 -- Work table: at least 1,024 × B bytes. Batch: 0 to 32,768 bytes.
 abbrev pub tableBytes : ℕ → ℕ
@@ -27,6 +33,10 @@ tableBytes blocks = 1024 * blocks
 
 abbrev pub mostBatchBytes : ℕ
 mostBatchBytes = 32768
+
+-- A scan answers 1 to 32 pairs at most.
+abbrev pub mostPairs : ℕ
+mostPairs = 32
 
 -- A node has 0 to 24 keys; the first 12 stay in a split.
 abbrev pub mostKeys : ℕ
@@ -39,6 +49,9 @@ keptKeys = 12
 abbrev pub mostEntries : ℕ
 mostEntries = 27
 
+abbrev pub entrySize : ℕ
+entrySize = 15
+
 abbrev pub mostLogPages : ℕ
 mostLogPages = 3
 
@@ -48,6 +61,9 @@ firstScores = 50
 
 abbrev pub otherScores : ℕ
 otherScores = 54
+
+abbrev pub scoresLess : ℕ
+scoresLess = otherScores - firstScores
 
 -- The greatest sequence number with which a pool opens.
 abbrev pub lastSequence : ℕ

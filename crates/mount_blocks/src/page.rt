@@ -5,20 +5,22 @@ ghost use lib.ListN.{length};
 ghost use Rattle.flash_blocks.specs.Pages.{pagesOf};
 ghost use Rattle.mount_blocks.specs.All.{firstIn};
 ghost use Rattle.mount_blocks.specs.Rules.{sequenceOn, blankAt, writtenAt, numberedAt};
+ghost use Rattle.layout.specs.Layout.{pageBytes};
 use flash_blocks::page::is_blank;
+use layout::PAGE_BYTES;
 use wire::number::read32;
 
 // The sequence number in a page's header.
 pub fn sequence_on(pool: &[u8], page: usize) -> u32
-    requires { ⌜ 512 * page + 512 ≤ length (now pool) ⌝ }
+    requires { ⌜ pageBytes * page + pageBytes ≤ length (now pool) ⌝ }
     ensures { λ r. ⌜ r ≡ sequenceOn (pagesOf (now (pool .entry))) page ⌝ }
 {
-    read32(pool, 512 * page + 3)
+    read32(pool, PAGE_BYTES * page + 3)
 }
 
 // The first blank page from one on and before another, or that other.
 pub fn first_blank(pool: &[u8], from: usize, to: usize) -> usize
-    requires { ⌜ (from ≤ to) × (512 * to ≤ length (now pool)) ⌝ }
+    requires { ⌜ (from ≤ to) × (pageBytes * to ≤ length (now pool)) ⌝ }
     ensures { λ r. ⌜ (r ≡ firstIn (blankAt (pagesOf (now (pool .entry)))) from to) × (from ≤ r) × (r ≤ to) ⌝ }
 {
     let mut page = from;
@@ -33,7 +35,7 @@ pub fn first_blank(pool: &[u8], from: usize, to: usize) -> usize
 
 // The first written page.
 pub fn first_written(pool: &[u8], from: usize, to: usize) -> usize
-    requires { ⌜ (from ≤ to) × (512 * to ≤ length (now pool)) ⌝ }
+    requires { ⌜ (from ≤ to) × (pageBytes * to ≤ length (now pool)) ⌝ }
     ensures { λ r. ⌜ r ≡ firstIn (writtenAt (pagesOf (now (pool .entry)))) from to ⌝ }
 {
     let mut page = from;
@@ -49,7 +51,7 @@ pub fn first_written(pool: &[u8], from: usize, to: usize) -> usize
 
 // The first page with a sequence number.
 pub fn first_numbered(pool: &[u8], from: usize, to: usize, number: u32) -> usize
-    requires { ⌜ (from ≤ to) × (512 * to ≤ length (now pool)) ⌝ }
+    requires { ⌜ (from ≤ to) × (pageBytes * to ≤ length (now pool)) ⌝ }
     ensures { λ r. ⌜ r ≡ firstIn (numberedAt (pagesOf (now (pool .entry))) number) from to ⌝ }
 {
     let mut page = from;

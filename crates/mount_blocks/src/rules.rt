@@ -5,13 +5,14 @@ ghost use lib.ListN.{length};
 ghost use Rattle.flash_blocks.specs.Pages.{pagesOf};
 ghost use Rattle.mount_blocks.specs.All.{allFrom};
 ghost use Rattle.mount_blocks.specs.Rules.{blockPasses, blocksPass, blockOf};
+ghost use Rattle.layout.specs.Layout.{blockBytes};
 use super::block::holds;
 use super::block::passes;
 use flash_blocks::blank::count_blank;
 
 // Whether each block keeps its own rules.
 fn each_passes(pool: &[u8], blocks: usize, newest: u32) -> bool
-    requires { ⌜ 16384 * blocks ≤ length (now pool) ⌝ }
+    requires { ⌜ blockBytes * blocks ≤ length (now pool) ⌝ }
     ensures { λ r. ⌜ r ≡ allFrom (blockPasses (pagesOf (now (pool .entry))) newest) blocks 0 ⌝ }
 {
     let mut block: usize = 0;
@@ -26,7 +27,7 @@ fn each_passes(pool: &[u8], blocks: usize, newest: u32) -> bool
 
 // Whether the blocks keep all rules.
 pub fn all_pass(pool: &[u8], blocks: usize, newest: u32) -> bool
-    requires { ⌜ 16384 * blocks ≤ length (now pool) ⌝ }
+    requires { ⌜ blockBytes * blocks ≤ length (now pool) ⌝ }
     ensures { λ r. ⌜ r ≡ blocksPass blocks (pagesOf (now (pool .entry))) newest ⌝ }
 {
     if each_passes(pool, blocks, newest) {} else {
@@ -37,7 +38,7 @@ pub fn all_pass(pool: &[u8], blocks: usize, newest: u32) -> bool
 
 // The block of a number, or the number of blocks.
 pub fn block_of(pool: &[u8], blocks: usize, number: u32) -> usize
-    requires { ⌜ 16384 * blocks ≤ length (now pool) ⌝ }
+    requires { ⌜ blockBytes * blocks ≤ length (now pool) ⌝ }
     ensures { λ r. ⌜ (r ≡ blockOf blocks (pagesOf (now (pool .entry))) number) × (r ≤ blocks) ⌝ }
 {
     let mut block: usize = 0;

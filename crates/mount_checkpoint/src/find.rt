@@ -2,12 +2,14 @@
 ghost use mathlib.Core.Path.{_≡_};
 ghost use Prim.Native.Nat.{_+_, _*_, _≤_, _<_};
 ghost use lib.ListN.{length};
-ghost use Rattle.layout.specs.Layout.{blockBytes, mostBlocks};
+ghost use Rattle.layout.specs.Layout.{blockBytes, mostBlocks, pageBytes};
 ghost use Rattle.flash_blocks.specs.Pages.{pagesOf};
 ghost use Rattle.mount_checkpoint.specs.Find.{tariffAt, Found};
 use super::marks::covers;
 use account::Costs;
 use account::Tariff;
+use layout::PAGES_IN_BLOCK;
+use layout::TARIFF_BYTES;
 use mount_checkpoint_pages::extent::extent_of;
 use mount_checkpoint_pages::part::page_in;
 use mount_checkpoint_pages::totals::sum_pages;
@@ -26,11 +28,11 @@ pub enum Checkpoint {
 
 // The tariff on a page; zeros where there is none.
 fn tariff_at(pool: &[u8], q: usize) -> Tariff
-    requires { ⌜ 512 * q + 512 ≤ length (now pool) ⌝ }
+    requires { ⌜ pageBytes * q + pageBytes ≤ length (now pool) ⌝ }
     ensures { λ r. ⌜ r ≡ tariffAt (pagesOf (now (pool .entry))) q ⌝ }
 {
     let p = payload(page_in(pool, q), 7, 0x13);
-    if p.len() != 32 {
+    if p.len() != TARIFF_BYTES {
         let none = Costs {
             read: 0,
             edit: 0,
@@ -51,7 +53,7 @@ pub fn find_checkpoint(pool: &[u8], scratch: &mut [u8], blocks: usize) -> Checkp
     requires { ⌜ (1 ≤ blocks) × (blocks ≤ mostBlocks) × (blockBytes * blocks ≤ length (now pool)) ⌝ }
     ensures { λ r. ⌜ Found (pagesOf (now (pool .entry))) blocks (now (scratch .entry)) (now (scratch .exit)) r ⌝ }
 {
-    let pages = 32 * blocks;
+    let pages = PAGES_IN_BLOCK * blocks;
     let e = extent_of(pool, pages);
     if e.since < 1 {
         return Checkpoint::Incomplete;

@@ -5,6 +5,7 @@ ghost use lib.ListN.{length};
 ghost use Rattle.flash_blocks.specs.Pages.{pagesOf};
 ghost use Rattle.mount_checkpoint.specs.EveryFrom.{everyFrom};
 ghost use Rattle.mount_checkpoint.specs.Marks.{marked, markPage, markPages, isMarked, Windowed, Covered};
+ghost use Rattle.layout.specs.Layout.{pageBytes};
 use mount_checkpoint_pages::checkpoint_page::scores_of;
 use mount_checkpoint_pages::part::page_in;
 use page_read::seal::sequence;
@@ -44,7 +45,7 @@ fn mark_page(page: &[u8], marks: &mut [u8], since: u32, start: usize)
 
 // Marks the ids on all pages from a number on.
 fn mark_pages(pool: &[u8], marks: &mut [u8], pages: usize, since: u32, start: usize)
-    requires { ⌜ 512 * pages ≤ length (now pool) ⌝ }
+    requires { ⌜ pageBytes * pages ≤ length (now pool) ⌝ }
     ensures { λ _. ⌜ now (marks .exit) ≡ markPages (pagesOf (now (pool .entry))) pages since start
         (now (marks .entry)) ⌝ }
 {
@@ -79,7 +80,7 @@ fn window(
     start: usize,
     size: usize,
 ) -> bool
-    requires { ⌜ (512 * pages ≤ length (now pool)) × (size ≤ length (now marks)) ⌝ }
+    requires { ⌜ (pageBytes * pages ≤ length (now pool)) × (size ≤ length (now marks)) ⌝ }
     ensures { λ r. ⌜ Windowed (pagesOf (now (pool .entry))) pages since start size
         (length (now (marks .entry))) (now (marks .exit)) r ⌝ }
 {
@@ -90,7 +91,7 @@ fn window(
 
 // Whether each id below the node count has a score. There are never more scores than two windows of the table hold.
 pub fn covers(pool: &[u8], marks: &mut [u8], pages: usize, since: u32, nodes: usize) -> bool
-    requires { ⌜ 512 * pages ≤ length (now pool) ⌝ }
+    requires { ⌜ pageBytes * pages ≤ length (now pool) ⌝ }
     ensures { λ r. ⌜ Covered (pagesOf (now (pool .entry))) pages since nodes (length (now (marks .entry)))
         (now (marks .exit)) r ⌝ }
 {

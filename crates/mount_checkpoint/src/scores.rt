@@ -2,11 +2,12 @@
 ghost use mathlib.Core.Path.{_≡_};
 ghost use Prim.Native.Nat.{_+_, _*_, _≤_, _<_};
 ghost use lib.ListN.{length};
-ghost use Rattle.layout.specs.Layout.{blockBytes};
-ghost use Rattle.flash_rows.specs.Row.{rowsOf};
+ghost use Rattle.layout.specs.Layout.{blockBytes, pagesInBlock};
+ghost use Rattle.flash_rows.specs.Row.{rowsOf, rowBytes};
 ghost use Rattle.flash_blocks.specs.Pages.{pagesOf};
 ghost use Rattle.mount_checkpoint.specs.EveryFrom.{everyFrom};
 ghost use Rattle.mount_checkpoint.specs.Scores.{scoreTaken, takePage, takePages, isBelow};
+use layout::PAGES_IN_BLOCK;
 use mount_checkpoint_pages::checkpoint_page::scores_of;
 use mount_checkpoint_pages::part::page_in;
 use page_read::seal::sequence;
@@ -14,7 +15,7 @@ use page_read::value::score_at;
 
 // The score of a node in its row.
 fn take_score(table: &mut [u8], nodes: usize, id: usize, score: u32)
-    requires { ⌜ 16 * nodes ≤ length (now table) ⌝ }
+    requires { ⌜ rowBytes * nodes ≤ length (now table) ⌝ }
     ensures { λ _. ⌜ rowsOf (now (table .exit)) ≡ scoreTaken nodes id score (rowsOf (now (table .entry))) ⌝ }
 {
     if id < nodes {
@@ -25,7 +26,7 @@ fn take_score(table: &mut [u8], nodes: usize, id: usize, score: u32)
 
 // The scores on a page, where its number is not below the first.
 fn take_page(page: &[u8], table: &mut [u8], since: u32, nodes: usize)
-    requires { ⌜ 16 * nodes ≤ length (now table) ⌝ }
+    requires { ⌜ rowBytes * nodes ≤ length (now table) ⌝ }
     ensures { λ _. ⌜ rowsOf (now (table .exit)) ≡ takePage since nodes (now (page .entry))
         (rowsOf (now (table .entry))) ⌝ }
 {
@@ -45,11 +46,11 @@ fn take_page(page: &[u8], table: &mut [u8], since: u32, nodes: usize)
 
 // The scores of all pages from a number on, each in its node's row.
 pub fn take_scores(pool: &[u8], table: &mut [u8], blocks: usize, since: u32, nodes: usize)
-    requires { ⌜ (blockBytes * blocks ≤ length (now pool)) × (16 * nodes ≤ length (now table)) ⌝ }
-    ensures { λ _. ⌜ rowsOf (now (table .exit)) ≡ takePages (pagesOf (now (pool .entry))) (32 * blocks) since
+    requires { ⌜ (blockBytes * blocks ≤ length (now pool)) × (rowBytes * nodes ≤ length (now table)) ⌝ }
+    ensures { λ _. ⌜ rowsOf (now (table .exit)) ≡ takePages (pagesOf (now (pool .entry))) (pagesInBlock * blocks) since
         nodes (rowsOf (now (table .entry))) ⌝ }
 {
-    let pages = 32 * blocks;
+    let pages = PAGES_IN_BLOCK * blocks;
     let mut q: usize = 0;
     while q < pages {
         take_page(page_in(pool, q), table, since, nodes);
@@ -59,7 +60,7 @@ pub fn take_scores(pool: &[u8], table: &mut [u8], blocks: usize, since: u32, nod
 
 // Whether the score of a row is below a limit.
 fn is_below(table: &[u8], n: usize, limit: u64) -> bool
-    requires { ⌜ 16 * n + 16 ≤ length (now table) ⌝ }
+    requires { ⌜ rowBytes * n + rowBytes ≤ length (now table) ⌝ }
     ensures { λ r. ⌜ r ≡ isBelow limit (rowsOf (now (table .entry))) n ⌝ }
 {
     let row = flash_rows::read_row(table, n);
@@ -69,7 +70,7 @@ fn is_below(table: &[u8], n: usize, limit: u64) -> bool
 
 // Whether the scores of all nodes are below a limit.
 pub fn scores_below(table: &[u8], nodes: usize, limit: u64) -> bool
-    requires { ⌜ 16 * nodes ≤ length (now table) ⌝ }
+    requires { ⌜ rowBytes * nodes ≤ length (now table) ⌝ }
     ensures { λ r. ⌜ r ≡ everyFrom (isBelow limit (rowsOf (now (table .entry)))) nodes 0 ⌝ }
 {
     let mut n: usize = 0;

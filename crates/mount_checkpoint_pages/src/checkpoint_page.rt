@@ -3,6 +3,12 @@ ghost use mathlib.Core.Path.{_≡_};
 ghost use Prim.Native.Nat.{_<_};
 ghost use lib.ListN.{length};
 ghost use Rattle.mount_checkpoint_pages.specs.CheckpointPage.{Standing, Read, fitsIn};
+use layout::FIELDS_AT;
+use layout::FIRST_SCORES;
+use layout::FIRST_SCORES_AT;
+use layout::OTHER_SCORES;
+use layout::SCORE_FIELD;
+use layout::TARIFF_BYTES;
 use page_read::field::count_scores;
 use page_read::seal::sequence;
 use wire::field::payload;
@@ -26,12 +32,15 @@ pub fn scores_of(page: &[u8]) -> Scores
     ensures { λ r. ⌜ Standing (now (page .entry)) r ⌝ }
 {
     let tariff = payload(page, 7, 0x13);
-    if tariff.len() != 32 {
-        let n = count_scores(page, 7, 54);
+    if tariff.len() != TARIFF_BYTES {
+        let n = count_scores(page, FIELDS_AT, OTHER_SCORES);
         return Scores { from: 7, count: n };
     }
-    let n = count_scores(page, 42, 50);
-    Scores { from: 42, count: n }
+    let n = count_scores(page, FIRST_SCORES_AT, FIRST_SCORES);
+    Scores {
+        from: FIRST_SCORES_AT,
+        count: n,
+    }
 }
 
 // The scores of a page and the node count behind them.
@@ -39,7 +48,7 @@ pub fn checkpoint_page_of(page: &[u8]) -> CheckpointPage
     ensures { λ r. ⌜ Read (now (page .entry)) r ⌝ }
 {
     let s = scores_of(page);
-    let count = payload(page, s.from + 9 * s.count, 0x15);
+    let count = payload(page, s.from + SCORE_FIELD * s.count, 0x15);
     if count.len() != 2 {
         return CheckpointPage {
             scores: s.count,

@@ -5,7 +5,9 @@ ghost use lib.ListN.{length};
 ghost use Rattle.flash_blocks.specs.Pages.{pagesOf};
 ghost use Rattle.mount_checkpoint_pages.specs.Extent as def;
 ghost use Rattle.mount_checkpoint_pages.specs.Extent.{Reach};
+ghost use Rattle.layout.specs.Layout.{pageBytes};
 use super::part::page_in;
+use layout::TARIFF_BYTES;
 use page_read::seal::sequence;
 use wire::field::payload;
 
@@ -33,7 +35,7 @@ fn extended(page: &[u8], q: usize, e: Extent) -> Extent
     let number = sequence(page);
     let newest = greater(e.newest, number);
     let tariff = payload(page, 7, 0x13);
-    if tariff.len() == 32 {
+    if tariff.len() == TARIFF_BYTES {
         if e.since < number {
             return Extent {
                 newest,
@@ -51,7 +53,7 @@ fn extended(page: &[u8], q: usize, e: Extent) -> Extent
 
 // The extent over all pages.
 pub fn extent_of(pool: &[u8], pages: usize) -> Extent
-    requires { ⌜ (1 ≤ pages) × (512 * pages ≤ length (now pool)) ⌝ }
+    requires { ⌜ (1 ≤ pages) × (pageBytes * pages ≤ length (now pool)) ⌝ }
     ensures { λ r. ⌜ Reach (pagesOf (now (pool .entry))) pages r ⌝ }
 {
     let mut e = Extent {

@@ -1,7 +1,7 @@
 // What the pages of the checkpoint add up to.
 ghost use Prim.Native.Nat.{_+_, _*_, _≤_, _<_};
 ghost use lib.ListN.{length};
-ghost use Rattle.layout.specs.Layout.{mostBlocks, pagesInBlock};
+ghost use Rattle.layout.specs.Layout.{mostBlocks, pagesInBlock, pageBytes};
 ghost use Rattle.flash_blocks.specs.Pages.{pagesOf};
 ghost use Rattle.mount_checkpoint_pages.specs.Totals.{Few, Added, Summed};
 use super::checkpoint_page::checkpoint_page_of;
@@ -43,7 +43,7 @@ fn add_page(page: &[u8], since: u32, newest: u32, t: Totals) -> Totals
 
 // The totals over all pages.
 pub fn sum_pages(pool: &[u8], pages: usize, since: u32, newest: u32) -> Totals
-    requires { ⌜ (pages ≤ pagesInBlock * mostBlocks) × (512 * pages ≤ length (now pool)) ⌝ }
+    requires { ⌜ (pages ≤ pagesInBlock * mostBlocks) × (pageBytes * pages ≤ length (now pool)) ⌝ }
     ensures { λ r. ⌜ Summed (pagesOf (now (pool .entry))) pages since newest r ⌝ }
 {
     let mut t = Totals {

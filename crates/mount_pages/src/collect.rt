@@ -5,6 +5,8 @@ ghost use lib.ListN.{length};
 ghost use Rattle.flash_blocks.specs.Pages.{pagesOf, pageAt};
 ghost use Rattle.mount_pages.specs.Seen.{seenIn, seenOf};
 ghost use Rattle.mount_pages.specs.Collect.{Collecting};
+ghost use Rattle.layout.specs.Layout.{pageBytes};
+use layout::PAGE_BYTES;
 use page_read::view::PageView;
 use page_read::view::view_page;
 use wire::number::write32;
@@ -51,17 +53,17 @@ fn seen_in(view: PageView) -> Seen
 
 // What is seen of a page.
 fn see(pool: &[u8], page: usize) -> Seen
-    requires { ⌜ 512 * page + 512 ≤ length (now pool) ⌝ }
+    requires { ⌜ pageBytes * page + pageBytes ≤ length (now pool) ⌝ }
     ensures { λ r. ⌜ r ≡ seenOf (pageAt (pagesOf (now (pool .entry))) page) ⌝ }
 {
-    let from = 512 * page;
-    let to = from + 512;
+    let from = PAGE_BYTES * page;
+    let to = from + PAGE_BYTES;
     seen_in(view_page(&pool[from..to]))
 }
 
 // Judges so many pages, and lays the sequence numbers of the written ones in a row.
 pub fn collect(pool: &[u8], table: &mut [u8], pages: usize) -> Collected
-    requires { ⌜ (512 * pages ≤ length (now pool)) × (4 * pages ≤ length (now table)) ⌝ }
+    requires { ⌜ (pageBytes * pages ≤ length (now pool)) × (4 * pages ≤ length (now table)) ⌝ }
     ensures { λ r. ⌜ Collecting (pagesOf (now (pool .entry))) pages (now (table .exit)) r ⌝ }
 {
     let mut page: usize = 0;

@@ -7,17 +7,20 @@ ghost use Rattle.mount_sequences.specs.Row.{row};
 ghost use Rattle.mount_sequences.specs.Find.{Ascending, has};
 ghost use Rattle.mount_filter.specs.Marks.{Marked};
 ghost use Rattle.mount_pages.specs.Versions.{apartOn, pageApart, pagesApart};
+ghost use Rattle.layout.specs.Layout.{pageBytes};
+use layout::MOST_ENTRIES;
+use layout::PAGE_BYTES;
 use mount_filter::has_marked;
 use wire::number::read8;
 use wire::number::read32;
 
 // Whether no entry of a page has a version that is a number of the row.
 fn is_new_version<'a>(page: &'a [u8], table: &'a [u8], n: usize, blocks: usize) -> bool
-    requires { ⌜ (length (now page) ≡ 512) × (Ascending (now table) n) × (Marked (now table) n blocks) ⌝ }
+    requires { ⌜ (length (now page) ≡ pageBytes) × (Ascending (now table) n) × (Marked (now table) n blocks) ⌝ }
     ensures { λ r. ⌜ r ≡ apartOn (has (row n 0 (now (table .entry)))) (now (page .entry)) ⌝ }
 {
     let mut at: usize = 7;
-    let mut left: usize = 27;
+    let mut left: usize = MOST_ENTRIES;
     while 0 < left {
         if read8(page, at) != 0x12 {
             return true;
@@ -39,11 +42,11 @@ fn page_versions_are_new<'a>(
     blocks: usize,
     page: usize,
 ) -> bool
-    requires { ⌜ (512 * page + 512 ≤ length (now pool)) × (Ascending (now table) n) × (Marked (now table) n blocks) ⌝ }
+    requires { ⌜ (pageBytes * page + pageBytes ≤ length (now pool)) × (Ascending (now table) n) × (Marked (now table) n blocks) ⌝ }
     ensures { λ r. ⌜ r ≡ pageApart (row n 0 (now (table .entry))) (pagesOf (now (pool .entry))) page ⌝ }
 {
-    let from = 512 * page;
-    let to = from + 512;
+    let from = PAGE_BYTES * page;
+    let to = from + PAGE_BYTES;
     is_new_version(&pool[from..to], table, n, blocks)
 }
 
@@ -55,7 +58,7 @@ pub fn versions_are_new<'a>(
     blocks: usize,
     pages: usize,
 ) -> bool
-    requires { ⌜ (512 * pages ≤ length (now pool)) × (Ascending (now table) n) × (Marked (now table) n blocks) ⌝ }
+    requires { ⌜ (pageBytes * pages ≤ length (now pool)) × (Ascending (now table) n) × (Marked (now table) n blocks) ⌝ }
     ensures { λ r. ⌜ r ≡ pagesApart (row n 0 (now (table .entry))) pages (pagesOf (now (pool .entry))) ⌝ }
 {
     let mut page: usize = 0;

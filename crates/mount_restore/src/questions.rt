@@ -9,6 +9,8 @@ ghost use Rattle.mount_restore.specs.Questions.{rowsPass, Judged, Asked}
 use super::table::restore_rows;
 use account::Tariff;
 use flash_allocate::state::State;
+use layout::LAST_SEQUENCE;
+use layout::node_limit;
 use mount_checkpoint::scores::scores_below;
 use mount_tree::is_sound;
 
@@ -25,7 +27,7 @@ fn rows_pass<'a>(pool: &'a [u8], table: &'a [u8], state: State, tariff: Tariff) 
     if scores_below(table, state.nodes, tariff.limit()) {} else {
         return false;
     }
-    is_sound(pool, table, state, 10 * (state.blocks - 2))
+    is_sound(pool, table, state, node_limit(state.blocks))
 }
 
 // Question 7. A count above the limit has no rows to restore.
@@ -35,7 +37,7 @@ fn tree_passes(pool: &[u8], table: &mut [u8], state: State, tariff: Tariff, sinc
         × (state .entries ≡ 0) ⌝ }
     ensures { λ r. ⌜ Judged tariff state since (pagesOf (now (pool .entry))) (rowsOf (now (table .exit))) r ⌝ }
 {
-    if 10 * (state.blocks - 2) < state.nodes {
+    if node_limit(state.blocks) < state.nodes {
         return false;
     }
     if restore_rows(pool, table, state.blocks, state.nodes, since) {} else {
@@ -54,7 +56,7 @@ pub fn refusal(pool: &[u8], table: &mut [u8], state: State, tariff: Tariff, sinc
     if tree_passes(pool, table, state, tariff, since) {} else {
         return 7;
     }
-    if state.last <= 4000000000 {
+    if state.last <= LAST_SEQUENCE {
         return 0;
     }
     8

@@ -2,21 +2,23 @@
 ghost use mathlib.Core.Path.{_≡_};
 ghost use Prim.Native.Nat.{_+_, _*_, _≤_, _<_};
 ghost use lib.ListN.{length};
-ghost use Rattle.layout.specs.Layout.{blockBytes, mostBlocks, nodeLimit, tableBytes};
-ghost use Rattle.flash_rows.specs.Row.{rowsOf};
+ghost use Rattle.layout.specs.Layout.{blockBytes, mostBlocks, nodeLimit, tableBytes, mostPages, pageBytes};
+ghost use Rattle.flash_rows.specs.Row.{rowsOf, rowBytes};
 ghost use Rattle.flash_blocks.specs.Pages.{pagesOf};
 ghost use Rattle.mount_rows.specs.Fill.{seenPage, filled, withinThree, Filled};
 use super::pieces::see_entries;
 use super::pieces::see_node;
+use layout::PAGE_BYTES;
+use layout::PAGES_IN_BLOCK;
 
 // The pieces on one page of the pool.
 fn see_page(pool: &[u8], table: &mut [u8], nodes: usize, page: usize)
-    requires { ⌜ (page < 2048) × (512 * page + 512 ≤ length (now pool)) × (16 * nodes ≤ length (now table)) ⌝ }
+    requires { ⌜ (page < mostPages) × (pageBytes * page + pageBytes ≤ length (now pool)) × (rowBytes * nodes ≤ length (now table)) ⌝ }
     ensures { λ _. ⌜ rowsOf (now (table .exit)) ≡ seenPage nodes (pagesOf (now (pool .entry))) page
         (rowsOf (now (table .entry))) ⌝ }
 {
-    let from = 512 * page;
-    let to = from + 512;
+    let from = PAGE_BYTES * page;
+    let to = from + PAGE_BYTES;
     let bytes = &pool[from..to];
     let number = page as u16;
     see_entries(bytes, table, nodes, number);
@@ -26,11 +28,11 @@ fn see_page(pool: &[u8], table: &mut [u8], nodes: usize, page: usize)
 // The pieces on all pages.
 fn see_pages(pool: &[u8], table: &mut [u8], blocks: usize, nodes: usize)
     requires { ⌜ (blocks ≤ mostBlocks) × (length (now pool) ≡ blockBytes * blocks)
-        × (16 * nodes ≤ length (now table)) ⌝ }
+        × (rowBytes * nodes ≤ length (now table)) ⌝ }
     ensures { λ _. ⌜ rowsOf (now (table .exit)) ≡ filled blocks nodes (pagesOf (now (pool .entry)))
         (rowsOf (now (table .entry))) ⌝ }
 {
-    let pages = 32 * blocks;
+    let pages = PAGES_IN_BLOCK * blocks;
     let mut page: usize = 0;
     while page < pages {
         see_page(pool, table, nodes, page);
@@ -40,7 +42,7 @@ fn see_pages(pool: &[u8], table: &mut [u8], blocks: usize, nodes: usize)
 
 // Whether each of the first rows has at most three pages.
 fn within_three(table: &[u8], nodes: usize) -> bool
-    requires { ⌜ 16 * nodes ≤ length (now table) ⌝ }
+    requires { ⌜ rowBytes * nodes ≤ length (now table) ⌝ }
     ensures { λ r. ⌜ r ≡ withinThree nodes (rowsOf (now (table .entry))) ⌝ }
 {
     let mut left = nodes;

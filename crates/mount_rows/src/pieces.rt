@@ -2,11 +2,13 @@
 ghost use mathlib.Core.Path.{_≡_};
 ghost use Prim.Native.Nat.{_+_, _*_, _≤_};
 ghost use lib.ListN.{length};
-ghost use Rattle.layout.specs.Layout.{mostEntries};
-ghost use Rattle.flash_rows.specs.Row.{rowsOf};
+ghost use Rattle.layout.specs.Layout.{mostEntries, entrySize};
+ghost use Rattle.flash_rows.specs.Row.{rowsOf, rowBytes};
 ghost use Rattle.mount_rows.specs.Pieces.{seenEntry, seenRun, seenNode};
 use super::row::see;
 use account::Mode;
+use layout::ENTRY_BYTES;
+use layout::MOST_ENTRIES;
 use page_read::seal::sequence;
 use wire::field::payload;
 use wire::number::read16;
@@ -14,7 +16,7 @@ use wire::number::read32;
 
 // One entry of a log page.
 fn see_entry(entry: &[u8], table: &mut [u8], nodes: usize, page: u16)
-    requires { ⌜ (length (now entry) ≡ 15) × (16 * nodes ≤ length (now table)) ⌝ }
+    requires { ⌜ (length (now entry) ≡ entrySize) × (rowBytes * nodes ≤ length (now table)) ⌝ }
     ensures { λ _. ⌜ rowsOf (now (table .exit)) ≡ seenEntry nodes page (now (entry .entry))
         (rowsOf (now (table .entry))) ⌝ }
 {
@@ -25,15 +27,15 @@ fn see_entry(entry: &[u8], table: &mut [u8], nodes: usize, page: u16)
 
 // The entries of a page, in order.
 pub fn see_entries(bytes: &[u8], table: &mut [u8], nodes: usize, page: u16)
-    requires { ⌜ 16 * nodes ≤ length (now table) ⌝ }
+    requires { ⌜ rowBytes * nodes ≤ length (now table) ⌝ }
     ensures { λ _. ⌜ rowsOf (now (table .exit)) ≡ seenRun nodes page mostEntries (now (bytes .entry)) 7
         (rowsOf (now (table .entry))) ⌝ }
 {
     let mut at: usize = 7;
-    let mut left: usize = 27;
+    let mut left: usize = MOST_ENTRIES;
     while 0 < left {
         let entry = payload(bytes, at, 0x12);
-        if entry.len() != 15 {
+        if entry.len() != ENTRY_BYTES {
             return;
         }
         see_entry(entry, table, nodes, page);
@@ -44,7 +46,7 @@ pub fn see_entries(bytes: &[u8], table: &mut [u8], nodes: usize, page: u16)
 
 // The node of a page, whose version is the page's sequence number.
 pub fn see_node(bytes: &[u8], table: &mut [u8], nodes: usize, page: u16)
-    requires { ⌜ 16 * nodes ≤ length (now table) ⌝ }
+    requires { ⌜ rowBytes * nodes ≤ length (now table) ⌝ }
     ensures { λ _. ⌜ rowsOf (now (table .exit)) ≡ seenNode nodes page (now (bytes .entry))
         (rowsOf (now (table .entry))) ⌝ }
 {

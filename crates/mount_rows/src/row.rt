@@ -2,7 +2,7 @@
 ghost use mathlib.Core.Path.{_≡_};
 ghost use Prim.Native.Nat.{_+_, _*_, _≤_};
 ghost use lib.ListN.{length, set, getD};
-ghost use Rattle.flash_rows.specs.Row.{rowsOf, noRow};
+ghost use Rattle.flash_rows.specs.Row.{rowsOf, noRow, rowBytes};
 ghost use Rattle.mount_rows.specs.Seen as def;
 ghost use Rattle.mount_rows.specs.Seen.{oneMore, seenAt};
 use account::Mode;
@@ -35,7 +35,7 @@ fn lacks(row: Row, version: u32, page: u16) -> bool
 
 // The row of a node after a piece of a version was met on a page.
 fn see_row(table: &mut [u8], id: usize, version: u32, mode: Mode, page: u16)
-    requires { ⌜ 16 * id + 16 ≤ length (now table) ⌝ }
+    requires { ⌜ rowBytes * id + rowBytes ≤ length (now table) ⌝ }
     ensures { λ _. ⌜ rowsOf (now (table .exit)) ≡ set (rowsOf (now (table .entry))) id
         (def.seen version mode page (getD (rowsOf (now (table .entry))) id noRow)) ⌝ }
 {
@@ -52,7 +52,7 @@ fn see_row(table: &mut [u8], id: usize, version: u32, mode: Mode, page: u16)
 
 // The same, where the node exists.
 pub fn see(table: &mut [u8], nodes: usize, id: usize, version: u32, mode: Mode, page: u16)
-    requires { ⌜ 16 * nodes ≤ length (now table) ⌝ }
+    requires { ⌜ rowBytes * nodes ≤ length (now table) ⌝ }
     ensures { λ _. ⌜ rowsOf (now (table .exit)) ≡ seenAt nodes id version mode page (rowsOf (now (table .entry))) ⌝ }
 {
     if id < nodes {

@@ -12,6 +12,7 @@ ghost use Rattle.mount_survey.specs.Surveyed.{Ready, Surveyed};
 use answer::Survey;
 use answer::failed;
 use answer::found;
+use layout::PAGES_IN_BLOCK;
 use mount_blocks::rules::all_pass;
 use mount_filter::mark;
 use mount_pages::collect::collect;
@@ -30,7 +31,7 @@ fn numbers_pass(pool: &[u8], table: &mut [u8], n: usize, blocks: usize, newest: 
         return false;
     }
     mark(table, n, blocks);
-    versions_are_new(pool, table, n, blocks, 32 * blocks)
+    versions_are_new(pool, table, n, blocks, PAGES_IN_BLOCK * blocks)
 }
 
 // Surveys a pool, with a table lent for the work; what the table holds afterwards means nothing.
@@ -39,7 +40,7 @@ pub fn survey(pool: &[u8], scratch: &mut [u8], blocks: usize) -> Survey
         × (length (now scratch) ≡ tableBytes blocks) ⌝ }
     ensures { λ r. ⌜ Surveyed (now (pool .entry)) blocks r ⌝ }
 {
-    let collected = collect(pool, scratch, 32 * blocks);
+    let collected = collect(pool, scratch, PAGES_IN_BLOCK * blocks);
     let n = collected.count;
     if collected.ok {} else {
         return failed();

@@ -10,12 +10,12 @@ use Rattle.node.specs.declared.NodeValue.{NodeValue}
 use Rattle.node.specs.Replay.{sameShape}
 use Rattle.node.specs.Value.{pairsIn, nodeOf, Held, length-pairsIn}
 use Rattle.tree.specs.Sound.{Walk, inOrder, visitLeaf}
-use Rattle.tree_laws.specs.Levels.{mostNodes}
 use Rattle.mount_tree.specs.declared.walk.WalkValue.{WalkValue}
 use Rattle.mount_tree.specs.WalkValue.{walkOf, failedAt, markedAt, Room, Walked, failed-walked, marked-walked, length-marks}
 use Rattle.flash_read.specs.Shapes.{is-leaf, is-branch}
 use Rattle.mount_tree.specs.Steps.{order-inside, leaf-branch, leaf-disorder, leaf-other, leaf-taken, enterBranch, branch-leaf}
 use Rattle.mount_tree.specs.Steps.{branch-disorder, branch-empty, branch-entered}
+use Rattle.layout.specs.Layout.{mostNodes}
 
 -- What a visit of a node is given.
 pub record Visit (v : NodeValue) (nodes : ℕ) (w : WalkValue) : Type 0 where

@@ -3,10 +3,10 @@ use mathlib.Core.Path.{_≡_, sym, ap, _∙_}
 use mathlib.Core.Bool.{false}
 use Prim.Native.Nat.{ℕ, suc, _≤_, _<_}
 use borrow.Author.Tests.{le-leb, lt-leb}
-use Rattle.layout.specs.Layout.{bound32}
+use Rattle.layout.specs.Layout.{bound32, mostNodes}
 use Rattle.tree.specs.Table.{Table}
 use Rattle.tree.specs.Sound.{leftmost, visit, complete, walkFrom, sound}
-use Rattle.tree_laws.specs.Levels.{mostDepth, mostNodes, soundBy, sound-shallow}
+use Rattle.tree_laws.specs.Levels.{mostDepth, soundBy, sound-shallow}
 use Rattle.mount_tree.specs.declared.walk.WalkValue.{WalkValue}
 use Rattle.mount_tree.specs.declared.first_leaf.FirstLeaf.{FirstLeaf}
 use Rattle.mount_tree.specs.WalkValue.{soFar, andThen, beginAt, begin-soFar, Walked}

@@ -9,8 +9,8 @@ use lib.ListN.{length, getD, take, set, replicate, length-set, length-replicate}
 use lib.Seq.{length-take-le, getD-take, take-set-lt}
 use Rattle.laws.specs.Tests.{choose}
 use Rattle.tree.specs.Sound.{Walk, noMarks}
-use Rattle.tree_laws.specs.Levels.{mostNodes}
 use Rattle.mount_tree.specs.declared.walk.WalkValue.{WalkValue}
+use Rattle.layout.specs.Layout.{mostNodes}
 
 -- The walk over so many nodes, without the bytes behind them.
 abbrev pub walkOf : ℕ → WalkValue → Walk

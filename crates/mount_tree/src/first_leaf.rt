@@ -7,6 +7,7 @@ ghost use Rattle.flash_read.specs.NodeTable.{tableOf, Readable};
 ghost use Rattle.mount_tree.specs.FirstLeaf.{leftmostOf};
 use flash_allocate::state::State;
 use flash_read::by_id::node_at;
+use layout::MOST_LEVELS;
 use node::Shape;
 use node::search::pointer;
 use node_replay::same_shape;
@@ -24,7 +25,7 @@ pub fn first_leaf<'a>(pool: &'a [u8], table: &'a [u8], state: State) -> FirstLea
 {
     let mut depth: usize = 0;
     let mut leaf: usize = 0;
-    while depth < 9 {
+    while depth < MOST_LEVELS {
         let v = node_at(pool, table, state, leaf);
         let shape = v.shape;
         if same_shape(shape, Shape::Leaf) {

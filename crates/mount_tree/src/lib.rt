@@ -4,9 +4,10 @@ ghost use mathlib.Core.Path.{_≡_};
 ghost use Prim.Native.Nat.{_*_, _≤_};
 ghost use lib.ListN.{length};
 ghost use Rattle.flash_blocks.specs.Pages.{pagesOf};
-ghost use Rattle.flash_rows.specs.Row.{rowsOf};
+ghost use Rattle.flash_rows.specs.Row.{rowsOf, rowBytes};
 ghost use Rattle.tree.specs.Sound.{sound};
 ghost use Rattle.flash_read.specs.NodeTable.{tableOf};
+ghost use Rattle.layout.specs.Layout.{mostEntries, mostNodes};
 
 pub mod first_leaf;
 pub mod walk;
@@ -19,7 +20,7 @@ use walk::visit;
 
 // Whether the nodes of the table are a sound tree of at most `limit`. One of more than 8 levels of branches is none, since it has too many nodes.
 pub fn is_sound<'a>(pool: &'a [u8], table: &'a [u8], state: State, limit: usize) -> bool
-    requires { ⌜ (state .entries ≤ 27) × (limit ≤ 620) × (16 * limit ≤ length (now table)) ⌝ }
+    requires { ⌜ (state .entries ≤ mostEntries) × (limit ≤ mostNodes) × (rowBytes * limit ≤ length (now table)) ⌝ }
     ensures { λ r. ⌜ r ≡ sound limit (state .nodes)
         (tableOf (pagesOf (now (pool .entry))) (rowsOf (now (table .entry))) state) ⌝ }
 {

@@ -11,8 +11,11 @@ ghost use Rattle.flash_read.specs.NodeTable.{tableOf, Readable};
 ghost use Rattle.mount_tree.specs.WalkValue.{walkOf, soFar, andThen, failedAt, markedAt, beginAt, Room, Walked};
 ghost use Rattle.mount_tree.specs.Steps.{enterBranch};
 ghost use Rattle.mount_tree.specs.Nodes.{Visit};
+ghost use Rattle.layout.specs.Layout.{mostNodes};
 use flash_allocate::state::State;
 use flash_read::by_id::node_at;
+use layout::MOST_NODES;
+use layout::NO_LEAF;
 use node::NodeValue;
 use node::Shape;
 use node::search::ascends;
@@ -24,7 +27,7 @@ use node_replay::same_shape;
 pub struct WalkValue {
     pub passed: bool,
     pub awaited: usize,
-    pub marks: [u8; 620],
+    pub marks: [u8; MOST_NODES],
 }
 
 // A walk that awaits the first leaf.
@@ -34,7 +37,7 @@ pub fn begin(leaf: usize) -> WalkValue
     WalkValue {
         passed: true,
         awaited: leaf,
-        marks: [0u8; 620],
+        marks: [0u8; MOST_NODES],
     }
 }
 
@@ -49,7 +52,7 @@ fn failed(w: WalkValue) -> WalkValue
 
 // The walk that has reached an id and awaits a leaf.
 fn marked(w: WalkValue, id: usize, awaited: usize) -> WalkValue
-    requires { ⌜ (Room w) × (id < 620) ⌝ }
+    requires { ⌜ (Room w) × (id < mostNodes) ⌝ }
     ensures { λ r. ⌜ r ≡ markedAt w id awaited ⌝ }
 {
     let mut marks = w.marks;
@@ -159,7 +162,7 @@ pub fn visit<'a>(
 
 // Whether every id was reached.
 fn all_marked(w: WalkValue, nodes: usize) -> bool
-    requires { ⌜ (nodes ≤ 620) × (Room w) ⌝ }
+    requires { ⌜ (nodes ≤ mostNodes) × (Room w) ⌝ }
     ensures { λ r. ⌜ r ≡ allMarked (take nodes (w .marks)) ⌝ }
 {
     let marks = w.marks;
@@ -175,11 +178,11 @@ fn all_marked(w: WalkValue, nodes: usize) -> bool
 
 // The walk passed, the links ended in FFFFFFFF, and every id was reached.
 pub fn complete(w: WalkValue, nodes: usize) -> bool
-    requires { ⌜ (nodes ≤ 620) × (Room w) ⌝ }
+    requires { ⌜ (nodes ≤ mostNodes) × (Room w) ⌝ }
     ensures { λ r. ⌜ r ≡ def.complete (soFar nodes w) ⌝ }
 {
     if w.passed {
-        if w.awaited == 4294967295 {
+        if w.awaited == NO_LEAF {
             return all_marked(w, nodes);
         }
         return false;

@@ -1,4 +1,6 @@
 // A tree node by value: the search in it, and its edits.
+use layout::MOST_KEYS;
+
 pub mod edit;
 pub mod search;
 pub mod splice;
@@ -14,8 +16,8 @@ pub enum Shape {
 pub struct NodeValue {
     pub shape: Shape,
     pub count: usize,
-    pub keys: [u32; 24],
-    pub pointers: [u32; 24],
+    pub keys: [u32; MOST_KEYS],
+    pub pointers: [u32; MOST_KEYS],
     pub link: u32,
 }
 

@@ -4,9 +4,10 @@ ghost use Prim.Native.Nat.{_+_, _-_, _≤_, _<_};
 ghost use lib.ListN.{length, take};
 ghost use Rattle.layout.specs.Layout.{mostKeys};
 ghost use Rattle.node.specs.Splice.{insertAt, removeAt};
+use layout::MOST_KEYS;
 
 // The first `count` values with one more at a place, where those from there on move up.
-pub fn insert(a: [u32; 24], count: usize, at: usize, x: u32) -> [u32; 24]
+pub fn insert(a: [u32; MOST_KEYS], count: usize, at: usize, x: u32) -> [u32; MOST_KEYS]
     requires { ⌜ (at ≤ count) × (count < mostKeys) ⌝ }
     ensures { λ r. ⌜ (take (count + 1) r ≡ insertAt at x (take count a)) × (length r ≡ mostKeys) ⌝ }
 {
@@ -22,7 +23,7 @@ pub fn insert(a: [u32; 24], count: usize, at: usize, x: u32) -> [u32; 24]
 }
 
 // The first `count` values without the one at a place, where those behind it move down.
-pub fn remove(a: [u32; 24], count: usize, at: usize) -> [u32; 24]
+pub fn remove(a: [u32; MOST_KEYS], count: usize, at: usize) -> [u32; MOST_KEYS]
     requires { ⌜ (at < count) × (count ≤ mostKeys) ⌝ }
     ensures { λ r. ⌜ (take (count - 1) r ≡ removeAt at (take count a)) × (length r ≡ mostKeys) ⌝ }
 {

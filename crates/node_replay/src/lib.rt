@@ -6,6 +6,7 @@ ghost use Rattle.node.specs.Change.{put, remove, link};
 ghost use Rattle.node.specs.Replay.{unlinked, redo, sameShape};
 ghost use Rattle.node.specs.Value.{Held, Becomes};
 ghost use Rattle.node.specs.Drafts.{draftOf, changeOf, brokenAt, Redone};
+use layout::MOST_KEYS;
 use node::ChangeValue;
 use node::DraftState;
 use node::DraftValue;
@@ -22,8 +23,8 @@ pub fn empty_node(shape: Shape, to: u32) -> NodeValue
     NodeValue {
         shape,
         count: 0,
-        keys: [0u32; 24],
-        pointers: [0u32; 24],
+        keys: [0u32; MOST_KEYS],
+        pointers: [0u32; MOST_KEYS],
         link: to,
     }
 }
@@ -79,7 +80,7 @@ fn redo_put(d: DraftValue, key: u32, pointer: u32) -> DraftValue
             return DraftValue { state, node };
         }
         Found::Above(i) => {
-            if v.count < 24 {
+            if v.count < MOST_KEYS {
                 let node = edit::added(v, i, key, pointer);
                 return DraftValue { state, node };
             }

@@ -8,11 +8,12 @@ ghost use Rattle.node.specs.Splice.{insertAt};
 ghost use Rattle.node.specs.Value.{nodeOf, Becomes};
 ghost use Rattle.node.specs.Halves.{lowerHalf, upperHalf, middleKey, lowerLink, upperFrom};
 ghost use Rattle.node_split.specs.Split.{Splits};
+use layout::MOST_KEYS;
 use node::NodeValue;
 use node::Shape;
 
 // The value at an index of the array with one more at a place.
-fn value_at(a: [u32; 24], at: usize, x: u32, i: usize) -> u32
+fn value_at(a: [u32; MOST_KEYS], at: usize, x: u32, i: usize) -> u32
     requires { ⌜ (at ≤ mostKeys) × (i ≤ mostKeys) ⌝ }
     ensures { λ r. ⌜ r ≡ getD (insertAt at x a) i 0 ⌝ }
 {
@@ -26,11 +27,11 @@ fn value_at(a: [u32; 24], at: usize, x: u32, i: usize) -> u32
 }
 
 // The n values from an index on of the array with one more at a place.
-fn values_from(a: [u32; 24], at: usize, x: u32, from: usize, n: usize) -> [u32; 24]
+fn values_from(a: [u32; MOST_KEYS], at: usize, x: u32, from: usize, n: usize) -> [u32; MOST_KEYS]
     requires { ⌜ (at ≤ mostKeys) × (n ≤ mostKeys) × (from + n ≤ mostKeys + 1) ⌝ }
     ensures { λ r. ⌜ (take n r ≡ take n (drop from (insertAt at x a))) × (length r ≡ mostKeys) ⌝ }
 {
-    let mut b = [0u32; 24];
+    let mut b = [0u32; MOST_KEYS];
     let mut i: usize = 0;
     while i < n {
         let y = value_at(a, at, x, from + i);

@@ -13,6 +13,9 @@ ghost use Rattle.page_write.specs.Laid.{summed};
 ghost use Rattle.page_write.specs.Pages.{bodyOf};
 ghost use Rattle.page_checkpoint.specs.Checkpoint.{scoreRecord, onlyIf, recordsPage, LaidTo};
 use account::Tariff;
+use layout::FIRST_SCORES_AT;
+use layout::PAGE_BYTES;
+use layout::SCORE_FIELD;
 use page_write::frame::lay_run;
 use page_write::frame::lay_sequence;
 use page_write::frame::lay_sums;
@@ -61,7 +64,7 @@ fn lay_front(p: &mut [u8], first: bool, tariff: Tariff) -> usize
 {
     if first {
         lay_tariff(p, 7, tariff);
-        return 42;
+        return FIRST_SCORES_AT;
     }
     7
 }
@@ -98,7 +101,7 @@ fn lay_checkpoint(
     lay_sequence(p, sequence);
     let at = lay_front(p, first, tariff);
     lay_run(p, at, 0x14, records, 6, n);
-    let end = lay_end(p, at + 9 * n, last, count);
+    let end = lay_end(p, at + SCORE_FIELD * n, last, count);
     lay_sums(p, end);
 }
 
@@ -112,11 +115,11 @@ pub fn checkpoint_image(
     n: usize,
     last: bool,
     count: u32,
-) -> [u8; 512]
+) -> [u8; PAGE_BYTES]
     requires { ⌜ (n ≤ mostScores first) × ((6 * n ≤ length (now records)) × (count < 65536)) ⌝ }
     ensures { λ r. ⌜ r ≡ image (recordsPage sequence first tariff n (now (records .entry)) last count) ⌝ }
 {
-    let mut p = [255u8; 512];
+    let mut p = [255u8; PAGE_BYTES];
     lay_checkpoint(&mut p, sequence, first, tariff, records, n, last, count);
     p
 }

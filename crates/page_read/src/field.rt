@@ -3,6 +3,9 @@ ghost use mathlib.Core.Path.{_≡_};
 ghost use Prim.Native.Nat.{_+_, _≤_, _<_};
 ghost use Rattle.layout.specs.Layout.{mostEntries};
 ghost use Rattle.page.specs.Decode.{changeOk, entryOk, scoreOk, run};
+use layout::ENTRY_BYTES;
+use layout::MOST_ENTRIES;
+use layout::SCORE_FIELD;
 use wire::field::payload;
 use wire::number::read32;
 
@@ -29,7 +32,7 @@ fn change_ok(kind: u8, key: u32, pointer: u32) -> bool
 pub fn entry_ok(p: &[u8], sequence: u32) -> bool
     ensures { λ r. ⌜ r ≡ entryOk sequence (now (p .entry)) ⌝ }
 {
-    if p.len() != 15 {
+    if p.len() != ENTRY_BYTES {
         return false;
     }
     let version = read32(p, 2);
@@ -51,7 +54,7 @@ pub fn count_entries(page: &[u8], sequence: u32) -> usize
 {
     let mut n: usize = 0;
     let mut at: usize = 7;
-    while n < 27 {
+    while n < MOST_ENTRIES {
         let p = payload(page, at, 0x12);
         if entry_ok(p, sequence) {} else {
             return n;
@@ -75,7 +78,7 @@ pub fn count_scores(page: &[u8], from: usize, most: usize) -> usize
             return n;
         }
         n += 1;
-        at += 9;
+        at += SCORE_FIELD;
     }
     n
 }

@@ -8,6 +8,7 @@ ghost use Rattle.page.specs.Decode.{tariffOf};
 ghost use Rattle.page_read.specs.Value.{entryValue, scoreValue, costsAt, pairValue, linkValue};
 use account::Costs;
 use account::Tariff;
+use layout::ENTRY_BYTES;
 use wire::field::payload;
 use wire::number::read16;
 use wire::number::read32;
@@ -58,7 +59,7 @@ pub fn entry_at(page: &[u8], i: usize) -> EntryValue
     ensures { λ r. ⌜ r ≡ entryValue (payloadAt (now (page .entry)) (7 + 18 * i) 0x12) ⌝ }
 {
     let p = payload(page, 7 + 18 * i, 0x12);
-    if p.len() != 15 {
+    if p.len() != ENTRY_BYTES {
         return EntryValue {
             id: 0,
             version: 0,

@@ -14,6 +14,12 @@ use super::field::count_scores;
 use super::seal::all_blank;
 use super::seal::is_sealed;
 use super::seal::sequence;
+use layout::FIELDS_AT;
+use layout::FIRST_SCORES;
+use layout::FIRST_SCORES_AT;
+use layout::OTHER_SCORES;
+use layout::SCORE_FIELD;
+use layout::TARIFF_BYTES;
 use node::Shape;
 use wire::field::payload;
 use wire::number::read16;
@@ -131,7 +137,7 @@ fn view_scores(
     if n < 1 {
         return PageView::Bad;
     }
-    let end = at + 9 * n;
+    let end = at + SCORE_FIELD * n;
     let c = payload(page, end, 0x15);
     if c.len() != 2 {
         if n != most {
@@ -165,12 +171,12 @@ fn view_checkpoint(page: &[u8], sequence: u32) -> PageView
     ensures { λ r. ⌜ r ≡ view (decodeCheckpoint sequence (payloadAt (now (page .entry)) 7 0x13) (now (page .entry))) ⌝ }
 {
     let t = payload(page, 7, 0x13);
-    if t.len() != 32 {
-        let n = count_scores(page, 7, 54);
-        return view_scores(page, sequence, false, 7, n, 54);
+    if t.len() != TARIFF_BYTES {
+        let n = count_scores(page, FIELDS_AT, OTHER_SCORES);
+        return view_scores(page, sequence, false, FIELDS_AT, n, OTHER_SCORES);
     }
-    let n = count_scores(page, 42, 50);
-    view_scores(page, sequence, true, 42, n, 50)
+    let n = count_scores(page, FIRST_SCORES_AT, FIRST_SCORES);
+    view_scores(page, sequence, true, FIRST_SCORES_AT, n, FIRST_SCORES)
 }
 
 // What a page is.

@@ -9,6 +9,7 @@ ghost use Rattle.layout.specs.Layout.{pageBytes};
 ghost use Rattle.wire.specs.Field.{field};
 ghost use Rattle.page.specs.Image.{fields, sumsField};
 ghost use Rattle.page_write.specs.Chunks.{chunks};
+use layout::PAGE_BYTES;
 use wire::bytes::lay_bytes;
 use wire::field::lay_field;
 use wire::field::lay_head;
@@ -65,7 +66,7 @@ pub fn lay_run(p: &mut [u8], at: usize, tag: u8, records: &[u8], size: usize, n:
 }
 
 // Fills the part of the pool that the page writer is lent.
-pub fn fill_page(part: &mut [u8], image: [u8; 512])
+pub fn fill_page(part: &mut [u8], image: [u8; PAGE_BYTES])
     requires { ⌜ length (now part) ≡ pageBytes ⌝ }
     ensures { λ _. ⌜ now (part .exit) ≡ image ⌝ }
 {
@@ -73,9 +74,9 @@ pub fn fill_page(part: &mut [u8], image: [u8; 512])
 }
 
 // Writes a page at a place of the pool.
-pub fn write_page(pool: &mut [u8], at: usize, image: [u8; 512])
+pub fn write_page(pool: &mut [u8], at: usize, image: [u8; PAGE_BYTES])
     requires { ⌜ at + pageBytes ≤ length (now pool) ⌝ }
     ensures { λ _. ⌜ now (pool .exit) ≡ lay (now (pool .entry)) at image ⌝ }
 {
-    fill_page(&mut pool[at..at + 512], image);
+    fill_page(&mut pool[at..at + PAGE_BYTES], image);
 }

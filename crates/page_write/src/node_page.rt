@@ -11,6 +11,7 @@ ghost use Rattle.page_write.specs.Parts.{nodeHead};
 use super::frame::lay_byte;
 use super::frame::lay_sequence;
 use super::frame::lay_sums;
+use layout::PAGE_BYTES;
 use node::Shape;
 use wire::field::lay_head;
 use wire::number::write16;
@@ -86,12 +87,12 @@ pub fn node_image(
     pointers: &[u32],
     n: usize,
     link: u32,
-) -> [u8; 512]
+) -> [u8; PAGE_BYTES]
     requires { ⌜ (id < 65536) × (n ≤ mostKeys) ⌝ }
     requires { ⌜ (n ≤ length (now keys)) × (n ≤ length (now pointers)) ⌝ }
     ensures { λ r. ⌜ r ≡ image (nodePage sequence id shape n (now (keys .entry)) (now (pointers .entry)) link) ⌝ }
 {
-    let mut p = [255u8; 512];
+    let mut p = [255u8; PAGE_BYTES];
     lay_node(&mut p, sequence, id, shape, keys, pointers, n, link);
     p
 }

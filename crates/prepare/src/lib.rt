@@ -7,6 +7,12 @@ ghost use Rattle.page.specs.Image.{image};
 ghost use Rattle.model.specs.Call.{prepareOf};
 ghost use Rattle.prepare.specs.Prepared.{blocksIf, rootPage, checkpointPage, firstBytes, Leaves};
 use account::Tariff;
+use layout::BLOCK_BYTES;
+use layout::ENTRY_BYTES;
+use layout::FEWEST_BLOCKS;
+use layout::MOST_BLOCKS;
+use layout::NO_LEAF;
+use layout::PAGE_BYTES;
 use page_checkpoint::checkpoint_image;
 use page_write::frame::write_page;
 use page_write::log_page::lay_entry;
@@ -17,30 +23,30 @@ use wire::bytes::fill;
 pub fn pool_blocks(bytes: usize) -> usize
     ensures { λ r. ⌜ r ≡ blocksIf bytes ⌝ }
 {
-    let blocks = bytes / 16384;
-    if blocks < 4 {
+    let blocks = bytes / BLOCK_BYTES;
+    if blocks < FEWEST_BLOCKS {
         return 0;
     }
-    if 64 < blocks {
+    if MOST_BLOCKS < blocks {
         return 0;
     }
-    if 16384 * blocks == bytes {
+    if BLOCK_BYTES * blocks == bytes {
         return blocks;
     }
     0
 }
 
 // The first page: node 0 as an empty leaf.
-fn root_page() -> [u8; 512]
+fn root_page() -> [u8; PAGE_BYTES]
     ensures { λ r. ⌜ r ≡ image rootPage ⌝ }
 {
-    let mut buffer = [0u8; 15];
-    lay_entry(&mut buffer, 0, 0, 1, 3, 0, 4294967295);
+    let mut buffer = [0u8; ENTRY_BYTES];
+    lay_entry(&mut buffer, 0, 0, 1, 3, 0, NO_LEAF);
     log_image(2, &buffer, 1)
 }
 
 // The second: the tariff, the score 0 of node 0, and the node count 1.
-fn checkpoint_page(tariff: Tariff) -> [u8; 512]
+fn checkpoint_page(tariff: Tariff) -> [u8; PAGE_BYTES]
     ensures { λ r. ⌜ r ≡ image (checkpointPage tariff) ⌝ }
 {
     let records = [0u8; 6];
@@ -48,13 +54,13 @@ fn checkpoint_page(tariff: Tariff) -> [u8; 512]
 }
 
 // All bytes erased, then the two pages.
-fn write_first(pool: &mut [u8], root: [u8; 512], checkpoint: [u8; 512])
+fn write_first(pool: &mut [u8], root: [u8; PAGE_BYTES], checkpoint: [u8; PAGE_BYTES])
     requires { ⌜ 1024 ≤ length (now pool) ⌝ }
     ensures { λ _. ⌜ now (pool .exit) ≡ firstBytes (length (now (pool .entry))) root checkpoint ⌝ }
 {
     fill(pool, 255);
     write_page(pool, 0, root);
-    write_page(pool, 512, checkpoint);
+    write_page(pool, PAGE_BYTES, checkpoint);
 }
 
 // A pool prepared, or refused with 1, no pool's length, or 10, a tariff number out of range.

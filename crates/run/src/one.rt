@@ -5,6 +5,7 @@ ghost use Rattle.account.specs.Range.{Ranged};
 ghost use Rattle.flash_allocate.specs.World.{worldIn};
 ghost use Rattle.run_split.specs.Growing.{Growing};
 ghost use Rattle.run.specs.Run.{CommandIn};
+ghost use Rattle.layout.specs.Layout.{mostPairs};
 use super::Progress;
 use account::Tariff;
 use command::Command;
@@ -111,7 +112,7 @@ pub fn run_scan(
     at: usize,
 ) -> Progress
     requires { ⌜ (Growing (length (now pool)) (length (now table)) state) × (Ranged tariff) × (1 ≤ most)
-        × (most ≤ 32) × (at + (3 + 8 * most) ≤ length (now answers)) ⌝ }
+        × (most ≤ mostPairs) × (at + (3 + 8 * most) ≤ length (now answers)) ⌝ }
     ensures { λ r. ⌜ CommandIn (now (pool .exit)) (now (table .exit)) (now (answers .entry))
         (now (answers .exit)) r tariff (Command.Scan low high most) at
         (worldIn (now (pool .entry)) (now (table .entry)) state) ⌝ }

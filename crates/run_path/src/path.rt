@@ -5,6 +5,7 @@ ghost use Rattle.flash_read.specs.NodeTable.{tableOf, Readable};
 ghost use Rattle.run_path.specs.Path.{PathTo};
 use flash_allocate::state::State;
 use flash_read::by_id::node_at;
+use layout::MOST_LEVELS;
 use node::NodeValue;
 use node::Shape;
 use node::search::child;
@@ -12,7 +13,7 @@ use node_replay::same_shape;
 
 // The nodes of the path, from the root on, and the leaf at its end.
 pub struct Path {
-    pub ids: [usize; 9],
+    pub ids: [usize; MOST_LEVELS],
     pub length: usize,
     pub leaf: NodeValue,
 }
@@ -22,7 +23,7 @@ pub fn path_to<'a>(pool: &'a [u8], table: &'a [u8], state: State, key: u32) -> P
     requires { ⌜ Readable state (now table) ⌝ }
     ensures { λ r. ⌜ PathTo (tableOf (pagesOf (now (pool .entry))) (rowsOf (now (table .entry))) state) key r ⌝ }
 {
-    let mut ids = [0usize; 9];
+    let mut ids = [0usize; MOST_LEVELS];
     let mut id: usize = 0;
     let mut i: usize = 0;
     while i < 8 {
@@ -43,7 +44,7 @@ pub fn path_to<'a>(pool: &'a [u8], table: &'a [u8], state: State, key: u32) -> P
     let leaf = node_at(pool, table, state, id);
     Path {
         ids,
-        length: 9,
+        length: MOST_LEVELS,
         leaf,
     }
 }

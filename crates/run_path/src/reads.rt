@@ -7,6 +7,7 @@ ghost use Rattle.flash_allocate.specs.World.{Good, worldIn};
 ghost use Rattle.run_path.specs.Reads.{ReadIn};
 use account::Tariff;
 use flash_allocate::state::State;
+use layout::MOST_LEVELS;
 use run_serve::request::Charged;
 use run_serve::request::serve_read;
 
@@ -41,7 +42,7 @@ pub fn serve_reads(
     table: &mut [u8],
     state: State,
     tariff: Tariff,
-    ids: [usize; 9],
+    ids: [usize; MOST_LEVELS],
     n: usize,
 ) -> Charged
     requires { ⌜ (Good (length (now pool)) (length (now table)) state) × (Ranged tariff) × (n ≤ 9) ⌝ }

@@ -10,6 +10,8 @@ ghost use Rattle.tree_laws.specs.IdsNeeded.{sizeAt};
 ghost use Rattle.flash_read.specs.NodeTable.{tableOf, Readable};
 use flash_allocate::state::State;
 use flash_read::by_id::node_at;
+use layout::MOST_KEYS;
+use layout::MOST_LEVELS;
 
 // The ids that a new key needs whose path of n nodes ends in a full leaf: "one id for each full node counted from that leaf upwards
 // without a gap, and one more if the root is among them".
@@ -17,7 +19,7 @@ pub fn ids_needed<'a>(
     pool: &'a [u8],
     table: &'a [u8],
     state: State,
-    ids: [usize; 9],
+    ids: [usize; MOST_LEVELS],
     n: usize,
 ) -> usize
     requires { ⌜ (Readable state (now table)) × (1 ≤ n) × (n ≤ 9)
@@ -30,7 +32,7 @@ pub fn ids_needed<'a>(
     while 0 < i {
         let above = i - 1;
         let v = node_at(pool, table, state, ids[above]);
-        if v.count < 24 {
+        if v.count < MOST_KEYS {
             return n - i;
         }
         i = above;

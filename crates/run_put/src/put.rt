@@ -20,6 +20,8 @@ use super::ids::ids_needed;
 use account::Tariff;
 use command::Answer;
 use flash_allocate::state::State;
+use layout::MOST_LEVELS;
+use layout::node_limit;
 use node::ChangeValue;
 use node::Found;
 use node::NodeValue;
@@ -61,7 +63,7 @@ fn read_and_edit(
     table: &mut [u8],
     state: State,
     tariff: Tariff,
-    ids: [usize; 9],
+    ids: [usize; MOST_LEVELS],
     n: usize,
     key: u32,
     value: u32,
@@ -91,7 +93,7 @@ fn read_and_split(
     table: &mut [u8],
     state: State,
     tariff: Tariff,
-    ids: [usize; 9],
+    ids: [usize; MOST_LEVELS],
     n: usize,
     key: u32,
     value: u32,
@@ -117,7 +119,7 @@ fn put_splitting(
     table: &mut [u8],
     state: State,
     tariff: Tariff,
-    ids: [usize; 9],
+    ids: [usize; MOST_LEVELS],
     n: usize,
     key: u32,
     value: u32,
@@ -130,7 +132,7 @@ fn put_splitting(
         key value (worldIn (now (pool .entry)) (now (table .entry)) state)) ⌝ }
 {
     let needed = ids_needed(pool, table, state, ids, n);
-    if 10 * (state.blocks - 2) < state.nodes + needed {
+    if node_limit(state.blocks) < state.nodes + needed {
         let answer = Answer::Refused(9);
         return Done {
             state,

@@ -5,15 +5,18 @@ ghost use Rattle.flash_blocks.specs.Pages.{pagesOf};
 ghost use Rattle.flash_read.specs.NodeTable.{tableOf, Readable};
 ghost use Rattle.run_path.specs.Path.{PathTo};
 ghost use Rattle.run_scan.specs.Gathered.{GatheredAs};
+ghost use Rattle.layout.specs.Layout.{mostPairs};
 use super::Pairs;
 use flash_allocate::state::State;
 use flash_read::by_id::node_at;
+use layout::MOST_NODES;
+use layout::NO_LEAF;
 use run_path::path::Path;
 
 // The pairs, and the ids of the leaves behind the first, in order.
 pub struct Gathered {
     pub pairs: Pairs,
-    pub leaves: [usize; 620],
+    pub leaves: [usize; MOST_NODES],
     pub visited: usize,
 }
 
@@ -29,14 +32,14 @@ pub fn gather<'a>(
 ) -> Gathered
     requires { ⌜ (Readable state (now table))
         × (PathTo (tableOf (pagesOf (now pool)) (rowsOf (now table)) state) low path) × (low ≤ high)
-        × (1 ≤ most) × (most ≤ 32) ⌝ }
+        × (1 ≤ most) × (most ≤ mostPairs) ⌝ }
     ensures { λ r. ⌜ GatheredAs (tableOf (pagesOf (now (pool .entry))) (rowsOf (now (table .entry))) state)
         (state .nodes) low high most r ⌝ }
 {
     let mut keys = [0u32; 32];
     let mut values = [0u32; 32];
     let mut count: usize = 0;
-    let mut leaves = [0usize; 620];
+    let mut leaves = [0usize; MOST_NODES];
     let mut visited: usize = 0;
     let mut leaf = path.leaf;
     'leaves: loop {
@@ -59,7 +62,7 @@ pub fn gather<'a>(
             i += 1;
         }
         let next = leaf.link;
-        if next == 4294967295 {
+        if next == NO_LEAF {
             break;
         }
         if visited == state.nodes {

@@ -1,7 +1,7 @@
 // Scan (document 01: sweep).
 ghost use Prim.Native.Nat.{_≤_};
 ghost use lib.ListN.{length};
-ghost use Rattle.layout.specs.Layout.{nodeLimit, mostBlocks};
+ghost use Rattle.layout.specs.Layout.{nodeLimit, mostBlocks, mostPairs};
 ghost use Rattle.account.specs.Range.{Ranged};
 ghost use Rattle.flash_allocate.specs.World.{Good, worldIn};
 ghost use Rattle.run_scan.specs.Scan.{ScannedIn};
@@ -31,7 +31,7 @@ pub fn scan(
     most: u32,
 ) -> Scanned
     requires { ⌜ (Good (length (now pool)) (length (now table)) state) × (Ranged tariff)
-        × (state .nodes ≤ nodeLimit mostBlocks) × (1 ≤ most) × (most ≤ 32) ⌝ }
+        × (state .nodes ≤ nodeLimit mostBlocks) × (1 ≤ most) × (most ≤ mostPairs) ⌝ }
     ensures { λ r. ⌜ ScannedIn (now (pool .exit)) (now (table .exit)) r tariff low high most
         (worldIn (now (pool .entry)) (now (table .entry)) state) ⌝ }
 {

@@ -5,6 +5,8 @@ ghost use Rattle.node.specs.Value.{Becomes};
 ghost use Rattle.node.specs.Drafts.{changeOf};
 ghost use Rattle.flash_allocate.specs.World.{worldIn};
 ghost use Rattle.run_serve.specs.Content.{contentOf, editedOf};
+ghost use Rattle.layout.specs.Layout.{mostEntries};
+ghost use Rattle.flash_rows.specs.Row.{rowBytes};
 use flash_allocate::state::State;
 use flash_read::by_id::node_in;
 use flash_read::content::content;
@@ -14,7 +16,7 @@ use node_replay::redo;
 
 // The content of node n.
 pub fn content_of<'a>(pool: &'a [u8], table: &'a [u8], state: State, n: usize) -> NodeValue
-    requires { ⌜ (state .entries ≤ 27) × (16 * n + 16 ≤ length (now table)) ⌝ }
+    requires { ⌜ (state .entries ≤ mostEntries) × (rowBytes * n + rowBytes ≤ length (now table)) ⌝ }
     ensures { λ r. ⌜ Becomes r (contentOf n (worldIn (now (pool .entry)) (now (table .entry)) state)) ⌝ }
 {
     let d = content(pool, table, state, n);
@@ -29,7 +31,7 @@ pub fn edited_content<'a>(
     n: usize,
     change: ChangeValue,
 ) -> NodeValue
-    requires { ⌜ (state .entries ≤ 27) × (16 * n + 16 ≤ length (now table)) ⌝ }
+    requires { ⌜ (state .entries ≤ mostEntries) × (rowBytes * n + rowBytes ≤ length (now table)) ⌝ }
     ensures { λ r. ⌜ Becomes r (editedOf (changeOf change) n
         (worldIn (now (pool .entry)) (now (table .entry)) state)) ⌝ }
 {

@@ -3,7 +3,7 @@ ghost use mathlib.Core.Path.{_≡_};
 ghost use Prim.Native.Nat.{_+_, _*_, _≤_, _<_};
 ghost use lib.ListN.{length};
 ghost use Rattle.account.specs.Range.{Ranged};
-ghost use Rattle.flash_rows.specs.Row.{rowsOf};
+ghost use Rattle.flash_rows.specs.Row.{rowsOf, rowBytes};
 ghost use Rattle.flash_allocate.specs.World.{Good, worldIn};
 ghost use Rattle.flash_log.specs.Flush.{KeptIn};
 ghost use Rattle.run_serve.specs.Settle as def;
@@ -53,7 +53,7 @@ fn same_mode(a: Mode, b: Mode) -> bool
 
 // The score of node n, in its row as it is now.
 fn rescore(table: &mut [u8], n: usize, score: u32)
-    requires { ⌜ 16 * n + 16 ≤ length (now table) ⌝ }
+    requires { ⌜ rowBytes * n + rowBytes ≤ length (now table) ⌝ }
     ensures { λ _. ⌜ rowsOf (now (table .exit)) ≡ rescored n score (rowsOf (now (table .entry))) ⌝ }
 {
     let row = flash_rows::read_row(table, n);

@@ -2,6 +2,7 @@
 ghost use mathlib.Core.Path.{_≡_};
 ghost use Rattle.node.specs.Value.{pairsIn, Held};
 ghost use Rattle.run_split.specs.Fit.{fitOf};
+use layout::MOST_KEYS;
 use node::Found;
 use node::NodeValue;
 use node::search::find;
@@ -21,7 +22,7 @@ pub fn fit(v: NodeValue, key: u32) -> Fitting
     match found {
         Found::At(_) => Fitting::Room,
         Found::Above(at) => {
-            if v.count < 24 {
+            if v.count < MOST_KEYS {
                 return Fitting::Room;
             }
             return Fitting::Full(at);

@@ -17,6 +17,7 @@ use super::Pending;
 use account::Tariff;
 use flash_allocate::state::State;
 use flash_write::group::create;
+use layout::node_limit;
 use node::NodeValue;
 use node::Shape;
 use node::edit::put;
@@ -32,7 +33,7 @@ fn grow(pool: &mut [u8], table: &mut [u8], state: State, v: NodeValue) -> State
     ensures { λ r. ⌜ GrewIn (now (pool .exit)) (now (table .exit)) state r
         (def.grow (nodeOf v) (worldIn (now (pool .entry)) (now (table .entry)) state)) ⌝ }
 {
-    if state.nodes < 10 * (state.blocks - 2) {
+    if state.nodes < node_limit(state.blocks) {
         return create(pool, table, state, v);
     }
     state

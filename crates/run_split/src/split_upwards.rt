@@ -9,6 +9,7 @@ use super::Pending;
 use super::absorb::absorb;
 use account::Tariff;
 use flash_allocate::state::State;
+use layout::MOST_LEVELS;
 use run_serve::request::Charged;
 
 // The leaf takes the pair, then each node of the path what the one below it left, and the root last.
@@ -17,7 +18,7 @@ pub fn split_upwards(
     table: &mut [u8],
     state: State,
     tariff: Tariff,
-    ids: [usize; 9],
+    ids: [usize; MOST_LEVELS],
     n: usize,
     key: u32,
     value: u32,

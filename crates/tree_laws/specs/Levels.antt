@@ -12,7 +12,7 @@ use lib.Dec.{leb}
 use lib.ListN.{length}
 use Rattle.laws.specs.Order.{le-or}
 use Rattle.laws.specs.Tests.{and-right, and-both}
-use Rattle.layout.specs.Layout.{mostBlocks, nodeLimit, mostKeys, noLeaf, bound32}
+use Rattle.layout.specs.Layout.{mostBlocks, nodeLimit, mostKeys, noLeaf, bound32, mostNodes}
 use Rattle.pairs.specs.Pairs.{Pair}
 use Rattle.tree.specs.Table.{Table, slot, path, leafFor}
 use Rattle.tree.specs.Tree.{keysOf, firstOf, sumOf, EachChild, Tree, rootOf, firstLeaf, Holds, Stands}
@@ -26,9 +26,6 @@ use Rattle.tree_laws.specs.SoundLaws.{leftmost-is, same-test, walk-spell
 -- The greatest depth of a leaf, and the node limit of the largest pool.
 abbrev pub mostDepth : ℕ
 mostDepth = 8
-
-abbrev pub mostNodes : ℕ
-mostNodes = nodeLimit mostBlocks
 
 -- The fewest nodes of a tree whose leaves are at a depth: 2^(d+1) − 1.
 abbrev pub fewestNodes : ℕ → ℕ

@@ -9,7 +9,7 @@ use lib.Dec.{ltb}
 use lib.ListN.{length}
 use Rattle.laws.specs.Every.{none}
 use Rattle.laws.specs.Tests.{choose}
-use Rattle.layout.specs.Layout.{nodeLimit, bound32}
+use Rattle.layout.specs.Layout.{nodeLimit, bound32, mostNodes}
 use Rattle.account.specs.declared.Tariff.{Tariff}
 use Rattle.command.specs.declared.Answer.{Answer}
 use Rattle.command.specs.declared.Answer.the-variants.{Absent, Replaced, Refused}
@@ -28,7 +28,7 @@ use Rattle.tree.specs.Put.{work, finish, idsNeeded, putRefused, putRequests}
 use Rattle.tree.specs.Sound.{sound}
 use Rattle.tree.specs.Spells.{Spells}
 use Rattle.tree_laws.specs.SoundLaws.{spells-sound}
-use Rattle.tree_laws.specs.Levels.{mostNodes, path-any, leafFor-any}
+use Rattle.tree_laws.specs.Levels.{path-any, leafFor-any}
 use Rattle.tree_laws.specs.GetLaws.{node-neat, leaf-found, path-found}
 use Rattle.tree_laws.specs.LeafOfKey.{LeafOf}
 use Rattle.tree_laws.specs.NarrowLaws.{put-narrow}

@@ -6,11 +6,8 @@ use borrow.Author.Needs.{needs}
 use Rattle.mount_restore.proofs.questions.tree_passes.Statement.{statement}
 use Rattle.mount_restore.proofs.questions.tree_passes.Tie as tie
 
-sub-if1 : tie.Need-sub-if1
-sub-if1 c = search needs
-
-mul-if1 : tie.Need-mul-if1
-mul-if1 c = search needs
+node-limit-requires : tie.Need-node-limit-requires
+node-limit-requires c κs = search needs
 
 returns : tie.Need-returns
 returns c =
@@ -53,8 +50,7 @@ pub tree-passes-spec : {M : Type 1} → statement M
 tree-passes-spec =
     tie.close
     (tie.spec
-    sub-if1
-    mul-if1
+    node-limit-requires
     returns
     restore-rows-requires
     same-length

@@ -8,11 +8,8 @@ use borrow.Author.Needs.{needs}
 use Rattle.run_split.proofs.split.grow.Statement.{statement}
 use Rattle.run_split.proofs.split.grow.Tie as tie
 
-sub-if1 : tie.Need-sub-if1
-sub-if1 c = search needs
-
-mul-if1 : tie.Need-mul-if1
-mul-if1 c = search needs
+node-limit-requires : tie.Need-node-limit-requires
+node-limit-requires c κs = search needs
 
 create-requires : tie.Need-create-requires
 create-requires c κs = search needs
@@ -40,4 +37,4 @@ returns-2 c =
     grow-none (nodeOf (a .v)) (world (pagesOf (a .pool .now)) (rowsOf (a .table .now)) (a .state)) (c5 .pre .0) (c .if1 .left)
 
 pub grow-spec : {M : Type 1} → statement M
-grow-spec = tie.close (tie.spec sub-if1 mul-if1 create-requires same-length same-length-2 returns returns-2)
+grow-spec = tie.close (tie.spec node-limit-requires create-requires same-length same-length-2 returns returns-2)
