@@ -11,8 +11,9 @@ use Rattle.flash_live.specs.Live.{liveMap}
 use Rattle.flash_live.specs.Choose.{victim}
 use Rattle.flash_allocate.specs.Compact.{copying, copyBlock, renameRows, compacted, emptied, compactBlock, compact}
 use Rattle.flash_allocate.specs.World.{World, world, used, Good}
-use Rattle.flash_allocate.specs.Allocate.{inBlock, behind, nextBlock, allocate}
+use Rattle.flash_allocate.specs.Allocate.{behind, nextBlock, allocate}
 use Rattle.flash_allocate.specs.declared.state.State.{State}
+use Rattle.flash_allocate.specs.State.{inBlock}
 
 -- Live map, choice, copies, new names, erasure: in this order they are the compaction.
 pub compact-steps : (n blocks to : ℕ) (pages : List (List ℕ)) (rows : List Row) (live : List ℕ) (block : ℕ) →

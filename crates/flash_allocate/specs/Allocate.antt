@@ -8,20 +8,7 @@ use Rattle.flash_blocks.specs.Blank.{blankBlocks, nextBlank}
 use Rattle.flash_allocate.specs.Compact.{Compacted, compact}
 use Rattle.flash_allocate.specs.World.{World, world, used}
 use Rattle.flash_allocate.specs.declared.state.State.{State}
-
--- The state with another current block, filled so far.
-unfoldable pub inBlock : ℕ → ℕ → State → State
-inBlock current fill s =
-    record {
-      blocks = s .blocks;
-      current = current;
-      fill = fill;
-      nodes = s .nodes;
-      checkpoint = s .checkpoint;
-      last = s .last;
-      entries = s .entries;
-      buffer = s .buffer;
-    }
+use Rattle.flash_allocate.specs.State.{inBlock}
 
 -- Going on behind the copies of a compaction.
 abbrev pub behind : ℕ → State → Compacted → World

@@ -1,3 +1,4 @@
+pub mod State
 pub mod Compact
 pub mod World
 pub mod Allocate

@@ -1,7 +1,10 @@
 // The state of a batch, by value.
 ghost use mathlib.Core.Path.{_≡_};
-ghost use Rattle.flash_allocate.specs.Allocate as def;
+ghost use Prim.Native.Nat.{_<_};
+ghost use Rattle.layout.specs.Layout.{pagesInBlock};
+ghost use Rattle.flash_allocate.specs.State.{inBlock, nextSequence, withSequence, withNodes, withoutEntries, advanced, pageCounted};
 use layout::BUFFER_BYTES;
+use layout::MOST_SEQUENCE;
 
 // What a batch knows of the pool beside the rows: the current block and its fill, the number of nodes and of checkpoint pages being written,
 // the last sequence number, and the log buffer with its entries of 15 bytes.
@@ -19,11 +22,71 @@ pub struct State {
 impl State {
     // The state with another current block, filled so far.
     pub fn in_block(self, current: usize, fill: usize) -> State
-        ensures { λ r. ⌜ r ≡ def.inBlock current fill self ⌝ }
+        ensures { λ r. ⌜ r ≡ inBlock current fill self ⌝ }
     {
         let mut s = self;
         s.current = current;
         s.fill = fill;
         s
     }
+}
+
+// The sequence number behind another.
+pub fn next_sequence(last: u32) -> u32
+    ensures { λ r. ⌜ r ≡ nextSequence last ⌝ }
+{
+    if last < MOST_SEQUENCE {
+        return last + 1;
+    }
+    last
+}
+
+// The state once a page of this sequence number is written.
+pub fn advance(state: State, number: u32) -> State
+    requires { ⌜ state .fill < pagesInBlock ⌝ }
+    ensures { λ r. ⌜ r ≡ advanced number state ⌝ }
+{
+    let mut s = state;
+    s.fill = state.fill + 1;
+    s.last = number;
+    s
+}
+
+// The state with an empty buffer.
+pub fn without_entries(state: State) -> State
+    ensures { λ r. ⌜ r ≡ withoutEntries state ⌝ }
+{
+    let mut s = state;
+    s.entries = 0;
+    s
+}
+
+// The state with another last sequence number.
+pub fn with_sequence(state: State, last: u32) -> State
+    ensures { λ r. ⌜ r ≡ withSequence last state ⌝ }
+{
+    let mut s = state;
+    s.last = last;
+    s
+}
+
+// The state with another number of nodes.
+pub fn with_nodes(state: State, nodes: usize) -> State
+    ensures { λ r. ⌜ r ≡ withNodes nodes state ⌝ }
+{
+    let mut s = state;
+    s.nodes = nodes;
+    s
+}
+
+// The state once a checkpoint page of this sequence number is written.
+pub fn count_page(state: State, number: u32) -> State
+    requires { ⌜ (state .fill < pagesInBlock) × (state .checkpoint < 4096) ⌝ }
+    ensures { λ r. ⌜ r ≡ pageCounted number state ⌝ }
+{
+    let mut s = state;
+    s.fill = state.fill + 1;
+    s.checkpoint = state.checkpoint + 1;
+    s.last = number;
+    s
 }

@@ -27,12 +27,13 @@ use Rattle.page_checkpoint.specs.Checkpoint.{onlyIf, scoresIn, recordsPage}
 use Rattle.flash_allocate.specs.World.{World, world, spot, used, Good, Made}
 use Rattle.flash_allocate.specs.Allocate.{allocate}
 use Rattle.flash_allocate.specs.declared.state.State.{State}
-use Rattle.flash_log.specs.Flush.{nextSequence, ifRoom, flush, Kept}
+use Rattle.flash_log.specs.Flush.{ifRoom, flush, Kept}
 use Rattle.flash_log.proofs.Laws.{Beside, room-yes, room-no, allocated}
 use Rattle.flash_checkpoint.specs.Scores.{scoreOf, scoresOf, scoresBytes}
 use Rattle.flash_checkpoint.specs.CheckpointPages.{scoresBefore, scoresOfPage, ScoresOfPage, pageCount, checkpointImage, checkpointRow}
-use Rattle.flash_checkpoint.specs.CheckpointPages.{pageCounted, writeCheckpointPage, checkpointPage, checkpointPages, drain, checkpoint}
+use Rattle.flash_checkpoint.specs.CheckpointPages.{writeCheckpointPage, checkpointPage, checkpointPages, drain, checkpoint}
 use Rattle.flash_checkpoint.specs.CheckpointPages.{Closing, CheckpointPageWritten, Ended}
+use Rattle.flash_allocate.specs.State.{nextSequence, pageCounted}
 
 -- ---- scores
 

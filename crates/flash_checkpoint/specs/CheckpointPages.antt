@@ -21,8 +21,9 @@ use Rattle.page_checkpoint.specs.Checkpoint.{onlyIf}
 use Rattle.flash_allocate.specs.World.{World, world, spot, used, Good, worldIn}
 use Rattle.flash_allocate.specs.Allocate.{allocate}
 use Rattle.flash_allocate.specs.declared.state.State.{State}
-use Rattle.flash_log.specs.Flush.{nextSequence, ifRoom, flush}
+use Rattle.flash_log.specs.Flush.{ifRoom, flush}
 use Rattle.flash_checkpoint.specs.Scores.{scoresOf}
+use Rattle.flash_allocate.specs.State.{nextSequence, pageCounted}
 
 -- The node whose score is the first of checkpoint page k: 0, 50, 104, ..
 abbrev pub scoresBefore : ℕ → ℕ
@@ -54,20 +55,6 @@ checkpointImage number tariff k nodes rows =
 -- The row of a checkpoint page being written: it names the page, which is live by that.
 unfoldable pub checkpointRow : ℕ → ℕ → Row
 checkpointRow number at = noted at (fresh number Disk noRow)
-
--- The state once a checkpoint page of this sequence number is written.
-unfoldable pub pageCounted : ℕ → State → State
-pageCounted number s =
-    record {
-      blocks = s .blocks;
-      current = s .current;
-      fill = s .fill + 1;
-      nodes = s .nodes;
-      checkpoint = s .checkpoint + 1;
-      last = number;
-      entries = s .entries;
-      buffer = s .buffer;
-    }
 
 -- Checkpoint page k as the page written next.
 unfoldable pub writeCheckpointPage : Tariff → ℕ → World → World

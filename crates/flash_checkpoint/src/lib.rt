@@ -12,14 +12,15 @@ ghost use Rattle.flash_log.specs.Flush.{KeptIn};
 ghost use Rattle.flash_checkpoint.specs.Scores.{scoreOf, scoresOf, scoresBytes};
 ghost use Rattle.flash_checkpoint.specs.CheckpointPages as def;
 ghost use Rattle.flash_checkpoint.specs.CheckpointPages.{scoresBefore, ScoresOfPage, pageCount, checkpointImage, checkpointRow};
-ghost use Rattle.flash_checkpoint.specs.CheckpointPages.{pageCounted, writeCheckpointPage, CheckpointPageIn, Closing, EndedIn};
+ghost use Rattle.flash_checkpoint.specs.CheckpointPages.{writeCheckpointPage, CheckpointPageIn, Closing, EndedIn};
 use account::Mode;
 use account::Tariff;
 use flash_allocate::allocate::allocate;
 use flash_allocate::state::State;
+use flash_allocate::state::count_page;
+use flash_allocate::state::next_sequence;
 use flash_log::claim::no_row;
 use flash_log::flush::flush;
-use flash_log::flush::next_sequence;
 use flash_log::flush::put_image;
 use layout::FIRST_SCORES;
 use layout::OTHER_SCORES;
@@ -117,18 +118,6 @@ fn store_checkpoint_page(table: &mut [u8], n: usize, number: u32, at: u16)
 {
     let row = no_row().fresh(number, Mode::Disk);
     flash_rows::write_row(table, n, row.note(at));
-}
-
-// The state once a checkpoint page of this sequence number is written.
-fn count_page(state: State, number: u32) -> State
-    requires { ⌜ (state .fill < pagesInBlock) × (state .checkpoint < 4096) ⌝ }
-    ensures { λ r. ⌜ r ≡ pageCounted number state ⌝ }
-{
-    let mut s = state;
-    s.fill = state.fill + 1;
-    s.checkpoint = state.checkpoint + 1;
-    s.last = number;
-    s
 }
 
 // Checkpoint page k as the next page, in a block that has room.

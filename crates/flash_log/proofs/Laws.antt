@@ -18,16 +18,17 @@ use Rattle.node.specs.Change.{Change}
 use Rattle.page.specs.Image.{entryBytes}
 use Rattle.flash_allocate.specs.World.{World, world, spot, used, Good, Made}
 use Rattle.flash_allocate.specs.Compact.{compact}
-use Rattle.flash_allocate.specs.Allocate.{inBlock, behind, nextBlock, allocate}
+use Rattle.flash_allocate.specs.Allocate.{behind, nextBlock, allocate}
 use Rattle.flash_allocate.specs.declared.state.State.{State}
 use Rattle.page_write.specs.Pages.{logImage}
-use Rattle.flash_log.specs.Entry.{entryOf, holding, entered, append}
+use Rattle.flash_log.specs.Entry.{entryOf, entered, append}
 use Rattle.flash_log.specs.Claim.{idAt, versionAt, claimRow, claimEntry, claimEntries}
-use Rattle.flash_log.specs.Flush.{nextSequence, advanced, emptied, writeBuffer, ifRoom, flush, room, Kept}
+use Rattle.flash_log.specs.Flush.{writeBuffer, ifRoom, flush, room, Kept}
+use Rattle.flash_allocate.specs.State.{inBlock, withEntries, nextSequence, advanced, withoutEntries}
 
 -- An entry more, where the buffer has room.
 pub append-in : (id version : ℕ) (c : Change) (s : State) (bytes buffer : List ℕ) → s .entries < 27 →
-    bytes ≡ entryBytes (entryOf id version c) → buffer ≡ lay (s .buffer) (15 * s .entries) bytes → holding
+    bytes ≡ entryBytes (entryOf id version c) → buffer ≡ lay (s .buffer) (15 * s .entries) bytes → withEntries
     (s .entries + 1) buffer s ≡ append id version c s
 unfolding append entered
 append-in id version c s bytes buffer h e f = rw (lt-ltb (s .entries) 27 h, f, e) refl
@@ -55,7 +56,7 @@ unfolding append entered
 good-append {P} {T} id version c s g = go (ltb (s .entries) 27) refl
   where
     go : (b : Bool) → ltb (s .entries) 27 ≡ b → Good P T
-        (choose b (holding (s .entries + 1) (lay (s .buffer) (15 * s .entries) (entryBytes (entryOf id version c))) s) s)
+        (choose b (withEntries (s .entries + 1) (lay (s .buffer) (15 * s .entries) (entryBytes (entryOf id version c))) s) s)
     go true e =
         record {
           few = g .few;
@@ -82,7 +83,7 @@ pub beside-append : (id version : ℕ) (c : Change) (s : State) → Beside s (ap
 unfolding append entered
 beside-append id version c s = go (ltb (s .entries) 27)
   where
-    go : (b : Bool) → Beside s (choose b (holding (s .entries + 1) (lay (s .buffer) (15 * s .entries) (entryBytes (entryOf id version c))) s) s)
+    go : (b : Bool) → Beside s (choose b (withEntries (s .entries + 1) (lay (s .buffer) (15 * s .entries) (entryBytes (entryOf id version c))) s) s)
     go true = record { blocks = refl; nodes = refl; checkpoint = refl }
     go false = record { blocks = refl; nodes = refl; checkpoint = refl }
 
@@ -169,8 +170,8 @@ pub buffer-written : {P T P′ T′ : ℕ} (pages pages′ : List (List ℕ)) (r
     Good P T s → P′ ≡ P → T′ ≡ T → s .fill < 32 → number ≡ nextSequence (s .last) →
     pages′ ≡ set pages (spot s) (logImage number (s .entries) (s .buffer)) → rows′ ≡ claimEntries (s .buffer)
     (s .nodes) (spot s) (s .entries) rows →
-    s₁ ≡ advanced number s → s₂ ≡ emptied s₁ → Kept P′ T′ s (world pages′ rows′ s₂) (writeBuffer (world pages rows s))
-unfolding writeBuffer advanced emptied
+    s₁ ≡ advanced number s → s₂ ≡ withoutEntries s₁ → Kept P′ T′ s (world pages′ rows′ s₂) (writeBuffer (world pages rows s))
+unfolding writeBuffer advanced withoutEntries
 buffer-written pages pages′ rows rows′ s s₁ s₂ number g p t h n e f a b =
     rw (b, a, e, f, n)
     (record {

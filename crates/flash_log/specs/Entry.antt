@@ -9,28 +9,15 @@ use Rattle.node.specs.Change.{Change}
 use Rattle.page.specs.Page.{Entry}
 use Rattle.page.specs.Image.{entryBytes}
 use Rattle.flash_allocate.specs.declared.state.State.{State}
+use Rattle.flash_allocate.specs.State.{withEntries}
 
 -- The entry that says a change of a node under a version.
 abbrev pub entryOf : ℕ → ℕ → Change → Entry
 entryOf id version change = record { id = id; version = version; change = change }
 
--- The state with so many entries in another buffer.
-abbrev pub holding : ℕ → List ℕ → State → State
-holding entries buffer s =
-    record {
-      blocks = s .blocks;
-      current = s .current;
-      fill = s .fill;
-      nodes = s .nodes;
-      checkpoint = s .checkpoint;
-      last = s .last;
-      entries = entries;
-      buffer = buffer;
-    }
-
 -- The state with the bytes of an entry behind those in the buffer.
 unfoldable pub entered : List ℕ → State → State
-entered bytes s = holding (s .entries + 1) (lay (s .buffer) (15 * s .entries) bytes) s
+entered bytes s = withEntries (s .entries + 1) (lay (s .buffer) (15 * s .entries) bytes) s
 
 -- One entry more, where the buffer has room.
 unfoldable pub append : ℕ → ℕ → Change → State → State

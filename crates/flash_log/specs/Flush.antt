@@ -9,31 +9,9 @@ use Rattle.flash_allocate.specs.World.{World, world, spot, Good, worldIn}
 use Rattle.flash_allocate.specs.Allocate.{allocate}
 use Rattle.flash_allocate.specs.declared.state.State.{State}
 use Rattle.page_write.specs.Pages.{logImage}
-use Rattle.flash_log.specs.Entry.{holding}
 use Rattle.flash_log.specs.Claim.{claimEntries}
 use mathlib.Core.List.{List}
-
--- "Each new page takes the next" stamp; a 32-bit number stays the greatest, which no run reaches.
-unfoldable pub nextSequence : ℕ → ℕ
-nextSequence last = choose (ltb last 4294967295) (last + 1) last
-
--- The state once a page of this sequence number stands behind the pages of the current block.
-unfoldable pub advanced : ℕ → State → State
-advanced number s =
-    record {
-      blocks = s .blocks;
-      current = s .current;
-      fill = s .fill + 1;
-      nodes = s .nodes;
-      checkpoint = s .checkpoint;
-      last = number;
-      entries = s .entries;
-      buffer = s .buffer;
-    }
-
--- The state with an empty buffer.
-unfoldable pub emptied : State → State
-emptied s = holding 0 (s .buffer) s
+use Rattle.flash_allocate.specs.State.{nextSequence, advanced, withoutEntries}
 
 -- The buffer as the page written next, and its rows' claims on it.
 unfoldable pub writeBuffer : World → World
@@ -41,7 +19,7 @@ writeBuffer w =
     world
     (set (w .pages) (spot (w .state)) (logImage (nextSequence (w .state .last)) (w .state .entries) (w .state .buffer)))
     (claimEntries (w .state .buffer) (w .state .nodes) (spot (w .state)) (w .state .entries) (w .rows))
-    (emptied (advanced (nextSequence (w .state .last)) (w .state)))
+    (withoutEntries (advanced (nextSequence (w .state .last)) (w .state)))
 
 -- A step where the current block has room, as it has after an allocation.
 unfoldable pub ifRoom : (World → World) → World → World

@@ -6,48 +6,20 @@ ghost use Rattle.flash_blocks.specs.Pages.{pagesOf};
 ghost use Rattle.flash_allocate.specs.World.{Good, worldIn};
 ghost use Rattle.page_write.specs.Pages.{logImage};
 ghost use Rattle.flash_log.specs.Flush as def;
-ghost use Rattle.flash_log.specs.Flush.{KeptIn, nextSequence, advanced, emptied, writeBuffer};
+ghost use Rattle.flash_log.specs.Flush.{KeptIn, writeBuffer};
 ghost use Rattle.layout.specs.Layout.{mostEntries, pageBytes, pagesInBlock};
 use super::claim::claim_entries;
 use flash_allocate::allocate::allocate;
 use flash_allocate::state::State;
+use flash_allocate::state::advance;
+use flash_allocate::state::next_sequence;
+use flash_allocate::state::without_entries;
 use layout::BUFFER_BYTES;
 use layout::MOST_ENTRIES;
-use layout::MOST_SEQUENCE;
 use layout::PAGE_BYTES;
 use layout::PAGES_IN_BLOCK;
 use page_write::frame::write_page;
 use page_write::log_page::log_image;
-
-// The sequence number behind another.
-pub fn next_sequence(last: u32) -> u32
-    ensures { λ r. ⌜ r ≡ nextSequence last ⌝ }
-{
-    if last < MOST_SEQUENCE {
-        return last + 1;
-    }
-    last
-}
-
-// The state once a page of this sequence number is written.
-pub fn advance(state: State, number: u32) -> State
-    requires { ⌜ state .fill < pagesInBlock ⌝ }
-    ensures { λ r. ⌜ r ≡ advanced number state ⌝ }
-{
-    let mut s = state;
-    s.fill = state.fill + 1;
-    s.last = number;
-    s
-}
-
-// The state with an empty buffer.
-fn without_entries(state: State) -> State
-    ensures { λ r. ⌜ r ≡ emptied state ⌝ }
-{
-    let mut s = state;
-    s.entries = 0;
-    s
-}
 
 // An image written as a page of the pool.
 pub fn put_image(pool: &mut [u8], page: usize, image: [u8; PAGE_BYTES])

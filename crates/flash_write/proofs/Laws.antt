@@ -22,11 +22,12 @@ use Rattle.page_write.specs.Pages.{firstPairs}
 use Rattle.flash_allocate.specs.World.{World, world, spot, Good}
 use Rattle.flash_allocate.specs.declared.state.State.{State}
 use Rattle.flash_log.specs.Entry.{append, appendAll}
-use Rattle.flash_log.specs.Flush.{nextSequence, advanced, room, Kept}
+use Rattle.flash_log.specs.Flush.{room, Kept}
 use Rattle.flash_log.proofs.Laws.{Beside, beside-append, good-append, good-advanced}
-use Rattle.flash_write.specs.Group.{numbered, withNodes, startState, start, Started, roomFor, restart, group, startNext, create, Grown}
+use Rattle.flash_write.specs.Group.{startState, start, Started, roomFor, restart, group, startNext, create, Grown}
 use Rattle.flash_write.specs.NodePage.{diskRow, writeNode}
 use Rattle.flash_write.specs.Edit.{editBy, editIn, edit}
+use Rattle.flash_allocate.specs.State.{nextSequence, advanced, withSequence, withNodes}
 
 -- The pairs of a node by value, taken from the front.
 zip-first : (n i : ℕ) (keys pointers : List ℕ) → i + n ≤ length keys → i + n ≤ length pointers →
@@ -95,7 +96,7 @@ module _ (id version : ℕ) where
 -- A fresh start keeps the state good, with the same blocks, nodes and checkpoint pages.
 module _ (n version : ℕ) (x : Node) (s : State) where
   good-start : {P T T′ : ℕ} → Good P T s → T′ ≡ T → Good P T′ (startState n version x s)
-  unfolding numbered
+  unfolding withSequence
   good-start g t =
       good-appendAll n version (changesOf x) _
       (record {
@@ -110,9 +111,9 @@ module _ (n version : ℕ) (x : Node) (s : State) where
       })
 
   beside-start : Beside s (startState n version x s)
-  unfolding numbered
+  unfolding withSequence
   beside-start =
-      let b = beside-appendAll n version (changesOf x) (numbered version s) in
+      let b = beside-appendAll n version (changesOf x) (withSequence version s) in
       record { blocks = b .blocks; nodes = b .nodes; checkpoint = b .checkpoint }
 
 -- Room, then the fresh start.

@@ -13,34 +13,8 @@ use Rattle.node.specs.Change.{changesOf}
 use Rattle.flash_allocate.specs.World.{World, world, Good, worldIn}
 use Rattle.flash_allocate.specs.declared.state.State.{State}
 use Rattle.flash_log.specs.Entry.{appendAll}
-use Rattle.flash_log.specs.Flush.{nextSequence, room}
-
--- The state with another last sequence number, or another number of nodes.
-unfoldable pub numbered : ℕ → State → State
-numbered last s =
-    record {
-      blocks = s .blocks;
-      current = s .current;
-      fill = s .fill;
-      nodes = s .nodes;
-      checkpoint = s .checkpoint;
-      last = last;
-      entries = s .entries;
-      buffer = s .buffer;
-    }
-
-unfoldable pub withNodes : ℕ → State → State
-withNodes nodes s =
-    record {
-      blocks = s .blocks;
-      current = s .current;
-      fill = s .fill;
-      nodes = nodes;
-      checkpoint = s .checkpoint;
-      last = s .last;
-      entries = s .entries;
-      buffer = s .buffer;
-    }
+use Rattle.flash_log.specs.Flush.{room}
+use Rattle.flash_allocate.specs.State.{nextSequence, withSequence, withNodes}
 
 -- The rows after a fresh start of node n, whose row was this: a new version, on no page yet.
 abbrev pub startRow : ℕ → Row → ℕ → List Row → List Row
@@ -48,7 +22,7 @@ startRow n row version rows = set rows n (fresh version Log row)
 
 -- The state after it: the version is the sequence number taken last, and the entries of the whole content are in the buffer.
 abbrev pub startState : ℕ → ℕ → Node → State → State
-startState n version x s = appendAll n version (changesOf x) (numbered version s)
+startState n version x s = appendAll n version (changesOf x) (withSequence version s)
 
 -- A fresh start of node n with a content, whose row was this.
 unfoldable pub start : ℕ → Row → Node → World → World

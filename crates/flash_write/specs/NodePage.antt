@@ -11,7 +11,8 @@ use Rattle.page.specs.Page.{page, whole}
 use Rattle.page.specs.Image.{image}
 use Rattle.flash_allocate.specs.World.{World, world, spot}
 use Rattle.flash_allocate.specs.Allocate.{allocate}
-use Rattle.flash_log.specs.Flush.{nextSequence, advanced, ifRoom}
+use Rattle.flash_log.specs.Flush.{ifRoom}
+use Rattle.flash_allocate.specs.State.{nextSequence, advanced}
 
 -- The rows once node n lies whole on one page: "its version is its stamp".
 unfoldable pub diskRow : ℕ → ℕ → ℕ → List Row → List Row

@@ -9,34 +9,18 @@ ghost use Rattle.flash_allocate.specs.World.{Good, worldIn};
 ghost use Rattle.flash_log.specs.Entry.{appendAll};
 ghost use Rattle.flash_log.specs.Flush.{KeptIn};
 ghost use Rattle.flash_write.specs.Group as def;
-ghost use Rattle.flash_write.specs.Group.{numbered, withNodes, Started, GrownIn};
+ghost use Rattle.flash_write.specs.Group.{Started, GrownIn};
 use account::Mode;
 use flash_allocate::state::State;
+use flash_allocate::state::next_sequence;
+use flash_allocate::state::with_nodes;
+use flash_allocate::state::with_sequence;
 use flash_log::claim::no_row;
 use flash_log::entry::append;
 use flash_log::flush::make_room;
-use flash_log::flush::next_sequence;
 use flash_rows::Row;
 use node::ChangeValue;
 use node::NodeValue;
-
-// The state with another last sequence number.
-fn with_sequence(state: State, last: u32) -> State
-    ensures { λ r. ⌜ r ≡ numbered last state ⌝ }
-{
-    let mut s = state;
-    s.last = last;
-    s
-}
-
-// The state with another number of nodes.
-fn with_nodes(state: State, nodes: usize) -> State
-    ensures { λ r. ⌜ r ≡ withNodes nodes state ⌝ }
-{
-    let mut s = state;
-    s.nodes = nodes;
-    s
-}
 
 // An entry for each pair, ascending.
 fn append_pairs(state: State, id: usize, version: u32, v: NodeValue) -> State

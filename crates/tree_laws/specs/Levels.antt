@@ -12,7 +12,7 @@ use lib.Dec.{leb}
 use lib.ListN.{length}
 use Rattle.laws.specs.Order.{le-or}
 use Rattle.laws.specs.Tests.{and-right, and-both}
-use Rattle.layout.specs.Layout.{mostBlocks, nodeLimit, mostKeys, noLeaf, bound32, mostNodes}
+use Rattle.layout.specs.Layout.{mostKeys, noLeaf, bound32, mostNodes}
 use Rattle.pairs.specs.Pairs.{Pair}
 use Rattle.tree.specs.Table.{Table, slot, path, leafFor}
 use Rattle.tree.specs.Tree.{keysOf, firstOf, sumOf, EachChild, Tree, rootOf, firstLeaf, Holds, Stands}

@@ -32,7 +32,7 @@ use Rattle.flash_rows.specs.declared.Row.{Row}
 use Rattle.flash_allocate.specs.declared.state.State.{State}
 use Rattle.flash_allocate.specs.World.{World, world, used, spot}
 use Rattle.flash_allocate.specs.Allocate.{allocate}
-use Rattle.flash_checkpoint.specs.CheckpointPages.{checkpointRow, pageCounted}
+use Rattle.flash_checkpoint.specs.CheckpointPages.{checkpointRow}
 use Rattle.flash_refines.specs.Store.Mirror.{rowAt, test, RowMode, RowsSay, Owners, Mirrors}
 use Rattle.flash_refines.specs.Store.RowModes.{place-rowMode}
 use Rattle.flash_refines.specs.Store.Ownership.{page-within, carries-same}
@@ -40,6 +40,7 @@ use Rattle.flash_refines.specs.Store.Names.{mapped}
 use Rattle.flash_refines.specs.Store.Notes.{names-noted, names-fresh}
 use Rattle.flash_refines.specs.Store.Written.{Named}
 use Rattle.flash_refines.specs.Store.Placed.{kept-found, stands-found, inside-found, next-free, Fills, placed-mirrors}
+use Rattle.flash_allocate.specs.State.{pageCounted}
 
 -- Whose a page is while a checkpoint is written, `base` being the last number taken before it: behind the rows of nodes, the first row owns the
 -- checkpoint page of the next number, the second that of the one after it, and so on.

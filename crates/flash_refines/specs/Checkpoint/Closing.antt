@@ -32,9 +32,9 @@ use Rattle.flash_rows.specs.declared.Row.{Row}
 use Rattle.flash_allocate.specs.declared.state.State.{State}
 use Rattle.flash_allocate.specs.World.{World, world, used, spot}
 use Rattle.flash_allocate.specs.Allocate.{allocate}
-use Rattle.flash_log.specs.Flush.{nextSequence, flush}
+use Rattle.flash_log.specs.Flush.{flush}
 use Rattle.page_checkpoint.specs.Checkpoint.{onlyIf}
-use Rattle.flash_checkpoint.specs.CheckpointPages.{scoresBefore, scoresOfPage, pageCount, checkpointImage, checkpointRow, pageCounted}
+use Rattle.flash_checkpoint.specs.CheckpointPages.{scoresBefore, scoresOfPage, pageCount, checkpointImage, checkpointRow}
 use Rattle.flash_checkpoint.specs.CheckpointPages.{writeCheckpointPage, checkpointPage, checkpointPages, drain, checkpoint}
 use Rattle.flash_refines.specs.Store.Mirror.{rowAt, test, PagesAre, Owners, Mirrors}
 use Rattle.flash_refines.specs.Store.Allocate.{Kept}
@@ -45,6 +45,7 @@ use Rattle.flash_refines.specs.Store.Placed.{nextNumber-is, kept-found, 
 use Rattle.flash_refines.specs.Checkpoint.CheckpointPages.{scoresOf-is, checkpoint-page-inside, checkpointPageOf, checkpointPagesFrom}
 use Rattle.flash_refines.specs.Checkpoint.CheckpointPages.{checkpoint-pages-are}
 use Rattle.flash_refines.specs.Checkpoint.CheckpointPage.{owner, owner-node, owners-closing, row-kept, checkpoint-page-mirrors}
+use Rattle.flash_allocate.specs.State.{nextSequence, pageCounted}
 
 -- A world stands for a store while a checkpoint is written, `base` being the last number taken before it and k the checkpoint pages written: as many rows
 -- behind those of the nodes name its pages. With what the store keeps meanwhile.

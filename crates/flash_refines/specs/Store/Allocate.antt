@@ -31,7 +31,7 @@ use Rattle.flash_live.specs.Choose.{victim}
 use Rattle.flash_allocate.specs.declared.state.State.{State}
 use Rattle.flash_allocate.specs.Compact.{Compacted, compactBlock, compact}
 use Rattle.flash_allocate.specs.World.{World, world, used}
-use Rattle.flash_allocate.specs.Allocate.{inBlock, allocate}
+use Rattle.flash_allocate.specs.Allocate.{allocate}
 use Rattle.flash_allocate.proofs.Laws.{allocate-room, allocate-next, allocate-compact}
 use Rattle.flash_refines.specs.Store.Mirror.{rowAt, test, Images, PagesAre, RowsName, RowMode, RowsSay, Owners, Mirrors}
 use Rattle.flash_refines.specs.Store.RowModes.{found-rowMode}
@@ -42,6 +42,7 @@ use Rattle.flash_refines.specs.Store.Live.{Owned, mark-live, liveIn-is}
 use Rattle.flash_refines.specs.Store.Choice.{victim-is}
 use Rattle.flash_refines.specs.Store.Names.{mapped}
 use Rattle.flash_refines.specs.Store.Moves.{Compaction, compactBlock-is}
+use Rattle.flash_allocate.specs.State.{inBlock}
 
 -- What pages, rows and state say of the blocks, before and after.
 pub record Stands (image : Page → List ℕ) (own : ℕ → Page → Bool) (w : World) (bs : Blocks) (here : ℕ) : Type 0 where

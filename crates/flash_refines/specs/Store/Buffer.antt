@@ -26,9 +26,10 @@ use Rattle.page_write.specs.Pages.{logBody, logImage}
 use Rattle.store.specs.Item.{entries}
 use Rattle.store_laws.specs.ItemLaws.{map-append}
 use Rattle.flash_allocate.specs.declared.state.State.{State}
-use Rattle.flash_log.specs.Entry.{entryOf, holding, entered, append, appendAll}
+use Rattle.flash_log.specs.Entry.{entryOf, entered, append, appendAll}
 use Rattle.flash_log.specs.Claim.{idAt, versionAt}
 use Rattle.flash_refines.specs.Store.Follows.{BufferIs}
+use Rattle.flash_allocate.specs.State.{withEntries}
 
 -- What holds of every entry holds of the k-th.
 every-entry : {P : Entry → Type 0} {es : List Entry} → Every P es → (k : ℕ) (e : Entry) → getElem? es k ≡ some e → P e
@@ -139,21 +140,21 @@ module _ (id version : ℕ) where
       (appendAll-is cs (append-is c b (omega arith)) (omega (arith, length-append es (entryOf id version c ∷ []))))
 
   -- Nothing but the buffer and the number of its entries changes.
-  pub append-holds : (c : Change) (s : State) → append id version c s ≡ holding (append id version c s .entries) (append id version c s .buffer) s
+  pub append-holds : (c : Change) (s : State) → append id version c s ≡ withEntries (append id version c s .entries) (append id version c s .buffer) s
   unfolding append entered
   append-holds c s = go (ltb (s .entries) mostEntries)
     where
       new : State
       new = entered (entryBytes (entryOf id version c)) s
 
-      go : (t : Bool) → choose t new s ≡ holding (choose t new s .entries) (choose t new s .buffer) s
+      go : (t : Bool) → choose t new s ≡ withEntries (choose t new s .entries) (choose t new s .buffer) s
       go true = refl
       go false = refl
 
   pub appendAll-holds : (cs : List Change) (s : State) →
-      appendAll id version cs s ≡ holding (appendAll id version cs s .entries) (appendAll id version cs s .buffer) s
+      appendAll id version cs s ≡ withEntries (appendAll id version cs s .entries) (appendAll id version cs s .buffer) s
   unfolding appendAll
   appendAll-holds [] s = refl
   appendAll-holds (c ∷ cs) s =
       appendAll-holds cs (append id version c s) ∙
-      ap (holding (appendAll id version (c ∷ cs) s .entries) (appendAll id version (c ∷ cs) s .buffer)) (append-holds c s)
+      ap (withEntries (appendAll id version (c ∷ cs) s .entries) (appendAll id version (c ∷ cs) s .buffer)) (append-holds c s)

@@ -21,10 +21,11 @@ use Rattle.flash_blocks.specs.Pages.{isBlank}
 use Rattle.flash_allocate.specs.declared.state.State.{State}
 use Rattle.flash_allocate.specs.World.{World, world, used, spot}
 use Rattle.flash_allocate.specs.Allocate.{allocate}
-use Rattle.flash_log.specs.Flush.{nextSequence, ifRoom}
+use Rattle.flash_log.specs.Flush.{ifRoom}
 use Rattle.flash_refines.specs.Store.Mirror.{rowAt, Images, Owners, RowsSay, Mirrors}
 use Rattle.flash_refines.specs.Store.Allocate.{Stands, Kept, found-place, allocate-mirrors}
 use Rattle.flash_refines.specs.Store.Written.{spot-free, Named, stands-written}
+use Rattle.flash_allocate.specs.State.{nextSequence}
 
 -- A written page begins with the tag 10.
 pub image-written : Images image

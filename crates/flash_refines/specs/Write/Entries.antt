@@ -21,13 +21,14 @@ use Rattle.store_laws.specs.Placing.{enter-now, enter-other}
 use Rattle.flash_rows.specs.Step.{names}
 use Rattle.flash_allocate.specs.declared.state.State.{State}
 use Rattle.flash_allocate.specs.World.{World, world}
-use Rattle.flash_log.specs.Entry.{entryOf, holding, append}
+use Rattle.flash_log.specs.Entry.{entryOf, append}
 use Rattle.flash_refines.specs.Store.Mirror.{rowAt, RowsName, RowsSay}
 use Rattle.flash_refines.specs.Store.RowModes.{same-rowMode}
 use Rattle.flash_refines.specs.Store.Buffer.{append-is, append-holds}
 use Rattle.flash_refines.specs.Store.Follows.{BufferIs, Follows, Writable}
 use Rattle.flash_refines.specs.Store.Followed.{owners-open}
 use Rattle.flash_refines.specs.Store.Ownership.{owned-same}
+use Rattle.flash_allocate.specs.State.{withEntries}
 
 module _ {B : ℕ} {score : ℕ → ℕ} {w : World} {run : Run} (b : Writable B run) (f : Follows score w run) (n : ℕ) (there : n < run .nodes) (c : Change)
     (fits : 1 + length (run .now .buffer) ≤ mostEntries) where
@@ -93,7 +94,7 @@ module _ {B : ℕ} {score : ℕ → ℕ} {w : World} {run : Run} (b : Writable B
               last = f .mirrors .last;
             };
         buffer =
-            subst (λ (k : ℕ). BufferIs (holding (append n v c (w .state) .entries) (append n v c (w .state) .buffer) (w .state)) (st .buffer ++ (entryOf n k c ∷ [])))
+            subst (λ (k : ℕ). BufferIs (withEntries (append n v c (w .state) .entries) (append n v c (w .state) .buffer) (w .state)) (st .buffer ++ (entryOf n k c ∷ [])))
             (f .mirrors .rows .version n (omega (arith, f .nodes)))
             (record { size = joined .size; number = joined .number; bytes = joined .bytes });
         scores = f .scores;

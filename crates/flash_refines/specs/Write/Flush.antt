@@ -38,7 +38,7 @@ use Rattle.flash_allocate.specs.declared.state.State.{State}
 use Rattle.flash_allocate.specs.World.{World, world, used, spot}
 use Rattle.flash_allocate.specs.Allocate.{allocate}
 use Rattle.flash_log.specs.Claim.{claimEntries}
-use Rattle.flash_log.specs.Flush.{nextSequence, advanced, emptied, writeBuffer, flush, room}
+use Rattle.flash_log.specs.Flush.{writeBuffer, flush, room}
 use Rattle.flash_refines.specs.Store.Mirror.{rowAt, RowMode, RowsSay, Mirrors}
 use Rattle.flash_refines.specs.Store.RowModes.{place-rowMode}
 use Rattle.flash_refines.specs.Store.Names.{mapped}
@@ -49,6 +49,7 @@ use Rattle.flash_refines.specs.Store.Followed.{few-blocks, invariant-her
 use Rattle.flash_refines.specs.Store.Placed.{nextNumber-is, place-found, step-found, kept-found, next-free, placed-mirrors}
 use Rattle.flash_refines.specs.Store.Buffer.{buffer-same, image-log}
 use Rattle.flash_refines.specs.Write.Claims.{concern, Claimed, length-claimed, claimed-row}
+use Rattle.flash_allocate.specs.State.{nextSequence, advanced, withoutEntries}
 
 -- No entry of a version: nothing of any node under it.
 unsaid-pieces : (n version : ℕ) (es : List Entry) → count (versionIs version) es ≡ 0 → piecesIn n version (map entryItem es) ≡ []
@@ -101,7 +102,7 @@ module _ {B : ℕ} {score : ℕ → ℕ} {w : World} {run : Run} (b : Writable B
   rows′ = claimEntries (before .state .buffer) (before .state .nodes) at (before .state .entries) (before .rows)
 
   abbrev s′ : State
-  s′ = emptied (advanced (suc (st .last)) (before .state))
+  s′ = withoutEntries (advanced (suc (st .last)) (before .state))
 
   same : Kept w before
   same = kept-found few v (f .mirrors)
@@ -166,7 +167,7 @@ module _ {B : ℕ} {score : ℕ → ℕ} {w : World} {run : Run} (b : Writable B
 
   -- the rows in use are the nodes'
   within : (m : ℕ) → m < used s′ → m < w .state .nodes
-  unfolding emptied advanced
+  unfolding withoutEntries advanced
   within m l = omega (arith, same .nodes, same .checkpoint, f .noCheckpointPage)
 
   says : RowsSay (w .state .nodes) rows′ after
@@ -185,7 +186,7 @@ module _ {B : ℕ} {score : ℕ → ℕ} {w : World} {run : Run} (b : Writable B
   length-now = length-claimed waiting number (b .fits .entries) (before .state .nodes) at (before .rows)
 
   mirrored : Mirrors image (carries (view after)) noCheckpoint (world (set (before .pages) at (image p)) rows′ s′) after
-  unfolding Model.flush emptied advanced
+  unfolding Model.flush withoutEntries advanced
   mirrored =
       placed-mirrors few v (f .mirrors) (log (st .buffer)) [] (carries (view after)) rows′ s′
       (record {
@@ -210,7 +211,7 @@ module _ {B : ℕ} {score : ℕ → ℕ} {w : World} {run : Run} (b : Writable B
 
   -- THE BUFFER WRITTEN OUT follows the store's.
   pub flush-follows : Follows score (flush w) (flushRun run)
-  unfolding flush writeBuffer emptied advanced Model.flush write place chunks
+  unfolding flush writeBuffer withoutEntries advanced Model.flush write place chunks
   flush-follows =
       subst (λ (z : World). Follows score z (flushRun run)) (sym (step-found few v (f .mirrors) writeBuffer ∙ written))
       (record {
@@ -232,7 +233,7 @@ module _ {B : ℕ} {score : ℕ → ℕ} {w : World} {run : Run} (b : Writable B
       written : writeBuffer before ≡ world (set (before .pages) at (image p)) rows′ s′
       written =
           ap
-          (λ (k : ℕ). world (set (before .pages) at (logImage k (before .state .entries) (before .state .buffer))) rows′ (emptied (advanced k (before .state))))
+          (λ (k : ℕ). world (set (before .pages) at (logImage k (before .state .entries) (before .state .buffer))) rows′ (withoutEntries (advanced k (before .state))))
           (ap nextSequence (same .last ∙ f .mirrors .last) ∙ nextNumber-is (st .last) number) ∙
           ap (λ (z : List ℕ). world (set (before .pages) at z) rows′ s′) (image-log waiting (suc (st .last)))
 

@@ -34,7 +34,6 @@ use Rattle.flash_rows.specs.declared.Row.{Row}
 use Rattle.flash_allocate.specs.declared.state.State.{State}
 use Rattle.flash_allocate.specs.World.{World, world, used, spot}
 use Rattle.flash_allocate.specs.Allocate.{allocate}
-use Rattle.flash_log.specs.Flush.{nextSequence, advanced}
 use Rattle.flash_write.specs.NodePage.{diskRow}
 use Rattle.flash_write.specs.NodePage as Code
 use Rattle.flash_refines.specs.Store.Mirror.{rowAt, test, RowMode, RowsSay, Mirrors}
@@ -47,6 +46,7 @@ use Rattle.flash_refines.specs.Store.Follows.{Follows, Writable}
 use Rattle.flash_refines.specs.Store.Ownership.{none-owned, owned-same, carried-few}
 use Rattle.flash_refines.specs.Store.Followed.{few-blocks, invariant-here, owners-open}
 use Rattle.flash_refines.specs.Store.Placed.{nextNumber-is, place-found, step-found, kept-found, next-free, placed-mirrors}
+use Rattle.flash_allocate.specs.State.{nextSequence, advanced}
 
 module _ {B : ℕ} {score : ℕ → ℕ} {w : World} {run : Run} (b : Writable B run) (room : suc (run .now .last) < bound32) (f : Follows score w run)
     (n : ℕ) (there : n < run .nodes) (x : Node) where

@@ -34,9 +34,8 @@ use Rattle.flash_rows.specs.Step.{names, fresh}
 use Rattle.flash_rows.specs.declared.Row.{Row}
 use Rattle.flash_allocate.specs.declared.state.State.{State}
 use Rattle.flash_allocate.specs.World.{World, world}
-use Rattle.flash_log.specs.Entry.{holding, appendAll}
-use Rattle.flash_log.specs.Flush.{nextSequence}
-use Rattle.flash_write.specs.Group.{numbered, withNodes, startRow, startState, restart, startNext}
+use Rattle.flash_log.specs.Entry.{appendAll}
+use Rattle.flash_write.specs.Group.{startRow, startState, restart, startNext}
 use Rattle.flash_write.specs.Group as Code
 use Rattle.flash_refines.specs.Store.Mirror.{rowAt, test, RowsName, RowMode, RowsSay, Mirrors}
 use Rattle.flash_refines.specs.Store.RowModes.{same-rowMode}
@@ -46,6 +45,7 @@ use Rattle.flash_refines.specs.Store.Buffer.{appendAll-is, appendAll-hol
 use Rattle.flash_refines.specs.Store.Follows.{BufferIs, Follows, Writable}
 use Rattle.flash_refines.specs.Store.Followed.{blocks-are, owners-open}
 use Rattle.flash_refines.specs.Store.Ownership.{none-owned, owned-same, carried-few}
+use Rattle.flash_allocate.specs.State.{withEntries, nextSequence, withSequence, withNodes}
 
 -- Node n, whose row was this, begins anew with these changes; there are N′ nodes then, and their scores are score′.
 module _ {B : ℕ} {score : ℕ → ℕ} {w : World} {run : Run} (b : Writable B run) (f : Follows score w run) (n : ℕ) (c : Change) (cs : List Change)
@@ -65,14 +65,14 @@ module _ {B : ℕ} {score : ℕ → ℕ} {w : World} {run : Run} (b : Writable B
   rows′ = set (w .rows) n (fresh v Log row)
 
   abbrev s′ : State
-  s′ = appendAll n v (c ∷ cs) (numbered v (w .state))
+  s′ = appendAll n v (c ∷ cs) (withSequence v (w .state))
 
   -- the state but for the buffer
   abbrev holds : State
-  holds = holding (s′ .entries) (s′ .buffer) (numbered v (w .state))
+  holds = withEntries (s′ .entries) (s′ .buffer) (withSequence v (w .state))
 
   held : s′ ≡ holds
-  held = appendAll-holds n v (c ∷ cs) (numbered v (w .state))
+  held = appendAll-holds n v (c ∷ cs) (withSequence v (w .state))
 
   there : (m : ℕ) → m < N′ → (n ≡ m → ⊥) → m < run .nodes
   there m l d = omega (arith, count)
@@ -139,7 +139,7 @@ module _ {B : ℕ} {score : ℕ → ℕ} {w : World} {run : Run} (b : Writable B
       pages m l (inr d) = ap (λ (r : Row). r .pages) (row-other m d) ∙ f .mirrors .rows .pages m (here m l d) ∙ sym (other m d .pages)
 
   mirrored : Mirrors image (carries (view after)) noCheckpoint (world (w .pages) rows′ (withNodes N′ holds)) after
-  unfolding start withNodes numbered
+  unfolding start withNodes withSequence
   mirrored =
       record {
         pages = f .mirrors .pages;
@@ -152,7 +152,7 @@ module _ {B : ℕ} {score : ℕ → ℕ} {w : World} {run : Run} (b : Writable B
       }
 
   begin-follows : Follows score′ (world (w .pages) rows′ (withNodes N′ s′)) (begin n (c ∷ cs) run)
-  unfolding start withNodes numbered fresh
+  unfolding start withNodes withSequence fresh
   begin-follows =
       subst (λ (s : State). Follows score′ (world (w .pages) rows′ (withNodes N′ s)) (begin n (c ∷ cs) run)) (sym held)
       (record {
@@ -165,7 +165,7 @@ module _ {B : ℕ} {score : ℕ → ℕ} {w : World} {run : Run} (b : Writable B
       })
     where
       joined : BufferIs s′ (after .buffer)
-      joined = appendAll-is n v (c ∷ cs) {s = numbered v (w .state)} {es = st .buffer}
+      joined = appendAll-is n v (c ∷ cs) {s = withSequence v (w .state)} {es = st .buffer}
           (record { size = f .buffer .size; number = f .buffer .number; bytes = f .buffer .bytes }) (omega arith)
 
       score-of : (m : ℕ) → m < N′ → (n ≡ m) ⊎ (n ≡ m → ⊥) → rowAt rows′ m .score ≡ score′ m
@@ -174,7 +174,7 @@ module _ {B : ℕ} {score : ℕ → ℕ} {w : World} {run : Run} (b : Writable B
 
   -- the state's own count of nodes, where it stays
   count-stays : withNodes (w .state .nodes) s′ ≡ s′
-  unfolding withNodes numbered
+  unfolding withNodes withSequence
   count-stays = ap (withNodes (w .state .nodes)) held ∙ sym held
 
 -- The same of a node's whole content, where the buffer has room for it.
@@ -194,7 +194,7 @@ module _ {B : ℕ} {score : ℕ → ℕ} {w : World} {run : Run} (b : Writable B
   unfolding Code.start
   restart-follows n there =
       subst (λ (v : ℕ). Follows score (world (w .pages) (startRow n row v (w .rows)) (startState n v x (w .state))) (begin n (changesOf x) run)) version
-      (subst (λ (cs : List Change). Follows score (world (w .pages) (startRow n row v (w .rows)) (appendAll n v cs (numbered v (w .state)))) (begin n cs run)) (sym (s .is))
+      (subst (λ (cs : List Change). Follows score (world (w .pages) (startRow n row v (w .rows)) (appendAll n v cs (withSequence v (w .state)))) (begin n cs run)) (sym (s .is))
       (subst (λ (t : State). Follows score (world (w .pages) (startRow n row v (w .rows)) t) (begin n (s .first ∷ s .rest) run))
       (count-stays b f n (s .first) (s .rest) fits′ row (w .state .nodes) count next limit score (f .scores n there) (λ m l d. refl))
       (begin-follows b f n (s .first) (s .rest) fits′ row (w .state .nodes) count next limit score (f .scores n there) (λ m l d. refl))))
@@ -222,7 +222,7 @@ module _ {B : ℕ} {score : ℕ → ℕ} {w : World} {run : Run} (b : Writable B
       (subst (λ (v : ℕ). Follows score′ (world (w .pages) (startRow n noRow v (w .rows)) (withNodes (n + 1) (startState n v x (w .state))))
       (begin n (changesOf x) run)) version
       (subst (λ (cs : List Change). Follows score′
-      (world (w .pages) (startRow n noRow v (w .rows)) (withNodes (n + 1) (appendAll n v cs (numbered v (w .state))))) (begin n cs run))
+      (world (w .pages) (startRow n noRow v (w .rows)) (withNodes (n + 1) (appendAll n v cs (withSequence v (w .state))))) (begin n cs run))
       (sym (s .is))
       (begin-follows b f n (s .first) (s .rest) fits′ noRow (n + 1) (omega (arith, f .nodes)) (omega (arith, f .nodes)) (omega (arith, f .nodes)) score′
       (sym (update-same score n 0 n refl)) (λ m l d. update-other score n 0 m (λ e. d (sym e))))))

@@ -1,8 +1,8 @@
 -- `State::in_block` meets its contract: two fields are others. Assumes nothing.
 use mathlib.Core.Path.{refl}
-use Rattle.flash_allocate.specs.Allocate.{inBlock}
 use Rattle.flash_allocate.proofs.state.State.in_block.Statement.{statement}
 use Rattle.flash_allocate.proofs.state.State.in_block.Tie as tie
+use Rattle.flash_allocate.specs.State.{inBlock}
 
 returns : tie.Need-returns
 unfolding inBlock

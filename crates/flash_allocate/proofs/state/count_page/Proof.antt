@@ -1,9 +1,9 @@
--- `count_page` meets its contract: three fields are others. Assumes nothing.
+-- `state::count_page` meets its contract: three fields are others. Assumes nothing.
 use mathlib.Core.Path.{refl}
-use Rattle.flash_checkpoint.specs.CheckpointPages.{pageCounted}
 use borrow.Author.Needs.{needs}
-use Rattle.flash_checkpoint.proofs.count_page.Statement.{statement}
-use Rattle.flash_checkpoint.proofs.count_page.Tie as tie
+use Rattle.flash_allocate.proofs.state.count_page.Statement.{statement}
+use Rattle.flash_allocate.proofs.state.count_page.Tie as tie
+use Rattle.flash_allocate.specs.State.{pageCounted}
 
 add-s : tie.Need-add-s
 add-s c = search needs

@@ -1,10 +1,10 @@
--- `flush::next_sequence` meets its contract: the test is the definition's. Assumes nothing.
+-- `state::next_sequence` meets its contract: the test is the definition's. Assumes nothing.
 use mathlib.Core.Path.{refl}
 use borrow.Author.Tests.{lt-ltb, le-ltb}
-use Rattle.flash_log.specs.Flush.{nextSequence}
 use borrow.Author.Needs.{needs}
-use Rattle.flash_log.proofs.flush.next_sequence.Statement.{statement}
-use Rattle.flash_log.proofs.flush.next_sequence.Tie as tie
+use Rattle.flash_allocate.proofs.state.next_sequence.Statement.{statement}
+use Rattle.flash_allocate.proofs.state.next_sequence.Tie as tie
+use Rattle.flash_allocate.specs.State.{nextSequence}
 
 add-result : tie.Need-add-result
 add-result c = search needs

@@ -1,0 +1,12 @@
+-- `state::without_entries` meets its contract: one field is another. Assumes nothing.
+use mathlib.Core.Path.{refl}
+use Rattle.flash_allocate.proofs.state.without_entries.Statement.{statement}
+use Rattle.flash_allocate.proofs.state.without_entries.Tie as tie
+use Rattle.flash_allocate.specs.State.{withoutEntries}
+
+returns : tie.Need-returns
+unfolding withoutEntries
+returns c = refl
+
+pub without-entries-spec : {M : Type 1} → statement M
+without-entries-spec = tie.close (tie.spec returns)
