@@ -20,21 +20,21 @@ unfoldable pub names : ℕ → Row → Bool
 names page r =
     holds 0 (r .pages) (r .first) page || (holds 1 (r .pages) (r .second) page || holds 2 (r .pages) (r .third) page)
 
+-- The row with another version and mode, on other pages; its score stays. What is written changes a row by this alone.
+abbrev pub lying : ℕ → Mode → ℕ → ℕ → ℕ → ℕ → Row → Row
+lying version mode pages first second third r =
+    record { version = version; score = r .score; mode = mode; pages = pages; first = first; second = second; third = third }
+
 -- The row with one page more, in the first slot that is free; three pages are the most.
 unfoldable pub noted : ℕ → Row → Row
 noted page r =
-    choose (eqb (r .pages) 0)
-    (record { version = r .version; score = r .score; mode = r .mode; pages = 1; first = page; second = r .second; third = r .third })
-    (choose (eqb (r .pages) 1)
-    (record { version = r .version; score = r .score; mode = r .mode; pages = 2; first = r .first; second = page; third = r .third })
-    (choose (eqb (r .pages) 2)
-    (record { version = r .version; score = r .score; mode = r .mode; pages = 3; first = r .first; second = r .second; third = page })
-    r))
+    choose (eqb (r .pages) 0) (lying (r .version) (r .mode) 1 page (r .second) (r .third) r)
+    (choose (eqb (r .pages) 1) (lying (r .version) (r .mode) 2 (r .first) page (r .third) r)
+    (choose (eqb (r .pages) 2) (lying (r .version) (r .mode) 3 (r .first) (r .second) page r) r))
 
 -- A fresh start: a new version in a mode, and no page yet.
 unfoldable pub fresh : ℕ → Mode → Row → Row
-fresh version mode r =
-    record { version = version; score = r .score; mode = mode; pages = 0; first = r .first; second = r .second; third = r .third }
+fresh version mode r = lying version mode 0 (r .first) (r .second) (r .third) r
 
 -- The row with another score.
 unfoldable pub scored : ℕ → Row → Row
@@ -64,12 +64,4 @@ newPlace base places page = choose (ltb page base) page (choose (ltb (page - bas
 -- The row that names its pages by their new places.
 unfoldable pub moved : ℕ → List ℕ → Row → Row
 moved base places r =
-    record {
-      version = r .version;
-      score = r .score;
-      mode = r .mode;
-      pages = r .pages;
-      first = newPlace base places (r .first);
-      second = newPlace base places (r .second);
-      third = newPlace base places (r .third);
-    }
+    lying (r .version) (r .mode) (r .pages) (newPlace base places (r .first)) (newPlace base places (r .second)) (newPlace base places (r .third)) r
