@@ -167,7 +167,7 @@ unfolding found leftOf lawsUpdate.update lawsBigEndian.numberAt lawsLay.lay laws
     treeSound.sound storeView.greatest storeView.pieces storeView.buffered storeView.pages storePool.above storeStore.draftOf storeStore.nodeOf
     storeStore.modeOf storeLive.carries storeLive.checkpointSince storeAllocate.spot storeWrite.found storeWrite.place storeWrite.flush
     storeWrite.enter storeWrite.start storeWrite.nodePage storeRun.written storeRun.write storeRun.makeRoom storeRun.writeGroup storeRun.writeEdit
-    storeServe.serve storeServe.create storeCheckpoint.checkpoint_pages storeCheckpoint.close storeCheckpoint.collect storeCheckpoint.checkpointOf
+    storeServe.serve storeServe.create storeCheckpoint.checkpointPages storeCheckpoint.close storeCheckpoint.collect storeCheckpoint.checkpointOf
     storeCheckpoint.scoreIn storeCheckpoint.complete storeReopen.cellsIn storeReopen.reopened storeReopen.blocksPass storeReopen.pagesPass
     bookBook.serve bookBook.charge bookCommand.requests bookCommand.refuses bookCommand.answer modelState.bookOf modelState.serve modelBatch.closed
     modelMount.stateOf modelMount.threePages modelMount.scoresBelow modelMount.treeSound modelMount.mountCells modelPrepare.prepared
@@ -209,7 +209,7 @@ unfolding traced leftOf lawsUpdate.update lawsBigEndian.numberAt lawsLay.lay law
     treeSound.sound storeView.greatest storeView.pieces storeView.buffered storeView.pages storePool.above storeStore.draftOf storeStore.nodeOf
     storeStore.modeOf storeLive.carries storeLive.checkpointSince storeAllocate.spot storeWrite.found storeWrite.place storeWrite.flush
     storeWrite.enter storeWrite.start storeWrite.nodePage storeRun.written storeRun.write storeRun.makeRoom storeRun.writeGroup storeRun.writeEdit
-    storeServe.serve storeServe.create storeCheckpoint.checkpoint_pages storeCheckpoint.close storeCheckpoint.collect storeCheckpoint.checkpointOf
+    storeServe.serve storeServe.create storeCheckpoint.checkpointPages storeCheckpoint.close storeCheckpoint.collect storeCheckpoint.checkpointOf
     storeCheckpoint.scoreIn storeCheckpoint.complete storeReopen.cellsIn storeReopen.reopened storeReopen.blocksPass storeReopen.pagesPass
     bookBook.serve bookBook.charge bookCommand.requests bookCommand.refuses bookCommand.answer modelState.bookOf modelState.serve modelBatch.closed
     modelMount.stateOf modelMount.threePages modelMount.scoresBelow modelMount.treeSound modelMount.mountCells modelPrepare.prepared
@@ -244,7 +244,7 @@ unfolding second leftOf lawsUpdate.update lawsBigEndian.numberAt lawsLay.lay law
     treeSound.sound storeView.greatest storeView.pieces storeView.buffered storeView.pages storePool.above storeStore.draftOf storeStore.nodeOf
     storeStore.modeOf storeLive.carries storeLive.checkpointSince storeAllocate.spot storeWrite.found storeWrite.place storeWrite.flush
     storeWrite.enter storeWrite.start storeWrite.nodePage storeRun.written storeRun.write storeRun.makeRoom storeRun.writeGroup storeRun.writeEdit
-    storeServe.serve storeServe.create storeCheckpoint.checkpoint_pages storeCheckpoint.close storeCheckpoint.collect storeCheckpoint.checkpointOf
+    storeServe.serve storeServe.create storeCheckpoint.checkpointPages storeCheckpoint.close storeCheckpoint.collect storeCheckpoint.checkpointOf
     storeCheckpoint.scoreIn storeCheckpoint.complete storeReopen.cellsIn storeReopen.reopened storeReopen.blocksPass storeReopen.pagesPass
     bookBook.serve bookBook.charge bookCommand.requests bookCommand.refuses bookCommand.answer modelState.bookOf modelState.serve modelBatch.closed
     modelMount.stateOf modelMount.threePages modelMount.scoresBelow modelMount.treeSound modelMount.mountCells modelPrepare.prepared

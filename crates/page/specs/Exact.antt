@@ -4,21 +4,19 @@ use mathlib.Core.Path.{_≡_, refl, sym, ap, ap₂, subst, _∙_}
 use mathlib.Core.Bool.{Bool, true, false, _&&_, _||_, true≢false}
 use mathlib.Core.List.{List, [], _∷_, _++_, map}
 use mathlib.Core.Option.{Option, none, some}
-use Prim.Native.Nat.{ℕ, zero, suc, _+_, _-_, _*_, _≤_, _<_}
-use native.Mathlib.Nat.{not-suc-le-zero}
+use Prim.Native.Nat.{ℕ, _+_, _-_, _*_, _≤_, _<_}
 use native.Mathlib.Omega.{arith}
 use lib.Dec.{eqb, leb}
-use lib.ListN.{length, getD, take, length-map, List·getD-map}
+use lib.ListN.{length, getD, take, length-map}
 use borrow.Author.Tests.{eqb-true, eqb-false, leb-true, leb-false}
 use Rattle.laws.specs.Tests.{and-left, and-right}
 use Rattle.laws.specs.Lay.{part, part-add}
 use Rattle.laws.specs.BigEndian.{bigEndian, number, numberAt, Bytes, bigEndian-number, number-lt, numberAt-lt}
 use Rattle.layout.specs.Layout.{pageBytes, mostEntries, bound32}
-use Rattle.account.specs.declared.Tariff.{Tariff}
 use Rattle.wire.specs.Tag.{lengthOf, allowed, isNodeBytes}
 use Rattle.wire.specs.Field.{field, payloadAt}
 use Rattle.wire.specs.FieldLaws.{stands-payload, part-payload, bytes-payload, allowed-payload}
-use Rattle.page.specs.Page.{Entry, Score, Content, log, whole, checkpoint, Page, page, sequence, contentOf}
+use Rattle.page.specs.Page.{Content, log, whole, checkpoint, Page, page, sequence, contentOf}
 use Rattle.page.specs.Image.{entryBytes, tariffBytes, scoreBytes, countBytes, fields, fieldIf, contentBytes, numbered, sealed, image}
 use Rattle.page.specs.Decode.{Decoded, written, bad, found, taken, sealedAt, allBlank, run, payloads, entryOk, entryOf, nodeOk, nodeOf}
 use Rattle.page.specs.Decode.{tariffOf, scoreOk, scoreOf, readIf, mostScores, decodeLog, decodeNode, decodeScores, decodeCounted}
@@ -307,29 +305,3 @@ image-decode b bs l (page s c) e = decode-exact b bs (page s c) e .is pageBytes 
 
 pub decode-reads : (b : List ℕ) → Bytes b → (p : Page) → decode b ≡ written p → Reads b p
 decode-reads b bs p e = decode-exact b bs p e .reads
-
--- ---- single fields: the one at an index is the value at that index
-
-getD-payloads : (tag step n : ℕ) (b : List ℕ) (at i : ℕ) → i < n → getD (payloads tag step n b at) i [] ≡ payloadAt b (at + step * i) tag
-unfolding payloads
-getD-payloads tag step zero b at i h = absurd (not-suc-le-zero h)
-getD-payloads tag step (suc n) b at zero h = ap (λ (k : ℕ). payloadAt b k tag) (omega arith)
-getD-payloads tag step (suc n) b at (suc i) h =
-    getD-payloads tag step n b (at + step) i (omega arith) ∙ ap (λ (k : ℕ). payloadAt b k tag) (omega arith)
-
-getD-read : {A : Type 0} (of : List ℕ → A) (tag step : ℕ) (b : List ℕ) (at : ℕ) (xs : List A) → xs ≡ map of (payloads tag step (length xs) b at) →
-    (i : ℕ) → i < length xs → getD xs i (of []) ≡ of (payloadAt b (at + step * i) tag)
-getD-read of tag step b at xs e i h =
-    ap (λ l. getD l i (of [])) e ∙
-    List·getD-map of (payloads tag step (length xs) b at) i [] ∙
-    ap of (getD-payloads tag step (length xs) b at i h)
-
-module _ (b : List ℕ) (bs : Bytes b) (s : ℕ) where
-  pub entry-decode : (es : List Entry) → decode b ≡ written (page s (log es)) → (i : ℕ) → i < length es →
-      getD es i (entryOf []) ≡ entryOf (payloadAt b (7 + 18 * i) 0x12)
-  entry-decode es e i h = getD-read entryOf 0x12 18 b 7 es (decode-reads b bs (page s (log es)) e .1) i h
-
-  pub score-decode : (t : Option Tariff) (ss : List Score) (c : Option ℕ) → decode b ≡ written (page s (checkpoint t ss c)) →
-      (i : ℕ) → i < length ss → getD ss i (scoreOf []) ≡ scoreOf (payloadAt b (7 + taken (payloadAt b 7 0x13) + 9 * i) 0x14)
-  score-decode t ss c e i h =
-      getD-read scoreOf 0x14 9 b (7 + taken (payloadAt b 7 0x13)) ss (decode-reads b bs (page s (checkpoint t ss c)) e .1 .1) i h

@@ -37,9 +37,9 @@ returns c =
     let c4 = c2 .before .before in
     let c10 = c4 .before .before .before .before .before .before in
     let a = c10 .args in
-    let i : c4 .node-image .result ≡ image (page (a .with-sequence) (whole (a .id) (nodeOf (a .v)))) =
+    let i : c4 .node-image .result ≡ image (page (a .number) (whole (a .id) (nodeOf (a .v)))) =
     c4 .node-image .ensures ∙
-    ap (λ (ps : List Pair). image (page (a .with-sequence) (whole (a .id) (node (a .v .shape) ps (a .v .link))))) (pairs-first (a .v) (c10 .pre .2)) in
+    ap (λ (ps : List Pair). image (page (a .number) (whole (a .id) (node (a .v .shape) ps (a .v .link))))) (pairs-first (a .v) (c10 .pre .2)) in
     rw (← i) (c2 .put-image .ensures)
 
 pub put-node-spec : {M : Type 1} → statement M
