@@ -139,7 +139,7 @@ module _ (blocks : ℕ) (t : Tariff) (four : fewestBlocks ≤ blocks) where
       let l = last-is in
       λ i. record { at = e i; buffer = []; last = l i }
 
-  set-is : checkpointOf st ≡ Checkpoint.checkpoint_page (some t) (record { id = 0; score = 0 } ∷ []) (some 1) ∷ []
+  set-is : checkpointOf st ≡ Checkpoint.checkpointPage (some t) (record { id = 0; score = 0 } ∷ []) (some 1) ∷ []
   unfolding checkpointOf collect
   set-is = ap (λ (n : ℕ). collect (λ s. find s bs) n []) last-is
 

@@ -182,7 +182,7 @@ pub fn complete(w: WalkValue, nodes: usize) -> bool
     ensures { λ r. ⌜ r ≡ def.complete (soFar nodes w) ⌝ }
 {
     if w.passed {
-        if w.awaited == NO_LEAF {
+        if w.awaited == NO_LEAF as usize {
             return all_marked(w, nodes);
         }
         return false;

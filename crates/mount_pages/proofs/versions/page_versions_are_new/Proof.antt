@@ -19,11 +19,11 @@ add-to c = search needs
 sub-is-new-version : tie.Need-sub-is-new-version
 sub-is-new-version c = search needs
 
-part-is-apart-start : tie.Need-part-is-apart-start
-part-is-apart-start c = search needs
+part-is-new-version-start : tie.Need-part-is-new-version-start
+part-is-new-version-start c = search needs
 
-part-is-apart-end : tie.Need-part-is-apart-end
-part-is-apart-end c = search needs
+part-is-new-version-end : tie.Need-part-is-new-version-end
+part-is-new-version-end c = search needs
 
 is-new-version-requires : tie.Need-is-new-version-requires
 is-new-version-requires c κs = search needs
@@ -43,7 +43,7 @@ page-versions-are-new-spec =
     mul-from
     add-to
     sub-is-new-version
-    part-is-apart-start
-    part-is-apart-end
+    part-is-new-version-start
+    part-is-new-version-end
     is-new-version-requires
     returns)
