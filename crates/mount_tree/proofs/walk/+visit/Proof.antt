@@ -9,10 +9,10 @@ use Rattle.tree.specs.Sound.{visit}
 use Rattle.flash_read.specs.NodeTable.{tableOf}
 use Rattle.mount_tree.specs.WalkValue.{Room, walked-is}
 use Rattle.mount_tree.specs.Visits.{childrenLeft, left-next, left-last, visited-failed, visited-leaf, visited-branch}
-use borrow.Fn.Shapes.{In}
+use borrow.Fn.Kinds.{In}
 use borrow.Fn.PlainCycle.{Measures, is, falls, and}
 use Rattle.mount_tree.proofs.walk.visit.Reads as reads
-use Rattle.mount_tree.proofs.walk.visit.Shapes as shapes
+use Rattle.mount_tree.proofs.walk.visit.Kinds as kinds
 use Rattle.mount_tree.proofs.walk.+visit.Lts-visit as lts
 use Rattle.node.proofs.search.key.Reads as key-reads
 use Rattle.node.proofs.search.pointer.Reads as pointer-reads
@@ -22,14 +22,14 @@ use Rattle.mount_tree.proofs.walk.visit_leaf.Reads as visit-leaf-reads
 use Rattle.mount_tree.proofs.walk.+visit.{statement}
 use Rattle.mount_tree.proofs.walk.+visit.Tie.{close}
 
-abbrev μ-depth : Measures 1 shapes.ps ℕ
+abbrev μ-depth : Measures 1 kinds.ps ℕ
 μ-depth κs a = a .1 .1 .1 .0
 
-abbrev at : ℕ → In 1 shapes.ps
-at t = and 1 shapes.ps (is 1 shapes.ps μ-depth t) reads.Pre
+abbrev at : ℕ → In 1 kinds.ps
+at t = and 1 kinds.ps (is 1 kinds.ps μ-depth t) reads.Pre
 
-abbrev below : ℕ → In 1 shapes.ps
-below t = and 1 shapes.ps (falls 1 shapes.ps _<_ μ-depth t) reads.Pre
+abbrev below : ℕ → In 1 kinds.ps
+below t = and 1 kinds.ps (falls 1 kinds.ps _<_ μ-depth t) reads.Pre
 
 -- What the callees ask and tell, a visit of smaller depth among them.
 abbrev claims : ℕ → lts.Claims

@@ -7,6 +7,9 @@ use Rattle.mount_tree.specs.Steps.{complete-none, complete-linked, compl
 use Rattle.mount_tree.proofs.walk.complete.Statement.{statement}
 use Rattle.mount_tree.proofs.walk.complete.Tie as tie
 
+cast-if2 : tie.Need-cast-if2
+cast-if2 c = search needs
+
 all-marked-requires : tie.Need-all-marked-requires
 all-marked-requires c κs = search needs
 
@@ -34,4 +37,4 @@ returns-3 c =
     sym (ap def.complete (soFar-failed (a .nodes) (a .w) (c .if1 .left)) ∙ complete-none)
 
 pub complete-spec : {M : Type 1} → statement M
-complete-spec = tie.close (tie.spec all-marked-requires returns returns-2 returns-3)
+complete-spec = tie.close (tie.spec cast-if2 all-marked-requires returns returns-2 returns-3)
