@@ -1,4 +1,6 @@
-//! Links the proved book where `rt staticlib wall_book` has made its library; without it the package has the second book alone.
+//! Links the proved book where `rt staticlib wall_book` has made its library.
+//!
+//! Without it the package has the second book alone.
 
 use std::path::Path;
 
