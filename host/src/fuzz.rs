@@ -92,23 +92,27 @@ fn damaged_case(random: &mut Random, tally: &mut Tally) -> Result<(), String> {
     let style = CommandStyle::random(random);
     checked.any_call(random, tally, &style)?;
     for _ in 0..6 {
-        let mut pool = checked.pool().to_vec();
-        match random.below(4) {
-            0 => {
-                damage::change_byte(random, &mut pool);
-                tally.plain_damage += 1;
-                refused(random_call(random, pool, Vec::new()), Refusal::Pages.number(), tally)?;
-            }
-            1 => {
-                damage::move_pages(random, &mut pool);
-                tally.moved_pages += 1;
-                after_damage(random, tally, pool, &style)?;
-            }
-            _ => {
-                damage::change_mended(random, &mut pool);
-                tally.mended_damage += 1;
-                tally.mended_that_opened += u64::from(after_damage(random, tally, pool, &style)?);
-            }
+        damage_once(random, tally, checked.pool().to_vec(), &style)?;
+    }
+    Ok(())
+}
+
+fn damage_once(random: &mut Random, tally: &mut Tally, mut pool: Vec<u8>, style: &CommandStyle) -> Result<(), String> {
+    match random.below(4) {
+        0 => {
+            damage::change_byte(random, &mut pool);
+            tally.plain_damage += 1;
+            refused(random_call(random, pool, Vec::new()), Refusal::Pages.number(), tally)?;
+        }
+        1 => {
+            damage::move_pages(random, &mut pool);
+            tally.moved_pages += 1;
+            after_damage(random, tally, pool, style)?;
+        }
+        _ => {
+            damage::change_mended(random, &mut pool);
+            tally.mended_damage += 1;
+            tally.mended_that_opened += u64::from(after_damage(random, tally, pool, style)?);
         }
     }
     Ok(())

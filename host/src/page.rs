@@ -73,8 +73,8 @@ const KIND_DELETE: u8 = 2;
 const KIND_LEAF: u8 = 3;
 const KIND_BRANCH: u8 = 4;
 
-fn shape_of(kind: u8) -> Option<Shape> {
-    match kind {
+fn shape_of(number: u8) -> Option<Shape> {
+    match number {
         KIND_LEAF => Some(Shape::Leaf),
         KIND_BRANCH => Some(Shape::Branch),
         _ => None,
@@ -169,8 +169,8 @@ fn decode_entry(payload: &[u8], sequence: u32) -> Result<Entry, Flaw> {
 
 fn decode_node(field: Field<'_>) -> Result<Content, Flaw> {
     let mut numbers = Numbers(field.payload);
-    let (id, kind, link) = (numbers.u16(), numbers.u8(), numbers.u32());
-    let shape = shape_of(kind).ok_or("a node page is neither leaf nor branch")?;
+    let (id, shape, link) = (numbers.u16(), numbers.u8(), numbers.u32());
+    let shape = shape_of(shape).ok_or("a node page is neither leaf nor branch")?;
     let count = (field.payload.len() - NODE_HEAD) / PAIR_BYTES;
     let pairs = (0..count).map(|_| Pair { key: numbers.u32(), pointer: numbers.u32() }).collect();
     Ok(Content::Node { id, node: Node { shape, pairs, link } })

@@ -448,17 +448,20 @@ fn times() -> Result<Vec<Vec<String>>, String> {
         vec!["a put of a key that is there, on the mounted pool".to_string(), format!("{put:.3}")],
     ];
     for name in ["second", "proved"] {
-        let mut book = match by_name(name) {
-            Ok(book) => book,
-            Err(missing) => {
-                rows.push(vec![format!("{name} book: {missing}"), "-".to_string()]);
-                continue;
-            }
-        };
-        for (what, commands) in [("nothing", &[][..]), ("2,000 gets", &gets), ("2,000 puts", &puts)] {
-            let time = batch_time(book.as_mut(), &bench.pool, commands);
-            rows.push(vec![format!("{name} book: a batch of {what}"), format!("{time:.0}")]);
-        }
+        rows.extend(batch_rows(name, &bench.pool, &gets, &puts));
     }
     Ok(rows)
+}
+
+/// The times of whole batches on a book, or why there are none.
+fn batch_rows(name: &str, pool: &[u8], gets: &[Command], puts: &[Command]) -> Vec<Vec<String>> {
+    let mut book = match by_name(name) {
+        Ok(book) => book,
+        Err(missing) => return vec![vec![format!("{name} book: {missing}"), "-".to_string()]],
+    };
+    let mut row = |(what, commands)| {
+        let time = batch_time(book.as_mut(), pool, commands);
+        vec![format!("{name} book: a batch of {what}"), format!("{time:.0}")]
+    };
+    [("nothing", &[][..]), ("2,000 gets", gets), ("2,000 puts", puts)].map(&mut row).to_vec()
 }

@@ -226,5 +226,6 @@ fn number_10_the_tariff_is_out_of_range() {
         tariff[at] = 0;
         let expected = if at < 6 { 0 } else { 10 };
         assert_eq!(prepare(&mut pool, tariff), expected);
+        assert_eq!(mount(&pool).is_ok(), expected == 0);
     }
 }
