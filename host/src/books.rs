@@ -21,7 +21,7 @@ pub fn by_name(name: &str) -> Result<Box<dyn Book>, String> {
         "proved" => Ok(Box::new(crate::proved::ProvedBook)),
         #[cfg(not(proved_book))]
         "proved" => {
-            Err("this build has no proved book: make it with `rt staticlib wall_book`, and build again".to_string())
+            Err("this build has no proved book; make it with `rt staticlib wall_book`, and build again".to_string())
         }
         _ => Err(format!("no book is called {name:?}; there are: {BOOK_NAMES}")),
     }

@@ -63,7 +63,7 @@ impl Call {
         Ok(())
     }
 
-    /// A refused call returns no length and no charge, and leaves pool and answers; the table is zeroed after 2.
+    /// A refused call returns no length and no charge and leaves pool and answers; from 3 on it zeroes the table.
     fn check_refused(&self, found: &Call, outcome: Outcome) -> Result<(), String> {
         let number = outcome.number;
         if (outcome.length, outcome.charge) != (0, 0) {
