@@ -113,5 +113,5 @@ fn same(buffer: &str, second: &[u8], proved: &[u8]) -> Result<(), String> {
         return Ok(());
     }
     let at = second.iter().zip(proved).take_while(|(one, other)| one == other).count();
-    Err(format!("the proved book leaves another {buffer} than the second one, first in byte {at}"))
+    Err(format!("the books leave other bytes in the {buffer}, first in byte {at}"))
 }

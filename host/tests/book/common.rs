@@ -62,9 +62,9 @@ pub fn make(call: &mut Call) -> Outcome {
     call.make().unwrap_or_else(|why| panic!("{why}"))
 }
 
-/// The number that an empty batch on a pool comes to, on both books.
+/// The number that a get on a pool comes to, on both books.
 pub fn number_of(pool: Vec<u8>) -> u8 {
-    make(&mut Call::new(pool, &[])).number
+    make(&mut Call::new(pool, &[get(1)])).number
 }
 
 /// Prepares a pool with both books, which must agree in everything.

@@ -1,8 +1,7 @@
 //! Foreign pools open as what they spell; each flaw has its number, on both books.
 
-use crate::common::{get, make, number_of};
+use crate::common::number_of;
 use yokehour_host::account::Mode;
-use yokehour_host::both::Call;
 use yokehour_host::damage;
 use yokehour_host::foreign::{self, flaw::FLAWS, Build, PoolStyle, BRINK_BLOCKS};
 use yokehour_host::layout::{BLOCK_PAGES, MAX_BLOCKS, MAX_LOG_PAGES, MIN_BLOCKS};
@@ -25,7 +24,7 @@ fn foreign_pools_open_as_what_they_spell() {
         assert_eq!(mounted.nodes, foreign.ledger.nodes);
         assert_eq!(mounted.rows.iter().map(|row| row.account).collect::<Vec<_>>(), foreign.ledger.accounts);
         assert_eq!(mounted.tariff, foreign.ledger.tariff);
-        assert_eq!(make(&mut Call::new(foreign.pool, &[get(round)])).number, 0, "round {round}");
+        assert_eq!(number_of(foreign.pool), 0, "round {round}");
     }
 }
 

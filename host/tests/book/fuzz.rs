@@ -4,7 +4,7 @@ use yokehour_host::fuzz::{case, Tally};
 use yokehour_host::random::Random;
 
 /// Cases of a run: about ten seconds for both books on one core.
-const CASES: usize = 500;
+const CASES: usize = 600;
 
 #[test]
 fn random_cases_keep_every_promise() {
