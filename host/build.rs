@@ -8,7 +8,8 @@ fn main() {
     let folder = Path::new(env!("CARGO_MANIFEST_DIR")).join("../target/staticlib");
     let library = folder.join("libwall_book.a");
     println!("cargo:rustc-check-cfg=cfg(proved_book)");
-    println!("cargo:rerun-if-changed={}", library.display());
+    // The folder, since a library that is moved in may be older than the last build.
+    println!("cargo:rerun-if-changed={}", folder.display());
     if library.exists() {
         println!("cargo:rustc-cfg=proved_book");
         println!("cargo:rustc-link-search=native={}", folder.display());
