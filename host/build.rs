@@ -1,4 +1,6 @@
-//! Links the proved book where `rt staticlib wall_book` has made its library; without it the package has the second book alone.
+//! Links the proved book where `rt staticlib wall_book` has made its library.
+//!
+//! Without it the package has the second book alone.
 
 use std::path::Path;
 
@@ -6,7 +8,8 @@ fn main() {
     let folder = Path::new(env!("CARGO_MANIFEST_DIR")).join("../target/staticlib");
     let library = folder.join("libwall_book.a");
     println!("cargo:rustc-check-cfg=cfg(proved_book)");
-    println!("cargo:rerun-if-changed={}", library.display());
+    // The folder, since a library that is moved in may be older than the last build.
+    println!("cargo:rerun-if-changed={}", folder.display());
     if library.exists() {
         println!("cargo:rustc-cfg=proved_book");
         println!("cargo:rustc-link-search=native={}", folder.display());

@@ -188,8 +188,8 @@ mod tests {
         };
         for at in 0..8 {
             assert_eq!(with(at, 0), at < 6);
-            assert!(with(at, 1_000_000));
-            assert!(!with(at, 1_000_001));
+            assert!(with(at, MAX_TARIFF));
+            assert!(!with(at, MAX_TARIFF + 1));
         }
     }
 }

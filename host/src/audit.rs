@@ -3,7 +3,7 @@
 //! The audit decodes the bytes itself and never sees the store's rows. After every page written, copied
 //! or erased and after every node request it asks that no node lies on more than three log pages and
 //! that every node has the mode of the reference model. It works out for itself where each page goes,
-//! which block is compacted, which of its pages are live, and which number comes next.
+//! which block is compacted, which of its pages are live, and which sequence number comes next.
 
 use std::collections::HashSet;
 
@@ -59,19 +59,19 @@ impl Seen {
 
 /// Where a node's greatest version on pages lies.
 #[derive(Clone, Debug, Default, PartialEq, Eq)]
-struct Lies {
+struct Location {
     version: u32,
-    on_disk_page: bool,
+    on_node_page: bool,
     /// The pages by sequence number, so that a copy is the same page.
-    seqs: Vec<u32>,
+    sequences: Vec<u32>,
 }
 
-impl Lies {
-    fn see(&mut self, version: u32, on_disk_page: bool, seq: u32) {
+impl Location {
+    fn see(&mut self, version: u32, on_node_page: bool, sequence: u32) {
         if version > self.version {
-            *self = Lies { version, on_disk_page, seqs: vec![seq] };
-        } else if version == self.version && !self.seqs.contains(&seq) {
-            self.seqs.push(seq);
+            *self = Location { version, on_node_page, sequences: vec![sequence] };
+        } else if version == self.version && !self.sequences.contains(&sequence) {
+            self.sequences.push(sequence);
         }
     }
 
@@ -80,9 +80,9 @@ impl Lies {
     fn with_buffer(&self, in_buffer: u32) -> (Mode, usize) {
         match in_buffer {
             newer if newer > self.version => (Mode::Log, 1),
-            _ if self.on_disk_page => (Mode::Disk, 0),
-            same if same == self.version => (Mode::Log, self.seqs.len() + 1),
-            _ => (Mode::Log, self.seqs.len()),
+            _ if self.on_node_page => (Mode::Disk, 0),
+            same if same == self.version => (Mode::Log, self.sequences.len() + 1),
+            _ => (Mode::Log, self.sequences.len()),
         }
     }
 }
@@ -91,17 +91,17 @@ impl Lies {
 pub struct Audit<'a> {
     pool: Vec<u8>,
     pages: Vec<Option<Page>>,
-    lies: Vec<Lies>,
+    locations: Vec<Location>,
     /// The modes of the reference model by now.
     modes: Vec<Mode>,
-    /// The last number taken, by a page or a version.
-    last_seq: u32,
+    /// The last sequence number taken, by a page or a version.
+    last_sequence: u32,
     /// The block last written.
     current: usize,
     /// The copies of a compaction until its block is erased.
     copies: Vec<(usize, usize)>,
     /// The pages of the checkpoint being written, by sequence number.
-    checkpoint: Vec<u32>,
+    checkpoint_sequences: Vec<u32>,
     /// The entries of a log page just written, until it is seen what came after it.
     forced: Option<usize>,
     /// Kept between checks for its memory alone.
@@ -121,22 +121,23 @@ impl<'a> Audit<'a> {
         let mut audit = Audit {
             pool: pool.to_vec(),
             pages,
-            lies: Vec::new(),
+            locations: Vec::new(),
             modes,
-            last_seq: 0,
+            last_sequence: 0,
             current: 0,
             copies: Vec::new(),
-            checkpoint: Vec::new(),
+            checkpoint_sequences: Vec::new(),
             forced: None,
             in_buffer: Vec::new(),
             lines: lines.iter(),
             seen: Seen::default(),
             failure: None,
         };
-        audit.lies = audit.lies_of_pages(limit);
-        let numbered = audit.pages.iter().enumerate().filter_map(|(slot, page)| Some((page.as_ref()?.seq, slot)));
-        let (seq, slot) = numbered.max().unwrap_or_default();
-        (audit.last_seq, audit.current) = (seq, slot / BLOCK_PAGES);
+        audit.locations = audit.locate(limit);
+        let pages = audit.pages.iter().enumerate();
+        let written = pages.filter_map(|(page, decoded)| Some((decoded.as_ref()?.sequence, page)));
+        let (sequence, newest) = written.max().unwrap_or_default();
+        (audit.last_sequence, audit.current) = (sequence, newest / BLOCK_PAGES);
         audit
     }
 
@@ -155,57 +156,58 @@ impl<'a> Audit<'a> {
         self.failure.get_or_insert(why);
     }
 
-    fn lies_of_pages(&self, limit: usize) -> Vec<Lies> {
-        let mut lies = vec![Lies::default(); limit];
+    /// Where each node lies by the pages alone.
+    fn locate(&self, limit: usize) -> Vec<Location> {
+        let mut locations = vec![Location::default(); limit];
         for page in self.pages.iter().flatten() {
-            note_page(&mut lies, page);
+            note_page(&mut locations, page);
         }
-        lies
+        locations
     }
 
     /// Takes a page's bytes over from the pool; it must have been blank, and the first blank one of its block.
-    fn take_page(&mut self, slot: usize, pool: &[u8]) {
-        let range = page_range(slot);
+    fn take_page(&mut self, page: usize, pool: &[u8]) {
+        let range = page_range(page);
         if !is_blank(&self.pool[range.clone()]) {
-            self.fail(format!("page {slot} was written without being erased"));
+            self.fail(format!("page {page} was written without being erased"));
         }
-        if !slot.is_multiple_of(BLOCK_PAGES) && self.pages[slot - 1].is_none() {
-            self.fail(format!("page {slot} was written behind a blank one"));
+        if !page.is_multiple_of(BLOCK_PAGES) && self.pages[page - 1].is_none() {
+            self.fail(format!("page {page} was written behind a blank one"));
         }
         self.pool[range.clone()].copy_from_slice(&pool[range.clone()]);
         match decode(&pool[range]) {
-            Ok(Some(page)) => {
-                note_page(&mut self.lies, &page);
-                self.pages[slot] = Some(page);
+            Ok(Some(decoded)) => {
+                note_page(&mut self.locations, &decoded);
+                self.pages[page] = Some(decoded);
             }
-            other => self.fail(format!("page {slot} was written as {other:?}")),
+            other => self.fail(format!("page {page} was written as {other:?}")),
         }
     }
 
-    /// A new page: it stands where document 01 says and has the next number.
-    fn written(&mut self, slot: usize, state: &State<'_>) {
-        let place = self.next_place();
-        if Some(slot) != place {
-            self.fail(format!("page {slot} was written, {place:?} comes next"));
+    /// A new page: it stands where document 01 says and has the next sequence number.
+    fn written(&mut self, page: usize, state: &State<'_>) {
+        let next_page = self.next_page();
+        if Some(page) != next_page {
+            self.fail(format!("page {page} was written, {next_page:?} comes next"));
         }
-        self.take_page(slot, state.pool);
-        self.current = slot / BLOCK_PAGES;
-        let Some(page) = self.pages[slot].clone() else { return };
-        let entries = match &page.content {
+        self.take_page(page, state.pool);
+        self.current = page / BLOCK_PAGES;
+        let Some(decoded) = self.pages[page].clone() else { return };
+        let entries = match &decoded.content {
             Content::Log(entries) => entries.as_slice(),
             _ => &[],
         };
         self.check_forced(entries);
         self.forced = self.forced.or((!entries.is_empty()).then_some(entries.len()));
         let greatest = entries.iter().chain(state.buffer).map(|entry| entry.version).max().unwrap_or(0);
-        let (seq, next) = (page.seq, self.last_seq.max(greatest) + 1);
-        if matches!(page.content, Content::Checkpoint(_)) {
-            self.checkpoint.push(seq);
+        let (sequence, next) = (decoded.sequence, self.last_sequence.max(greatest) + 1);
+        if matches!(decoded.content, Content::Checkpoint(_)) {
+            self.checkpoint_sequences.push(sequence);
         }
-        if seq != next {
-            self.fail(format!("page {slot} has number {seq}, {next} comes next"));
+        if sequence != next {
+            self.fail(format!("page {page} has sequence number {sequence}, {next} comes next"));
         }
-        self.last_seq = seq;
+        self.last_sequence = sequence;
     }
 
     /// A log page was written because the group after it did not fit; `entries` begin with that group.
@@ -228,24 +230,24 @@ impl<'a> Audit<'a> {
     }
 
     /// Written pages of a block.
-    fn fill_of(&self, block: usize) -> usize {
+    fn written_in(&self, block: usize) -> usize {
         self.pages_in(block).iter().flatten().count()
     }
 
     /// Blank blocks from the one behind the current block upwards and round.
     fn blank_blocks(&self) -> Vec<usize> {
         let blocks = self.pages.len() / BLOCK_PAGES;
-        (1..=blocks).map(|ahead| (self.current + ahead) % blocks).filter(|&block| self.fill_of(block) == 0).collect()
+        (1..=blocks).map(|ahead| (self.current + ahead) % blocks).filter(|&block| self.written_in(block) == 0).collect()
     }
 
-    /// The place of the next page, if no compaction is due before it.
-    fn next_place(&self) -> Option<usize> {
-        match self.fill_of(self.current) {
+    /// The next page to be written, if no compaction is due before it.
+    fn next_page(&self) -> Option<usize> {
+        match self.written_in(self.current) {
             BLOCK_PAGES => {
                 let blanks = self.blank_blocks();
                 (blanks.len() >= 2).then(|| blanks[0] * BLOCK_PAGES)
             }
-            fill => Some(self.current * BLOCK_PAGES + fill),
+            written => Some(self.current * BLOCK_PAGES + written),
         }
     }
 
@@ -265,18 +267,18 @@ impl<'a> Audit<'a> {
             self.pages[to] = None;
         }
         let blanks = self.blank_blocks();
-        if self.fill_of(self.current) != BLOCK_PAGES || blanks.len() != 1 {
+        if self.written_in(self.current) != BLOCK_PAGES || blanks.len() != 1 {
             self.fail("a compaction that was not due".to_string());
             return;
         }
-        let live = self.live_slots(state);
-        let live_in = |block: usize| live.iter().filter(|&&slot| slot / BLOCK_PAGES == block).count();
+        let live = self.live_pages(state);
+        let live_in = |block: usize| live.iter().filter(|&&page| page / BLOCK_PAGES == block).count();
         let written = (0..self.pages.len() / BLOCK_PAGES).filter(|&block| block != blanks[0]);
         let fewest = written.min_by_key(|&block| (live_in(block), block));
         if fewest != Some(block) {
             self.fail(format!("block {block} was erased, {fewest:?} has fewest live pages"));
         }
-        let moved = live.iter().filter(|&&slot| slot / BLOCK_PAGES == block).copied().zip(blanks[0] * BLOCK_PAGES..);
+        let moved = live.iter().filter(|&&page| page / BLOCK_PAGES == block).copied().zip(blanks[0] * BLOCK_PAGES..);
         if !moved.eq(copies.iter().copied()) {
             self.fail(format!("other pages of block {block} were copied than its live ones in order"));
         }
@@ -287,16 +289,16 @@ impl<'a> Audit<'a> {
         self.current = blanks[0];
     }
 
-    /// The slots of live pages, ascending: pages of greatest versions and of the checkpoint being written.
-    fn live_slots(&self, state: &State<'_>) -> Vec<usize> {
-        let mut seqs: HashSet<u32> = self.checkpoint.iter().copied().collect();
-        for (id, lies) in self.lies.iter().enumerate().take(state.count) {
-            if buffer_version(state.buffer, id).is_none_or(|version| version <= lies.version) {
-                seqs.extend(&lies.seqs);
+    /// The live pages, ascending: pages of greatest versions and of the checkpoint being written.
+    fn live_pages(&self, state: &State<'_>) -> Vec<usize> {
+        let mut sequences: HashSet<u32> = self.checkpoint_sequences.iter().copied().collect();
+        for (id, location) in self.locations.iter().enumerate().take(state.count) {
+            if buffer_version(state.buffer, id).is_none_or(|version| version <= location.version) {
+                sequences.extend(&location.sequences);
             }
         }
-        let is_live = |page: &Option<Page>| page.as_ref().is_some_and(|page| seqs.contains(&page.seq));
-        (0..self.pages.len()).filter(|&slot| is_live(&self.pages[slot])).collect()
+        let is_live = |page: &usize| self.pages[*page].as_ref().is_some_and(|page| sequences.contains(&page.sequence));
+        (0..self.pages.len()).filter(is_live).collect()
     }
 
     /// Forgets a block; no page of a greatest version may be lost with it.
@@ -309,11 +311,11 @@ impl<'a> Audit<'a> {
             self.fail(format!("block {block} is not blank after its erase"));
         }
         self.pages[block * BLOCK_PAGES..][..BLOCK_PAGES].fill(None);
-        let before = std::mem::take(&mut self.lies);
-        self.lies = self.lies_of_pages(before.len());
+        let before = std::mem::take(&mut self.locations);
+        self.locations = self.locate(before.len());
         for (id, before) in before.iter().enumerate().take(state.count) {
             let in_buffer = buffer_version(state.buffer, id).is_some_and(|version| version > before.version);
-            if !in_buffer && !same_pages(&self.lies[id], before) {
+            if !in_buffer && !same_pages(&self.locations[id], before) {
                 self.fail(format!("a live page of node {id} was erased with block {block}"));
             }
         }
@@ -322,8 +324,8 @@ impl<'a> Audit<'a> {
     /// An edit that wrote the whole content: its node lay on three pages.
     fn wrote_whole(&mut self, id: usize) {
         self.seen.three_page_edits += 1;
-        let pages = self.lies[id].seqs.len();
-        if pages != MAX_LOG_PAGES || self.lies[id].on_disk_page {
+        let pages = self.locations[id].sequences.len();
+        if pages != MAX_LOG_PAGES || self.locations[id].on_node_page {
             self.fail(format!("an edit wrote node {id} whole, which lay on {pages} pages"));
         }
     }
@@ -336,14 +338,14 @@ impl<'a> Audit<'a> {
         in_buffer.clear();
         in_buffer.resize(state.count, 0);
         for entry in state.buffer {
-            self.last_seq = self.last_seq.max(entry.version);
+            self.last_sequence = self.last_sequence.max(entry.version);
             match in_buffer.get_mut(usize::from(entry.id)) {
                 Some(version) => *version = entry.version.max(*version),
                 None => self.fail(format!("the buffer has an entry of node {}, which does not exist", entry.id)),
             }
         }
         for (id, &version) in in_buffer.iter().enumerate() {
-            let (mode, pages) = self.lies[id].with_buffer(version);
+            let (mode, pages) = self.locations[id].with_buffer(version);
             if mode == Mode::Log && pages > MAX_LOG_PAGES {
                 self.fail(format!("node {id} lies on {pages} log pages, one to come included"));
             }
@@ -356,11 +358,11 @@ impl<'a> Audit<'a> {
 }
 
 /// Notes where a page's nodes lie.
-fn note_page(lies: &mut [Lies], page: &Page) {
-    let on_disk_page = matches!(page.content, Content::Node { .. });
+fn note_page(locations: &mut [Location], page: &Page) {
+    let on_node_page = matches!(page.content, Content::Node { .. });
     for (id, version) in page.versions() {
-        if let Some(lies) = lies.get_mut(usize::from(id)) {
-            lies.see(version, on_disk_page, page.seq);
+        if let Some(location) = locations.get_mut(usize::from(id)) {
+            location.see(version, on_node_page, page.sequence);
         }
     }
 }
@@ -370,11 +372,11 @@ fn buffer_version(buffer: &[Entry], id: usize) -> Option<u32> {
     buffer.iter().filter(|entry| usize::from(entry.id) == id).map(|entry| entry.version).max()
 }
 
-/// Says whether two lie on the same pages, in whatever order they were met.
-fn same_pages(one: &Lies, other: &Lies) -> bool {
+/// Says whether two locations are the same pages, in whatever order they were met.
+fn same_pages(one: &Location, other: &Location) -> bool {
     one.version == other.version
-        && one.seqs.len() == other.seqs.len()
-        && one.seqs.iter().all(|seq| other.seqs.contains(seq))
+        && one.sequences.len() == other.sequences.len()
+        && one.sequences.iter().all(|sequence| other.sequences.contains(sequence))
 }
 
 impl Audit<'_> {
@@ -400,9 +402,9 @@ impl Observer for Audit<'_> {
     fn see(&mut self, event: Event, state: State<'_>) {
         self.seen.states += 1;
         match event {
-            Event::PageWritten { slot } => {
+            Event::PageWritten { page } => {
                 self.seen.pages_written += 1;
-                self.written(slot, &state);
+                self.written(page, &state);
             }
             Event::PageCopied { from, to } => {
                 self.seen.pages_copied += 1;

@@ -1,4 +1,4 @@
-//! The second book: prepare and batch, as document 01 has them.
+//! The trait of a book, and the second book: prepare and batch, as document 01 has them.
 
 use crate::account::Tariff;
 use crate::command::{self, Command};
@@ -39,25 +39,6 @@ impl Book for SecondBook {
 
     fn batch(&mut self, pool: &mut [u8], table: &mut [u8], batch: &[u8], answers: &mut [u8]) -> Outcome {
         self::batch(pool, table, batch, answers, &mut Unobserved)
-    }
-}
-
-/// The books that a tool can be asked for by name.
-pub const BOOK_NAMES: &str = "second, proved";
-
-/// The book of a name, or why there is none.
-///
-/// A book from elsewhere needs a type that implements [`Book`] and a line here.
-pub fn by_name(name: &str) -> Result<Box<dyn Book>, String> {
-    match name {
-        "second" => Ok(Box::new(SecondBook)),
-        #[cfg(proved_book)]
-        "proved" => Ok(Box::new(crate::proved::ProvedBook)),
-        #[cfg(not(proved_book))]
-        "proved" => {
-            Err("this build has no proved book: make it with `rt staticlib wall_book`, and build again".to_string())
-        }
-        _ => Err(format!("no book is called {name:?}; there are: {BOOK_NAMES}")),
     }
 }
 
@@ -108,21 +89,21 @@ fn run(
     let mounted = mount(pool).map_err(|fault| fault.refusal)?;
 
     let mut store = Store::open(pool, mounted, observer);
-    let mut said = Vec::new();
-    let charge = serve(&mut store, node_limit(blocks), &commands, &mut said);
+    let mut answer_bytes = Vec::new();
+    let charge = serve(&mut store, node_limit(blocks), &commands, &mut answer_bytes);
     store.close();
-    answers[..said.len()].copy_from_slice(&said);
-    Ok((said.len(), charge))
+    answers[..answer_bytes.len()].copy_from_slice(&answer_bytes);
+    Ok((answer_bytes.len(), charge))
 }
 
-/// Does commands on an open store, puts their answers behind `said` and gives the charge.
-pub fn serve(store: &mut Store<'_>, limit: usize, commands: &[Command], said: &mut Vec<u8>) -> u64 {
+/// Does commands on an open store, puts their answers behind `answers` and gives the charge.
+pub fn serve(store: &mut Store<'_>, limit: usize, commands: &[Command], answers: &mut Vec<u8>) -> u64 {
     let mut charge = 0;
     let mut steps = Vec::new();
     for command in commands {
         let answer = tree::plan(store.nodes(), limit, command, &mut steps);
         charge += steps.drain(..).map(|step| store.run(step)).sum::<u64>();
-        answer.encode(said);
+        answer.encode(answers);
     }
     charge
 }

@@ -2,13 +2,13 @@
 
 use crate::layout::{MAX_BATCH_BYTES, MAX_SCAN_PAIRS};
 use crate::node::Pair;
-use crate::wire::{next_field, put_head, Field, Numbers, FIELD_HEAD, PAIR_BYTES};
+use crate::wire::{next_field, put_head, Field, Numbers, FIELD_HEAD, NUMBER_BYTES, PAIR_BYTES, SCAN_BYTES};
 use crate::wire::{TAG_DELETE, TAG_GET, TAG_PUT, TAG_SCAN};
 
-const TAG_NOTHING: u8 = 0x80;
-const TAG_FOUND: u8 = 0x81;
+const TAG_ABSENT: u8 = 0x80;
+const TAG_GOT: u8 = 0x81;
 const TAG_REPLACED: u8 = 0x82;
-const TAG_REMOVED: u8 = 0x83;
+const TAG_DELETED: u8 = 0x83;
 const TAG_PAIRS: u8 = 0x84;
 const TAG_REFUSED: u8 = 0x8F;
 
@@ -68,7 +68,7 @@ impl Command {
     fn answer_room(&self) -> usize {
         match *self {
             Command::Scan { most, .. } => FIELD_HEAD + PAIR_BYTES * most,
-            _ => FIELD_HEAD + 4,
+            _ => FIELD_HEAD + NUMBER_BYTES,
         }
     }
 
@@ -78,7 +78,7 @@ impl Command {
             Command::Put { key, value } => put_numbers(out, TAG_PUT, &[key, value]),
             Command::Delete { key } => put_numbers(out, TAG_DELETE, &[key]),
             Command::Scan { low, high, most } => {
-                put_head(out, TAG_SCAN, 10);
+                put_head(out, TAG_SCAN, SCAN_BYTES);
                 out.extend(low.to_be_bytes());
                 out.extend(high.to_be_bytes());
                 out.extend((most as u16).to_be_bytes());
@@ -90,11 +90,11 @@ impl Command {
 /// An answer to one command.
 #[derive(Clone, PartialEq, Eq, Debug)]
 pub enum Answer {
-    /// No such key; for a put, newly put.
-    Nothing,
-    Found(u32),
+    /// No such key; for a put, that it was not there before.
+    Absent,
+    Got(u32),
     Replaced(u32),
-    Removed(u32),
+    Deleted(u32),
     Pairs(Vec<Pair>),
     Refused(u8),
 }
@@ -103,10 +103,10 @@ impl Answer {
     /// Lays the answer behind `out`.
     pub fn encode(&self, out: &mut Vec<u8>) {
         match self {
-            Answer::Nothing => put_numbers(out, TAG_NOTHING, &[]),
-            Answer::Found(value) => put_numbers(out, TAG_FOUND, &[*value]),
+            Answer::Absent => put_numbers(out, TAG_ABSENT, &[]),
+            Answer::Got(value) => put_numbers(out, TAG_GOT, &[*value]),
             Answer::Replaced(value) => put_numbers(out, TAG_REPLACED, &[*value]),
-            Answer::Removed(value) => put_numbers(out, TAG_REMOVED, &[*value]),
+            Answer::Deleted(value) => put_numbers(out, TAG_DELETED, &[*value]),
             Answer::Pairs(pairs) => {
                 put_head(out, TAG_PAIRS, PAIR_BYTES * pairs.len());
                 for pair in pairs {
@@ -121,7 +121,7 @@ impl Answer {
 
 /// Lays a field whose payload is numbers of four bytes.
 fn put_numbers(out: &mut Vec<u8>, tag: u8, numbers: &[u32]) {
-    put_head(out, tag, 4 * numbers.len());
+    put_head(out, tag, NUMBER_BYTES * numbers.len());
     for number in numbers {
         out.extend(number.to_be_bytes());
     }
@@ -168,11 +168,11 @@ mod tests {
 
     #[test]
     fn what_is_no_batch() {
-        let scan = |most: u16| encode(&[Command::Scan { low: 0, high: 1, most: usize::from(most) }]);
+        let scan = |most| encode(&[Command::Scan { low: 0, high: 1, most }]);
         assert!(parse(&scan(0)).is_none());
         assert!(parse(&scan(1)).is_some());
-        assert!(parse(&scan(32)).is_some());
-        assert!(parse(&scan(33)).is_none());
+        assert!(parse(&scan(MAX_SCAN_PAIRS)).is_some());
+        assert!(parse(&scan(MAX_SCAN_PAIRS + 1)).is_none());
         assert!(parse(&[0x10, 0, 4, 0, 0, 0, 1]).is_none(), "a page field is no command");
         assert!(parse(&[0x05, 0, 0]).is_none());
         assert!(parse(&[0x01]).is_none());

@@ -20,13 +20,13 @@ pub struct Store<'a> {
     written: Vec<usize>,
     /// The block last written.
     current: usize,
-    last_seq: u32,
+    last_sequence: u32,
     /// Entries that wait for a log page.
     buffer: Vec<Entry>,
     nodes: Vec<Node>,
     rows: Vec<Row>,
     /// The pages of the checkpoint being written.
-    checkpoint: Vec<usize>,
+    checkpoint_pages: Vec<usize>,
 }
 
 impl<'a> Store<'a> {
@@ -38,11 +38,11 @@ impl<'a> Store<'a> {
             tariff: mounted.tariff,
             written: mounted.written,
             current: mounted.current,
-            last_seq: mounted.last_seq,
+            last_sequence: mounted.last_sequence,
             buffer: Vec::with_capacity(LOG_PAGE_ENTRIES),
             nodes: mounted.nodes,
             rows: mounted.rows,
-            checkpoint: Vec::new(),
+            checkpoint_pages: Vec::new(),
         }
     }
 
@@ -53,11 +53,11 @@ impl<'a> Store<'a> {
         let mounted = Mounted {
             written,
             current: 0,
-            last_seq: 0,
+            last_sequence: 0,
             tariff,
             nodes: Vec::new(),
             rows: Vec::new(),
-            checkpoint: Vec::new(),
+            checkpoint_pages: Vec::new(),
         };
         Store::open(pool, mounted, observer)
     }
@@ -113,10 +113,10 @@ impl<'a> Store<'a> {
         let scores: Vec<Score> =
             self.rows.iter().enumerate().map(|(id, row)| Score { id: id as u16, score: row.account.score }).collect();
         let count = self.rows.len() as u16;
-        for page in Checkpoint::pages(self.tariff.numbers(), &scores, count) {
-            let slot = self.write_page(Content::Checkpoint(page));
-            self.checkpoint.push(slot);
-            self.tell(Event::PageWritten { slot });
+        for content in Checkpoint::pages(self.tariff.numbers(), &scores, count) {
+            let page = self.write_page(Content::Checkpoint(content));
+            self.checkpoint_pages.push(page);
+            self.tell(Event::PageWritten { page });
         }
     }
 
@@ -152,23 +152,23 @@ impl<'a> Store<'a> {
 
     /// Puts a node's whole content into the log buffer under a new version.
     ///
-    /// A page forced out takes its number before the version, and while it is placed the node's
-    /// old pages are live.
+    /// A page forced out takes its sequence number before the version, and while it is placed the
+    /// node's old pages are live.
     fn write_group(&mut self, id: usize) {
         self.make_room(self.nodes[id].change_count());
-        let version = self.next_seq();
+        let version = self.next_sequence();
         let changes = self.nodes[id].changes();
         self.buffer.extend(changes.map(|change| Entry { id: id as u16, version, change }));
         self.start_version(id, version, Mode::Log);
     }
 
-    /// Writes a node's whole content as a disk page; while it is placed the old pages are live.
+    /// Writes a node's whole content as a node page; while it is placed the old pages are live.
     fn write_node_page(&mut self, id: usize) {
         let node = self.nodes[id].clone();
-        let slot = self.write_page(Content::Node { id: id as u16, node });
-        self.start_version(id, self.last_seq, Mode::Disk);
-        self.rows[id].pages.push(slot);
-        self.tell(Event::PageWritten { slot });
+        let page = self.write_page(Content::Node { id: id as u16, node });
+        self.start_version(id, self.last_sequence, Mode::Disk);
+        self.rows[id].pages.push(page);
+        self.tell(Event::PageWritten { page });
     }
 
     /// Begins a node's new greatest version, which lies on no page yet.
@@ -189,37 +189,37 @@ impl<'a> Store<'a> {
     /// Writes the log buffer as one page, stale entries too.
     fn write_buffer(&mut self) {
         let entries = self.buffer.clone();
-        let slot = self.write_page(Content::Log(entries));
+        let page = self.write_page(Content::Log(entries));
         for Entry { id, version, .. } in self.buffer.drain(..) {
             let row = &mut self.rows[usize::from(id)];
-            if row.version == version && row.pages.last() != Some(&slot) {
-                row.pages.push(slot);
+            if row.version == version && row.pages.last() != Some(&page) {
+                row.pages.push(page);
             }
         }
-        self.tell(Event::PageWritten { slot });
+        self.tell(Event::PageWritten { page });
     }
 
-    /// Writes one page behind the newest, and gives its slot.
+    /// Writes one page behind the newest, and gives its index.
     fn write_page(&mut self, content: Content) -> usize {
-        let slot = self.take_slot();
-        let seq = self.next_seq();
-        self.pool[page_range(slot)].copy_from_slice(&Page { seq, content }.encode());
-        slot
+        let page = self.take_page();
+        let sequence = self.next_sequence();
+        self.pool[page_range(page)].copy_from_slice(&Page { sequence, content }.encode());
+        page
     }
 
-    fn next_seq(&mut self) -> u32 {
-        self.last_seq += 1;
-        self.last_seq
+    fn next_sequence(&mut self) -> u32 {
+        self.last_sequence += 1;
+        self.last_sequence
     }
 
-    /// The place for the next page; a full block is left only now.
-    fn take_slot(&mut self) -> usize {
+    /// Takes the next page of the pool; a full block is left only now.
+    fn take_page(&mut self) -> usize {
         if self.written[self.current] == BLOCK_PAGES {
             self.current = self.next_block();
         }
-        let slot = self.current * BLOCK_PAGES + self.written[self.current];
+        let page = self.current * BLOCK_PAGES + self.written[self.current];
         self.written[self.current] += 1;
-        slot
+        page
     }
 
     /// The next blank block upwards and round; the last blank one takes a compaction's copies.
@@ -241,7 +241,7 @@ impl<'a> Store<'a> {
         let live_in = |block: usize| live[block * BLOCK_PAGES..][..BLOCK_PAGES].iter().filter(|&&live| live).count();
         let candidates = (0..self.written.len()).filter(|&block| block != blank);
         let victim = candidates.min_by_key(|&block| live_in(block)).expect("a pool has four blocks");
-        for from in (victim * BLOCK_PAGES..).take(BLOCK_PAGES).filter(|&slot| live[slot]) {
+        for from in (victim * BLOCK_PAGES..).take(BLOCK_PAGES).filter(|&page| live[page]) {
             let to = blank * BLOCK_PAGES + self.written[blank];
             self.pool.copy_within(page_range(from), page_range(to).start);
             self.written[blank] += 1;
@@ -257,8 +257,8 @@ impl<'a> Store<'a> {
     fn live_pages(&self) -> Vec<bool> {
         let mut live = vec![false; self.written.len() * BLOCK_PAGES];
         let of_nodes = self.rows.iter().flat_map(|row| &row.pages);
-        for &slot in of_nodes.chain(&self.checkpoint) {
-            live[slot] = true;
+        for &page in of_nodes.chain(&self.checkpoint_pages) {
+            live[page] = true;
         }
         live
     }
@@ -266,8 +266,8 @@ impl<'a> Store<'a> {
     /// Follows a page that compaction moved.
     fn rename(&mut self, from: usize, to: usize) {
         let of_nodes = self.rows.iter_mut().flat_map(|row| &mut row.pages);
-        for slot in of_nodes.chain(&mut self.checkpoint).filter(|slot| **slot == from) {
-            *slot = to;
+        for page in of_nodes.chain(&mut self.checkpoint_pages).filter(|page| **page == from) {
+            *page = to;
         }
     }
 

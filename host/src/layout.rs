@@ -36,7 +36,7 @@ pub const FIRST_CHECKPOINT_SCORES: usize = 50;
 pub const OTHER_CHECKPOINT_SCORES: usize = 54;
 
 /// Greatest sequence number of a pool that still opens.
-pub const MAX_SEQ: u32 = 4_000_000_000;
+pub const MAX_SEQUENCE: u32 = 4_000_000_000;
 /// Greatest number of a tariff.
 pub const MAX_TARIFF: u32 = 1_000_000;
 
@@ -47,14 +47,19 @@ pub fn block_count(pool_bytes: usize) -> Option<usize> {
     (whole && (MIN_BLOCKS..=MAX_BLOCKS).contains(&blocks)).then_some(blocks)
 }
 
+/// Bytes of the work table that a pool of this length needs.
+pub const fn table_bytes(pool_bytes: usize) -> usize {
+    pool_bytes / BLOCK_BYTES * TABLE_BYTES_PER_BLOCK
+}
+
 /// Most nodes of a pool of this many blocks.
 pub fn node_limit(blocks: usize) -> usize {
     10 * (blocks - 2)
 }
 
-/// The bytes of a pool that the page in `slot` takes.
-pub fn page_range(slot: usize) -> std::ops::Range<usize> {
-    slot * PAGE_BYTES..(slot + 1) * PAGE_BYTES
+/// The bytes of a pool that a page takes.
+pub fn page_range(page: usize) -> std::ops::Range<usize> {
+    page * PAGE_BYTES..(page + 1) * PAGE_BYTES
 }
 
 /// The bytes of a pool that a block takes.

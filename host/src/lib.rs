@@ -1,12 +1,15 @@
 //! The wall book a second time: document 01 in Rust, written for clarity, to run beside the proved one.
 //!
 //! From bytes upwards: [`wire`], [`page`], [`node`], [`tree`]; [`mount`] reads a closed pool, [`flash`]
-//! is the store while a batch runs, [`book`] has the two entry points. [`reference`] is the model that
-//! charges are compared with, [`optimum`] the cheapest schedule.
+//! is the store while a batch runs, [`book`] has the two entry points. [`books`] has the books by name, and
+//! [`both`] makes a call on both. [`reference`] is the model that charges are compared with, [`optimum`]
+//! the cheapest schedule.
 
 pub mod account;
 pub mod audit;
 pub mod book;
+pub mod books;
+pub mod both;
 pub mod command;
 pub mod damage;
 pub mod flash;

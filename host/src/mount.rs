@@ -4,9 +4,9 @@
 //! gathers each node's content.
 
 use crate::account::{Account, Mode, Tariff};
-use crate::layout::{block_count, node_limit, BLOCK_PAGES, MAX_LOG_PAGES, MAX_SEQ, PAGE_BYTES};
+use crate::layout::{block_count, node_limit, BLOCK_PAGES, MAX_LOG_PAGES, MAX_SEQUENCE, PAGE_BYTES};
 use crate::node::{Node, Replay};
-use crate::page::{decode, Content, Page, Score};
+use crate::page::{decode, Checkpoint, Content, Page, Score};
 use crate::refusal::{Fault, Place, Refusal};
 use crate::tree;
 
@@ -18,13 +18,13 @@ pub struct Mounted {
     /// The block of the newest page.
     pub current: usize,
     /// The greatest sequence number.
-    pub last_seq: u32,
+    pub last_sequence: u32,
     pub tariff: Tariff,
     /// Nodes and their rows, by id.
     pub nodes: Vec<Node>,
     pub rows: Vec<Row>,
     /// The pages of the newest checkpoint, which nothing needs once a batch has begun.
-    pub checkpoint: Vec<usize>,
+    pub checkpoint_pages: Vec<usize>,
 }
 
 /// Where a node lies, and its account.
@@ -33,14 +33,14 @@ pub struct Row {
     /// The node's greatest version.
     pub version: u32,
     pub account: Account,
-    /// The pages with that version, each once: log pages, or the one disk page.
+    /// The pages with that version, each once: log pages, or the one node page.
     pub pages: Vec<usize>,
 }
 
 /// Mounts a pool for a batch: question 1 and questions 5 to 8.
 pub fn mount(pool: &[u8]) -> Result<Mounted, Fault> {
     let mounted = read(pool)?;
-    if mounted.last_seq > MAX_SEQ {
+    if mounted.last_sequence > MAX_SEQUENCE {
         return Err(fault(Refusal::SequenceNumbers, Place::Pool, "sequence numbers are used up"));
     }
     Ok(mounted)
@@ -52,15 +52,15 @@ pub fn read(pool: &[u8]) -> Result<Mounted, Fault> {
     let survey = Survey::of(pool, blocks)?;
     let checkpoint = survey.newest_checkpoint()?;
     let (nodes, rows, tariff) = survey.sound_tree(&checkpoint)?;
-    let (newest, last_seq) = survey.newest().unwrap_or_default();
+    let (newest, last_sequence) = survey.newest().unwrap_or_default();
     Ok(Mounted {
         current: newest / BLOCK_PAGES,
         written: survey.written,
-        last_seq,
+        last_sequence,
         tariff,
         nodes,
         rows,
-        checkpoint: checkpoint.slots,
+        checkpoint_pages: checkpoint.pages,
     })
 }
 
@@ -71,7 +71,7 @@ fn fault(refusal: Refusal, at: Place, why: &'static str) -> Fault {
 /// All written pages of a pool that passed question 5.
 struct Survey {
     blocks: usize,
-    /// The pages with their slots, by sequence number.
+    /// Each page's index and what it says, by sequence number.
     pages: Vec<(usize, Page)>,
     written: Vec<usize>,
 }
@@ -81,7 +81,7 @@ struct NewestCheckpoint {
     tariff: [u32; 8],
     /// The score of each node below the count.
     scores: Vec<u32>,
-    slots: Vec<usize>,
+    pages: Vec<usize>,
 }
 
 impl Survey {
@@ -89,38 +89,38 @@ impl Survey {
     fn of(pool: &[u8], blocks: usize) -> Result<Survey, Fault> {
         let mut pages = Vec::new();
         let mut written = vec![0; blocks];
-        for (slot, bytes) in pool.chunks_exact(PAGE_BYTES).enumerate() {
-            let page = decode(bytes).map_err(|why| fault(Refusal::Pages, Place::Page(slot), why))?;
-            let Some(page) = page else { continue };
-            let block = slot / BLOCK_PAGES;
-            if written[block] != slot % BLOCK_PAGES {
-                return Err(fault(Refusal::Pages, Place::Page(slot), "a written page behind a blank one"));
+        for (page, bytes) in pool.chunks_exact(PAGE_BYTES).enumerate() {
+            let decoded = decode(bytes).map_err(|why| fault(Refusal::Pages, Place::Page(page), why))?;
+            let Some(decoded) = decoded else { continue };
+            let block = page / BLOCK_PAGES;
+            if written[block] != page % BLOCK_PAGES {
+                return Err(fault(Refusal::Pages, Place::Page(page), "a written page behind a blank one"));
             }
             written[block] += 1;
-            pages.push((slot, page));
+            pages.push((page, decoded));
         }
-        pages.sort_unstable_by_key(|(_, page)| page.seq);
+        pages.sort_unstable_by_key(|(_, decoded)| decoded.sequence);
         let survey = Survey { blocks, pages, written };
-        survey.check_numbers()?;
+        survey.check_sequences()?;
         survey.check_blocks()?;
         Ok(survey)
     }
 
-    /// The newest page's slot and sequence number.
+    /// The newest page and its sequence number.
     fn newest(&self) -> Option<(usize, u32)> {
-        self.pages.last().map(|(slot, page)| (*slot, page.seq))
+        self.pages.last().map(|(page, decoded)| (*page, decoded.sequence))
     }
 
     /// Sequence numbers all differ, and none is the version of a log entry.
-    fn check_numbers(&self) -> Result<(), Fault> {
-        if let Some(twins) = self.pages.windows(2).find(|pair| pair[0].1.seq == pair[1].1.seq) {
+    fn check_sequences(&self) -> Result<(), Fault> {
+        if let Some(twins) = self.pages.windows(2).find(|pair| pair[0].1.sequence == pair[1].1.sequence) {
             return Err(fault(Refusal::Pages, Place::Page(twins[1].0), "a sequence number twice"));
         }
-        let numbers = SeqSet::of(&self.pages);
-        for (slot, page) in &self.pages {
-            let Content::Log(entries) = &page.content else { continue };
-            if entries.iter().any(|entry| numbers.contains(entry.version)) {
-                return Err(fault(Refusal::Pages, Place::Page(*slot), "a version is a page's number"));
+        let sequences = SequenceSet::of(&self.pages);
+        for (page, decoded) in &self.pages {
+            let Content::Log(entries) = &decoded.content else { continue };
+            if entries.iter().any(|entry| sequences.contains(entry.version)) {
+                return Err(fault(Refusal::Pages, Place::Page(*page), "a version is a page's sequence number"));
             }
         }
         Ok(())
@@ -131,7 +131,7 @@ impl Survey {
         if !self.written.contains(&0) {
             return Err(fault(Refusal::Pages, Place::Pool, "no blank block"));
         }
-        let newest = self.newest().map(|(slot, _)| slot / BLOCK_PAGES);
+        let newest = self.newest().map(|(page, _)| page / BLOCK_PAGES);
         let partly = |written: usize| written > 0 && written < BLOCK_PAGES;
         for (block, &written) in self.written.iter().enumerate() {
             // Two partly written blocks cannot both hold the newest page.
@@ -144,22 +144,20 @@ impl Survey {
 
     /// Question 6: the newest pages, back to the newest tariff, form a whole checkpoint.
     fn newest_checkpoint(&self) -> Result<NewestCheckpoint, Fault> {
-        let refused = |slot: usize, why| fault(Refusal::Checkpoint, Place::Page(slot), why);
+        let refused = |page: &usize, why| fault(Refusal::Checkpoint, Place::Page(*page), why);
         let (newest, _) = self.newest().ok_or(fault(Refusal::Checkpoint, Place::Pool, "a blank pool"))?;
-        let mut set = Set::default();
-        for (slot, page) in self.pages.iter().rev() {
-            let Content::Checkpoint(page) = &page.content else {
-                return Err(refused(*slot, "no checkpoint page among the newest"));
+        let mut checkpoint = CheckpointPages::default();
+        for (page, decoded) in self.pages.iter().rev() {
+            let Content::Checkpoint(content) = &decoded.content else {
+                return Err(refused(page, "no checkpoint page among the newest"));
             };
-            if page.count.is_some() != (*slot == newest) {
-                return Err(refused(*slot, "the count is not on the newest page alone"));
+            if content.count.is_some() != (*page == newest) {
+                return Err(refused(page, "the count is not on the newest page alone"));
             }
-            set.count = set.count.or(page.count);
-            set.scores.extend(&page.scores);
-            set.slots.push(*slot);
-            if let Some(tariff) = page.tariff {
-                let scores = set.scores_by_id().map_err(|why| refused(*slot, why))?;
-                return Ok(NewestCheckpoint { tariff, scores, slots: set.slots });
+            checkpoint.add(*page, content);
+            if let Some(tariff) = content.tariff {
+                let scores = checkpoint.scores_by_id().map_err(|why| refused(page, why))?;
+                return Ok(NewestCheckpoint { tariff, scores, pages: checkpoint.pages });
             }
         }
         Err(fault(Refusal::Checkpoint, Place::Pool, "no tariff"))
@@ -192,28 +190,28 @@ impl Survey {
     /// What the pages say of the greatest version of each node below the count.
     fn gather(&self, count: usize) -> Vec<Gathered<'_>> {
         let mut gathered: Vec<Gathered<'_>> = (0..count).map(|_| Gathered::default()).collect();
-        for (_, page) in &self.pages {
-            for (id, version) in page.versions() {
+        for (_, decoded) in &self.pages {
+            for (id, version) in decoded.versions() {
                 if let Some(node) = gathered.get_mut(usize::from(id)) {
                     node.version = node.version.max(version);
                 }
             }
         }
         // Pages by sequence number and entries by position: the order in which they count.
-        for (slot, page) in &self.pages {
-            match &page.content {
+        for (page, decoded) in &self.pages {
+            match &decoded.content {
                 Content::Log(entries) => entries.iter().for_each(|entry| {
                     let node = gathered.get_mut(usize::from(entry.id));
                     if let Some(node) = node.filter(|node| node.version == entry.version) {
-                        node.see_page(*slot);
+                        node.see_page(*page);
                         node.replay.apply(entry.change);
                     }
                 }),
                 Content::Node { id, node: content } => {
                     let node = gathered.get_mut(usize::from(*id));
-                    if let Some(node) = node.filter(|node| node.version == page.seq) {
-                        node.see_page(*slot);
-                        node.whole = Some(content);
+                    if let Some(node) = node.filter(|node| node.version == decoded.sequence) {
+                        node.see_page(*page);
+                        node.node_page = Some(content);
                     }
                 }
                 Content::Checkpoint(_) => {}
@@ -224,37 +222,43 @@ impl Survey {
 }
 
 /// Sequence numbers of pages, with a quick answer for numbers that are none of them.
-struct SeqSet {
+struct SequenceSet {
     ascending: Vec<u32>,
     marks: Vec<bool>,
 }
 
-impl SeqSet {
+impl SequenceSet {
     const MARKS: u32 = 1 << 14;
 
-    fn of(pages: &[(usize, Page)]) -> SeqSet {
-        let ascending: Vec<u32> = pages.iter().map(|(_, page)| page.seq).collect();
+    fn of(pages: &[(usize, Page)]) -> SequenceSet {
+        let ascending: Vec<u32> = pages.iter().map(|(_, decoded)| decoded.sequence).collect();
         let mut marks = vec![false; Self::MARKS as usize];
-        for seq in &ascending {
-            marks[(seq % Self::MARKS) as usize] = true;
+        for sequence in &ascending {
+            marks[(sequence % Self::MARKS) as usize] = true;
         }
-        SeqSet { ascending, marks }
+        SequenceSet { ascending, marks }
     }
 
-    fn contains(&self, number: u32) -> bool {
-        self.marks[(number % Self::MARKS) as usize] && self.ascending.binary_search(&number).is_ok()
+    fn contains(&self, version: u32) -> bool {
+        self.marks[(version % Self::MARKS) as usize] && self.ascending.binary_search(&version).is_ok()
     }
 }
 
-/// The pages of a checkpoint as they are met, newest first.
+/// The pages of a checkpoint as they are read, newest first.
 #[derive(Default)]
-struct Set {
+struct CheckpointPages {
     count: Option<u16>,
     scores: Vec<Score>,
-    slots: Vec<usize>,
+    pages: Vec<usize>,
 }
 
-impl Set {
+impl CheckpointPages {
+    fn add(&mut self, page: usize, content: &Checkpoint) {
+        self.count = self.count.or(content.count);
+        self.scores.extend(&content.scores);
+        self.pages.push(page);
+    }
+
     /// The score of each id below the count, each given once and no other.
     fn scores_by_id(&self) -> Result<Vec<u32>, &'static str> {
         let count = usize::from(self.count.ok_or("no count")?);
@@ -275,19 +279,19 @@ struct Gathered<'a> {
     version: u32,
     pages: Vec<usize>,
     replay: Replay,
-    whole: Option<&'a Node>,
+    node_page: Option<&'a Node>,
 }
 
 impl Gathered<'_> {
     /// Notes a page; entries of one page come one behind the other.
-    fn see_page(&mut self, slot: usize) {
-        if self.pages.last() != Some(&slot) {
-            self.pages.push(slot);
+    fn see_page(&mut self, page: usize) {
+        if self.pages.last() != Some(&page) {
+            self.pages.push(page);
         }
     }
 
     fn finish(self) -> Result<(Node, Row), &'static str> {
-        let (mode, node) = match self.whole {
+        let (mode, node) = match self.node_page {
             Some(node) => (Mode::Disk, node.clone()),
             None if self.version == 0 => return Err("on no page"),
             None if self.pages.len() > MAX_LOG_PAGES => return Err("on more than three log pages"),

@@ -28,16 +28,16 @@ pub struct Node {
 pub enum Change {
     /// Adds the key or replaces its pointer.
     Put(Pair),
-    /// Drops the key if it is there.
-    Drop { key: u32 },
+    /// Deletes the key if it is there.
+    Delete { key: u32 },
     /// Sets a leaf's or a branch's link.
     Link(Shape, u32),
 }
 
-/// The two halves of a node of 25 keys, and the key that separates them in the node above.
+/// The two halves of a node of 25 keys, and the key between them that goes to the node above.
 pub struct Halves {
     pub lower: Node,
-    pub separator: u32,
+    pub middle: u32,
     pub upper: Node,
 }
 
@@ -82,7 +82,7 @@ impl Node {
     pub fn apply(&mut self, change: Change) {
         match change {
             Change::Put(pair) => put(&mut self.pairs, pair),
-            Change::Drop { key } => drop_key(&mut self.pairs, key),
+            Change::Delete { key } => delete(&mut self.pairs, key),
             Change::Link(_, link) => self.link = link,
         }
     }
@@ -104,7 +104,7 @@ impl Node {
     pub fn into_halves(mut self, upper_id: u32) -> Halves {
         debug_assert_eq!(self.pairs.len(), MAX_KEYS + 1);
         let mut upper = self.pairs.split_off(LOWER_KEYS);
-        let Pair { key: separator, pointer } = upper[0];
+        let Pair { key: middle, pointer } = upper[0];
         let lower_link = match self.shape {
             Shape::Leaf => upper_id,
             Shape::Branch => {
@@ -114,7 +114,7 @@ impl Node {
         };
         let upper = Node { shape: self.shape, pairs: upper, link: self.link };
         let lower = Node { link: lower_link, ..self };
-        Halves { lower, separator, upper }
+        Halves { lower, middle, upper }
     }
 
     /// Says whether the content alone is one that a sound tree may have.
@@ -136,7 +136,7 @@ fn put(pairs: &mut Vec<Pair>, pair: Pair) {
     }
 }
 
-fn drop_key(pairs: &mut Vec<Pair>, key: u32) {
+fn delete(pairs: &mut Vec<Pair>, key: u32) {
     if let Ok(at) = find(pairs, key) {
         pairs.remove(at);
     }
@@ -155,7 +155,7 @@ impl Replay {
     pub fn apply(&mut self, change: Change) {
         match change {
             Change::Put(pair) => put(&mut self.pairs, pair),
-            Change::Drop { key } => drop_key(&mut self.pairs, key),
+            Change::Delete { key } => delete(&mut self.pairs, key),
             Change::Link(shape, link) => {
                 self.broken |= self.link.is_some_and(|(before, _)| before != shape);
                 self.link = Some((shape, link));
@@ -175,25 +175,25 @@ impl Replay {
 mod tests {
     use super::*;
 
-    fn of_25(shape: Shape) -> Node {
-        let pairs = (0..25).map(|i| Pair { key: 10 * i, pointer: 100 + i }).collect();
+    fn overfull(shape: Shape) -> Node {
+        let pairs = (0..=MAX_KEYS as u32).map(|i| Pair { key: 10 * i, pointer: 100 + i }).collect();
         Node { shape, pairs, link: 77 }
     }
 
     #[test]
     fn a_leaf_of_25_gives_12_and_13() {
-        let Halves { lower, separator, upper } = of_25(Shape::Leaf).into_halves(9);
+        let Halves { lower, middle, upper } = overfull(Shape::Leaf).into_halves(9);
         assert_eq!((lower.pairs.len(), lower.link), (12, 9));
         assert_eq!((upper.pairs.len(), upper.link), (13, 77));
-        assert_eq!(separator, upper.pairs[0].key);
+        assert_eq!(middle, upper.pairs[0].key);
     }
 
     #[test]
     fn a_branch_of_25_gives_12_and_12_and_one_that_rises() {
-        let Halves { lower, separator, upper } = of_25(Shape::Branch).into_halves(9);
+        let Halves { lower, middle, upper } = overfull(Shape::Branch).into_halves(9);
         assert_eq!((lower.pairs.len(), lower.link), (12, 112));
         assert_eq!((upper.pairs.len(), upper.link), (12, 77));
-        assert_eq!((separator, upper.pairs[0].key), (120, 130));
+        assert_eq!((middle, upper.pairs[0].key), (120, 130));
     }
 
     #[test]
@@ -214,10 +214,10 @@ mod tests {
         assert_eq!(replayed(&[]), None, "no link");
         let mixed = [Change::Link(Shape::Leaf, 1), Change::Link(Shape::Branch, 1)];
         assert_eq!(replayed(&mixed), None);
-        let mut many: Vec<Change> = (0..25).map(|key| Change::Put(Pair { key, pointer: 0 })).collect();
-        many.extend([Change::Drop { key: 3 }, Change::Link(Shape::Leaf, 1)]);
+        let mut many: Vec<Change> = (0..=MAX_KEYS as u32).map(|key| Change::Put(Pair { key, pointer: 0 })).collect();
+        many.extend([Change::Delete { key: 3 }, Change::Link(Shape::Leaf, 1)]);
         assert_eq!(replayed(&many), None, "a 25th key for one moment");
-        many.remove(24);
+        many.remove(MAX_KEYS);
         assert_eq!(replayed(&many).map(|node| node.pairs.len()), Some(23));
     }
 }

@@ -15,7 +15,7 @@ pub struct State<'a> {
 #[derive(Clone, Copy, PartialEq, Eq, Debug)]
 pub enum Event {
     /// A new page was written.
-    PageWritten { slot: usize },
+    PageWritten { page: usize },
     /// Compaction copied a live page; the old one is still there.
     PageCopied { from: usize, to: usize },
     /// A block was erased.

@@ -55,12 +55,12 @@ mod tests {
 
     #[test]
     fn no_schedule_is_cheaper() {
-        let kinds = [Request::Read, Request::Edit, Request::Rewrite];
+        let all = [Request::Read, Request::Edit, Request::Rewrite];
         for numbers in [[3, 1, 2, 1, 4, 4, 3, 2], [0, 9, 1, 9, 0, 2, 1, 7], [5, 5, 5, 0, 0, 0, 20, 1]] {
             let tariff = Tariff::from_numbers(numbers).expect("in range");
             for seed in 0..200u32 {
                 let requests: Vec<Request> =
-                    (0..8).map(|at| kinds[(seed.wrapping_mul(2_654_435_761) >> (2 * at)) as usize % 3]).collect();
+                    (0..8).map(|at| all[(seed.wrapping_mul(2_654_435_761) >> (2 * at)) as usize % 3]).collect();
                 let mut optimum = Optimum::default();
                 requests.iter().for_each(|&request| optimum.serve(&tariff, request));
                 let cheapest = (0..1 << 8).map(|modes| pays(&tariff, &requests, modes)).min();

@@ -2,8 +2,11 @@
 
 use crate::layout::{BLANK, FIRST_CHECKPOINT_SCORES, LOG_PAGE_ENTRIES, OTHER_CHECKPOINT_SCORES, PAGE_BYTES};
 use crate::node::{Change, Node, Pair, Shape};
-use crate::wire::{next_field, page_sum, put_head, Field, Numbers, NODE_HEAD, PAIR_BYTES};
-use crate::wire::{TAG_COUNT, TAG_ENTRY, TAG_NODE, TAG_SCORE, TAG_SEQ, TAG_SUM, TAG_TARIFF};
+use crate::wire::{next_field, page_sum, put_head, Field, Numbers, FIELD_HEAD};
+use crate::wire::{
+    COUNT_BYTES, ENTRY_BYTES, NODE_HEAD, PAIR_BYTES, SCORE_BYTES, SEQUENCE_BYTES, SUM_BYTES, TARIFF_BYTES,
+};
+use crate::wire::{TAG_COUNT, TAG_ENTRY, TAG_NODE, TAG_SCORE, TAG_SEQUENCE, TAG_SUM, TAG_TARIFF};
 
 /// The bytes of a page.
 pub type Image = [u8; PAGE_BYTES];
@@ -12,7 +15,7 @@ pub type Image = [u8; PAGE_BYTES];
 #[derive(Clone, PartialEq, Eq, Debug)]
 pub struct Page {
     /// Its sequence number, document 01's stamp.
-    pub seq: u32,
+    pub sequence: u32,
     pub content: Content,
 }
 
@@ -20,9 +23,9 @@ pub struct Page {
 pub enum Content {
     /// A log page.
     Log(Vec<Entry>),
-    /// A disk page: one whole node.
+    /// A node page: the whole content of one node in disk mode.
     Node { id: u16, node: Node },
-    /// A closing page.
+    /// A checkpoint page.
     Checkpoint(Checkpoint),
 }
 
@@ -65,13 +68,13 @@ pub fn checkpoint_capacity(first: bool) -> usize {
 }
 
 const KIND_PUT: u8 = 1;
-const KIND_DROP: u8 = 2;
-/// These two are also the types of a disk page.
+const KIND_DELETE: u8 = 2;
+/// These two also tell leaf from branch on a node page.
 const KIND_LEAF: u8 = 3;
 const KIND_BRANCH: u8 = 4;
 
-fn shape_of(kind: u8) -> Option<Shape> {
-    match kind {
+fn shape_of(number: u8) -> Option<Shape> {
+    match number {
         KIND_LEAF => Some(Shape::Leaf),
         KIND_BRANCH => Some(Shape::Branch),
         _ => None,
@@ -100,23 +103,23 @@ pub fn decode(bytes: &[u8]) -> Result<Option<Page>, Flaw> {
     if bytes[0] == BLANK {
         return if is_blank(bytes) { Ok(None) } else { Err("FF first on a page that is not blank") };
     }
-    let (seq, rest) = decode_seq(bytes)?;
+    let (sequence, rest) = decode_sequence(bytes)?;
     let (field, after) = next_field(rest).ok_or("no valid field behind the sequence number")?;
     let (content, rest) = match field.tag {
-        TAG_ENTRY => decode_log(rest, seq)?,
+        TAG_ENTRY => decode_log(rest, sequence)?,
         TAG_NODE => (decode_node(field)?, after),
         TAG_TARIFF | TAG_SCORE => decode_checkpoint(rest)?,
         _ => return Err("no content behind the sequence number"),
     };
     decode_sum(bytes, rest)?;
-    Ok(Some(Page { seq, content }))
+    Ok(Some(Page { sequence, content }))
 }
 
-fn decode_seq(bytes: &[u8]) -> Result<(u32, &[u8]), Flaw> {
+fn decode_sequence(bytes: &[u8]) -> Result<(u32, &[u8]), Flaw> {
     match next_field(bytes) {
-        Some((Field { tag: TAG_SEQ, payload }, rest)) => match Numbers(payload).u32() {
+        Some((Field { tag: TAG_SEQUENCE, payload }, rest)) => match Numbers(payload).u32() {
             0 => Err("sequence number 0"),
-            seq => Ok((seq, rest)),
+            sequence => Ok((sequence, rest)),
         },
         _ => Err("no sequence number first"),
     }
@@ -138,25 +141,25 @@ fn decode_sum(bytes: &[u8], rest: &[u8]) -> Result<(), Flaw> {
 }
 
 /// Reads entries until another tag comes.
-fn decode_log(mut rest: &[u8], seq: u32) -> Result<(Content, &[u8]), Flaw> {
+fn decode_log(mut rest: &[u8], sequence: u32) -> Result<(Content, &[u8]), Flaw> {
     let mut entries = Vec::with_capacity(LOG_PAGE_ENTRIES);
     while let Some((Field { tag: TAG_ENTRY, payload }, after)) = next_field(rest) {
-        entries.push(decode_entry(payload, seq)?);
+        entries.push(decode_entry(payload, sequence)?);
         rest = after;
     }
     Ok((Content::Log(entries), rest))
 }
 
-fn decode_entry(payload: &[u8], seq: u32) -> Result<Entry, Flaw> {
+fn decode_entry(payload: &[u8], sequence: u32) -> Result<Entry, Flaw> {
     let mut numbers = Numbers(payload);
     let (id, version, kind) = (numbers.u16(), numbers.u32(), numbers.u8());
     let (key, pointer) = (numbers.u32(), numbers.u32());
-    if version == 0 || version >= seq {
-        return Err("an entry's version is 0 or not below the page's number");
+    if version == 0 || version >= sequence {
+        return Err("an entry's version is 0 or not below the page's sequence number");
     }
     let change = match (kind, key, pointer) {
         (KIND_PUT, key, pointer) => Change::Put(Pair { key, pointer }),
-        (KIND_DROP, key, 0) => Change::Drop { key },
+        (KIND_DELETE, key, 0) => Change::Delete { key },
         (KIND_LEAF, 0, link) => Change::Link(Shape::Leaf, link),
         (KIND_BRANCH, 0, link) => Change::Link(Shape::Branch, link),
         _ => return Err("an entry's kind is unknown or goes with other numbers"),
@@ -166,8 +169,8 @@ fn decode_entry(payload: &[u8], seq: u32) -> Result<Entry, Flaw> {
 
 fn decode_node(field: Field<'_>) -> Result<Content, Flaw> {
     let mut numbers = Numbers(field.payload);
-    let (id, kind, link) = (numbers.u16(), numbers.u8(), numbers.u32());
-    let shape = shape_of(kind).ok_or("a disk page is neither leaf nor branch")?;
+    let (id, shape, link) = (numbers.u16(), numbers.u8(), numbers.u32());
+    let shape = shape_of(shape).ok_or("a node page is neither leaf nor branch")?;
     let count = (field.payload.len() - NODE_HEAD) / PAIR_BYTES;
     let pairs = (0..count).map(|_| Pair { key: numbers.u32(), pointer: numbers.u32() }).collect();
     Ok(Content::Node { id, node: Node { shape, pairs, link } })
@@ -220,8 +223,8 @@ impl Page {
     }
 
     fn encode_before_sum(&self, out: &mut Vec<u8>) {
-        put_head(out, TAG_SEQ, 4);
-        out.extend(self.seq.to_be_bytes());
+        put_head(out, TAG_SEQUENCE, SEQUENCE_BYTES);
+        out.extend(self.sequence.to_be_bytes());
         match &self.content {
             Content::Log(entries) => entries.iter().for_each(|entry| entry.encode(out)),
             Content::Node { id, node } => encode_node(out, *id, node),
@@ -235,18 +238,19 @@ impl Page {
         out.len() + SUM_FIELD_BYTES
     }
 
-    /// The version that a disk page or an entry gives to a node, with that node.
+    /// The version that a node page or an entry gives to a node, with that node's id.
     pub fn versions(&self) -> impl Iterator<Item = (u16, u32)> + '_ {
         let (entries, node): (&[Entry], _) = match &self.content {
             Content::Log(entries) => (entries, None),
-            Content::Node { id, .. } => (&[], Some((*id, self.seq))),
+            Content::Node { id, .. } => (&[], Some((*id, self.sequence))),
             Content::Checkpoint(_) => (&[], None),
         };
         entries.iter().map(|entry| (entry.id, entry.version)).chain(node)
     }
 }
 
-const SUM_FIELD_BYTES: usize = 7;
+/// Bytes of field 1F, its head included.
+pub const SUM_FIELD_BYTES: usize = FIELD_HEAD + SUM_BYTES;
 
 /// Ends a page's bytes with their sum and FF.
 pub fn seal(mut out: Vec<u8>) -> Image {
@@ -262,10 +266,10 @@ impl Entry {
     fn encode(&self, out: &mut Vec<u8>) {
         let (kind, key, pointer) = match self.change {
             Change::Put(Pair { key, pointer }) => (KIND_PUT, key, pointer),
-            Change::Drop { key } => (KIND_DROP, key, 0),
+            Change::Delete { key } => (KIND_DELETE, key, 0),
             Change::Link(shape, link) => (kind_of(shape), 0, link),
         };
-        put_head(out, TAG_ENTRY, 15);
+        put_head(out, TAG_ENTRY, ENTRY_BYTES);
         out.extend(self.id.to_be_bytes());
         out.extend(self.version.to_be_bytes());
         out.push(kind);
@@ -288,16 +292,16 @@ fn encode_node(out: &mut Vec<u8>, id: u16, node: &Node) {
 impl Checkpoint {
     fn encode(&self, out: &mut Vec<u8>) {
         if let Some(tariff) = self.tariff {
-            put_head(out, TAG_TARIFF, 32);
+            put_head(out, TAG_TARIFF, TARIFF_BYTES);
             tariff.iter().for_each(|number| out.extend(number.to_be_bytes()));
         }
         for score in &self.scores {
-            put_head(out, TAG_SCORE, 6);
+            put_head(out, TAG_SCORE, SCORE_BYTES);
             out.extend(score.id.to_be_bytes());
             out.extend(score.score.to_be_bytes());
         }
         if let Some(count) = self.count {
-            put_head(out, TAG_COUNT, 2);
+            put_head(out, TAG_COUNT, COUNT_BYTES);
             out.extend(count.to_be_bytes());
         }
     }
@@ -322,24 +326,25 @@ impl Checkpoint {
 #[cfg(test)]
 mod tests {
     use super::*;
+    use crate::layout::MAX_KEYS;
 
     fn log(entries: usize) -> Page {
         let entry = |i: usize| {
             let change = match i % 4 {
                 0 => Change::Put(Pair { key: i as u32, pointer: 0xFFFF_FFFF }),
-                1 => Change::Drop { key: 0xFFFF_FFFF },
+                1 => Change::Delete { key: 0xFFFF_FFFF },
                 2 => Change::Link(Shape::Leaf, i as u32),
                 _ => Change::Link(Shape::Branch, 0xFFFF_FFFF),
             };
             Entry { id: i as u16, version: 1 + i as u32, change }
         };
-        Page { seq: 1000, content: Content::Log((0..entries).map(entry).collect()) }
+        Page { sequence: 1000, content: Content::Log((0..entries).map(entry).collect()) }
     }
 
     fn checkpoint(tariff: bool, scores: usize, count: bool) -> Page {
         let scores = (0..scores).map(|id| Score { id: id as u16, score: 0xFFFF_FFFF }).collect();
         let tariff = tariff.then_some([1, 2, 3, 4, 5, 6, 7, 8]);
-        Page { seq: 9, content: Content::Checkpoint(Checkpoint { tariff, scores, count: count.then_some(3) }) }
+        Page { sequence: 9, content: Content::Checkpoint(Checkpoint { tariff, scores, count: count.then_some(3) }) }
     }
 
     fn checks(page: &Page) -> bool {
@@ -348,19 +353,19 @@ mod tests {
 
     #[test]
     fn pages_go_both_ways() {
-        assert!((1..=27).all(|entries| checks(&log(entries))));
-        for keys in 0..=24 {
+        assert!((1..=LOG_PAGE_ENTRIES).all(|entries| checks(&log(entries))));
+        for keys in 0..=MAX_KEYS as u32 {
             let pairs = (0..keys).map(|key| Pair { key, pointer: key }).collect();
             let node = Node { shape: Shape::Branch, pairs, link: 5 };
-            assert!(checks(&Page { seq: 0xFFFF_FFFF, content: Content::Node { id: 0xFFFF, node } }));
+            assert!(checks(&Page { sequence: 0xFFFF_FFFF, content: Content::Node { id: 0xFFFF, node } }));
         }
-        assert_eq!(decode(&[0xFF; 512]), Ok(None));
+        assert_eq!(decode(&[BLANK; PAGE_BYTES]), Ok(None));
         assert!(!checks(&log(0)), "fields 10 and 1F alone");
     }
 
     #[test]
     fn checkpoint_pages_are_full_or_last() {
-        for (first, full) in [(true, 50), (false, 54)] {
+        for (first, full) in [(true, FIRST_CHECKPOINT_SCORES), (false, OTHER_CHECKPOINT_SCORES)] {
             for scores in 0..=full {
                 assert_eq!(checks(&checkpoint(first, scores, true)), scores > 0);
                 assert_eq!(checks(&checkpoint(first, scores, false)), scores == full);
@@ -387,11 +392,11 @@ mod tests {
     #[test]
     fn entries_keep_their_rules() {
         // A page of one entry with these numbers, its sum right.
-        let with = |seq: u32, version: u32, kind: u8, key: u32, pointer: u32| {
+        let with = |sequence: u32, version: u32, kind: u8, key: u32, pointer: u32| {
             let mut out = Vec::new();
-            put_head(&mut out, TAG_SEQ, 4);
-            out.extend(seq.to_be_bytes());
-            put_head(&mut out, TAG_ENTRY, 15);
+            put_head(&mut out, TAG_SEQUENCE, SEQUENCE_BYTES);
+            out.extend(sequence.to_be_bytes());
+            put_head(&mut out, TAG_ENTRY, ENTRY_BYTES);
             out.extend(7u16.to_be_bytes());
             out.extend(version.to_be_bytes());
             out.push(kind);
@@ -401,9 +406,9 @@ mod tests {
         };
         assert!(with(2, 1, 1, 5, 6) && with(2, 1, 2, 5, 0) && with(2, 1, 3, 0, 6) && with(2, 1, 4, 0, 6));
         assert!(!with(2, 0, 1, 5, 6), "version 0");
-        assert!(!with(2, 2, 1, 5, 6) && !with(2, 3, 1, 5, 6), "a version not below its page's number");
+        assert!(!with(2, 2, 1, 5, 6) && !with(2, 3, 1, 5, 6), "a version not below its page's sequence number");
         assert!(!with(2, 1, 0, 5, 6) && !with(2, 1, 5, 5, 6), "an unknown kind");
-        assert!(!with(2, 1, 2, 5, 6), "a drop with a pointer");
+        assert!(!with(2, 1, 2, 5, 6), "a delete with a pointer");
         assert!(!with(2, 1, 3, 5, 6) && !with(2, 1, 4, 5, 6), "a link with a key");
     }
 
@@ -415,7 +420,7 @@ mod tests {
         };
         assert_eq!([1, 50, 51, 104, 105, 620].map(|nodes| pages(nodes).len()), [1, 1, 2, 2, 3, 12]);
         let pages = pages(105);
-        assert!(pages.iter().all(|page| checks(&Page { seq: 5, content: Content::Checkpoint(page.clone()) })));
+        assert!(pages.iter().all(|page| checks(&Page { sequence: 5, content: Content::Checkpoint(page.clone()) })));
         assert!(pages[0].tariff.is_some() && pages[2].count == Some(105) && pages[1].count.is_none());
     }
 }

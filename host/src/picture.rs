@@ -16,10 +16,10 @@ enum Mark {
     Blank,
     Broken,
     Log,
-    Disk,
+    Node,
     Checkpoint,
     DeadLog,
-    DeadDisk,
+    DeadNode,
     DeadCheckpoint,
 }
 
@@ -29,16 +29,16 @@ impl Mark {
             Mark::Blank => '.',
             Mark::Broken => '!',
             Mark::Log => 'L',
-            Mark::Disk => 'D',
+            Mark::Node => 'D',
             Mark::Checkpoint => 'C',
             Mark::DeadLog => 'l',
-            Mark::DeadDisk => 'd',
+            Mark::DeadNode => 'd',
             Mark::DeadCheckpoint => 'c',
         }
     }
 
     fn is_live(self) -> bool {
-        matches!(self, Mark::Log | Mark::Disk | Mark::Checkpoint)
+        matches!(self, Mark::Log | Mark::Node | Mark::Checkpoint)
     }
 }
 
@@ -56,7 +56,7 @@ pub fn pool(bytes: &[u8]) -> String {
         Err(fault) => format!("refused {fault}\n"),
     };
     let marks = marks(bytes, mounted.as_ref().ok());
-    let newest = newest_slot(bytes);
+    let newest = newest_page(bytes);
     let _ = writeln!(out, "{LEGEND}");
     for block in 0..blocks {
         block_line(&mut out, block, &marks[block * BLOCK_PAGES..][..BLOCK_PAGES], newest);
@@ -70,13 +70,13 @@ fn summary(mounted: &Mounted) -> String {
     let mut out = String::new();
     let _ = writeln!(
         out,
-        "opens: {} pairs in {} nodes ({} branches; {} in log mode, {} in disk mode), greatest number {}",
+        "opens: {} pairs in {} nodes ({} branches; {} in log mode, {} in disk mode), greatest sequence number {}",
         tree::pairs(&mounted.nodes).len(),
         mounted.nodes.len(),
         branches,
         modes(Mode::Log),
         modes(Mode::Disk),
-        mounted.last_seq,
+        mounted.last_sequence,
     );
     let _ = writeln!(out, "tariff {:?}, limit {}", mounted.tariff.numbers(), mounted.tariff.limit());
     out
@@ -89,8 +89,8 @@ fn block_line(out: &mut String, block: usize, marks: &[Mark], newest: Option<usi
     let live = marks.iter().filter(|mark| mark.is_live()).count();
     let written = marks.iter().filter(|&&mark| mark != Mark::Blank).count();
     let _ = write!(out, "  {live:>2} live of {written:>2}");
-    let _ = match newest.filter(|slot| slot / BLOCK_PAGES == block) {
-        Some(slot) => writeln!(out, ", newest at {}", slot % BLOCK_PAGES),
+    let _ = match newest.filter(|page| page / BLOCK_PAGES == block) {
+        Some(page) => writeln!(out, ", newest at {}", page % BLOCK_PAGES),
         None => writeln!(out),
     };
 }
@@ -100,9 +100,9 @@ fn marks(bytes: &[u8], mounted: Option<&Mounted>) -> Vec<Mark> {
     let mut live = vec![false; bytes.len() / PAGE_BYTES];
     if let Some(mounted) = mounted {
         let of_nodes = mounted.rows.iter().flat_map(|row| &row.pages);
-        of_nodes.chain(&mounted.checkpoint).for_each(|&slot| live[slot] = true);
+        of_nodes.chain(&mounted.checkpoint_pages).for_each(|&page| live[page] = true);
     }
-    bytes.chunks_exact(PAGE_BYTES).zip(live).map(|(page, live)| mark(page, live)).collect()
+    bytes.chunks_exact(PAGE_BYTES).zip(live).map(|(page_bytes, live)| mark(page_bytes, live)).collect()
 }
 
 fn mark(bytes: &[u8], live: bool) -> Mark {
@@ -111,44 +111,44 @@ fn mark(bytes: &[u8], live: bool) -> Mark {
         (Ok(None), _) => Mark::Blank,
         (Ok(Some(Page { content: Content::Log(_), .. })), true) => Mark::Log,
         (Ok(Some(Page { content: Content::Log(_), .. })), false) => Mark::DeadLog,
-        (Ok(Some(Page { content: Content::Node { .. }, .. })), true) => Mark::Disk,
-        (Ok(Some(Page { content: Content::Node { .. }, .. })), false) => Mark::DeadDisk,
+        (Ok(Some(Page { content: Content::Node { .. }, .. })), true) => Mark::Node,
+        (Ok(Some(Page { content: Content::Node { .. }, .. })), false) => Mark::DeadNode,
         (Ok(Some(Page { content: Content::Checkpoint(_), .. })), true) => Mark::Checkpoint,
         (Ok(Some(Page { content: Content::Checkpoint(_), .. })), false) => Mark::DeadCheckpoint,
     }
 }
 
-/// The page of greatest number among those that check.
-fn newest_slot(bytes: &[u8]) -> Option<usize> {
+/// The page of greatest sequence number among those that check.
+fn newest_page(bytes: &[u8]) -> Option<usize> {
     let pages = bytes.chunks_exact(PAGE_BYTES).enumerate();
-    let numbered = pages.filter_map(|(slot, page)| Some((decode(page).ok()??.seq, slot)));
-    numbered.max().map(|(_, slot)| slot)
+    let written = pages.filter_map(|(page, page_bytes)| Some((decode(page_bytes).ok()??.sequence, page)));
+    written.max().map(|(_, page)| page)
 }
 
-/// One page in full; nothing if there is no such slot.
-pub fn page(bytes: &[u8], slot: usize) -> Option<String> {
-    let image = bytes.get(page_range(slot))?;
-    let mut out = format!("page {slot}: block {}, place {}\n", slot / BLOCK_PAGES, slot % BLOCK_PAGES);
-    match decode(image) {
+/// One page in full; nothing if there is no such page.
+pub fn page(bytes: &[u8], page: usize) -> Option<String> {
+    let page_bytes = bytes.get(page_range(page))?;
+    let mut out = format!("page {page}: block {}, place {}\n", page / BLOCK_PAGES, page % BLOCK_PAGES);
+    match decode(page_bytes) {
         Ok(None) => out.push_str("blank\n"),
         Err(why) => {
             let _ = writeln!(out, "does not check: {why}");
         }
-        Ok(Some(page)) => {
+        Ok(Some(decoded)) => {
             let rows = mount(bytes).map(|mounted| mounted.rows).unwrap_or_default();
             let lives = |id: u16, version: u32| match rows.get(usize::from(id)) {
                 Some(row) if row.version == version => "live",
                 _ => "dead",
             };
-            describe_page(&mut out, &page, lives);
+            describe_page(&mut out, &decoded, lives);
         }
     }
-    let _ = writeln!(out, "{}", to_hex(used(image)));
+    let _ = writeln!(out, "{}", to_hex(used(page_bytes)));
     Some(out)
 }
 
 fn describe_page(out: &mut String, page: &Page, lives: impl Fn(u16, u32) -> &'static str) {
-    let _ = writeln!(out, "number {}", page.seq);
+    let _ = writeln!(out, "sequence number {}", page.sequence);
     match &page.content {
         Content::Log(entries) => {
             for entry in entries {
@@ -158,7 +158,7 @@ fn describe_page(out: &mut String, page: &Page, lives: impl Fn(u16, u32) -> &'st
             }
         }
         Content::Node { id, node } => {
-            let _ = writeln!(out, "  {} node {id}", lives(*id, page.seq));
+            let _ = writeln!(out, "  {} node {id}", lives(*id, page.sequence));
             describe_node(out, node);
         }
         Content::Checkpoint(page) => {
@@ -178,7 +178,7 @@ fn describe_page(out: &mut String, page: &Page, lives: impl Fn(u16, u32) -> &'st
 fn change(change: Change) -> String {
     match change {
         Change::Put(pair) => format!("put {} -> {}", pair.key, pair.pointer),
-        Change::Drop { key } => format!("drop {key}"),
+        Change::Delete { key } => format!("delete {key}"),
         Change::Link(Shape::Leaf, link) => format!("leaf link {link}"),
         Change::Link(Shape::Branch, link) => format!("last pointer {link}"),
     }

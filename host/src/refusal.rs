@@ -45,7 +45,7 @@ impl fmt::Display for Fault {
         write!(out, "{}: ", self.refusal.number())?;
         match self.at {
             Place::Pool => {}
-            Place::Page(slot) => write!(out, "page {slot}: ")?,
+            Place::Page(page) => write!(out, "page {page}: ")?,
             Place::Block(block) => write!(out, "block {block}: ")?,
             Place::Node(id) => write!(out, "node {id}: ")?,
         }

@@ -6,10 +6,11 @@
 use std::time::Instant;
 
 use crate::account::Tariff;
-use crate::book::{self, by_name, Book};
-use crate::command::{answer_room, encode, Answer, Command};
+use crate::book::{self, Book};
+use crate::books::by_name;
+use crate::command::{answer_room, encode, split_answers, Answer, Command};
 use crate::flash::Store;
-use crate::layout::{node_limit, BLOCK_BYTES, LOG_PAGE_ENTRIES, PAGE_BYTES, TABLE_BYTES_PER_BLOCK};
+use crate::layout::{node_limit, table_bytes, BLANK, BLOCK_BYTES, LOG_PAGE_ENTRIES, PAGE_BYTES};
 use crate::meter::{Meter, Totals};
 use crate::mount::mount;
 use crate::observe::Unobserved;
@@ -41,8 +42,8 @@ pub const SECTIONS: &[Section] = &[
     Section {
         name: "W1",
         title: "Build of LABDATA (synthetic stand-in), 6,000 items, by device",
-        papers: "Source 000, figure 10: Log 40% cheaper than Disk on FLASHCHIP, 80% on SD; Disk 38% cheaper than Log on \
-                 CAPSULE, 32% on CF; self-tuning at least as good as the better, 10% below Log on FLASHCHIP.",
+        papers: "Source 000, figure 10: Log 40% cheaper than Disk on FLASHCHIP, 80% on SD; Disk 38% cheaper than Log \
+                 on CAPSULE, 32% on CF; self-tuning at least as good as the better, 10% below Log on FLASHCHIP.",
         table: builds_by_device,
     },
     Section {
@@ -54,8 +55,8 @@ pub const SECTIONS: &[Section] = &[
     Section {
         name: "W3",
         title: "Reads per write against the cost of a write in reads, build of LABDATA (synthetic), 3,000 items",
-        papers: "Source 000, figure 15: self-tuning always best; Log = Disk near write/read 4.7 at no reads (only ratios can \
-                 be reproduced). Each cell: what the others pay, as multiples of the book's charge.",
+        papers: "Source 000, figure 15: self-tuning always best; Log = Disk near write/read 4.7 at no reads (only \
+                 ratios can be reproduced). Each cell: what the others pay, as multiples of the book's charge.",
         table: ratio_grid,
     },
     Section {
@@ -129,7 +130,7 @@ struct Bench {
 impl Bench {
     fn new(blocks: usize, numbers: [u32; 8]) -> Result<Bench, String> {
         let tariff = Tariff::from_numbers(numbers).ok_or_else(|| format!("the tariff {numbers:?} is out of range"))?;
-        let mut pool = vec![0xFF; blocks * BLOCK_BYTES];
+        let mut pool = vec![BLANK; blocks * BLOCK_BYTES];
         match book::prepare(&mut pool, numbers, &mut Unobserved) {
             0 => Ok(Bench { pool, meter: Meter::new(tariff, blocks) }),
             number => Err(format!("prepare was refused with {number}")),
@@ -139,15 +140,15 @@ impl Bench {
     /// Runs commands in batches; a workload must fit its pool.
     fn run(&mut self, commands: &[Command]) -> Result<(), String> {
         let refused = encode_refused();
-        let mut table = vec![0; self.pool.len() / BLOCK_BYTES * TABLE_BYTES_PER_BLOCK];
-        let mut answers = vec![0; 700_000];
+        let mut table = vec![0; table_bytes(self.pool.len())];
         for batch in commands.chunks(BATCH) {
+            let mut answers = vec![0; answer_room(batch)];
             let outcome = book::batch(&mut self.pool, &mut table, &encode(batch), &mut answers, &mut self.meter);
             if outcome.number != 0 {
                 return Err(format!("a batch was refused with {}", outcome.number));
             }
-            let said = &answers[..outcome.length];
-            let full = crate::command::split_answers(said).is_none_or(|pieces| pieces.contains(&&refused[..]));
+            let answers = &answers[..outcome.length];
+            let full = split_answers(answers).is_none_or(|pieces| pieces.contains(&&refused[..]));
             if full {
                 return Err("the pool is too small for the workload".to_string());
             }
@@ -281,7 +282,7 @@ fn list_against_index() -> Result<Vec<Vec<String>>, String> {
         bench.run(&(0..queries).map(|_| Command::Get { key: random.pick(&keys) }).collect::<Vec<_>>())?;
         let query = (bench.meter.totals().charge - build) as f64 / queries as f64;
         let list_build = ITEMS as f64 * f64::from(device.write);
-        let list_query = ITEMS.div_ceil(LOG_PAGE_ENTRIES) as f64 * 27.0 * f64::from(device.read);
+        let list_query = (ITEMS.div_ceil(LOG_PAGE_ENTRIES) * LOG_PAGE_ENTRIES) as f64 * f64::from(device.read);
         let same = (build as f64 - list_build) / (list_query - query);
         rows.push(vec![
             device.name.to_string(),
@@ -398,10 +399,10 @@ fn command_time(pool: &[u8], commands: &[Command]) -> Result<f64, String> {
     let mounted = mount(&pool).map_err(|fault| fault.to_string())?;
     let mut observer = Unobserved;
     let mut store = Store::open(&mut pool, mounted, &mut observer);
-    let mut said = Vec::new();
+    let mut answers = Vec::new();
     let all = shortest(|| {
-        said.clear();
-        book::serve(&mut store, node_limit(BLOCKS), commands, &mut said);
+        answers.clear();
+        book::serve(&mut store, node_limit(BLOCKS), commands, &mut answers);
     });
     Ok(all / commands.len() as f64)
 }
@@ -409,7 +410,7 @@ fn command_time(pool: &[u8], commands: &[Command]) -> Result<f64, String> {
 /// The shortest time of a whole batch on a pool, in microseconds: the questions, the commands and the closing.
 fn batch_time(book: &mut dyn Book, pool: &[u8], commands: &[Command]) -> f64 {
     let batch = encode(commands);
-    let mut table = vec![0; TABLE_BYTES_PER_BLOCK * BLOCKS];
+    let mut table = vec![0; table_bytes(pool.len())];
     let mut answers = vec![0; answer_room(commands)];
     let mut lent = pool.to_vec();
     let time = |_| {
@@ -447,11 +448,20 @@ fn times() -> Result<Vec<Vec<String>>, String> {
         vec!["a put of a key that is there, on the mounted pool".to_string(), format!("{put:.3}")],
     ];
     for name in ["second", "proved"] {
-        let Ok(mut book) = by_name(name) else { continue };
-        for (what, commands) in [("nothing", &[][..]), ("2,000 gets", &gets), ("2,000 puts", &puts)] {
-            let time = batch_time(book.as_mut(), &bench.pool, commands);
-            rows.push(vec![format!("{name} book: a batch of {what}"), format!("{time:.0}")]);
-        }
+        rows.extend(batch_rows(name, &bench.pool, &gets, &puts));
     }
     Ok(rows)
+}
+
+/// The times of whole batches on a book, or why there are none.
+fn batch_rows(name: &str, pool: &[u8], gets: &[Command], puts: &[Command]) -> Vec<Vec<String>> {
+    let mut book = match by_name(name) {
+        Ok(book) => book,
+        Err(missing) => return vec![vec![format!("{name} book: {missing}"), "-".to_string()]],
+    };
+    let mut row = |(what, commands)| {
+        let time = batch_time(book.as_mut(), pool, commands);
+        vec![format!("{name} book: a batch of {what}"), format!("{time:.0}")]
+    };
+    [("nothing", &[][..]), ("2,000 gets", gets), ("2,000 puts", puts)].map(&mut row).to_vec()
 }

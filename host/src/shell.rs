@@ -4,7 +4,7 @@ use std::fs;
 use std::str::SplitWhitespace;
 
 use crate::book::Book;
-use crate::layout::{page_range, BLOCK_BYTES, TABLE_BYTES_PER_BLOCK};
+use crate::layout::{page_range, table_bytes, BLANK, BLOCK_BYTES, PAGE_BYTES};
 use crate::mount::mount;
 use crate::page::used;
 use crate::picture;
@@ -19,11 +19,12 @@ pub const LINES: &str = "\
   lengths TABLE ANSWERS  sets the lengths of table and answer buffer for batches after it
                          (at first, and for -: 1,024 x B and 700,000): lengths TABLE ANSWERS
   spell                  a line for each node, or: refused N
-  dump SLOT              the used bytes of a page
+  dump PAGE              the used bytes of a page; pages count through the pool from 0
 H is FNV-1a-64 of the pool in 16 hexadecimal digits; - stands for no bytes at all.
 A line that is none of these answers error .. and changes nothing; blank lines and lines from # answer nothing.
 prepare lends the pool at hand if it has B blocks already, or else a new one of FF.";
 
+/// Bytes of the answer buffer at first: room for the longest batch.
 const ANSWER_BYTES: usize = 700_000;
 /// Longest pool that prepare makes, so that a slip of a digit does not take the memory; far above what a book accepts.
 const MAX_PREPARED_BLOCKS: usize = 1024;
@@ -77,7 +78,7 @@ impl Shell {
         }
         ended(words)?;
         if self.pool.len() != blocks * BLOCK_BYTES {
-            self.pool = vec![0xFF; blocks * BLOCK_BYTES];
+            self.pool = vec![BLANK; blocks * BLOCK_BYTES];
         }
         let number = self.book.prepare(&mut self.pool, tariff);
         Ok(format!("number {number} pool {}", self.hash()))
@@ -93,9 +94,9 @@ impl Shell {
         let mut table = vec![0xA5; self.table_bytes()];
         let mut answers = vec![0; self.answer_bytes()];
         let outcome = self.book.batch(&mut self.pool, &mut table, &bytes, &mut answers);
-        let said = answers.get(..outcome.length).ok_or("the book answers more than its buffer holds")?;
-        let said = if said.is_empty() { "-".to_string() } else { to_hex(said) };
-        Ok(format!("number {} answers {said} charge {} pool {}", outcome.number, outcome.charge, self.hash()))
+        let answers = answers.get(..outcome.length).ok_or("the book answers more than its buffer holds")?;
+        let answers = if answers.is_empty() { "-".to_string() } else { to_hex(answers) };
+        Ok(format!("number {} answers {answers} charge {} pool {}", outcome.number, outcome.charge, self.hash()))
     }
 
     fn load(&mut self, name: &str) -> Result<String, String> {
@@ -124,18 +125,17 @@ impl Shell {
     }
 
     fn dump(&self, mut words: SplitWhitespace<'_>) -> Result<String, String> {
-        let slot: usize = number(&mut words, "a slot")?;
+        let page: usize = number(&mut words, "a page")?;
         ended(words)?;
-        let end = slot.checked_add(1).and_then(|next| next.checked_mul(512));
-        if end.is_none_or(|end| end > self.pool.len()) {
-            return Err(format!("no slot {slot}"));
+        if page >= self.pool.len() / PAGE_BYTES {
+            return Err(format!("no page {page}"));
         }
-        let bytes = used(&self.pool[page_range(slot)]);
+        let bytes = used(&self.pool[page_range(page)]);
         Ok(if bytes.is_empty() { "-".to_string() } else { to_hex(bytes) })
     }
 
     fn table_bytes(&self) -> usize {
-        self.table_bytes.unwrap_or(self.pool.len() / BLOCK_BYTES * TABLE_BYTES_PER_BLOCK)
+        self.table_bytes.unwrap_or(table_bytes(self.pool.len()))
     }
 
     fn answer_bytes(&self) -> usize {

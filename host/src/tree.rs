@@ -55,8 +55,8 @@ pub fn plan(nodes: &[Node], limit: usize, command: &Command, steps: &mut Vec<Ste
 fn plan_get(nodes: &[Node], key: u32, steps: &mut Vec<Step>) -> Answer {
     let leaf = &nodes[read_down(nodes, key, steps)];
     match leaf.find(key) {
-        Ok(at) => Answer::Found(leaf.pairs[at].pointer),
-        Err(_) => Answer::Nothing,
+        Ok(at) => Answer::Got(leaf.pairs[at].pointer),
+        Err(_) => Answer::Absent,
     }
 }
 
@@ -64,10 +64,10 @@ fn plan_delete(nodes: &[Node], key: u32, steps: &mut Vec<Step>) -> Answer {
     let id = read_down(nodes, key, steps);
     match nodes[id].find(key) {
         Ok(at) => {
-            steps.push(Step { id, work: Work::Edit(Change::Drop { key }) });
-            Answer::Removed(nodes[id].pairs[at].pointer)
+            steps.push(Step { id, work: Work::Edit(Change::Delete { key }) });
+            Answer::Deleted(nodes[id].pairs[at].pointer)
         }
-        Err(_) => Answer::Nothing,
+        Err(_) => Answer::Absent,
     }
 }
 
@@ -103,7 +103,7 @@ fn plan_put(nodes: &[Node], limit: usize, pair: Pair, steps: &mut Vec<Step>) -> 
     if splits && ids_needed(nodes, &path) > limit - nodes.len() {
         return Answer::Refused(IDS_USED_UP);
     }
-    steps.extend(path.iter().map(|hop| Step { id: hop.id, work: Work::Read }));
+    steps.extend(path.iter().map(|node| Step { id: node.id, work: Work::Read }));
     if splits {
         plan_split(nodes, &path, pair, steps);
     } else {
@@ -111,33 +111,33 @@ fn plan_put(nodes: &[Node], limit: usize, pair: Pair, steps: &mut Vec<Step>) -> 
     }
     match found {
         Ok(at) => Answer::Replaced(leaf.pairs[at].pointer),
-        Err(_) => Answer::Nothing,
+        Err(_) => Answer::Absent,
     }
 }
 
 /// The ids that a split of the path's leaf takes: one for each full node from the leaf upwards
 /// without a gap, and one more if the root is among them.
-fn ids_needed(nodes: &[Node], path: &[Hop]) -> usize {
-    let full = path.iter().rev().take_while(|hop| nodes[hop.id].is_full()).count();
+fn ids_needed(nodes: &[Node], path: &[PathNode]) -> usize {
+    let full = path.iter().rev().take_while(|node| nodes[node.id].is_full()).count();
     full + usize::from(full == path.len())
 }
 
 /// Splits the full leaf that a new pair goes to, and every full node above it, leaf upwards.
-fn plan_split(nodes: &[Node], path: &[Hop], pair: Pair, steps: &mut Vec<Step>) {
+fn plan_split(nodes: &[Node], path: &[PathNode], pair: Pair, steps: &mut Vec<Step>) {
     let mut next_id = nodes.len();
     let mut overfull = nodes[leaf_of(path)].clone();
     overfull.apply(Change::Put(pair));
     for level in (1..path.len()).rev() {
         let (id, upper_id) = (path[level].id, next_id);
-        let Halves { lower, separator, upper } = overfull.into_halves(upper_id as u32);
+        let Halves { lower, middle, upper } = overfull.into_halves(upper_id as u32);
         steps.push(Step { id, work: Work::Rewrite(lower) });
         steps.push(Step { id: upper_id, work: Work::Create(upper) });
         next_id += 1;
 
-        let Hop { id: above, place } = path[level - 1];
+        let PathNode { id: above, place } = path[level - 1];
         let parent = &nodes[above];
-        let to_lower = Change::Put(Pair { key: separator, pointer: id as u32 });
-        // Taken before the separator goes in: the place that led to the lower half until now.
+        let to_lower = Change::Put(Pair { key: middle, pointer: id as u32 });
+        // Taken before the middle key goes in: the place that led to the lower half until now.
         let to_upper = parent.change_child(place, upper_id as u32);
         if !parent.is_full() {
             steps.push(Step { id: above, work: Work::Edit(to_lower) });
@@ -154,28 +154,28 @@ fn plan_split(nodes: &[Node], path: &[Hop], pair: Pair, steps: &mut Vec<Step>) {
 /// Splits the root: two new nodes, the lower id with the lower half, and the root above them.
 fn plan_root_split(overfull: Node, lower_id: usize, steps: &mut Vec<Step>) {
     let upper_id = lower_id + 1;
-    let Halves { lower, separator, upper } = overfull.into_halves(upper_id as u32);
-    let pairs = vec![Pair { key: separator, pointer: lower_id as u32 }];
+    let Halves { lower, middle, upper } = overfull.into_halves(upper_id as u32);
+    let pairs = vec![Pair { key: middle, pointer: lower_id as u32 }];
     let root = Node { shape: Shape::Branch, pairs, link: upper_id as u32 };
     steps.push(Step { id: lower_id, work: Work::Create(lower) });
     steps.push(Step { id: upper_id, work: Work::Create(upper) });
     steps.push(Step { id: ROOT, work: Work::Rewrite(root) });
 }
 
-/// A node on the way down, and the place of the child that the way goes on to.
-struct Hop {
+/// A node of a path, and the place of the child that the path goes on to.
+struct PathNode {
     id: usize,
     place: usize,
 }
 
-/// The way from the root to the leaf of a key.
-fn path_to(nodes: &[Node], key: u32) -> Vec<Hop> {
+/// The path from the root to the leaf of a key.
+fn path_to(nodes: &[Node], key: u32) -> Vec<PathNode> {
     let mut path = Vec::with_capacity(8);
     let mut id = ROOT;
     loop {
         let node = &nodes[id];
         let place = node.child_place(key);
-        path.push(Hop { id, place });
+        path.push(PathNode { id, place });
         if node.is_leaf() {
             return path;
         }
@@ -183,7 +183,7 @@ fn path_to(nodes: &[Node], key: u32) -> Vec<Hop> {
     }
 }
 
-fn leaf_of(path: &[Hop]) -> usize {
+fn leaf_of(path: &[PathNode]) -> usize {
     path.last().expect("a path has its root at least").id
 }
 
@@ -303,6 +303,7 @@ impl<'a> Walk<'a> {
 #[cfg(test)]
 mod tests {
     use super::*;
+    use crate::layout::{MAX_KEYS, MAX_SCAN_PAIRS};
 
     fn leaf(keys: std::ops::Range<u32>, link: u32) -> Node {
         Node { shape: Shape::Leaf, pairs: keys.map(|key| Pair { key, pointer: 0 }).collect(), link }
@@ -344,11 +345,11 @@ mod tests {
             plan(&nodes, 20, &Command::Scan { low, high, most }, &mut steps);
             steps.iter().map(|step| step.id).collect::<Vec<_>>()
         };
-        assert_eq!(reads(0, 3, 32), [0, 2], "stopped by a key above");
-        assert_eq!(reads(0, 4, 32), [0, 2, 1], "only a key above stops it");
+        assert_eq!(reads(0, 3, MAX_SCAN_PAIRS), [0, 2], "stopped by a key above");
+        assert_eq!(reads(0, 4, MAX_SCAN_PAIRS), [0, 2, 1], "only a key above stops it");
         assert_eq!(reads(0, 4, 5), [0, 2], "stopped by the count at a leaf's end");
-        assert_eq!(reads(4, 3, 32), [0; 0], "low above high reads nothing");
-        assert_eq!(reads(5, 100, 32), [0, 1]);
+        assert_eq!(reads(4, 3, MAX_SCAN_PAIRS), [0; 0], "low above high reads nothing");
+        assert_eq!(reads(5, 100, MAX_SCAN_PAIRS), [0, 1]);
     }
 
     /// A tree of full leaves below branches with so many keys, level by level from the root; ids by level.
@@ -370,7 +371,7 @@ mod tests {
             lows = below;
         }
         for (place, &low) in lows.iter().enumerate() {
-            let pairs = (0..24).map(|at| Pair { key: low as u32 + 2 * at, pointer: at }).collect();
+            let pairs = (0..MAX_KEYS as u32).map(|at| Pair { key: low as u32 + 2 * at, pointer: at }).collect();
             let link = if place + 1 == lows.len() { NO_LINK } else { (nodes.len() + 1) as u32 };
             nodes.push(Node { shape: Shape::Leaf, pairs, link });
         }
@@ -382,12 +383,12 @@ mod tests {
         for (levels, needed) in [
             (&[][..], 2),
             (&[3][..], 1),
-            (&[24][..], 3),
+            (&[MAX_KEYS][..], 3),
             (&[3, 5][..], 1),
-            (&[3, 24][..], 2),
-            (&[24, 5][..], 1),
-            (&[24, 24][..], 4),
-            (&[2, 24, 24][..], 3),
+            (&[3, MAX_KEYS][..], 2),
+            (&[MAX_KEYS, 5][..], 1),
+            (&[MAX_KEYS, MAX_KEYS][..], 4),
+            (&[2, MAX_KEYS, MAX_KEYS][..], 3),
         ] {
             let nodes = tree_of(levels);
             assert_eq!(check(&nodes), Ok(()), "{levels:?}");
@@ -399,7 +400,7 @@ mod tests {
                     assert_eq!((answer, steps.len()), (Answer::Refused(IDS_USED_UP), 0), "{levels:?}");
                     continue;
                 }
-                assert_eq!(answer, Answer::Nothing);
+                assert_eq!(answer, Answer::Absent);
                 let mut after = nodes.clone();
                 steps.iter().for_each(|step| apply(&mut after, step));
                 assert_eq!(after.len(), nodes.len() + needed, "{levels:?}");
@@ -424,8 +425,8 @@ mod tests {
         };
         assert_eq!(steps(&[]), "r0 c1 c2 w0");
         assert_eq!(steps(&[3]), "r0 r1 w1 c5 e0 e0");
-        assert_eq!(steps(&[24]), "r0 r1 w1 c26 c27 c28 w0");
+        assert_eq!(steps(&[MAX_KEYS]), "r0 r1 w1 c26 c27 c28 w0");
         // The root, two branches of 25 leaves: 53 nodes, ids 0 to 52.
-        assert_eq!(steps(&[1, 24]), "r0 r1 r3 w3 c53 w1 c54 e0 e0");
+        assert_eq!(steps(&[1, MAX_KEYS]), "r0 r1 r3 w3 c53 w1 c54 e0 e0");
     }
 }

@@ -1,12 +1,14 @@
 //! Bytes: big-endian numbers, fields, the table of tags and lengths, the page sum.
 
+use crate::layout::{MAX_KEYS, PAGE_BYTES};
+
 /// Tags of commands.
 pub const TAG_GET: u8 = 0x01;
 pub const TAG_PUT: u8 = 0x02;
 pub const TAG_DELETE: u8 = 0x03;
 pub const TAG_SCAN: u8 = 0x04;
 /// Tags of page fields.
-pub const TAG_SEQ: u8 = 0x10;
+pub const TAG_SEQUENCE: u8 = 0x10;
 pub const TAG_NODE: u8 = 0x11;
 pub const TAG_ENTRY: u8 = 0x12;
 pub const TAG_TARIFF: u8 = 0x13;
@@ -16,6 +18,21 @@ pub const TAG_SUM: u8 = 0x1F;
 
 /// Bytes of a field before its payload: the tag and the length.
 pub const FIELD_HEAD: usize = 3;
+
+/// Bytes of a key or a value, and of a pair of them.
+pub const NUMBER_BYTES: usize = 4;
+pub const PAIR_BYTES: usize = 2 * NUMBER_BYTES;
+/// Payload bytes of a scan command.
+pub const SCAN_BYTES: usize = 10;
+/// Payload bytes of page fields.
+pub const SEQUENCE_BYTES: usize = 4;
+pub const ENTRY_BYTES: usize = 15;
+pub const TARIFF_BYTES: usize = 32;
+pub const SCORE_BYTES: usize = 6;
+pub const COUNT_BYTES: usize = 2;
+pub const SUM_BYTES: usize = 4;
+/// Payload bytes of a node page before its pairs.
+pub const NODE_HEAD: usize = 7;
 
 /// Which payload lengths a tag allows.
 #[derive(Clone, Copy, PartialEq, Eq, Debug)]
@@ -31,23 +48,19 @@ pub enum Length {
 /// The table of tags and lengths, indexed by the tag byte.
 const LENGTHS: [Length; 256] = {
     let mut table = [Length::Unknown; 256];
-    table[TAG_GET as usize] = Length::Exactly(4);
-    table[TAG_PUT as usize] = Length::Exactly(8);
-    table[TAG_DELETE as usize] = Length::Exactly(4);
-    table[TAG_SCAN as usize] = Length::Exactly(10);
-    table[TAG_SEQ as usize] = Length::Exactly(4);
+    table[TAG_GET as usize] = Length::Exactly(NUMBER_BYTES);
+    table[TAG_PUT as usize] = Length::Exactly(PAIR_BYTES);
+    table[TAG_DELETE as usize] = Length::Exactly(NUMBER_BYTES);
+    table[TAG_SCAN as usize] = Length::Exactly(SCAN_BYTES);
+    table[TAG_SEQUENCE as usize] = Length::Exactly(SEQUENCE_BYTES);
     table[TAG_NODE as usize] = Length::NodePage;
-    table[TAG_ENTRY as usize] = Length::Exactly(15);
-    table[TAG_TARIFF as usize] = Length::Exactly(32);
-    table[TAG_SCORE as usize] = Length::Exactly(6);
-    table[TAG_COUNT as usize] = Length::Exactly(2);
-    table[TAG_SUM as usize] = Length::Exactly(4);
+    table[TAG_ENTRY as usize] = Length::Exactly(ENTRY_BYTES);
+    table[TAG_TARIFF as usize] = Length::Exactly(TARIFF_BYTES);
+    table[TAG_SCORE as usize] = Length::Exactly(SCORE_BYTES);
+    table[TAG_COUNT as usize] = Length::Exactly(COUNT_BYTES);
+    table[TAG_SUM as usize] = Length::Exactly(SUM_BYTES);
     table
 };
-
-/// Bytes of a node page's payload before its pairs, and of each pair.
-pub const NODE_HEAD: usize = 7;
-pub const PAIR_BYTES: usize = 8;
 
 /// Says whether the table allows this payload length for the tag.
 fn allows(tag: u8, length: usize) -> bool {
@@ -57,7 +70,7 @@ fn allows(tag: u8, length: usize) -> bool {
         Length::NodePage => {
             length >= NODE_HEAD
                 && (length - NODE_HEAD).is_multiple_of(PAIR_BYTES)
-                && (length - NODE_HEAD) / PAIR_BYTES <= crate::layout::MAX_KEYS
+                && (length - NODE_HEAD) / PAIR_BYTES <= MAX_KEYS
         }
     }
 }
@@ -114,9 +127,9 @@ pub fn put_head(out: &mut Vec<u8>, tag: u8, length: usize) {
 /// The two sums of field 1F, b then a, over the bytes before it.
 ///
 /// A page is short enough that neither sum overflows 32 bits unreduced, so they are reduced once.
-pub fn page_sum(bytes: &[u8]) -> [u8; 4] {
+pub fn page_sum(bytes: &[u8]) -> [u8; SUM_BYTES] {
     const MODULUS: u32 = 65_535;
-    debug_assert!(bytes.len() <= crate::layout::PAGE_BYTES);
+    debug_assert!(bytes.len() <= PAGE_BYTES);
     let (mut a, mut b) = (1u32, 0u32);
     let mut chunks = bytes.chunks_exact(SUM_CHUNK);
     for chunk in &mut chunks {
@@ -163,7 +176,7 @@ mod tests {
     use super::*;
 
     /// The sum as document 01 words it, a byte and a reduction at a time.
-    fn sum_by_the_words(bytes: &[u8]) -> [u8; 4] {
+    fn sum_by_the_words(bytes: &[u8]) -> [u8; SUM_BYTES] {
         let (mut a, mut b) = (1u32, 0u32);
         for &byte in bytes {
             a = (a + u32::from(byte)) % 65_535;
@@ -175,7 +188,7 @@ mod tests {
 
     #[test]
     fn sum_is_that_of_the_words() {
-        for length in 0..=512 {
+        for length in 0..=PAGE_BYTES {
             let bytes: Vec<u8> = (0..length).map(|i| (i * 37 + length * 11) as u8).collect();
             assert_eq!(page_sum(&bytes), sum_by_the_words(&bytes), "length {length}");
             assert_eq!(page_sum(&vec![0xFF; length]), sum_by_the_words(&vec![0xFF; length]), "length {length}");
@@ -196,9 +209,9 @@ mod tests {
         assert!(next_field(&[0x01, 0, 3, 1, 2, 3]).is_none(), "a wrong length");
         assert!(next_field(&[0x01, 0, 4, 1, 2, 3]).is_none(), "past the end");
         assert!(next_field(&[0x80, 0, 0]).is_none(), "answer tags are in no table");
-        for pairs in 0..=25 {
+        for pairs in 0..=MAX_KEYS + 1 {
             let length = NODE_HEAD + PAIR_BYTES * pairs;
-            assert_eq!(allows(TAG_NODE, length), pairs <= 24);
+            assert_eq!(allows(TAG_NODE, length), pairs <= MAX_KEYS);
             assert!(!allows(TAG_NODE, length + 1));
         }
         assert!(!allows(TAG_NODE, 0));

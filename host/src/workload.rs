@@ -1,6 +1,7 @@
 //! Devices and streams of the source papers.
 
 use crate::command::Command;
+use crate::layout::LOG_PAGE_ENTRIES;
 use crate::random::Random;
 
 /// What reading and writing a page costs on a device of the papers.
@@ -24,8 +25,8 @@ pub const SOURCE_003: Device = Device { name: "source 003's", unit: "uJ", read: 
 /// The devices that tariffs are made for.
 pub const DEVICES: [Device; 6] = [FLASHCHIP, CAPSULE, CF, SD, SLC, SOURCE_003];
 
-/// Entries of a full log page; costs are kept whole by counting in 27ths of a page.
-const PART: u32 = 27;
+/// Parts of a page that costs are counted in, so that an entry's cost is whole.
+const PART: u32 = LOG_PAGE_ENTRIES as u32;
 
 impl Device {
     /// The tariff: a log node is three pages to read, an edit one entry of 27, a rewrite 13 entries; a switch

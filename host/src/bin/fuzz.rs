@@ -3,6 +3,7 @@
 use std::process::ExitCode;
 use std::time::{Duration, Instant};
 
+use yokehour_host::books::proved_to_compare;
 use yokehour_host::fuzz::{case, Tally};
 use yokehour_host::random::Random;
 
@@ -50,6 +51,8 @@ fn finish(result: Result<(), String>) -> ExitCode {
 
 /// Runs cases until the time is over.
 fn run(time: Duration, seed: u64) -> Result<(), String> {
+    // Said once before the first case, should the proved book be missing.
+    proved_to_compare()?;
     let start = Instant::now();
     let mut told = start;
     let mut seeds = Random::new(seed);

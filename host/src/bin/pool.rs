@@ -6,7 +6,7 @@ use yokehour_host::{mount::mount, picture, tree};
 
 const USAGE: &str = "\
 usage: pool FILE             the number it is refused with, or what it holds; blocks and pages as a picture
-       pool FILE page SLOT   one page in full; slots count through the pool from 0, 32 a block
+       pool FILE page PAGE   one page in full; pages count through the pool from 0, 32 a block
        pool FILE node ID     one node in full
        pool FILE nodes       a line for each node
        pool FILE map         all pairs in order
@@ -39,9 +39,9 @@ fn run() -> Result<String, String> {
     let bytes = std::fs::read(file).map_err(|error| format!("{file}: {error}"))?;
     match words[1..] {
         [] => Ok(picture::pool(&bytes)),
-        ["page", slot] => {
-            let slot = number(slot)?;
-            picture::page(&bytes, slot).ok_or_else(|| format!("no page {slot} in {} bytes", bytes.len()))
+        ["page", page] => {
+            let page = number(page)?;
+            picture::page(&bytes, page).ok_or_else(|| format!("no page {page} in {} bytes", bytes.len()))
         }
         ["node", id] => {
             opened(&bytes)?;

@@ -6,9 +6,9 @@ use std::time::Instant;
 use yokehour_host::report::{Section, SECTIONS, TIMES};
 
 fn usage() -> String {
-    let mut text =
-        "usage: report [WORKLOAD ..]\n\nPrints all workloads but the last, or those named; progress goes to standard error.\n"
-            .to_string();
+    let mut text = "usage: report [WORKLOAD ..]\n\n\
+                    Prints all workloads but the last, or those named; progress goes to standard error.\n"
+        .to_string();
     for section in SECTIONS {
         text.push_str(&format!("\n  {}  {}", section.name, section.title));
     }

@@ -3,7 +3,7 @@
 use std::io::{self, BufRead, Write};
 use std::process::ExitCode;
 
-use yokehour_host::book::{by_name, BOOK_NAMES};
+use yokehour_host::books::{by_name, BOOK_NAMES};
 use yokehour_host::shell::{Shell, LINES};
 
 fn main() -> ExitCode {

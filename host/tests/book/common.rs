@@ -1,9 +1,10 @@
-//! What the tests share: a pool with its buffers.
+//! What the tests share: a pool, and calls on it that are made on both books.
 
-use yokehour_host::book::{by_name, Book, Outcome, SecondBook};
-use yokehour_host::command::{encode, split_answers, Command};
-use yokehour_host::layout::BLOCK_BYTES;
-use yokehour_host::page::used;
+use yokehour_host::book::Outcome;
+use yokehour_host::both::{self, Call};
+use yokehour_host::command::{split_answers, Command};
+use yokehour_host::layout::{page_range, BLOCK_BYTES};
+use yokehour_host::page::{decode, used, Page};
 use yokehour_host::wire::{fnv1a64, to_hex};
 
 /// The tariff of document 01's worked cases.
@@ -12,34 +13,25 @@ pub const WORKED: [u32; 8] = [3, 1, 2, 1, 4, 4, 3, 2];
 pub const FREE: [u32; 8] = [0, 0, 0, 0, 0, 0, 1, 1];
 
 /// A pool, and the answers of the last batch.
-pub struct Desk {
+pub struct Fixture {
     pub pool: Vec<u8>,
     pub answers: Vec<u8>,
 }
 
-impl Desk {
-    /// A prepared pool, the same from the proved book where this build has it.
-    pub fn prepared(blocks: usize, tariff: [u32; 8]) -> Desk {
+impl Fixture {
+    /// A pool prepared by both books.
+    pub fn prepared(blocks: usize, tariff: [u32; 8]) -> Fixture {
         let mut pool = vec![0xA5; blocks * BLOCK_BYTES];
-        let mut other = pool.clone();
-        assert_eq!(SecondBook.prepare(&mut pool, tariff), 0);
-        if let Ok(mut proved) = by_name("proved") {
-            assert_eq!(proved.prepare(&mut other, tariff), 0);
-            assert!(other == pool, "the proved book prepares otherwise");
-        }
-        Desk { pool, answers: Vec::new() }
+        assert_eq!(prepare(&mut pool, tariff), 0);
+        Fixture { pool, answers: Vec::new() }
     }
 
-    /// Runs commands as one batch with buffers that are long enough, on the proved book too where this build has it.
+    /// Runs commands as one batch on both books.
     pub fn batch(&mut self, commands: &[Command]) -> Outcome {
-        let mut table = vec![0x5A; self.pool.len() / 16];
-        self.answers = vec![0; 700_000];
-        let (mut other, mut said) = (self.pool.clone(), self.answers.clone());
-        let outcome = SecondBook.batch(&mut self.pool, &mut table, &encode(commands), &mut self.answers);
-        if let Ok(mut proved) = by_name("proved") {
-            assert_eq!(proved.batch(&mut other, &mut table, &encode(commands), &mut said), outcome);
-            assert!(other == self.pool && said == self.answers, "the proved book leaves other bytes");
-        }
+        let mut call = Call::new(std::mem::take(&mut self.pool), commands);
+        let outcome = make(&mut call);
+        self.pool = call.pool;
+        self.answers = call.answers;
         self.answers.truncate(outcome.length);
         outcome
     }
@@ -55,9 +47,29 @@ impl Desk {
     }
 
     /// The used bytes of a page as hexadecimal.
-    pub fn page(&self, slot: usize) -> String {
-        to_hex(used(&self.pool[slot * 512..(slot + 1) * 512]))
+    pub fn page_hex(&self, page: usize) -> String {
+        to_hex(used(&self.pool[page_range(page)]))
     }
+
+    /// What a written page says.
+    pub fn page(&self, page: usize) -> Page {
+        decode(&self.pool[page_range(page)]).expect("checks").expect("written")
+    }
+}
+
+/// Makes a call on both books, which must agree in everything.
+pub fn make(call: &mut Call) -> Outcome {
+    call.make().unwrap_or_else(|why| panic!("{why}"))
+}
+
+/// The number that a get on a pool comes to, on both books.
+pub fn number_of(pool: Vec<u8>) -> u8 {
+    make(&mut Call::new(pool, &[get(1)])).number
+}
+
+/// Prepares a pool with both books, which must agree in everything.
+pub fn prepare(pool: &mut [u8], tariff: [u32; 8]) -> u8 {
+    both::prepare(pool, tariff).unwrap_or_else(|why| panic!("{why}"))
 }
 
 /// Hexadecimal without the blanks that make it readable.

@@ -3,6 +3,7 @@
 mod common;
 mod foreign;
 mod fuzz;
+mod library;
 mod refusals;
 mod traces;
 mod worked;

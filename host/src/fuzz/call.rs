@@ -1,0 +1,99 @@
+//! Random calls, and calls that must be refused.
+
+use super::Tally;
+use crate::both::{self, Call};
+use crate::command::{answer_room, encode, parse, Command};
+use crate::layout::{
+    table_bytes, BLANK, BLOCK_BYTES, MAX_BATCH_BYTES, MAX_BLOCKS, MAX_SCAN_PAIRS, MAX_TARIFF, MIN_BLOCKS, PAGE_BYTES,
+};
+use crate::random::Random;
+use crate::refusal::Refusal;
+
+/// A call with buffers that are long enough, by nothing or by some bytes, and have anything in them.
+pub(super) fn random_call(random: &mut Random, pool: Vec<u8>, batch: Vec<u8>) -> Call {
+    let room = parse(&batch).map_or(0, |commands| answer_room(&commands));
+    let beyond = random.pick(&[0, 0, 1, 500]);
+    let table = random.bytes(table_bytes(pool.len()) + beyond);
+    Call { pool, table, batch, answers: random.bytes(room + beyond) }
+}
+
+/// Makes a call that must be refused with this number.
+pub(super) fn refused(mut call: Call, number: u8, tally: &mut Tally) -> Result<(), String> {
+    let outcome = call.make()?;
+    if outcome.number != number {
+        return Err(format!("a call to be refused with {number} came to {outcome:?}"));
+    }
+    tally.calls += 1;
+    tally.refusals[usize::from(number)] += 1;
+    Ok(())
+}
+
+/// Makes a call that one of questions 1 to 4 refuses.
+pub(super) fn refused_call(random: &mut Random, pool: &[u8], tally: &mut Tally) -> Result<(), String> {
+    let mut call = random_call(random, pool.to_vec(), encode(&[Command::Get { key: 1 }]));
+    let number = random.between(1, 4) as u8;
+    match number {
+        1 => {
+            let length = random.pick(&[
+                0,
+                (MIN_BLOCKS - 1) * BLOCK_BYTES,
+                (MAX_BLOCKS + 1) * BLOCK_BYTES,
+                pool.len() - 1,
+                pool.len() + PAGE_BYTES,
+            ]);
+            call.pool.resize(length, BLANK);
+        }
+        2 => call.table.truncate(random.below(table_bytes(pool.len()))),
+        3 => call.batch = random_nonsense(random),
+        _ => {
+            let most = random.between(1, MAX_SCAN_PAIRS);
+            let commands = [Command::Get { key: 1 }, Command::Scan { low: 5, high: random.next_u32() % 10, most }];
+            call.batch = encode(&commands);
+            call.answers.truncate(random.below(answer_room(&commands)));
+        }
+    }
+    refused(call, number, tally)
+}
+
+/// Bytes that are no batch.
+fn random_nonsense(random: &mut Random) -> Vec<u8> {
+    let mut batch = encode(&[Command::Get { key: 1 }, Command::Put { key: 2, value: 3 }]);
+    match random.below(6) {
+        0 => batch.truncate(random.between(1, 6)),
+        1 => batch.push(1),
+        2 => batch[0] = random.pick(&[0, 5, 0x10, 0x12, 0x1F, 0x80, 0x84, 0xFF]),
+        3 => batch[2] = random.pick(&[0, 3, 5, 10]),
+        4 => batch.extend(encode(&[Command::Scan {
+            low: 9,
+            high: 3,
+            most: random.pick(&[0, MAX_SCAN_PAIRS + 1, 0x100, 0xFFFF]),
+        }])),
+        _ => batch = encode(&vec![Command::Delete { key: 5 }; MAX_BATCH_BYTES / 7 + 1]),
+    }
+    batch
+}
+
+/// Makes prepares that questions 10 and 1 refuse.
+pub(super) fn refused_prepares(
+    random: &mut Random,
+    tally: &mut Tally,
+    pool: &mut [u8],
+    good: [u32; 8],
+) -> Result<(), String> {
+    let mut bad = good;
+    let at = random.below(8);
+    bad[at] = if at >= 6 && random.once_in(2) { 0 } else { MAX_TARIFF + 1 + random.next_u32() % 1000 };
+    refused_prepare(pool, bad, Refusal::Tariff, tally)?;
+    let length = random.pick(&[0, (MIN_BLOCKS - 1) * BLOCK_BYTES, (MAX_BLOCKS + 1) * BLOCK_BYTES, 70_000]);
+    refused_prepare(&mut vec![7; length], random.pick(&[good, bad]), Refusal::PoolLength, tally)
+}
+
+fn refused_prepare(pool: &mut [u8], tariff: [u32; 8], refusal: Refusal, tally: &mut Tally) -> Result<(), String> {
+    let number = both::prepare(pool, tariff)?;
+    if number != refusal.number() {
+        return Err(format!("prepare of {} bytes with {tariff:?} came to {number}", pool.len()));
+    }
+    tally.calls += 1;
+    tally.refusals[usize::from(number)] += 1;
+    Ok(())
+}

@@ -1,0 +1,225 @@
+//! A pool with all that it is compared with.
+
+use std::collections::BTreeMap;
+
+use super::call::{random_call, refused, refused_call, refused_prepares};
+use super::charges::{self, NodeCharges};
+use super::commands::{Chooser, MAX_PUTS};
+use super::style::CommandStyle;
+use super::{random_blocks, Tally};
+use crate::account::{Account, Tariff};
+use crate::audit::{Audit, Seen};
+use crate::book::Outcome;
+use crate::both::{self, Call};
+use crate::command::{encode, encode_answers, Answer, Command};
+use crate::foreign::{self, random_tariff, Build, PoolStyle, BRINK_BLOCKS};
+use crate::layout::{node_limit, BLOCK_BYTES, FIRST_CHECKPOINT_SCORES, MAX_SEQUENCE};
+use crate::mount::{read, Mounted};
+use crate::node::Pair;
+use crate::random::Random;
+use crate::reference::{Ledger, Run};
+use crate::refusal::Refusal;
+use crate::tree::{self, IDS_USED_UP};
+
+/// A pool, and what the reference model and an ordered map say of it.
+pub(super) struct CheckedPool {
+    pool: Vec<u8>,
+    ledger: Ledger,
+    map: BTreeMap<u32, u32>,
+    /// What each node was charged; for a prepared pool alone.
+    charges: Option<Vec<NodeCharges>>,
+    /// Puts so far, for keys that ascend.
+    puts: u32,
+    /// The pool's greatest sequence number; above the limit no batch is accepted any more.
+    last_sequence: u32,
+}
+
+impl CheckedPool {
+    /// A pool of an accepted prepare, after prepares that are refused.
+    pub fn prepared(random: &mut Random, tally: &mut Tally) -> Result<CheckedPool, String> {
+        let blocks = random_blocks(random);
+        let numbers = random_tariff(random);
+        let mut pool = random.bytes(blocks * BLOCK_BYTES);
+        refused_prepares(random, tally, &mut pool, numbers)?;
+        let number = both::prepare(&mut pool, numbers)?;
+        tally.calls += 1;
+        let tariff = Tariff::from_numbers(numbers).filter(|_| number == 0);
+        let tariff = tariff.ok_or_else(|| format!("prepare with {numbers:?} was refused with {number}"))?;
+        let ledger = Ledger::prepared(node_limit(blocks), tariff);
+        let mut checked = CheckedPool { charges: Some(Vec::new()), ..CheckedPool::with(pool, ledger) };
+        checked.check_pool()?;
+        Ok(checked)
+    }
+
+    pub fn foreign(random: &mut Random, tally: &mut Tally) -> CheckedPool {
+        let style = match random.below(6) {
+            0 | 1 => PoolStyle { blocks: random_blocks(random), build: Build::Tight },
+            2 => PoolStyle { blocks: random.between(BRINK_BLOCKS, 16), build: Build::Brink },
+            _ => PoolStyle { blocks: random_blocks(random), build: Build::Any },
+        };
+        tally.foreign_pools += 1;
+        tally.tight_pools += u64::from(style.build == Build::Tight);
+        tally.brink_pools += u64::from(style.build == Build::Brink);
+        let foreign = foreign::make(random, style);
+        CheckedPool::with(foreign.pool, foreign.ledger)
+    }
+
+    /// A pool that opens, compared with what it spells.
+    pub fn opened(pool: Vec<u8>, mounted: Mounted) -> CheckedPool {
+        let accounts = mounted.rows.iter().map(|row| row.account).collect();
+        let limit = node_limit(pool.len() / BLOCK_BYTES);
+        CheckedPool::with(pool, Ledger { limit, tariff: mounted.tariff, nodes: mounted.nodes, accounts })
+    }
+
+    fn with(pool: Vec<u8>, ledger: Ledger) -> CheckedPool {
+        let map = tree::pairs(&ledger.nodes).into_iter().map(|pair| (pair.key, pair.pointer)).collect();
+        CheckedPool { pool, ledger, map, charges: None, puts: 0, last_sequence: 0 }
+    }
+
+    pub fn pool(&self) -> &[u8] {
+        &self.pool
+    }
+
+    pub fn blocks(&self) -> usize {
+        self.pool.len() / BLOCK_BYTES
+    }
+
+    /// A batch that is accepted, and now and then a call before it that is not.
+    pub fn any_call(&mut self, random: &mut Random, tally: &mut Tally, style: &CommandStyle) -> Result<(), String> {
+        if random.once_in(4) {
+            refused_call(random, &self.pool, tally)?;
+        }
+        let commands = self.random_commands(random, style);
+        if self.last_sequence > MAX_SEQUENCE {
+            let call = random_call(random, self.pool.clone(), encode(&commands));
+            return refused(call, Refusal::SequenceNumbers.number(), tally);
+        }
+        self.batch(random, tally, &commands)
+    }
+
+    /// Puts keys until some are refused with 9, or enough is enough.
+    pub fn fill(&mut self, random: &mut Random, tally: &mut Tally, style: &CommandStyle) -> Result<(), String> {
+        let puts = style.only_puts();
+        let before = tally.ids_used_up;
+        for _ in 0..12 {
+            let mut commands = self.random_commands(random, &puts);
+            commands.truncate(MAX_PUTS);
+            self.batch(random, tally, &commands)?;
+            if tally.ids_used_up > before {
+                break;
+            }
+        }
+        Ok(())
+    }
+
+    fn random_commands(&mut self, random: &mut Random, style: &CommandStyle) -> Vec<Command> {
+        // A pool that was not built by the style's keys has its own.
+        let near = if self.charges.is_some() { 8 } else { 2 };
+        Chooser { style, map: &self.map, puts: &mut self.puts, near }.commands(random)
+    }
+
+    /// Runs a batch and asks everything of it.
+    fn batch(&mut self, random: &mut Random, tally: &mut Tally, commands: &[Command]) -> Result<(), String> {
+        let mut call = random_call(random, std::mem::take(&mut self.pool), encode(commands));
+        let modes = self.ledger.accounts.iter().map(|account| account.mode).collect();
+        let nodes_before = self.ledger.nodes.len();
+        let run = self.ledger.batch(commands);
+        let mut audit = Audit::new(&call.pool, modes, self.ledger.limit, &run.lines);
+        let outcome = call.make_observed(&mut audit)?;
+        if outcome.number != 0 {
+            return Err(format!("a good batch was refused with {}", outcome.number));
+        }
+        let seen = audit.finish(&call.pool)?;
+        check_run(&call, outcome, &run)?;
+        self.pool = call.pool;
+        self.check_answers(commands, &run.answers, tally)?;
+        self.check_pool()?;
+        self.check_charges(&run, tally)?;
+        tally.too_few_ids += run.too_few_ids;
+        self.count(tally, commands, &seen, nodes_before);
+        Ok(())
+    }
+
+    fn count(&self, tally: &mut Tally, commands: &[Command], seen: &Seen, nodes_before: usize) {
+        tally.calls += 1;
+        tally.batches += 1;
+        tally.commands += commands.len() as u64;
+        tally.scans += commands.iter().filter(|command| matches!(command, Command::Scan { .. })).count() as u64;
+        tally.multi_page_checkpoints += u64::from(self.ledger.nodes.len() > FIRST_CHECKPOINT_SCORES);
+        // Splits below the root create one node each, the root's two.
+        let created = (self.ledger.nodes.len() - nodes_before) as u64;
+        tally.root_splits += created - seen.splits;
+        tally.seen.add(seen);
+    }
+
+    /// Asks the ordered map for every answer.
+    fn check_answers(&mut self, commands: &[Command], answers: &[Answer], tally: &mut Tally) -> Result<(), String> {
+        for (at, (command, answer)) in commands.iter().zip(answers).enumerate() {
+            let expected = match (*command, answer) {
+                (Command::Put { key, .. }, Answer::Refused(IDS_USED_UP)) if !self.map.contains_key(&key) => {
+                    tally.ids_used_up += 1;
+                    Answer::Refused(IDS_USED_UP)
+                }
+                (command, _) => answer_of_map(&mut self.map, command),
+            };
+            if expected != *answer {
+                return Err(format!("command {at}, {command:?}, was answered with {answer:?}, not {expected:?}"));
+            }
+            tally.keys_deleted += u64::from(matches!(answer, Answer::Deleted(_)));
+        }
+        Ok(())
+    }
+
+    /// Opens the pool and compares what it spells with map and reference model.
+    ///
+    /// A pool may end above the greatest sequence number that opens; it still spells what it should.
+    fn check_pool(&mut self) -> Result<(), String> {
+        let mounted = read(&self.pool).map_err(|fault| format!("the pool does not open again: {fault}"))?;
+        self.last_sequence = mounted.last_sequence;
+        if mounted.tariff != self.ledger.tariff {
+            return Err("the tariff has changed".to_string());
+        }
+        let accounts: Vec<Account> = mounted.rows.iter().map(|row| row.account).collect();
+        if accounts != self.ledger.accounts {
+            return Err(format!("modes and scores {accounts:?}, in the reference model {:?}", self.ledger.accounts));
+        }
+        if mounted.nodes != self.ledger.nodes {
+            return Err("the pool spells other nodes than the reference model has".to_string());
+        }
+        let pairs = tree::pairs(&mounted.nodes).into_iter();
+        if !pairs.eq(self.map.iter().map(|(&key, &pointer)| Pair { key, pointer })) {
+            return Err("the pool spells another map".to_string());
+        }
+        Ok(())
+    }
+
+    fn check_charges(&mut self, run: &Run, tally: &mut Tally) -> Result<(), String> {
+        let Some(nodes) = &mut self.charges else { return Ok(()) };
+        nodes.resize(self.ledger.nodes.len(), NodeCharges::default());
+        charges::check(nodes, &self.ledger.tariff, &run.lines, tally)
+    }
+}
+
+/// Answers and charge of an accepted call are the reference model's.
+fn check_run(call: &Call, outcome: Outcome, run: &Run) -> Result<(), String> {
+    if call.answers[..outcome.length] != encode_answers(&run.answers) {
+        return Err("the answer bytes are not the reference model's".to_string());
+    }
+    if outcome.charge != run.charge {
+        return Err(format!("the charge is {}, in the reference model {}", outcome.charge, run.charge));
+    }
+    Ok(())
+}
+
+/// What the map answers.
+fn answer_of_map(map: &mut BTreeMap<u32, u32>, command: Command) -> Answer {
+    match command {
+        Command::Get { key } => map.get(&key).map_or(Answer::Absent, |&value| Answer::Got(value)),
+        Command::Put { key, value } => map.insert(key, value).map_or(Answer::Absent, Answer::Replaced),
+        Command::Delete { key } => map.remove(&key).map_or(Answer::Absent, Answer::Deleted),
+        Command::Scan { low, high, .. } if low > high => Answer::Pairs(Vec::new()),
+        Command::Scan { low, high, most } => {
+            Answer::Pairs(map.range(low..=high).take(most).map(|(&key, &pointer)| Pair { key, pointer }).collect())
+        }
+    }
+}
