@@ -32,25 +32,23 @@ returns-2 c =
     score-too-great (a .tariff) (a .state) (pagesOf (a .pool .now)) (rowsOf (a .table .now)) (sym (c4 .in-range .ensures) ∙ c3 .if1 .taken)
     (c2 .limit .result) (c2 .limit .ensures) (sym (c1 .scores-below .ensures) ∙ c .if2 .left)
 
-sub-is-sound : tie.Need-sub-is-sound
-sub-is-sound c = search needs
-
-mul-is-sound : tie.Need-mul-is-sound
-mul-is-sound c = search needs
+node-limit-requires : tie.Need-node-limit-requires
+node-limit-requires c κs = search needs
 
 is-sound-requires : tie.Need-is-sound-requires
 is-sound-requires c κs = search needs
 
 returns-3 : tie.Need-returns-3
 returns-3 c =
-    let c2 = c .before .before in
+    let c1 = c .before in
+    let c2 = c1 .before in
     let c3 = c2 .before in
     let c4 = c3 .before in
     let c5 = c4 .before in
     let c6 = c5 .before in
     let c9 = c6 .before .before .before in
     let a = c9 .args in
-    c .is-sound .ensures ∙
+    (rw (c1 .node-limit .ensures .0) at (c .is-sound .ensures)) ∙
     tree-decides (a .tariff) (a .state) (pagesOf (a .pool .now)) (rowsOf (a .table .now)) (sym (c6 .in-range .ensures) ∙ c5 .if1 .taken)
     (c4 .limit .result) (c4 .limit .ensures) (sym (c3 .scores-below .ensures) ∙ c2 .if2 .taken)
 
@@ -63,7 +61,6 @@ rows-pass-spec =
     limit-requires
     scores-below-requires
     returns-2
-    sub-is-sound
-    mul-is-sound
+    node-limit-requires
     is-sound-requires
     returns-3)

@@ -17,11 +17,8 @@ ids-needed-requires c κs =
     let c4 = c .before .before .before .before in
     (readable (c4 .pre .0), c4 .pre .2, c4 .pre .3, c4 .pre .4)
 
-sub-if1 : tie.Need-sub-if1
-sub-if1 c = omega (arith, c .before .before .before .before .before .before .pre .0 .good .few)
-
-mul-if1 : tie.Need-mul-if1
-mul-if1 c = omega (arith, c .before .before .before .before .before .before .pre .0 .good .most)
+node-limit-requires : tie.Need-node-limit-requires
+node-limit-requires c κs = search needs
 
 add-if1 : tie.Need-add-if1
 add-if1 c =
@@ -44,7 +41,7 @@ returns c =
     new-refused (a .tariff) (take (a .n) (a .ids)) (x .result)
     (idsNeeded (tableOf (pagesOf (a .pool .now)) (rowsOf (a .table .now)) (a .state)) (take (a .n) (a .ids)))
     (a .key) (a .value) (world (pagesOf (a .pool .now)) (rowsOf (a .table .now)) (a .state)) (x .ensures .0)
-    (c .if1 .taken) (c8 .pre .0)
+    (omega (arith, c .if1 .taken, c .before .before .node-limit .ensures .0)) (c8 .pre .0)
 
 read-and-split-requires : tie.Need-read-and-split-requires
 read-and-split-requires c κs =
@@ -61,7 +58,8 @@ returns-2 : tie.Need-returns-2
 returns-2 c =
     let c5 = c .before .before .before .before .before in
     let c8 = c5 .before .before .before in
-    let c11 = c8 .before .before .before in
+    let c10 = c8 .before .before in
+    let c11 = c10 .before in
     let c16 = c11 .before .before .before .before .before in
     let a = c16 .args in
     let x = c11 .ids-needed in
@@ -69,9 +67,10 @@ returns-2 c =
     new-split (a .tariff) (take (a .n) (a .ids)) (x .result)
     (idsNeeded (tableOf (pagesOf (a .pool .now)) (rowsOf (a .table .now)) (a .state)) (take (a .n) (a .ids)))
     (a .key) (a .value) (world (pagesOf (a .pool .now)) (rowsOf (a .table .now)) (a .state)) (x .ensures .0)
-    (pagesOf (y .last .0)) (rowsOf (y .last .1 .0)) (y .result) (c8 .if1 .left) (y .ensures)
+    (pagesOf (y .last .0)) (rowsOf (y .last .1 .0)) (y .result)
+    (omega (arith, c8 .if1 .left, c10 .node-limit .ensures .0)) (y .ensures)
 
 pub put-splitting-spec : {M : Type 1} → statement M
 put-splitting-spec = tie.close
-    (tie.spec ids-needed-requires sub-if1 mul-if1 add-if1 same-length same-length-2 returns read-and-split-requires
+    (tie.spec ids-needed-requires node-limit-requires add-if1 same-length same-length-2 returns read-and-split-requires
     same-length-3 same-length-4 returns-2)
