@@ -52,7 +52,7 @@ fn mode_byte(mode: Mode) -> u8
 
 // The row that sixteen bytes spell.
 fn decode(part: &[u8]) -> Row
-    requires { ⌜ length (now part) ≡ 16 ⌝ }
+    requires { ⌜ length (now part) ≡ rowBytes ⌝ }
     ensures { λ r. ⌜ r ≡ def.decode (now (part .entry)) ⌝ }
 {
     let version = read32(part, 0);
