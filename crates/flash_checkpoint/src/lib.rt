@@ -19,9 +19,9 @@ use flash_allocate::allocate::allocate;
 use flash_allocate::state::State;
 use flash_allocate::state::count_page;
 use flash_allocate::state::next_sequence;
+use flash_blocks::page::put_page;
 use flash_log::claim::no_row;
 use flash_log::flush::flush;
-use flash_log::flush::put_image;
 use layout::FIRST_SCORES;
 use layout::OTHER_SCORES;
 use layout::PAGES_IN_BLOCK;
@@ -108,7 +108,7 @@ fn put_checkpoint_page(
     let records = score_records(table, from, n);
     let last = k + 1 == page_count(nodes);
     let image = checkpoint_image(number, k == 0, tariff, &records, n, last, nodes as u32);
-    put_image(pool, at, image);
+    put_page(pool, at, image);
 }
 
 // The row of a checkpoint page, behind the nodes' rows.

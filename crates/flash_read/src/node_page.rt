@@ -11,8 +11,9 @@ ghost use Rattle.wire.specs.Field.{payloadAt};
 ghost use Rattle.page.specs.Decode as decode;
 ghost use Rattle.flash_read.specs.NodePage.{nodeOfPayload, nodePageAt};
 ghost use Rattle.layout.specs.Layout.{mostKeys};
+use flash_blocks::page::has_page;
+use flash_blocks::page::page_part;
 use layout::MOST_KEYS;
-use layout::PAGE_BYTES;
 use node::DraftState;
 use node::DraftValue;
 use node::NodeValue;
@@ -103,10 +104,9 @@ fn read_node(page: &[u8]) -> DraftValue
 pub fn node_page_at(pool: &[u8], page: u16) -> DraftValue
     ensures { λ r. ⌜ Redone r (nodePageAt (pagesOf (now (pool .entry))) page) ⌝ }
 {
-    let from = PAGE_BYTES * (page as usize);
-    let to = from + PAGE_BYTES;
-    if to <= pool.len() {
-        return read_node(&pool[from..to]);
+    let place = page as usize;
+    if has_page(pool, place) {
+        return read_node(page_part(pool, place));
     }
     no_node()
 }

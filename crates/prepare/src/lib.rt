@@ -7,6 +7,7 @@ ghost use Rattle.page.specs.Image.{image};
 ghost use Rattle.model.specs.Call.{prepareOf};
 ghost use Rattle.prepare.specs.Prepared.{blocksIf, rootPage, checkpointPage, firstBytes, Leaves};
 use account::Tariff;
+use flash_blocks::page::put_page;
 use layout::BLOCK_BYTES;
 use layout::ENTRY_BYTES;
 use layout::FEWEST_BLOCKS;
@@ -14,7 +15,6 @@ use layout::MOST_BLOCKS;
 use layout::NO_LEAF;
 use layout::PAGE_BYTES;
 use page_checkpoint::checkpoint_image;
-use page_write::frame::write_page;
 use page_write::log_page::lay_entry;
 use page_write::log_page::log_image;
 use wire::bytes::fill;
@@ -59,8 +59,8 @@ fn write_first(pool: &mut [u8], root: [u8; PAGE_BYTES], checkpoint: [u8; PAGE_BY
     ensures { λ _. ⌜ now (pool .exit) ≡ firstBytes (length (now (pool .entry))) root checkpoint ⌝ }
 {
     fill(pool, 255);
-    write_page(pool, 0, root);
-    write_page(pool, PAGE_BYTES, checkpoint);
+    put_page(pool, 0, root);
+    put_page(pool, 1, checkpoint);
 }
 
 // A pool prepared, or refused with 1, no pool's length, or 10, a tariff number out of range.
