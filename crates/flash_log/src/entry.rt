@@ -3,7 +3,7 @@ ghost use mathlib.Core.Path.{_≡_};
 ghost use Prim.Native.Nat.{_*_, _<_};
 ghost use Rattle.laws.specs.Lay.{lay};
 ghost use Rattle.node.specs.Drafts.{changeOf};
-ghost use Rattle.page.specs.Image.{shapeNumber, changeNumber, changeKey, changePointer, entryBytes};
+ghost use Rattle.page.specs.Image.{changeNumber, changeKey, changePointer, entryBytes};
 ghost use Rattle.flash_log.specs.Entry as def;
 ghost use Rattle.flash_log.specs.Entry.{entryOf};
 ghost use Rattle.layout.specs.Layout.{entrySize, mostEntries};
@@ -12,18 +12,8 @@ use layout::BUFFER_BYTES;
 use layout::ENTRY_BYTES;
 use layout::MOST_ENTRIES;
 use node::ChangeValue;
-use node::Shape;
+use page::shape_number;
 use wire::bytes::lay_bytes;
-
-// 3 for a leaf's link, 4 for a branch's last pointer.
-fn shape_number(shape: Shape) -> u8
-    ensures { λ r. ⌜ r ≡ shapeNumber shape ⌝ }
-{
-    match shape {
-        Shape::Leaf => 3,
-        Shape::Branch => 4,
-    }
-}
 
 // The number of a change's kind.
 fn change_number(change: ChangeValue) -> u8

@@ -1,5 +1,4 @@
 // A node read from its node page.
-ghost use mathlib.Core.Path.{_≡_};
 ghost use Prim.Native.Nat.{_+_, _*_, _≤_};
 ghost use lib.ListN.{length};
 ghost use Rattle.flash_blocks.specs.Pages.{pagesOf};
@@ -18,8 +17,9 @@ use node::DraftState;
 use node::DraftValue;
 use node::NodeValue;
 use node::Shape;
+use node::empty_node;
 use node::search::ascends;
-use node_replay::empty_node;
+use page::shape_of;
 use wire::field::payload;
 use wire::number::read32;
 
@@ -32,16 +32,6 @@ fn no_node() -> DraftValue
         state: DraftState::Broken,
         node,
     }
-}
-
-// The shape that a number says.
-fn shape_of(number: u8) -> Shape
-    ensures { λ r. ⌜ r ≡ decode.shapeOfNumber number ⌝ }
-{
-    if number == 3 {
-        return Shape::Leaf;
-    }
-    Shape::Branch
 }
 
 // A node of the first n pairs of a payload.
