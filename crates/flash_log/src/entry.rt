@@ -13,7 +13,7 @@ use layout::ENTRY_BYTES;
 use layout::MOST_ENTRIES;
 use node::ChangeValue;
 use page::shape_number;
-use wire::bytes::lay_bytes;
+use page_write::log_page::lay_entry;
 
 // The number of a change's kind.
 fn change_number(change: ChangeValue) -> u8
@@ -48,38 +48,30 @@ fn change_pointer(change: ChangeValue) -> u32
     }
 }
 
-// The fifteen bytes of an entry.
-fn entry_bytes(id: usize, version: u32, change: ChangeValue) -> [u8; ENTRY_BYTES]
-    ensures { λ r. ⌜ r ≡ entryBytes (entryOf id version (changeOf change)) ⌝ }
+// Lays an entry behind the first n of the buffer; an id has two bytes.
+fn lay_change(
+    buffer: &mut [u8; BUFFER_BYTES],
+    n: usize,
+    id: usize,
+    version: u32,
+    change: ChangeValue,
+)
+    requires { ⌜ n < mostEntries ⌝ }
+    ensures { λ _. ⌜ now (buffer .exit) ≡ lay (now (buffer .entry)) (entrySize * n)
+        (entryBytes (entryOf id version (changeOf change))) ⌝ }
 {
-    let number = change_number(change);
+    let kind = change_number(change);
     let key = change_key(change);
     let pointer = change_pointer(change);
-    [
-        (id / 256 % 256) as u8,
-        (id % 256) as u8,
-        (version / 256 / 256 / 256 % 256) as u8,
-        (version / 256 / 256 % 256) as u8,
-        (version / 256 % 256) as u8,
-        (version % 256) as u8,
-        number,
-        (key / 256 / 256 / 256 % 256) as u8,
-        (key / 256 / 256 % 256) as u8,
-        (key / 256 % 256) as u8,
-        (key % 256) as u8,
-        (pointer / 256 / 256 / 256 % 256) as u8,
-        (pointer / 256 / 256 % 256) as u8,
-        (pointer / 256 % 256) as u8,
-        (pointer % 256) as u8,
-    ]
-}
-
-// Lays an entry behind the first n of the buffer.
-fn lay_entry(buffer: &mut [u8; BUFFER_BYTES], n: usize, bytes: &[u8; ENTRY_BYTES])
-    requires { ⌜ n < mostEntries ⌝ }
-    ensures { λ _. ⌜ now (buffer .exit) ≡ lay (now (buffer .entry)) (entrySize * n) (now (bytes .entry)) ⌝ }
-{
-    lay_bytes(buffer, ENTRY_BYTES * n, bytes);
+    lay_entry(
+        buffer,
+        ENTRY_BYTES * n,
+        (id % 65536) as u32,
+        version,
+        kind,
+        key,
+        pointer,
+    );
 }
 
 // The state with one entry more in the buffer, where it has room.
@@ -87,9 +79,8 @@ pub fn append(state: State, id: usize, version: u32, change: ChangeValue) -> Sta
     ensures { λ r. ⌜ r ≡ def.append id version (changeOf change) state ⌝ }
 {
     if state.entries < MOST_ENTRIES {
-        let bytes = entry_bytes(id, version, change);
         let mut s = state;
-        lay_entry(&mut s.buffer, state.entries, &bytes);
+        lay_change(&mut s.buffer, state.entries, id, version, change);
         s.entries = state.entries + 1;
         return s;
     }
