@@ -12,6 +12,7 @@ ghost use Rattle.mount_sequences.specs.Find.{Ascending};
 ghost use Rattle.mount_filter.specs.Marks.{markOf, fingerprint, excludes, marksAt, Room, Marked, Marking};
 use layout::TABLE_BYTES;
 use mount_sequences::find::has;
+use wire::bytes::fill_part;
 use wire::number::read8;
 use wire::number::read32;
 
@@ -89,8 +90,7 @@ fn clear(table: &mut [u8], blocks: usize)
     ensures { λ _. ⌜ now (table .exit) ≡ lay (now (table .entry)) (marksAt blocks) (replicate (marksAt blocks) 0) ⌝ }
 {
     let from = MARK_BYTES * blocks;
-    let to = from + from;
-    wire::bytes::fill(&mut table[from..to], 0);
+    fill_part(table, from, from + from, 0);
 }
 
 // Sets the marks of a row's numbers.
