@@ -1,4 +1,4 @@
-// Whole pages, and a block erased.
+// Whole pages, and a block erased. Here alone the number of a page becomes its place in bytes.
 ghost use mathlib.Core.Path.{_≡_};
 ghost use Prim.Native.Nat.{_+_, _*_, _≤_};
 ghost use lib.Dec.{ltb};

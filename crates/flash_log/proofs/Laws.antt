@@ -27,7 +27,8 @@ use Rattle.flash_log.specs.Flush.{writeBuffer, ifRoom, flush, room, Kept
 use Rattle.flash_allocate.specs.State.{inBlock, withEntries, nextSequence, advanced, withoutEntries}
 
 -- The bytes of an entry from its numbers, the id cut to two bytes.
-pub record-entry : (id version : ℕ) (c : Change) (kind key pointer : ℕ) → kind ≡ changeNumber c → key ≡ changeKey c → pointer ≡ changePointer c →
+pub record-entry : (id version : ℕ) (c : Change) (kind key pointer : ℕ) →
+    kind ≡ changeNumber c → key ≡ changeKey c → pointer ≡ changePointer c →
     entryRecord (id % 65536) version kind key pointer ≡ entryBytes (entryOf id version c)
 unfolding entryRecord
 record-entry id version c kind key pointer k y p =

@@ -9,9 +9,8 @@ use native.Mathlib.Numerals.{add-one}
 use native.Mathlib.Omega.{arith}
 use lib.ListN.{length, getD, set, take, drop, replicate, length-set, length-drop, length-replicate, replicate-append-replicate}
 use lib.Seq.{length-take-le, take-at, drop-at, take-add, drop-drop, getD-set-same, getD-set-other}
-use borrow.Rule.Slice.PartMut.{putMid}
 use Rattle.laws.specs.Order.{eq-or, le-or}
-use Rattle.laws.specs.Lay.{lay, part, lay-next, lay-nil, lay-lent, length-lay, drop-lay, part-lay}
+use Rattle.laws.specs.Lay.{lay, part, lay-next, lay-nil, length-lay, drop-lay, part-lay}
 
 -- The first n chunks of a buffer.
 unfoldable pub firstChunks : ℕ → ℕ → List ℕ → List (List ℕ)
@@ -113,11 +112,6 @@ module _ (size : ℕ) where
     lay-chunks =
         ap (λ (n : ℕ). firstChunks size (n / size) (lay s (size * i) p)) (length-lay s (size * i) p (omega arith)) ∙
         lay-firstChunks (length s / size) s i p e h k
-
-    -- a chunk's part of the buffer that was lent, and came back as p
-    pub lent-chunks : (from to : ℕ) → from ≡ size * i → to ≡ from + size → chunks size (putMid from (to - from) s p) ≡ set (chunks size s) i p
-    lent-chunks from to a b =
-        ap (chunks size) (lay-lent from to s p (omega arith) (omega arith) ∙ ap (λ (at : ℕ). lay s at p) a) ∙ lay-chunks
 
   -- a byte laid over k chunks sets them all to the chunk of that byte
   pub lay-run : (k : ℕ) (s : List ℕ) (i a : ℕ) → i + k ≤ length s / size → size * i + size * k ≤ length s →

@@ -32,7 +32,7 @@ use Rattle.page_write.specs.Chunks.{chunks}
 
 -- The bytes of one, from its numbers; those of an entry where the numbers are its change's.
 unfoldable pub entryRecord : ℕ → ℕ → ℕ → ℕ → ℕ → List ℕ
-entryRecord id version shape key pointer = bigEndian 2 id ++ (bigEndian 4 version ++ (shape ∷ (bigEndian 4 key ++ bigEndian 4 pointer)))
+entryRecord id version kind key pointer = bigEndian 2 id ++ (bigEndian 4 version ++ (kind ∷ (bigEndian 4 key ++ bigEndian 4 pointer)))
 
 pub entryRecord-bytes : (id version : ℕ) (c : Change) →
     entryRecord id version (changeNumber c) (changeKey c) (changePointer c) ≡ entryBytes (record { id = id; version = version; change = c })

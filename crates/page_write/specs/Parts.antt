@@ -18,21 +18,21 @@ use Rattle.page_write.specs.Pages.{entryRecord, logBody, firstPairs, bod
 
 -- ---- log pages
 
-pub entry-laid : (s : List ℕ) (at id version shape key pointer : ℕ) → at + 15 ≤ length s →
-    lay (lay (lay (lay (lay s at (bigEndian 2 id)) (at + 2) (bigEndian 4 version)) (at + 6) (shape ∷ [])) (at + 7) (bigEndian 4 key)) (at + 11) (bigEndian 4 pointer) ≡
-    lay s at (entryRecord id version shape key pointer)
+pub entry-laid : (s : List ℕ) (at id version kind key pointer : ℕ) → at + 15 ≤ length s →
+    lay (lay (lay (lay (lay s at (bigEndian 2 id)) (at + 2) (bigEndian 4 version)) (at + 6) (kind ∷ [])) (at + 7) (bigEndian 4 key)) (at + 11) (bigEndian 4 pointer) ≡
+    lay s at (entryRecord id version kind key pointer)
 unfolding entryRecord
-entry-laid s at id version shape key pointer h =
+entry-laid s at id version kind key pointer h =
     let s₁ = lay s at (bigEndian 2 id) in
     let s₂ = lay s₁ (at + 2) (bigEndian 4 version) in
-    let s₃ = lay s₂ (at + 6) (shape ∷ []) in
+    let s₃ = lay s₂ (at + 6) (kind ∷ []) in
     let l₁ : length s₁ ≡ length s = length-lay s at (bigEndian 2 id) (omega arith) in
     let l₂ : length s₂ ≡ length s₁ = length-lay s₁ (at + 2) (bigEndian 4 version) (omega arith) in
-    let l₃ : length s₃ ≡ length s₂ = length-lay s₂ (at + 6) (shape ∷ []) (omega arith) in
+    let l₃ : length s₃ ≡ length s₂ = length-lay s₂ (at + 6) (kind ∷ []) (omega arith) in
     lay-next s₃ (at + 7) (bigEndian 4 key) (bigEndian 4 pointer) (at + 11) (omega arith) (omega arith) ∙
-    lay-next s₂ (at + 6) (shape ∷ []) (bigEndian 4 key ++ bigEndian 4 pointer) (at + 7) (omega arith) (omega arith) ∙
-    lay-next s₁ (at + 2) (bigEndian 4 version) (shape ∷ (bigEndian 4 key ++ bigEndian 4 pointer)) (at + 6) (omega arith) (omega arith) ∙
-    lay-next s at (bigEndian 2 id) (bigEndian 4 version ++ (shape ∷ (bigEndian 4 key ++ bigEndian 4 pointer))) (at + 2) (omega arith) refl
+    lay-next s₂ (at + 6) (kind ∷ []) (bigEndian 4 key ++ bigEndian 4 pointer) (at + 7) (omega arith) (omega arith) ∙
+    lay-next s₁ (at + 2) (bigEndian 4 version) (kind ∷ (bigEndian 4 key ++ bigEndian 4 pointer)) (at + 6) (omega arith) (omega arith) ∙
+    lay-next s at (bigEndian 2 id) (bigEndian 4 version ++ (kind ∷ (bigEndian 4 key ++ bigEndian 4 pointer))) (at + 2) (omega arith) refl
 
 pub length-logBody : (s n : ℕ) (buffer : List ℕ) → 15 * n ≤ length buffer → 7 + 18 * n ≡ length (logBody s n buffer)
 unfolding logBody numbered field

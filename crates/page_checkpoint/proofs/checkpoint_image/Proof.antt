@@ -1,4 +1,4 @@
--- `checkpoint_write::checkpoint_image` meets its contract. The page laid over FF. Assumes nothing.
+-- `checkpoint_image` meets its contract. The page laid over FF. Assumes nothing.
 use mathlib.Core.Path.{_∙_}
 use borrow.Author.Needs.{needs}
 use Rattle.page_write.specs.Laid.{summed-blank}

@@ -1,4 +1,4 @@
--- `checkpoint_write::lay_checkpoint` meets its contract. Field 10, the tariff, the scores, the count and the sums
+-- `lay_checkpoint` meets its contract. Field 10, the tariff, the scores, the count and the sums
 -- laid one behind another; there is room for each. Assumes nothing.
 use mathlib.Core.Path.{_≡_, refl, _∙_}
 use Prim.Native.Nat.{_+_, _*_}

@@ -1,4 +1,4 @@
--- `checkpoint_write::lay_costs` meets its contract. Three numbers laid one behind another. Assumes nothing.
+-- `lay_costs` meets its contract. Three numbers laid one behind another. Assumes nothing.
 use mathlib.Core.Path.{_∙_}
 use borrow.Author.Needs.{needs}
 use Rattle.page_checkpoint.specs.Checkpoint.{three-laid}

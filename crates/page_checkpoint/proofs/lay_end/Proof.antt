@@ -1,4 +1,4 @@
--- `checkpoint_write::lay_end` meets its contract. Field 15 where the page is the last, nothing else. Assumes
+-- `lay_end` meets its contract. Field 15 where the page is the last, nothing else. Assumes
 -- nothing.
 use mathlib.Core.Path.{refl, sym, _∙_}
 use native.Mathlib.Nat.{add-zero}

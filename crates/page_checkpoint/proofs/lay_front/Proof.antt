@@ -1,4 +1,4 @@
--- `checkpoint_write::lay_front` meets its contract. Field 13 where the page is the first, nothing else. Assumes
+-- `lay_front` meets its contract. Field 13 where the page is the first, nothing else. Assumes
 -- nothing.
 use mathlib.Core.Path.{sym}
 use native.Mathlib.Omega.{arith}

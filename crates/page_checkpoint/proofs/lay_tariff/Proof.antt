@@ -1,4 +1,4 @@
--- `checkpoint_write::lay_tariff` meets its contract. Five pieces laid one behind another are field 13. Assumes
+-- `lay_tariff` meets its contract. Five pieces laid one behind another are field 13. Assumes
 -- nothing.
 use mathlib.Core.Path.{_∙_}
 use borrow.Author.Needs.{needs}
