@@ -79,7 +79,7 @@ pub fn count_live(live: &[u8; MOST_PAGES], block: usize) -> usize
     n
 }
 
-// The better of a block and the best so far.
+// The block with fewer live pages: this one, or the best before it; a blank block is none.
 fn weigh(pool: &[u8], live: &[u8; MOST_PAGES], block: usize, best: Choice) -> Choice
     requires { ⌜ (block < mostBlocks) × (blockBytes * block + blockBytes ≤ length (now pool)) ⌝ }
     ensures { λ r. ⌜ def.Weighed (def.weigh (pagesOf (now (pool .entry))) (now (live .entry)) block best) block

@@ -27,11 +27,11 @@ pub enum Checkpoint {
 }
 
 // The tariff on a page; zeros where there is none.
-fn tariff_at(pool: &[u8], q: usize) -> Tariff
-    requires { ⌜ pageBytes * q + pageBytes ≤ length (now pool) ⌝ }
-    ensures { λ r. ⌜ r ≡ tariffAt (pagesOf (now (pool .entry))) q ⌝ }
+fn tariff_at(pool: &[u8], page: usize) -> Tariff
+    requires { ⌜ pageBytes * page + pageBytes ≤ length (now pool) ⌝ }
+    ensures { λ r. ⌜ r ≡ tariffAt (pagesOf (now (pool .entry))) page ⌝ }
 {
-    let p = payload(page_part(pool, q), 7, 0x13);
+    let p = payload(page_part(pool, page), 7, 0x13);
     if p.len() != TARIFF_BYTES {
         let none = Costs {
             read: 0,

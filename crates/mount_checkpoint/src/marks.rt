@@ -49,10 +49,10 @@ fn mark_pages(pool: &[u8], marks: &mut [u8], pages: usize, since: u32, start: us
     ensures { λ _. ⌜ now (marks .exit) ≡ markPages (pagesOf (now (pool .entry))) pages since start
         (now (marks .entry)) ⌝ }
 {
-    let mut q: usize = 0;
-    while q < pages {
-        mark_page(page_part(pool, q), marks, since, start);
-        q += 1;
+    let mut page: usize = 0;
+    while page < pages {
+        mark_page(page_part(pool, page), marks, since, start);
+        page += 1;
     }
 }
 

@@ -51,10 +51,10 @@ pub fn take_scores(pool: &[u8], table: &mut [u8], blocks: usize, since: u32, nod
         nodes (rowsOf (now (table .entry))) ⌝ }
 {
     let pages = PAGES_IN_BLOCK * blocks;
-    let mut q: usize = 0;
-    while q < pages {
-        take_page(page_part(pool, q), table, since, nodes);
-        q += 1;
+    let mut page: usize = 0;
+    while page < pages {
+        take_page(page_part(pool, page), table, since, nodes);
+        page += 1;
     }
 }
 

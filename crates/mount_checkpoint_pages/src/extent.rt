@@ -28,19 +28,19 @@ fn greater(a: u32, b: u32) -> u32
     a
 }
 
-// One page more.
-fn extended(page: &[u8], q: usize, e: Extent) -> Extent
-    ensures { λ r. ⌜ r ≡ def.extended q (now (page .entry)) e ⌝ }
+// The extent with one page more.
+fn extended(bytes: &[u8], page: usize, e: Extent) -> Extent
+    ensures { λ r. ⌜ r ≡ def.extended page (now (bytes .entry)) e ⌝ }
 {
-    let number = sequence(page);
+    let number = sequence(bytes);
     let newest = greater(e.newest, number);
-    let tariff = payload(page, 7, 0x13);
+    let tariff = payload(bytes, 7, 0x13);
     if tariff.len() == TARIFF_BYTES {
         if e.since < number {
             return Extent {
                 newest,
                 since: number,
-                place: q,
+                place: page,
             };
         }
     }
@@ -61,10 +61,10 @@ pub fn extent_of(pool: &[u8], pages: usize) -> Extent
         since: 0,
         place: 0,
     };
-    let mut q: usize = 0;
-    while q < pages {
-        e = extended(page_part(pool, q), q, e);
-        q += 1;
+    let mut page: usize = 0;
+    while page < pages {
+        e = extended(page_part(pool, page), page, e);
+        page += 1;
     }
     e
 }

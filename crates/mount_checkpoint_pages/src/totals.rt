@@ -16,7 +16,7 @@ pub struct Totals {
     pub nodes: u32,
 }
 
-// One page more, where its number is not below the first.
+// The totals with one page more, where its sequence number is not below the first.
 fn add_page(page: &[u8], since: u32, newest: u32, t: Totals) -> Totals
     requires { ⌜ (7 < length (now page)) × (Few 2047 t) ⌝ }
     ensures { λ r. ⌜ Added since newest (now (page .entry)) t r ⌝ }
@@ -51,10 +51,10 @@ pub fn sum_pages(pool: &[u8], pages: usize, since: u32, newest: u32) -> Totals
         scores: 0,
         nodes: 0,
     };
-    let mut q: usize = 0;
-    while q < pages {
-        t = add_page(page_part(pool, q), since, newest, t);
-        q += 1;
+    let mut page: usize = 0;
+    while page < pages {
+        t = add_page(page_part(pool, page), since, newest, t);
+        page += 1;
     }
     t
 }

@@ -34,7 +34,7 @@ fn is_new_version<'a>(page: &'a [u8], table: &'a [u8], n: usize, blocks: usize) 
     true
 }
 
-// The same of a page of the pool.
+// Whether no version on a page of the pool is a sequence number.
 fn page_versions_are_new<'a>(
     pool: &'a [u8],
     table: &'a [u8],

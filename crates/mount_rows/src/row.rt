@@ -50,7 +50,7 @@ fn see_row(table: &mut [u8], id: usize, version: u32, mode: Mode, page: u16)
     }
 }
 
-// The same, where the node exists.
+// Notes a piece of a node that exists; ids at or above the count mean nothing.
 pub fn see(table: &mut [u8], nodes: usize, id: usize, version: u32, mode: Mode, page: u16)
     requires { ⌜ rowBytes * nodes ≤ length (now table) ⌝ }
     ensures { λ _. ⌜ rowsOf (now (table .exit)) ≡ seenAt nodes id version mode page (rowsOf (now (table .entry))) ⌝ }

@@ -11,12 +11,12 @@ use Rattle.mount_checkpoint.proofs.marks.mark_pages.Statement.{statemen
 use Rattle.mount_checkpoint.proofs.marks.mark_pages.Tie as tie
 
 abbrev Inv-loop : tie.InvT-loop
-Inv-loop pool marks₀ pages since start q₀ marks q = ((q ≤ pages) × (length marks ≡ length marks₀)) ×
-    (steps (λ i. markPage since start (pageAt (pagesOf pool) i)) (pages - q) q marks ≡ markPages (pagesOf pool) pages
+Inv-loop pool marks₀ pages since start page₀ marks page = ((page ≤ pages) × (length marks ≡ length marks₀)) ×
+    (steps (λ i. markPage since start (pageAt (pagesOf pool) i)) (pages - page) page marks ≡ markPages (pagesOf pool) pages
     since start marks₀)
 
 abbrev μ-loop : tie.MeasureT-loop
-μ-loop pool marks₀ pages since start q₀ marks q = pages - q
+μ-loop pool marks₀ pages since start page₀ marks page = pages - page
 
 loop-holds : tie.Need-loop-holds Inv-loop μ-loop
 unfolding markPages
@@ -29,8 +29,8 @@ page-part-requires c κs = omega arith
 mark-page-requires : tie.Need-mark-page-requires Inv-loop μ-loop
 mark-page-requires c κs = tt
 
-add-q : tie.Need-add-q Inv-loop μ-loop
-add-q c = omega arith
+add-page : tie.Need-add-page Inv-loop μ-loop
+add-page c = omega arith
 
 loop-less : tie.Need-loop-less Inv-loop μ-loop
 loop-less c = omega arith
@@ -39,10 +39,10 @@ loop-again : tie.Need-loop-again Inv-loop μ-loop
 loop-again c = let l = c .before .before .before .before .before .before .loop in
     let a = c .before .before .before .before .before .before .before .before .before .args in
     let ps = pagesOf (a .pool .now) in
-    let e : c .before .before .mark-page .last .1 .0 ≡ markPage (a .since) (a .start) (pageAt ps (l .q))
+    let e : c .before .before .mark-page .last .1 .0 ≡ markPage (a .since) (a .start) (pageAt ps (l .page))
     (l .marks) = c .before .before .mark-page .ensures ∙ ap (λ (b : List ℕ). markPage (a .since) (a .start) b (l .marks))
     (c .before .before .before .before .page-part .ensures .0) in
-    (omega arith, rw e (steps-more (λ i. markPage (a .since) (a .start) (pageAt ps i)) (a .pages) (l .q) (l .marks) (omega arith) ∙ l .inv .1))
+    (omega arith, rw e (steps-more (λ i. markPage (a .since) (a .start) (pageAt ps i)) (a .pages) (l .page) (l .marks) (omega arith) ∙ l .inv .1))
 
 same-length : tie.Need-same-length Inv-loop μ-loop
 same-length c = omega arith
@@ -50,7 +50,7 @@ same-length c = omega arith
 returns : tie.Need-returns Inv-loop μ-loop
 returns c = let l = c .before .loop in
     let a = c .before .before .before .before .args in
-    sym (steps-done (λ i. markPage (a .since) (a .start) (pageAt (pagesOf (a .pool .now)) i)) (a .pages) (l .q) (l .marks) (omega arith)) ∙ l .inv .1
+    sym (steps-done (λ i. markPage (a .since) (a .start) (pageAt (pagesOf (a .pool .now)) i)) (a .pages) (l .page) (l .marks) (omega arith)) ∙ l .inv .1
 
 pub mark-pages-spec : {M : Type 1} → statement M
 mark-pages-spec =
@@ -61,7 +61,7 @@ mark-pages-spec =
     loop-holds
     page-part-requires
     mark-page-requires
-    add-q
+    add-page
     loop-less
     loop-again
     same-length

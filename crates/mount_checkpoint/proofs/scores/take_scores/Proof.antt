@@ -12,12 +12,12 @@ use Rattle.mount_checkpoint.proofs.scores.take_scores.Statement.{statem
 use Rattle.mount_checkpoint.proofs.scores.take_scores.Tie as tie
 
 abbrev Inv-loop : tie.InvT-loop
-Inv-loop pool table₀ blocks since nodes pages q₀ table q = ((q ≤ 32 * blocks) × (length table ≡ length table₀)) ×
-    (steps (λ i. takePage since nodes (pageAt (pagesOf pool) i)) (32 * blocks - q) q (rowsOf table) ≡ takePages
+Inv-loop pool table₀ blocks since nodes pages page₀ table page = ((page ≤ 32 * blocks) × (length table ≡ length table₀)) ×
+    (steps (λ i. takePage since nodes (pageAt (pagesOf pool) i)) (32 * blocks - page) page (rowsOf table) ≡ takePages
     (pagesOf pool) (32 * blocks) since nodes (rowsOf table₀))
 
 abbrev μ-loop : tie.MeasureT-loop
-μ-loop pool table₀ blocks since nodes pages q₀ table q = 32 * blocks - q
+μ-loop pool table₀ blocks since nodes pages page₀ table page = 32 * blocks - page
 
 mul-pages : tie.Need-mul-pages Inv-loop μ-loop
 mul-pages c = omega arith
@@ -33,8 +33,8 @@ page-part-requires c κs = omega arith
 take-page-requires : tie.Need-take-page-requires Inv-loop μ-loop
 take-page-requires c κs = omega arith
 
-add-q : tie.Need-add-q Inv-loop μ-loop
-add-q c = omega arith
+add-page : tie.Need-add-page Inv-loop μ-loop
+add-page c = omega arith
 
 loop-less : tie.Need-loop-less Inv-loop μ-loop
 loop-less c = omega arith
@@ -43,11 +43,11 @@ loop-again : tie.Need-loop-again Inv-loop μ-loop
 loop-again c = let l = c .before .before .before .before .before .before .loop in
     let a = c .before .before .before .before .before .before .before .before .before .args in
     let ps = pagesOf (a .pool .now) in
-    let e : rowsOf (c .before .before .take-page .last .1 .0) ≡ takePage (a .since) (a .nodes) (pageAt ps (l .q))
+    let e : rowsOf (c .before .before .take-page .last .1 .0) ≡ takePage (a .since) (a .nodes) (pageAt ps (l .page))
     (rowsOf (l .table)) = c .before .before .take-page .ensures ∙ ap (λ (b : List ℕ). takePage (a .since) (a .nodes) b (rowsOf (l .table)))
     (c .before .before .before .before .page-part .ensures .0) in (
       omega arith,
-      rw e (steps-more (λ i. takePage (a .since) (a .nodes) (pageAt ps i)) (32 * a .blocks) (l .q) (rowsOf (l .table)) (omega arith) ∙
+      rw e (steps-more (λ i. takePage (a .since) (a .nodes) (pageAt ps i)) (32 * a .blocks) (l .page) (rowsOf (l .table)) (omega arith) ∙
           l .inv .1),
     )
 
@@ -57,7 +57,7 @@ same-length c = omega arith
 returns : tie.Need-returns Inv-loop μ-loop
 returns c = let l = c .before .loop in
     let a = c .before .before .before .before .args in
-    sym (steps-done (λ i. takePage (a .since) (a .nodes) (pageAt (pagesOf (a .pool .now)) i)) (32 * a .blocks) (l .q) (rowsOf (l .table))
+    sym (steps-done (λ i. takePage (a .since) (a .nodes) (pageAt (pagesOf (a .pool .now)) i)) (32 * a .blocks) (l .page) (rowsOf (l .table))
     (omega arith)) ∙ l .inv .1
 
 pub take-scores-spec : {M : Type 1} → statement M
@@ -70,7 +70,7 @@ take-scores-spec =
     loop-holds
     page-part-requires
     take-page-requires
-    add-q
+    add-page
     loop-less
     loop-again
     same-length

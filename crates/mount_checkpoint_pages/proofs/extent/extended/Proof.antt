@@ -25,7 +25,7 @@ returns c =
     let c5 = c4 .before in
     let c7 = c5 .before .before in
     let a = c7 .args in
-    extended-later (a .q) (a .page .now) (a .e) (c5 .sequence .result)
+    extended-later (a .page) (a .bytes .now) (a .e) (c5 .sequence .result)
     (c4 .greater .result) (c5 .sequence .ensures)
     (c4 .greater .ensures)
     (ap length (sym (c3 .payload .ensures)) ∙ c2 .if1 .taken) (c .if2 .taken)
@@ -38,7 +38,7 @@ returns-2 c =
     let c5 = c4 .before in
     let c7 = c5 .before .before in
     let a = c7 .args in
-    extended-older (a .q) (a .page .now) (a .e) (c5 .sequence .result)
+    extended-older (a .page) (a .bytes .now) (a .e) (c5 .sequence .result)
     (c4 .greater .result) (c5 .sequence .ensures)
     (c4 .greater .ensures)
     (ap length (sym (c3 .payload .ensures)) ∙ c2 .if1 .taken) (c .if2 .left)
@@ -50,9 +50,9 @@ returns-3 c =
     let c3 = c2 .before in
     let c5 = c3 .before .before in
     let a = c5 .args in
-    extended-none (a .q) (a .page .now) (a .e) (c3 .sequence .result) (c2 .greater .result)
+    extended-none (a .page) (a .bytes .now) (a .e) (c3 .sequence .result) (c2 .greater .result)
     (c3 .sequence .ensures) (c2 .greater .ensures)
-    (payload-empty (a .page .now) 7 0x13 32 only-13 (λ z. c .if1 .left (ap length (c1 .payload .ensures) ∙ z)))
+    (payload-empty (a .bytes .now) 7 0x13 32 only-13 (λ z. c .if1 .left (ap length (c1 .payload .ensures) ∙ z)))
 
 pub extended-spec : {M : Type 1} → statement M
 extended-spec =

@@ -11,11 +11,11 @@ use Rattle.mount_checkpoint_pages.proofs.extent.extent_of.Statement.{st
 use Rattle.mount_checkpoint_pages.proofs.extent.extent_of.Tie as tie
 
 abbrev Inv-loop : tie.InvT-loop
-Inv-loop pool pages e₀ q₀ e q = ((q ≤ pages) × (e .place < pages)) × (steps (λ i. extended i (pageAt (pagesOf pool) i))
-    (pages - q) q e ≡ extentOf (pagesOf pool) pages)
+Inv-loop pool pages e₀ page₀ e page = ((page ≤ pages) × (e .place < pages)) × (steps (λ i. extended i (pageAt (pagesOf pool) i))
+    (pages - page) page e ≡ extentOf (pagesOf pool) pages)
 
 abbrev μ-loop : tie.MeasureT-loop
-μ-loop pool pages e₀ q₀ e q = pages - q
+μ-loop pool pages e₀ page₀ e page = pages - page
 
 loop-holds : tie.Need-loop-holds Inv-loop μ-loop
 unfolding extentOf noExtent
@@ -28,8 +28,8 @@ page-part-requires c κs = omega arith
 extended-requires : tie.Need-extended-requires Inv-loop μ-loop
 extended-requires c κs = tt
 
-add-q : tie.Need-add-q Inv-loop μ-loop
-add-q c = omega arith
+add-page : tie.Need-add-page Inv-loop μ-loop
+add-page c = omega arith
 
 loop-less : tie.Need-loop-less Inv-loop μ-loop
 loop-less c = omega arith
@@ -38,17 +38,17 @@ loop-again : tie.Need-loop-again Inv-loop μ-loop
 loop-again c = let l = c .before .before .before .loop in
     let a = c .before .before .before .before .before .args in
     let ps = pagesOf (a .pool .now) in
-    let e : c .extended .result ≡ extended (l .q) (pageAt ps (l .q)) (l .e) = c .extended .ensures ∙ ap (λ (b : List ℕ). extended (l .q) b (l .e))
+    let e : c .extended .result ≡ extended (l .page) (pageAt ps (l .page)) (l .e) = c .extended .ensures ∙ ap (λ (b : List ℕ). extended (l .page) b (l .e))
     (c .before .page-part .ensures .0) in (
-      (omega arith, rw e (extended-place (l .q) (a .pages) (pageAt ps (l .q)) (l .e) (omega arith) (l .inv .0 .1))),
-      rw e (steps-more (λ i. extended i (pageAt ps i)) (a .pages) (l .q) (l .e) (omega arith) ∙ l .inv .1),
+      (omega arith, rw e (extended-place (l .page) (a .pages) (pageAt ps (l .page)) (l .e) (omega arith) (l .inv .0 .1))),
+      rw e (steps-more (λ i. extended i (pageAt ps i)) (a .pages) (l .page) (l .e) (omega arith) ∙ l .inv .1),
     )
 
 returns : tie.Need-returns Inv-loop μ-loop
 returns c = let l = c .before .loop in
     let a = c .before .before .before .args in
     record {
-      is = sym (steps-done (λ i. extended i (pageAt (pagesOf (a .pool .now)) i)) (a .pages) (l .q) (l .e) (omega arith)) ∙
+      is = sym (steps-done (λ i. extended i (pageAt (pagesOf (a .pool .now)) i)) (a .pages) (l .page) (l .e) (omega arith)) ∙
           l .inv .1;
       inside = l .inv .0 .1;
     }
@@ -62,7 +62,7 @@ extent-of-spec =
     loop-holds
     page-part-requires
     extended-requires
-    add-q
+    add-page
     loop-less
     loop-again
     returns)

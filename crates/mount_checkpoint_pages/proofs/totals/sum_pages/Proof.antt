@@ -1,4 +1,4 @@
--- `totals::sum_pages` meets its contract. The invariant: what is left, added from here, gives the totals of all; and q pages add up to few.
+-- `totals::sum_pages` meets its contract. The invariant: what is left, added from here, gives the totals of all; and page pages add up to few.
 -- Assumes nothing.
 use mathlib.Core.Path.{_≡_, sym, ap, _∙_}
 use mathlib.Core.List.{List}
@@ -11,11 +11,11 @@ use Rattle.mount_checkpoint_pages.proofs.totals.sum_pages.Statement.{st
 use Rattle.mount_checkpoint_pages.proofs.totals.sum_pages.Tie as tie
 
 abbrev Inv-loop : tie.InvT-loop
-Inv-loop pool pages since newest t₀ q₀ t q = ((q ≤ pages) × (Few q t)) × (steps (λ i. addPage since newest (pageAt (pagesOf pool) i))
-    (pages - q) q t ≡ totalsOf (pagesOf pool) pages since newest)
+Inv-loop pool pages since newest t₀ page₀ t page = ((page ≤ pages) × (Few page t)) × (steps (λ i. addPage since newest (pageAt (pagesOf pool) i))
+    (pages - page) page t ≡ totalsOf (pagesOf pool) pages since newest)
 
 abbrev μ-loop : tie.MeasureT-loop
-μ-loop pool pages since newest t₀ q₀ t q = pages - q
+μ-loop pool pages since newest t₀ page₀ t page = pages - page
 
 loop-holds : tie.Need-loop-holds Inv-loop μ-loop
 unfolding totalsOf nothing
@@ -34,8 +34,8 @@ add-page-requires c κs = let f = c .before .before .loop .inv .0 .1 in (
   record { misfits = omega (arith, f .misfits); scores = omega (arith, f .scores); nodes = omega (arith, f .nodes) },
 )
 
-add-q : tie.Need-add-q Inv-loop μ-loop
-add-q c = omega arith
+add-page : tie.Need-add-page Inv-loop μ-loop
+add-page c = omega arith
 
 loop-less : tie.Need-loop-less Inv-loop μ-loop
 loop-less c = omega arith
@@ -46,7 +46,7 @@ loop-again c = let l = c .before .before .before .loop in
     let ps = pagesOf (a .pool .now) in
     let f = l .inv .0 .1 in
     let r = c .add-page .ensures in
-    let e : c .add-page .result ≡ addPage (a .since) (a .newest) (pageAt ps (l .q)) (l .t) = r .is ∙
+    let e : c .add-page .result ≡ addPage (a .since) (a .newest) (pageAt ps (l .page)) (l .t) = r .is ∙
     ap (λ (b : List ℕ). addPage (a .since) (a .newest) b (l .t)) (c .before .page-part .ensures .0) in (
       (
         omega arith,
@@ -57,7 +57,7 @@ loop-again c = let l = c .before .before .before .loop in
           nodes = omega (arith, f .nodes, r .nodes);
         },
       ),
-      rw e (steps-more (λ i. addPage (a .since) (a .newest) (pageAt ps i)) (a .pages) (l .q) (l .t) (omega arith) ∙ l .inv .1),
+      rw e (steps-more (λ i. addPage (a .since) (a .newest) (pageAt ps i)) (a .pages) (l .page) (l .t) (omega arith) ∙ l .inv .1),
     )
 
 returns : tie.Need-returns Inv-loop μ-loop
@@ -65,7 +65,7 @@ returns c = let l = c .before .loop in
     let a = c .before .before .before .args in
     let f = l .inv .0 .1 in
     record {
-      is = sym (steps-done (λ i. addPage (a .since) (a .newest) (pageAt (pagesOf (a .pool .now)) i)) (a .pages) (l .q) (l .t) (omega arith)) ∙
+      is = sym (steps-done (λ i. addPage (a .since) (a .newest) (pageAt (pagesOf (a .pool .now)) i)) (a .pages) (l .page) (l .t) (omega arith)) ∙
           l .inv .1;
       few = record { misfits = omega (arith, f .misfits); scores = omega (arith, f .scores); nodes = omega (arith, f .nodes) };
     }
@@ -79,7 +79,7 @@ sum-pages-spec =
     loop-holds
     page-part-requires
     add-page-requires
-    add-q
+    add-page
     loop-less
     loop-again
     returns)
