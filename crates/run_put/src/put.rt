@@ -26,6 +26,8 @@ use layout::node_limit;
 use node::ChangeValue;
 use node::Found;
 use node::NodeValue;
+use node::fit::Fitting;
+use node::fit::fit;
 use node::search::find;
 use node::search::pointer;
 use run_path::path::path_to;
@@ -33,8 +35,6 @@ use run_path::reads::serve_reads;
 use run_serve::charged::Answered;
 use run_serve::charged::Charged;
 use run_serve::request::serve_edit;
-use run_split::fit::Fitting;
-use run_split::fit::fit;
 use run_split::split_upwards::split_upwards;
 
 // The value that a put replaces, where there is one.

@@ -1,10 +1,10 @@
--- `node_replay::empty_draft` meets its contract: an empty node whose link does not count. Assumes nothing.
+-- `node::empty_draft` meets its contract: an empty node whose link does not count. Assumes nothing.
 use mathlib.Core.Path.{ap}
 use borrow.Author.Needs.{needs}
 use Rattle.node.specs.Node.{Node, pairsOf}
 use Rattle.node.specs.Replay.{unlinked}
-use Rattle.node_replay.proofs.empty_draft.Statement.{statement}
-use Rattle.node_replay.proofs.empty_draft.Tie as tie
+use Rattle.node.proofs.empty_draft.Statement.{statement}
+use Rattle.node.proofs.empty_draft.Tie as tie
 
 empty-node-requires : tie.Need-empty-node-requires
 empty-node-requires c κs = search needs

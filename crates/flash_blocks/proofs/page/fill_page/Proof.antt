@@ -1,9 +1,9 @@
--- `page_write::frame::fill_page` meets its contract. Bytes laid over the whole of a part are the part. Assumes nothing.
+-- `page::fill_page` meets its contract: bytes laid over the whole of a part are the part. Assumes nothing.
 use mathlib.Core.Path.{_∙_}
-use borrow.Author.Needs.{needs}
 use Rattle.laws.specs.Lay.{lay-whole}
-use Rattle.page_write.proofs.frame.fill_page.Statement.{statement}
-use Rattle.page_write.proofs.frame.fill_page.Tie as tie
+use borrow.Author.Needs.{needs}
+use Rattle.flash_blocks.proofs.page.fill_page.Statement.{statement}
+use Rattle.flash_blocks.proofs.page.fill_page.Tie as tie
 
 slice-aggregate-lay-bytes : tie.Need-slice-aggregate-lay-bytes
 slice-aggregate-lay-bytes c = search needs
@@ -15,7 +15,8 @@ same-length : tie.Need-same-length
 same-length c = search needs
 
 returns : tie.Need-returns
-returns c = let a = c .before .before .before .before .before .before .args in
+returns c =
+    let a = c .before .before .before .before .before .before .args in
     c .before .before .lay-bytes .ensures ∙ lay-whole (a .part .now) (a .t2) (search needs)
 
 pub fill-page-spec : {M : Type 1} → statement M

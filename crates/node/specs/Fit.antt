@@ -10,14 +10,11 @@ use lib.ListN.{length}
 use Rattle.laws.specs.Tests.{choose}
 use Rattle.layout.specs.Layout.{mostKeys}
 use Rattle.pairs.specs.Pairs.{Pair}
 use Rattle.node.specs.declared.Found.{Found}
 use Rattle.node.specs.declared.Found.the-variants.{At, Above}
-use Rattle.node.specs.declared.NodeValue.{NodeValue}
-use Rattle.node.specs.Found.{found, above-absent, above-place}
-use Rattle.node.specs.Value.{pairsIn, Held, length-pairsIn}
-use Rattle.node_split.specs.Split.{Splits}
-use Rattle.run_split.specs.declared.fit.Fitting.{Fitting}
-use Rattle.run_split.specs.declared.fit.Fitting.the-variants.{Room, Full}
+use Rattle.node.specs.Found.{found}
+use Rattle.node.specs.declared.fit.Fitting.{Fitting}
+use Rattle.node.specs.declared.fit.Fitting.the-variants.{Room, Full}
 
 -- A key that is there takes no room; a new one needs it.
 abbrev pub fitAs : Found → ℕ → Fitting
@@ -60,14 +57,3 @@ module _ (key : ℕ) (ps : List Pair) where
       go : (f : Found) → found key ps ≡ f → fitAs f (length ps) ≡ Full at → (found key ps ≡ Above at) × (mostKeys ≤ length ps)
       go (At i) g e = absurd (room-full at e)
       go (Above i) g e = let s = sized i (ltb (length ps) mostKeys) refl e in (g ∙ s .0, s .1)
-
--- So it is asked as a split asks it.
-pub full-splits : (v : NodeValue) → Held v → (key at : ℕ) → fitOf key (pairsIn v) ≡ Full at → Splits v at key
-full-splits v h key at e =
-    let f = full-above key (pairsIn v) at e in
-    record {
-      held = h;
-      full = omega (arith, f .1, length-pairsIn v (h .sized), h .sized .size);
-      absent = above-absent key (pairsIn v) at (f .0);
-      there = above-place key (pairsIn v) at (f .0);
-    }

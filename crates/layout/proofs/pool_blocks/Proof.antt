@@ -1,9 +1,9 @@
 -- `pool_blocks` meets its contract: each way out is one of the definition's. Assumes nothing.
 use native.Mathlib.Omega.{arith}
-use Rattle.prepare.specs.Prepared.{too-few, too-many, whole-blocks, cut-block}
+use Rattle.layout.specs.Blocks.{too-few, too-many, whole-blocks, cut-block}
 use borrow.Author.Needs.{needs}
-use Rattle.prepare.proofs.pool_blocks.Statement.{statement}
-use Rattle.prepare.proofs.pool_blocks.Tie as tie
+use Rattle.layout.proofs.pool_blocks.Statement.{statement}
+use Rattle.layout.proofs.pool_blocks.Tie as tie
 
 returns : tie.Need-returns
 returns c = too-few (c .before .args .bytes) (c .if1 .taken)

@@ -1,7 +1,7 @@
--- `page_read::view::kind_of` meets its contract. The test is the definition's. Assumes nothing.
+-- `page::shape_of` meets its contract: the test is the definition's. Assumes nothing.
 use borrow.Author.Tests.{eq-eqb, ne-eqb}
-use Rattle.page_read.proofs.view.shape_of.Statement.{statement}
-use Rattle.page_read.proofs.view.shape_of.Tie as tie
+use Rattle.page.proofs.shape_of.Statement.{statement}
+use Rattle.page.proofs.shape_of.Tie as tie
 
 returns : tie.Need-returns
 returns c = rw (eq-eqb _ _ (c .if1 .taken))

@@ -1,11 +1,11 @@
 -- `fit::fit` meets its contract: the search says whether the key is there, and the count whether there is room. Assumes nothing.
 use mathlib.Core.Path.{sym, _∙_}
 use native.Mathlib.Omega.{arith}
 use Rattle.node.specs.Value.{pairsIn, length-pairsIn}
-use Rattle.run_split.specs.Fit.{fit-at, fit-room, fit-full}
+use Rattle.node.specs.Fit.{fit-at, fit-room, fit-full}
 use borrow.Author.Needs.{needs}
-use Rattle.run_split.proofs.fit.fit.Statement.{statement}
-use Rattle.run_split.proofs.fit.fit.Tie as tie
+use Rattle.node.proofs.fit.fit.Statement.{statement}
+use Rattle.node.proofs.fit.fit.Tie as tie
 
 find-requires : tie.Need-find-requires
 find-requires c κs = search needs

@@ -1,12 +1,12 @@
--- `node_replay::empty_node` meets its contract: no pair of a count of 0. Assumes nothing.
+-- `node::empty_node` meets its contract: no pair of a count of 0. Assumes nothing.
 use mathlib.Core.Path.{refl}
 use Prim.Native.Nat.{ℕ}
 use native.Mathlib.Omega.{arith}
 use lib.ListN.{length-replicate}
 use Rattle.pairs.specs.Pairs.{Within}
 use Rattle.node.specs.Value.{pairsIn}
-use Rattle.node_replay.proofs.empty_node.Statement.{statement}
-use Rattle.node_replay.proofs.empty_node.Tie as tie
+use Rattle.node.proofs.empty_node.Statement.{statement}
+use Rattle.node.proofs.empty_node.Tie as tie
 
 returns : tie.Need-returns
 unfolding pairsIn Within

@@ -1,11 +1,11 @@
 // Whether a pair fits a node.
 ghost use mathlib.Core.Path.{_≡_};
 ghost use Rattle.node.specs.Value.{pairsIn, Held};
-ghost use Rattle.run_split.specs.Fit.{fitOf};
+ghost use Rattle.node.specs.Fit.{fitOf};
+use super::Found;
+use super::NodeValue;
+use super::search::find;
 use layout::MOST_KEYS;
-use node::Found;
-use node::NodeValue;
-use node::search::find;
 
 // A key that the node has or has room for; or the place of a new key in a full node.
 pub enum Fitting {
