@@ -24,7 +24,12 @@ use Rattle.run.specs.declared.Progress.{Progress}
 use Rattle.run.specs.Run.{runWorld, RunAs}
 use Rattle.run.specs.Valid.{commandsIn, commandsIn-is}
 use Rattle.batch_refines.specs.Accepted.{accepted}
+use Rattle.batch.specs.declared.answer.Outcome.{Outcome}
 use Rattle.batch.specs.Left.{refusedWith, Leaves, Accepts, Worked}
+
+-- What is told of a batch that was run.
+abbrev pub doneWith : Progress → Outcome
+doneWith p = record { number = 0; length = p .at; charge = p .charged .charge }
 
 abbrev pub zeros : ℕ → List ℕ
 zeros n = replicate n 0
@@ -58,20 +63,20 @@ module _ (pool table batch answers : List ℕ) {blocks : ℕ} (a : Accepts (leng
   -- One that opens, its commands run and its checkpoint written.
   module _ (bytes : Bytes batch) {tableLength P T : ℕ} {rows rows₁ rows₂ : List Row} {t : Tariff} {st st₂ : State} (o : Opens pool tableLength blocks rows t st)
       {pages₁ : List (List ℕ)} {answers₁ : List ℕ} {p : Progress} (ran : RunAs P T pages₁ rows₁ answers answers₁ p t (a .commands) (world (pagesOf pool) rows st))
-      (pool′ : List ℕ) (ended : world (pagesOf pool′) rows₂ st₂ ≡ checkpoint t (world pages₁ rows₁ (p .state))) (kept : st₂ .blocks ≡ p .state .blocks)
-      (size : length pool′ ≡ length pool) where
+      (pool′ : List ℕ) (ended : world (pagesOf pool′) rows₂ st₂ ≡ checkpoint t (world pages₁ rows₁ (p .charged .state)))
+      (kept : st₂ .blocks ≡ p .charged .state .blocks) (size : length pool′ ≡ length pool) where
     abbrev w : World
     w = world (pagesOf pool) rows st
 
     end : world (pagesOf pool′) rows₂ st₂ ≡ checkpoint t (runWorld t (a .commands) w)
-    end = ended ∙ ap (checkpoint t) (ran .is)
+    end = ended ∙ ap (checkpoint t) (ran .kept .is)
 
     blocks-end : checkpoint t (runWorld t (a .commands) w) .state .blocks ≡ blocks
     blocks-end =
-        ap (λ (z : World). z .state .blocks) (sym end) ∙ kept ∙ ran .blocks ∙ sym (o .runs .agrees .mirrors .pages .size) ∙
+        ap (λ (z : World). z .state .blocks) (sym end) ∙ kept ∙ ran .kept .blocks ∙ sym (o .runs .agrees .mirrors .pages .size) ∙
         o .runs .sound .good .invariant .rules .size
 
-    by-commands : Leaves (accept blocks t (a .commands) (o .state) table answers) (record { number = 0; length = p .at; charge = p .charge }) pool′ table′ answers₁
+    by-commands : Leaves (accept blocks t (a .commands) (o .state) table answers) (doneWith p) pool′ table′ answers₁
     by-commands =
         let l =
         accepted o (a .least) (a .pool) batch bytes (a .commands) (a .are) table answers pool′ (ap (λ (z : World). z .pages) end) blocks-end (size ∙ a .pool) in
@@ -84,19 +89,19 @@ module _ (pool table batch answers : List ℕ) {blocks : ℕ} (a : Accepts (leng
           charge = ran .charge ∙ l .charge;
         }
 
-    pub worked-done : Worked pool pool′ table table′ batch answers answers₁ (record { number = 0; length = p .at; charge = p .charge })
+    pub worked-done : Worked pool pool′ table table′ batch answers answers₁ (doneWith p)
     worked-done =
         record {
           leaves =
               λ cs are.
               let same : a .commands ≡ cs = same-some (a .commands) cs (sym (a .are) ∙ are) in
-              subst (λ (m : Mounted). Leaves (batchMounted m cs pool table answers) (record { number = 0; length = p .at; charge = p .charge }) pool′
+              subst (λ (m : Mounted). Leaves (batchMounted m cs pool table answers) (doneWith p) pool′
               table′ answers₁) (sym (o .is))
               (subst
-              (λ (b : ℕ). Leaves (accept b t cs (o .state) table answers) (record { number = 0; length = p .at; charge = p .charge }) pool′ table′ answers₁)
+              (λ (b : ℕ). Leaves (accept b t cs (o .state) table answers) (doneWith p) pool′ table′ answers₁)
               (sym blocks-are)
               (subst (λ (ds : List Command). Leaves (accept blocks t ds (o .state) table answers)
-              (record { number = 0; length = p .at; charge = p .charge }) pool′ table′ answers₁)
+              (doneWith p) pool′ table′ answers₁)
               same by-commands));
         }
 
@@ -105,8 +110,8 @@ pub worked-by : {pool table batch answers : List ℕ} {blocks : ℕ} (a : Accept
     table′ ≡ zeros (length table) → Bytes batch → {tableLength P T P₂ T₂ : ℕ} {rows rows₁ rows₂ : List Row} {t : Tariff} {st st₂ : State} →
     Opens pool tableLength blocks rows t st → {pages₁ : List (List ℕ)} {answers₁ : List ℕ} {p : Progress} →
     RunAs P T pages₁ rows₁ answers answers₁ p t (commandsIn batch) (world (pagesOf pool) rows st) → (pool′ : List ℕ) →
-    Ended P₂ T₂ (p .state) (world (pagesOf pool′) rows₂ st₂) (checkpoint t (world pages₁ rows₁ (p .state))) → length pool′ ≡ length pool →
-    Worked pool pool′ table table′ batch answers answers₁ (record { number = 0; length = p .at; charge = p .charge })
+    Ended P₂ T₂ (p .charged .state) (world (pagesOf pool′) rows₂ st₂) (checkpoint t (world pages₁ rows₁ (p .charged .state))) →
+    length pool′ ≡ length pool → Worked pool pool′ table table′ batch answers answers₁ (doneWith p)
 worked-by {pool} {table} {batch} {answers} a table′ zero bytes {tableLength} {P} {T} {P₂} {T₂} {rows} {rows₁} {rows₂} {t} {st} {st₂} o {pages₁}
     {answers₁} {p} ran pool′ ended size =
     worked-done pool table batch answers a table′ zero bytes {P = P} {T = T} o

@@ -16,6 +16,7 @@ use layout::TABLE_BYTES;
 use layout::pool_blocks;
 use mount::mount;
 use run::run::run_commands;
+use run_serve::charged::Charged;
 use wire::bytes::fill;
 use wire::bytes::fill_part;
 
@@ -47,13 +48,14 @@ fn work(
     let tariff = mounted.tariff;
     let state = mounted.state;
     let done = run_commands(pool, table, commands, answers, state, tariff);
-    let s = done.state;
+    let paid: Charged = done.charged;
+    let s = paid.state;
     checkpoint(pool, table, s, tariff);
     fill(table, 0);
     Outcome {
         number: 0,
         length: done.at,
-        charge: done.charge,
+        charge: paid.charge,
     }
 }
 

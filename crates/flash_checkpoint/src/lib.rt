@@ -81,15 +81,15 @@ fn score_records(table: &[u8], from: usize, n: usize) -> [u8; SCORE_BYTES * OTHE
 fn put_checkpoint_page(
     pool: &mut [u8],
     table: &[u8],
-    at: usize,
+    page: usize,
     number: u32,
     tariff: Tariff,
     k: usize,
     nodes: usize,
 )
-    requires { ⌜ (pageBytes * at + pageBytes ≤ length (now pool)) × (rowBytes * nodes ≤ length (now table)) × (nodes ≤ 4096)
+    requires { ⌜ (pageBytes * page + pageBytes ≤ length (now pool)) × (rowBytes * nodes ≤ length (now table)) × (nodes ≤ 4096)
         × (k < pageCount nodes) ⌝ }
-    ensures { λ _. ⌜ pagesOf (now (pool .exit)) ≡ set (pagesOf (now (pool .entry))) at
+    ensures { λ _. ⌜ pagesOf (now (pool .exit)) ≡ set (pagesOf (now (pool .entry))) page
         (checkpointImage number tariff k nodes (rowsOf (now (table .entry)))) ⌝ }
 {
     let from = scores_before(k);
@@ -97,16 +97,16 @@ fn put_checkpoint_page(
     let records = score_records(table, from, n);
     let last = k + 1 == page_count(nodes);
     let image = checkpoint_image(number, k == 0, tariff, &records, n, last, nodes as u32);
-    put_page(pool, at, image);
+    put_page(pool, page, image);
 }
 
 // The row of a checkpoint page, behind the nodes' rows.
-fn store_checkpoint_page(table: &mut [u8], n: usize, number: u32, at: u16)
+fn store_checkpoint_page(table: &mut [u8], n: usize, number: u32, page: u16)
     requires { ⌜ rowBytes * n + rowBytes ≤ length (now table) ⌝ }
-    ensures { λ _. ⌜ rowsOf (now (table .exit)) ≡ set (rowsOf (now (table .entry))) n (checkpointRow number at) ⌝ }
+    ensures { λ _. ⌜ rowsOf (now (table .exit)) ≡ set (rowsOf (now (table .entry))) n (checkpointRow number page) ⌝ }
 {
     let row = no_row().fresh(number, Mode::Disk);
-    flash_rows::write_row(table, n, row.note(at));
+    flash_rows::write_row(table, n, row.note(page));
 }
 
 // Checkpoint page k as the next page, in a block that has room.
@@ -121,10 +121,10 @@ fn write_checkpoint_page(
     ensures { λ r. ⌜ CheckpointPageIn (now (pool .exit)) (now (table .exit)) state r
         (writeCheckpointPage tariff k (worldIn (now (pool .entry)) (now (table .entry)) state)) ⌝ }
 {
-    let at = PAGES_IN_BLOCK * state.current + state.fill;
+    let page = PAGES_IN_BLOCK * state.current + state.fill;
     let number = next_sequence(state.last);
-    put_checkpoint_page(pool, table, at, number, tariff, k, state.nodes);
-    store_checkpoint_page(table, state.nodes + state.checkpoint, number, at as u16);
+    put_checkpoint_page(pool, table, page, number, tariff, k, state.nodes);
+    store_checkpoint_page(table, state.nodes + state.checkpoint, number, page as u16);
     count_page(state, number)
 }
 

@@ -18,19 +18,19 @@ pub fn edit(
     pool: &mut [u8],
     table: &mut [u8],
     state: State,
-    n: usize,
+    id: usize,
     change: ChangeValue,
     edited: NodeValue,
 ) -> State
-    requires { ⌜ (Good (length (now pool)) (length (now table)) state) × (n < state .nodes) × (Sized edited) ⌝ }
+    requires { ⌜ (Good (length (now pool)) (length (now table)) state) × (id < state .nodes) × (Sized edited) ⌝ }
     ensures { λ r. ⌜ KeptIn (now (pool .exit)) (now (table .exit)) state r
-        (def.edit n (changeOf change) (nodeOf edited) (worldIn (now (pool .entry)) (now (table .entry)) state))
+        (def.edit id (changeOf change) (nodeOf edited) (worldIn (now (pool .entry)) (now (table .entry)) state))
         ⌝ }
 {
     let s = make_room(pool, table, state, 1);
-    let row = flash_rows::read_row(table, n);
+    let row = flash_rows::read_row(table, id);
     if row.pages < 3 {
-        return append(s, n, row.version, change);
+        return append(s, id, row.version, change);
     }
-    group(pool, table, s, n, edited)
+    group(pool, table, s, id, edited)
 }

@@ -57,25 +57,25 @@ fn append_node(state: State, id: usize, version: u32, v: NodeValue) -> State
 }
 
 // A fresh start of a node whose row was this.
-fn start(table: &mut [u8], state: State, n: usize, row: Row, version: u32, v: NodeValue) -> State
-    requires { ⌜ (rowBytes * n + rowBytes ≤ length (now table)) × (Sized v) ⌝ }
-    ensures { λ r. ⌜ Started (rowsOf (now (table .entry))) state n row version (nodeOf v)
+fn start(table: &mut [u8], state: State, id: usize, row: Row, version: u32, v: NodeValue) -> State
+    requires { ⌜ (rowBytes * id + rowBytes ≤ length (now table)) × (Sized v) ⌝ }
+    ensures { λ r. ⌜ Started (rowsOf (now (table .entry))) state id row version (nodeOf v)
         (rowsOf (now (table .exit))) r ⌝ }
 {
-    flash_rows::write_row(table, n, row.fresh(version, Mode::Log));
-    append_node(with_sequence(state, version), n, version, v)
+    flash_rows::write_row(table, id, row.fresh(version, Mode::Log));
+    append_node(with_sequence(state, version), id, version, v)
 }
 
 // The whole content of a node under a new version. A page that it forces out takes its sequence number before.
-pub fn group(pool: &mut [u8], table: &mut [u8], state: State, n: usize, v: NodeValue) -> State
-    requires { ⌜ (Good (length (now pool)) (length (now table)) state) × (n < state .nodes) × (Sized v) ⌝ }
+pub fn group(pool: &mut [u8], table: &mut [u8], state: State, id: usize, v: NodeValue) -> State
+    requires { ⌜ (Good (length (now pool)) (length (now table)) state) × (id < state .nodes) × (Sized v) ⌝ }
     ensures { λ r. ⌜ KeptIn (now (pool .exit)) (now (table .exit)) state r
-        (def.group n (nodeOf v) (worldIn (now (pool .entry)) (now (table .entry)) state)) ⌝ }
+        (def.group id (nodeOf v) (worldIn (now (pool .entry)) (now (table .entry)) state)) ⌝ }
 {
     let s = make_room(pool, table, state, v.count + 1);
     let version = next_sequence(s.last);
-    let row = flash_rows::read_row(table, n);
-    start(table, s, n, row, version, v)
+    let row = flash_rows::read_row(table, id);
+    start(table, s, id, row, version, v)
 }
 
 // A new node, the next one, in log mode with score 0.

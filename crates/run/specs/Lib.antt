@@ -1,5 +1,5 @@
 pub mod Run
-pub mod One
+pub mod Replies
 pub mod Valid
 pub mod Room
 pub mod Running

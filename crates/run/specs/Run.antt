@@ -2,12 +2,11 @@
 -- and answers").
 use mathlib.Core.Path.{_≡_}
 use mathlib.Core.List.{List, [], _∷_}
-use Prim.Native.Nat.{ℕ, _+_, _*_, _≤_}
+use Prim.Native.Nat.{ℕ, _+_, _≤_}
 use lib.ListN.{length}
 use Rattle.laws.specs.Lay.{lay}
 use Rattle.layout.specs.Layout.{mostBlocks, nodeLimit}
 use Rattle.account.specs.declared.Tariff.{Tariff}
-use Rattle.account.specs.Fair.{mostCharge}
 use Rattle.command.specs.declared.Answer.the-variants.{Got, Deleted}
 use Rattle.command.specs.declared.Command.{Command}
 use Rattle.command.specs.declared.Command.the-variants.{Get, Put, Delete, Scan}
@@ -16,16 +15,15 @@ use Rattle.command.specs.Command.{mostPairs}
 use Rattle.book.specs.Command.{Reply, short, listed, replyBytes, repliesBytes}
 use Rattle.flash_rows.specs.declared.Row.{Row}
 use Rattle.flash_allocate.specs.World.{World, world}
+use Rattle.run_serve.specs.Step.{ChargedAs}
 use Rattle.run_path.specs.Path.{pathTo}
 use Rattle.run_path.specs.Reads.{readAll, readCharges}
 use Rattle.run_lookup.specs.Value.{valueIn}
 use Rattle.run_lookup.specs.Delete.{delete, deleteCharge}
 use Rattle.run_scan.specs.Scan.{scanReads, scanPairs}
-use Rattle.run_split.specs.Growing.{Growing}
+use Rattle.run_split.specs.Growing.{Grew}
 use Rattle.run_put.specs.Put.{put}
 use Rattle.run.specs.declared.Progress.{Progress}
-use Rattle.flash_blocks.specs.Pages.{pagesOf}
-use Rattle.flash_rows.specs.Row.{rowsOf}
 
 -- One command: the world after it, its charge, its reply.
 abbrev pub commandWorld : Tariff → Command → World → World
@@ -73,28 +71,14 @@ mostRequests = 9 + nodeLimit mostBlocks
 -- What the code of one command leaves: this world, this charge, and its reply laid at a place of the answer buffer.
 pub record CommandAs (poolLength tableLength : ℕ) (pages : List (List ℕ)) (rows : List Row) (before after : List ℕ) (r : Progress) (t : Tariff)
     (c : Command) (at : ℕ) (w : World) : Type 0 where
-  pub is : world pages rows (r .state) ≡ commandWorld t c w
-  pub growing : Growing poolLength tableLength (r .state)
-  pub blocks : r .state .blocks ≡ w .state .blocks
-  pub charge : r .charge ≡ commandCharge t c w
-  pub most : r .charge ≤ mostCharge * mostRequests
+  pub charged : ChargedAs Grew poolLength tableLength pages rows (r .charged) (w .state) mostRequests (commandWorld t c w) (commandCharge t c w)
   pub answers : after ≡ lay before at (replyBytes (commandReply t c w))
   pub behind : r .at ≡ at + length (replyBytes (commandReply t c w))
-
--- The same of a pool and a table, as bytes.
-abbrev pub CommandIn : List ℕ → List ℕ → List ℕ → List ℕ → Progress → Tariff → Command → ℕ → World → Type 0
-CommandIn pool table before after r t c at w = CommandAs (length pool) (length table) (pagesOf pool) (rowsOf table) before after r t c at w
 
 -- What the code of a whole batch leaves.
 pub record RunAs (poolLength tableLength : ℕ) (pages : List (List ℕ)) (rows : List Row) (before after : List ℕ) (r : Progress) (t : Tariff)
     (cs : List Command) (w : World) : Type 0 where
-  pub is : world pages rows (r .state) ≡ runWorld t cs w
-  pub growing : Growing poolLength tableLength (r .state)
-  pub blocks : r .state .blocks ≡ w .state .blocks
-  pub charge : r .charge ≡ runCharge t cs w
+  pub kept : Grew poolLength tableLength (w .state) (world pages rows (r .charged .state)) (runWorld t cs w)
+  pub charge : r .charged .charge ≡ runCharge t cs w
   pub answers : after ≡ lay before 0 (repliesBytes (runReplies t cs w))
   pub behind : r .at ≡ length (repliesBytes (runReplies t cs w))
-
--- The same of a pool and a table, as bytes.
-abbrev pub RunIn : List ℕ → List ℕ → List ℕ → List ℕ → Progress → Tariff → List Command → World → Type 0
-RunIn pool table before after r t cs w = RunAs (length pool) (length table) (pagesOf pool) (rowsOf table) before after r t cs w

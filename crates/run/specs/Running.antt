@@ -80,26 +80,27 @@ module _ {P T : ℕ} {t : Tariff} {batch empty : List ℕ} {from : ℕ} {start n
 
     pub running-next : (P′ T′ : ℕ) (pages : List (List ℕ)) (rows : List Row) (after : List ℕ) (p : Progress) → from < next → next ≤ length batch →
         CommandAs P′ T′ pages rows answers after p t c place now →
-        Running P′ T′ t batch empty next start (world pages rows (p .state)) after (paid + p .charge) (p .at)
+        Running P′ T′ t batch empty next start (world pages rows (p .charged .state)) after (paid + p .charged .charge) (p .at)
     running-next P′ T′ pages rows after p further inBatch d =
         let f = first in
         let bytes = replyBytes (commandReply t c now) in
+        let served = d .charged in
         record {
-          growing = d .growing;
-          blocks = d .blocks ∙ r .blocks;
+          growing = served .kept .growing;
+          blocks = served .kept .blocks ∙ r .blocks;
           within = inBatch;
           rest = f .tail;
           left = f .is;
-          worlds = ap (runWorld t (f .tail)) (d .is) ∙ ap (λ (cs : List Command). runWorld t cs now) (f .whole) ∙ r .worlds;
+          worlds = ap (runWorld t (f .tail)) (served .kept .is) ∙ ap (λ (cs : List Command). runWorld t cs now) (f .whole) ∙ r .worlds;
           charges =
               omega (
                 arith,
-                d .charge,
-                ap (runCharge t (f .tail)) (d .is),
+                served .charge,
+                ap (runCharge t (f .tail)) (served .kept .is),
                 ap (λ (cs : List Command). runCharge t cs now) (f .whole),
                 r .charges,
               );
-          most = omega (arith, d .most, r .most, further);
+          most = omega (arith, served .most, r .most, further);
           laid = r .laid ++ bytes;
           buffer =
               d .answers ∙
@@ -107,8 +108,8 @@ module _ {P T : ℕ} {t : Tariff} {batch empty : List ℕ} {from : ℕ} {start n
               lay-next empty 0 (r .laid) bytes place (omega arith) (omega (arith, r .behind));
           behind = omega (arith, d .behind, r .behind, length-append (r .laid) bytes);
           replies =
-              append-assoc (r .laid) bytes (repliesBytes (runReplies t (f .tail) (world pages rows (p .state)))) ∙
-              ap (λ (w : World). r .laid ++ (bytes ++ repliesBytes (runReplies t (f .tail) w))) (d .is) ∙
+              append-assoc (r .laid) bytes (repliesBytes (runReplies t (f .tail) (world pages rows (p .charged .state)))) ∙
+              ap (λ (w : World). r .laid ++ (bytes ++ repliesBytes (runReplies t (f .tail) w))) (served .kept .is) ∙
               ap (λ (cs : List Command). r .laid ++ repliesBytes (runReplies t cs now)) (f .whole) ∙
               r .replies;
           room = omega (arith, d .behind, reply-room t c now, r .room, ap roomForAll (f .whole));
@@ -119,15 +120,20 @@ module _ {P T : ℕ} {t : Tariff} {batch empty : List ℕ} {from : ℕ} {start n
   running-valid inside e = none-some (sym (commandsFrom-invalid batch from inside e) ∙ r .left)
 
   -- none left
-  pub running-end : length batch ≤ from → RunAs P T (now .pages) (now .rows) empty answers (record { state = now .state; charge = paid; at = place }) t (commandsIn batch) start
+  pub running-end : length batch ≤ from →
+      RunAs P T (now .pages) (now .rows) empty answers (record { charged = record { state = now .state; charge = paid }; at = place }) t (commandsIn batch)
+      start
   running-end l =
       let none : r .rest ≡ [] = ap listOr (sym (r .left) ∙ commandsFrom-end batch from l) in
       let all : r .laid ≡ repliesBytes (runReplies t (commandsIn batch) start) =
       sym (append-nil (r .laid)) ∙ sym (ap (λ (cs : List Command). r .laid ++ repliesBytes (runReplies t cs now)) none) ∙ r .replies in
       record {
-        is = sym (ap (λ (cs : List Command). runWorld t cs now) none) ∙ r .worlds;
-        growing = r .growing;
-        blocks = r .blocks;
+        kept =
+            record {
+              is = sym (ap (λ (cs : List Command). runWorld t cs now) none) ∙ r .worlds;
+              growing = r .growing;
+              blocks = r .blocks;
+            };
         charge = omega (arith, ap (λ (cs : List Command). runCharge t cs now) none, r .charges);
         answers = r .buffer ∙ ap (lay empty 0) all;
         behind = r .behind ∙ ap length all;

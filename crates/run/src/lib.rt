@@ -1,12 +1,11 @@
 // The commands of a batch run one after another, each reply laid behind the last.
-pub mod one;
+pub mod replies;
 pub mod run;
 
-use flash_allocate::state::State;
+use run_serve::charged::Charged;
 
-// How far a batch has come: the state, what was charged, and how many bytes of answers are laid.
+// How far a batch has come: the state and what was charged, and how many bytes of answers are laid.
 pub struct Progress {
-    pub state: State,
-    pub charge: u64,
+    pub charged: Charged,
     pub at: usize,
 }

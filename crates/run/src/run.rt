@@ -5,18 +5,22 @@ ghost use Rattle.account.specs.Range.{Ranged};
 ghost use Rattle.command.specs.Batch.{roomFor};
 ghost use Rattle.flash_allocate.specs.World.{worldIn};
 ghost use Rattle.run_split.specs.Growing.{Growing};
-ghost use Rattle.run.specs.Run.{InRange, CommandIn, RunIn};
+ghost use Rattle.run_serve.specs.Step.{InBytes};
+ghost use Rattle.run.specs.Run.{InRange, CommandAs, RunAs};
 ghost use Rattle.run.specs.Valid.{commandsIn, Fits};
 use super::Progress;
-use super::one::run_delete;
-use super::one::run_get;
-use super::one::run_put;
-use super::one::run_scan;
+use super::replies::reply;
+use super::replies::reply_pairs;
 use account::Tariff;
 use command::Command;
 use command::Step;
 use command::batch::command_at;
 use flash_allocate::state::State;
+use run_lookup::delete::delete;
+use run_lookup::get::get;
+use run_put::put::put;
+use run_scan::scan::scan;
+use run_serve::charged::Charged;
 
 // Runs a command and lays its reply at a place.
 pub fn run_command(
@@ -30,21 +34,25 @@ pub fn run_command(
 ) -> Progress
     requires { ⌜ (Growing (length (now pool)) (length (now table)) state) × (Ranged tariff) × (InRange command)
         × (at + roomFor command ≤ length (now answers)) ⌝ }
-    ensures { λ r. ⌜ CommandIn (now (pool .exit)) (now (table .exit)) (now (answers .entry))
+    ensures { λ r. ⌜ InBytes CommandAs (now (pool .exit)) (now (table .exit)) (now (answers .entry))
         (now (answers .exit)) r tariff command at (worldIn (now (pool .entry)) (now (table .entry)) state) ⌝ }
 {
     match command {
         Command::Get { key } => {
-            return run_get(pool, table, answers, state, tariff, key, at);
+            let done = get(pool, table, state, tariff, key);
+            return reply(answers, at, done);
         }
         Command::Put { key, value } => {
-            return run_put(pool, table, answers, state, tariff, key, value, at);
+            let done = put(pool, table, state, tariff, key, value);
+            return reply(answers, at, done);
         }
         Command::Delete { key } => {
-            return run_delete(pool, table, answers, state, tariff, key, at);
+            let done = delete(pool, table, state, tariff, key);
+            return reply(answers, at, done);
         }
         Command::Scan { low, high, most } => {
-            return run_scan(pool, table, answers, state, tariff, low, high, most, at);
+            let done = scan(pool, table, state, tariff, low, high, most);
+            return reply_pairs(answers, at, done);
         }
     }
 }
@@ -60,7 +68,7 @@ pub fn run_commands(
 ) -> Progress
     requires { ⌜ (Growing (length (now pool)) (length (now table)) state) × (Ranged tariff)
         × (Fits (now batch) (length (now answers))) ⌝ }
-    ensures { λ r. ⌜ RunIn (now (pool .exit)) (now (table .exit)) (now (answers .entry)) (now (answers .exit))
+    ensures { λ r. ⌜ InBytes RunAs (now (pool .exit)) (now (table .exit)) (now (answers .entry)) (now (answers .exit))
         r tariff (commandsIn (now (batch .entry))) (worldIn (now (pool .entry)) (now (table .entry)) state) ⌝ }
 {
     let mut s = state;
@@ -72,23 +80,18 @@ pub fn run_commands(
         match step {
             Step::Next { command, next } => {
                 let done = run_command(pool, table, answers, s, tariff, command, place);
-                s = done.state;
-                charge += done.charge;
+                let paid = done.charged;
+                s = paid.state;
+                charge += paid.charge;
                 place = done.at;
                 at = next;
             }
             Step::Invalid => {
-                return Progress {
-                    state: s,
-                    charge,
-                    at: place,
-                };
+                let charged = Charged { state: s, charge };
+                return Progress { charged, at: place };
             }
         }
     }
-    Progress {
-        state: s,
-        charge,
-        at: place,
-    }
+    let charged = Charged { state: s, charge };
+    Progress { charged, at: place }
 }

@@ -1,25 +1,21 @@
 -- STRIP (document 01, command 03; "strip of a present route" is one edit, and of an absent one the reads alone). Assumes nothing.
-use mathlib.Core.Path.{_≡_}
 use mathlib.Core.List.{List}
 use mathlib.Core.Option.{Option, none, some}
-use Prim.Native.Nat.{ℕ, _+_, _*_, _≤_}
+use Prim.Native.Nat.{ℕ, _+_}
 use Rattle.account.specs.declared.Tariff.{Tariff}
-use Rattle.account.specs.Fair.{mostCharge}
 use Rattle.node.specs.Change.{remove}
 use Rattle.store.specs.Serve.{edit}
 use Rattle.command.specs.declared.Answer.the-variants.{Deleted}
 use Rattle.command.specs.Answer.{valueOr}
 use Rattle.flash_rows.specs.declared.Row.{Row}
-use Rattle.flash_allocate.specs.World.{World, world}
+use Rattle.flash_allocate.specs.World.{World}
 use Rattle.flash_log.specs.Flush.{Kept}
+use Rattle.run_serve.specs.Step.{AnsweredAs}
+use Rattle.run_serve.specs.declared.charged.Answered.{Answered}
 use Rattle.run_serve.specs.Serve.{serve, charge}
 use Rattle.run_path.specs.Path.{pathTo, leafAt}
 use Rattle.run_path.specs.Reads.{readAll, readCharges}
-use Rattle.run_lookup.specs.declared.Done.{Done}
 use Rattle.run_lookup.specs.Value.{valueIn}
-use lib.ListN.{length}
-use Rattle.flash_blocks.specs.Pages.{pagesOf}
-use Rattle.flash_rows.specs.Row.{rowsOf}
 
 -- The edit of a leaf for a key with this value there, and its charge.
 abbrev pub deletion : Tariff → Option ℕ → ℕ → ℕ → World → World
@@ -38,12 +34,6 @@ unfoldable pub deleteCharge : Tariff → ℕ → World → ℕ
 deleteCharge t k w = readCharges t (pathTo k w) w + deletionCharge t (valueIn k w) (leafAt k w) k (readAll t (pathTo k w) w)
 
 -- What the code of a delete leaves: this world and this charge, and "answer 83 with the word removed", or 80.
-pub record DeletedAs (poolLength tableLength : ℕ) (pages : List (List ℕ)) (rows : List Row) (r : Done) (t : Tariff) (k : ℕ) (w : World) : Type 0 where
-  pub kept : Kept poolLength tableLength (w .state) (world pages rows (r .state)) (delete t k w)
-  pub charge : r .charge ≡ deleteCharge t k w
-  pub most : r .charge ≤ mostCharge * 10
-  pub answer : r .answer ≡ valueOr Deleted (valueIn k w)
-
--- The same of a pool and a table, as bytes.
-abbrev pub DeletedIn : List ℕ → List ℕ → Done → Tariff → ℕ → World → Type 0
-DeletedIn pool table r t k w = DeletedAs (length pool) (length table) (pagesOf pool) (rowsOf table) r t k w
+abbrev pub DeletedAs : ℕ → ℕ → List (List ℕ) → List Row → Answered → Tariff → ℕ → World → Type 0
+DeletedAs poolLength tableLength pages rows r t k w =
+    AnsweredAs Kept poolLength tableLength pages rows r (w .state) 10 (delete t k w) (deleteCharge t k w) (valueOr Deleted (valueIn k w))

@@ -1,9 +1,8 @@
 -- What the path and the search in its leaf find is what the definitions say. Assumes nothing.
-use mathlib.Core.Path.{_≡_, sym, ap, _∙_, subst}
+use mathlib.Core.Path.{_≡_, sym, ap, _∙_}
 use mathlib.Core.List.{List}
 use mathlib.Core.Option.{Option, none, some}
 use Prim.Native.Nat.{ℕ}
-use native.Mathlib.Omega.{arith}
 use lib.ListN.{take}
 use Rattle.layout.specs.Layout.{bound32}
 use Rattle.account.specs.declared.Tariff.{Tariff}
@@ -20,10 +19,11 @@ use Rattle.command.specs.declared.Answer.the-variants.{Got}
 use Rattle.command.specs.Answer.{valueOr}
 use Rattle.flash_rows.specs.declared.Row.{Row}
 use Rattle.flash_allocate.specs.World.{World}
-use Rattle.run_serve.specs.declared.request.Charged.{Charged}
+use Rattle.run_serve.specs.Step.{charged-is}
+use Rattle.run_serve.specs.declared.charged.Charged.{Charged}
 use Rattle.run_path.specs.declared.path.Path.{Path}
 use Rattle.run_path.specs.Path.{tableIn, pathTo, PathTo}
-use Rattle.run_path.specs.Reads.{ReadAs}
+use Rattle.run_path.specs.Reads.{readAll, readCharges, ReadAs}
 use Rattle.run_lookup.specs.declared.value.Value.{Value}
 use Rattle.run_lookup.specs.Value.{valueOf, valueIn}
 use Rattle.run_lookup.specs.Get.{GotAs}
@@ -44,18 +44,13 @@ module _ {k : ℕ} (w : World) {path : Path} (found : PathTo (tableIn w) k path)
   unfolding getAnswer
   value-in o e = sym (e ∙ ap (λ n. lookup k (pairsOf n)) (found .leaf .is))
 
-  module _ {P T : ℕ} {pages : List (List ℕ)} {rows : List Row} {c : Charged} {t : Tariff} where
-    pub path-read : ReadAs P T pages rows c t (path .length) (take (path .length) (path .ids)) w → ReadAs P T pages rows c t (path .length) (pathTo k w) w
-    path-read r = subst (λ (ns : List ℕ). ReadAs P T pages rows c t (path .length) ns w) (found .ids) r
+  module _ {P T : ℕ} {pages : List (List ℕ)} {rows : List Row} {c : Charged} (t : Tariff)
+      (r : ReadAs P T pages rows c t (path .length) (take (path .length) (path .ids)) w) where
+    pub path-read : ReadAs P T pages rows c t 9 (pathTo k w) w
+    path-read =
+        charged-is r (found .few) (ap (λ (ns : List ℕ). readAll t ns w) (found .ids)) (ap (λ (ns : List ℕ). readCharges t ns w) (found .ids))
 
     -- a get: the path read, and the value in its leaf
-    pub got-as : ReadAs P T pages rows c t (path .length) (take (path .length) (path .ids)) w → (v : Value) → valueOf v ≡ lookup k (pairsIn (path .leaf)) →
-        (a : Answer) → a ≡ valueOr Got (valueOf v) → GotAs P T pages rows (record { state = c .state; charge = c .charge; answer = a }) t k w
-    got-as r v e a f =
-        let reads = path-read r in
-        record {
-          kept = reads .kept;
-          charge = reads .charge;
-          most = omega (arith, reads .most, found .few);
-          answer = f ∙ ap (valueOr Got) (sym (value-in (valueOf v) e));
-        }
+    pub got-as : (v : Value) → valueOf v ≡ lookup k (pairsIn (path .leaf)) → (a : Answer) → a ≡ valueOr Got (valueOf v) →
+        GotAs P T pages rows (record { charged = c; answer = a }) t k w
+    got-as v e a f = record { charged = path-read; answer = f ∙ ap (valueOr Got) (sym (value-in (valueOf v) e)) }

@@ -4,8 +4,8 @@ ghost use lib.ListN.{length};
 ghost use Rattle.layout.specs.Layout.{nodeLimit, mostBlocks};
 ghost use Rattle.account.specs.Range.{Ranged};
 ghost use Rattle.flash_allocate.specs.World.{Good, worldIn};
-ghost use Rattle.run_lookup.specs.Delete.{DeletedIn};
-use super::Done;
+ghost use Rattle.run_serve.specs.Step.{InBytes};
+ghost use Rattle.run_lookup.specs.Delete.{DeletedAs};
 use super::value::Value;
 use super::value::value_at;
 use account::Tariff;
@@ -14,13 +14,15 @@ use flash_allocate::state::State;
 use node::ChangeValue;
 use run_path::path::path_to;
 use run_path::reads::serve_reads;
+use run_serve::charged::Answered;
+use run_serve::charged::Charged;
 use run_serve::request::serve_edit;
 
 // The reads to the leaf, then one edit of it where the key is there.
-pub fn delete(pool: &mut [u8], table: &mut [u8], state: State, tariff: Tariff, key: u32) -> Done
+pub fn delete(pool: &mut [u8], table: &mut [u8], state: State, tariff: Tariff, key: u32) -> Answered
     requires { ⌜ (Good (length (now pool)) (length (now table)) state) × (Ranged tariff)
         × (state .nodes ≤ nodeLimit mostBlocks) ⌝ }
-    ensures { λ r. ⌜ DeletedIn (now (pool .exit)) (now (table .exit)) r tariff key
+    ensures { λ r. ⌜ InBytes DeletedAs (now (pool .exit)) (now (table .exit)) r tariff key
         (worldIn (now (pool .entry)) (now (table .entry)) state) ⌝ }
 {
     let path = path_to(pool, table, state, key);
@@ -35,18 +37,17 @@ pub fn delete(pool: &mut [u8], table: &mut [u8], state: State, tariff: Tariff, k
             let deletion = ChangeValue::Delete { key };
             let edit = serve_edit(pool, table, s, tariff, ids[last], deletion);
             let t = edit.state;
-            let answer = Answer::Deleted(old);
-            Done {
+            let charged = Charged {
                 state: t,
                 charge: read.charge + edit.charge,
-                answer,
-            }
+            };
+            let answer = Answer::Deleted(old);
+            Answered { charged, answer }
         }
         Value::Missing => {
             let answer = Answer::Absent;
-            Done {
-                state: s,
-                charge: read.charge,
+            Answered {
+                charged: read,
                 answer,
             }
         }

@@ -4,31 +4,27 @@ ghost use lib.ListN.{length};
 ghost use Rattle.layout.specs.Layout.{nodeLimit, mostBlocks};
 ghost use Rattle.account.specs.Range.{Ranged};
 ghost use Rattle.flash_allocate.specs.World.{Good, worldIn};
-ghost use Rattle.run_lookup.specs.Get.{GotIn};
-use super::Done;
+ghost use Rattle.run_serve.specs.Step.{InBytes};
+ghost use Rattle.run_lookup.specs.Get.{GotAs};
 use super::value::get_answer;
 use super::value::value_at;
 use account::Tariff;
 use flash_allocate::state::State;
 use run_path::path::path_to;
 use run_path::reads::serve_reads;
+use run_serve::charged::Answered;
 
 // The value at a key: the answer is that of the nodes before they are read as requests.
-pub fn get(pool: &mut [u8], table: &mut [u8], state: State, tariff: Tariff, key: u32) -> Done
+pub fn get(pool: &mut [u8], table: &mut [u8], state: State, tariff: Tariff, key: u32) -> Answered
     requires { ⌜ (Good (length (now pool)) (length (now table)) state) × (Ranged tariff)
         × (state .nodes ≤ nodeLimit mostBlocks) ⌝ }
-    ensures { λ r. ⌜ GotIn (now (pool .exit)) (now (table .exit)) r tariff key
+    ensures { λ r. ⌜ InBytes GotAs (now (pool .exit)) (now (table .exit)) r tariff key
         (worldIn (now (pool .entry)) (now (table .entry)) state) ⌝ }
 {
     let path = path_to(pool, table, state, key);
     let leaf = path.leaf;
     let answer = get_answer(value_at(leaf, key));
     let ids = path.ids;
-    let read = serve_reads(pool, table, state, tariff, ids, path.length);
-    let s = read.state;
-    Done {
-        state: s,
-        charge: read.charge,
-        answer,
-    }
+    let charged = serve_reads(pool, table, state, tariff, ids, path.length);
+    Answered { charged, answer }
 }

@@ -13,7 +13,8 @@ use Rattle.flash_rows.specs.declared.Row.{Row}
 use Rattle.store.specs.Serve.{read}
 use Rattle.flash_allocate.specs.World.{World, world, Good}
 use Rattle.run_serve.specs.Serve.{serve, charge, ServedAs}
-use Rattle.run_serve.specs.declared.request.Charged.{Charged}
+use Rattle.run_serve.specs.Step.{kept-then, charged-is, both, then}
+use Rattle.run_serve.specs.declared.charged.Charged.{Charged}
 use Rattle.run_path.specs.Reads.{readAll, readCharges, ReadAs}
 
 -- After i reads of these nodes.
@@ -76,9 +77,10 @@ module _ {p q : ℕ} {t : Tariff} {ns : List ℕ} {i : ℕ} {start now : World} 
       ap-good e g = subst (λ (w : World). Good p q (w .state)) e g
 
 -- Reads of the first n nodes of a list, where that part of it is lent.
-pub reads-part : {p q : ℕ} {pages : List (List ℕ)} {rows : List Row} {c : Charged} {t : Tariff} {w : World} (n : ℕ) (ns : List ℕ) → n ≤ length ns →
+pub reads-part : {p q : ℕ} {pages : List (List ℕ)} {rows : List Row} {c : Charged} (t : Tariff) (w : World) (n : ℕ) (ns : List ℕ) →
+    n ≤ length ns →
     ReadAs p q pages rows c t (length (take (n - 0) ns)) (take (n - 0) ns) w → ReadAs p q pages rows c t n (take n ns) w
-reads-part n ns l r = rw (sub-zero, length-take-le n ns l) at r
+reads-part t w n ns l r = rw (sub-zero, length-take-le n ns l) at r
 
 -- Reads of some nodes, then of others, are the reads of both lists in one.
 pub readAll-append : (t : Tariff) (ms ns : List ℕ) (w : World) → readAll t (ms ++ ns) w ≡ readAll t ns (readAll t ms w)
@@ -90,19 +92,10 @@ pub readCharges-append : (t : Tariff) (ms ns : List ℕ) (w : World) →
 readCharges-append t [] ns w = omega arith
 readCharges-append t (m ∷ ms) ns w = omega (arith, readCharges-append t ms ns (serve t m read w))
 
-module _ {p q p′ q′ m n : ℕ} {pages pages′ : List (List ℕ)} {rows rows′ : List Row} {c c′ : Charged} {t : Tariff} {ms ns : List ℕ} {w : World} where
+module _ {p q p′ q′ m n : ℕ} {pages pages′ : List (List ℕ)} {rows rows′ : List Row} {c c′ : Charged} (t : Tariff)
+    (ms ns : List ℕ) (w : World) where
   pub reads-then : ReadAs p q pages rows c t m ms w → ReadAs p′ q′ pages′ rows′ c′ t n ns (world pages rows (c .state)) →
-      ReadAs p′ q′ pages′ rows′ (record { state = c′ .state; charge = c .charge + c′ .charge }) t (m + n) (ms ++ ns) w
+      ReadAs p′ q′ pages′ rows′ (both c c′) t (m + n) (ms ++ ns) w
   reads-then a b =
-      record {
-        kept =
-            record {
-              is = b .kept .is ∙ ap (readAll t ns) (a .kept .is) ∙ sym (readAll-append t ms ns w);
-              good = b .kept .good;
-              blocks = b .kept .blocks ∙ a .kept .blocks;
-              nodes = b .kept .nodes ∙ a .kept .nodes;
-              checkpoint = b .kept .checkpoint ∙ a .kept .checkpoint;
-            };
-        charge = omega (arith, a .charge, b .charge, ap (readCharges t ns) (a .kept .is), readCharges-append t ms ns w);
-        most = omega (arith, a .most, b .most);
-      }
+      charged-is (then (readAll t ns) (readCharges t ns) (kept-then (readAll t ns)) a b) (omega arith) (sym (readAll-append t ms ns w))
+      (sym (readCharges-append t ms ns w))

@@ -4,11 +4,12 @@ ghost use lib.ListN.{length, take};
 ghost use Rattle.layout.specs.Layout.{nodeLimit, mostBlocks};
 ghost use Rattle.account.specs.Range.{Ranged};
 ghost use Rattle.flash_allocate.specs.World.{Good, worldIn};
-ghost use Rattle.run_path.specs.Reads.{ReadIn};
+ghost use Rattle.run_serve.specs.Step.{InBytes};
+ghost use Rattle.run_path.specs.Reads.{ReadAs};
 use account::Tariff;
 use flash_allocate::state::State;
 use layout::MOST_LEVELS;
-use run_serve::request::Charged;
+use run_serve::charged::Charged;
 use run_serve::request::serve_read;
 
 // Reads of these nodes, in order.
@@ -21,7 +22,7 @@ pub fn read_nodes(
 ) -> Charged
     requires { ⌜ (Good (length (now pool)) (length (now table)) state) × (Ranged tariff)
         × (length (now ids) ≤ nodeLimit mostBlocks) ⌝ }
-    ensures { λ r. ⌜ ReadIn (now (pool .exit)) (now (table .exit)) r tariff (length (now (ids .entry)))
+    ensures { λ r. ⌜ InBytes ReadAs (now (pool .exit)) (now (table .exit)) r tariff (length (now (ids .entry)))
         (now (ids .entry)) (worldIn (now (pool .entry)) (now (table .entry)) state) ⌝ }
 {
     let mut s = state;
@@ -46,7 +47,7 @@ pub fn serve_reads(
     n: usize,
 ) -> Charged
     requires { ⌜ (Good (length (now pool)) (length (now table)) state) × (Ranged tariff) × (n ≤ 9) ⌝ }
-    ensures { λ r. ⌜ ReadIn (now (pool .exit)) (now (table .exit)) r tariff n (take n ids)
+    ensures { λ r. ⌜ InBytes ReadAs (now (pool .exit)) (now (table .exit)) r tariff n (take n ids)
         (worldIn (now (pool .entry)) (now (table .entry)) state) ⌝ }
 {
     read_nodes(pool, table, state, tariff, &ids[0..n])

@@ -1,5 +1,5 @@
 -- The steps of a put put together. Assumes nothing.
-use mathlib.Core.Path.{_≡_, refl, sym, ap, ap₂, _∙_}
+use mathlib.Core.Path.{_≡_, refl, sym, ap, ap₂, _∙_, subst}
 use mathlib.Core.List.{List}
 use mathlib.Core.Option.{some}
 use Prim.Native.Nat.{ℕ, _+_, _-_, _≤_, _<_}
@@ -26,7 +26,9 @@ use Rattle.flash_rows.specs.declared.Row.{Row}
 use Rattle.store.specs.Serve.{edit}
 use Rattle.flash_allocate.specs.declared.state.State.{State}
 use Rattle.flash_allocate.specs.World.{World, world}
-use Rattle.run_serve.specs.declared.request.Charged.{Charged}
+use Rattle.run_serve.specs.declared.charged.Charged.{Charged}
+use Rattle.run_serve.specs.declared.charged.Answered.{Answered}
+use Rattle.run_serve.specs.Step.{kept-then, charged-none, charged-is, both, then}
 use Rattle.run_serve.specs.Serve.{serve, charge, ServedAs}
 use Rattle.run_path.specs.declared.path.Path.{Path}
 use Rattle.run_path.specs.Path.{mostSteps, PathTo}
@@ -34,10 +36,9 @@ use Rattle.run_path.specs.Reads.{ReadAs}
 use Rattle.node.specs.declared.fit.Fitting.{Fitting}
 use Rattle.node.specs.declared.fit.Fitting.the-variants.{Room, Full}
 use Rattle.node.specs.Fit.{fitOf, full-above}
-use Rattle.run_split.specs.Growing.{Growing, growing-kept}
+use Rattle.run_split.specs.Growing.{Growing, grew-same, grew-charged, grew-then}
 use Rattle.run_split.specs.SplitUpwards.{splitUpwards, SplitUpwardsAs}
-use Rattle.run_put.specs.declared.put.Done.{Done}
-use Rattle.run_put.specs.Put.{requests, lastOf, readAndEdit, readAndSplit, Doing, answering, putSplitting, tableAt, putIn, put, RequestsAs, DoneAs}
+use Rattle.run_put.specs.Put.{lastOf, readAndEdit, readAndSplit, Doing, answering, refused, putSplitting, tableAt, putIn, put, RequestsAs, DoneAs}
 
 -- The old value, by what the search found.
 module _ (v : NodeValue) (h : Held v) (key : ℕ) where
@@ -53,67 +54,47 @@ module _ (v : NodeValue) (h : Held v) (key : ℕ) where
   pub old-none : (i : ℕ) → found key (pairsIn v) ≡ Above i → Absent ≡ valueOr Replaced (lookup key (pairsIn v))
   old-none i e = rw (lookup-absent key 0 bound32 (pairsIn v) (h .ascending) (above-absent key (pairsIn v) i e)) refl
 
-requests-is : {a b : World} {m n : ℕ} → a ≡ b → m ≡ n → requests a m ≡ requests b n
-requests-is {b = b} {m = m} e f = ap (λ (z : World). requests z m) e ∙ ap (λ (z : ℕ). requests b z) f
-
 -- The reads, then the edit or the splits.
 module _ {P₀ T₀ P₁ T₁ : ℕ} (t : Tariff) (key value n : ℕ) (onPath : List ℕ) (w : World) (g : Growing P₀ T₀ (w .state)) (few : n ≤ 9)
     (pages₁ : List (List ℕ)) (rows₁ : List Row) (one : Charged) (r : ReadAs P₁ T₁ pages₁ rows₁ one t n onPath w)
     (pages : List (List ℕ)) (rows : List Row) (two : Charged) where
   pub then-edit : {P T : ℕ} (leaf : ℕ) → ServedAs P T pages rows two t leaf (edit (Change.put key value)) (world pages₁ rows₁ (one .state)) →
-      RequestsAs P T pages rows (record { state = two .state; charge = one .charge + two .charge }) (w .state) (readAndEdit t onPath leaf key value w)
+      RequestsAs P T pages rows (both one two) (w .state) (readAndEdit t onPath leaf key value w)
   unfolding readAndEdit
   then-edit leaf s =
-      record {
-        is =
-            requests-is (s .kept .is ∙ ap (serve t leaf (edit (Change.put key value))) (r .kept .is))
-            (ap₂ _+_ (r .charge) (s .charge ∙ ap (charge t leaf (edit (Change.put key value))) (r .kept .is)));
-        growing = growing-kept (growing-kept g (r .kept)) (s .kept);
-        blocks = s .kept .blocks ∙ r .kept .blocks;
-        most = omega (arith, r .most, s .most);
-      }
+      let step = serve t leaf (edit (Change.put key value)) in
+      charged-is (grew-charged g (then step (charge t leaf (edit (Change.put key value))) (kept-then step) r s)) (omega (arith, few)) refl refl
 
   pub then-split : {P T : ℕ} → SplitUpwardsAs P T pages rows two t key value onPath (world pages₁ rows₁ (one .state)) →
-      RequestsAs P T pages rows (record { state = two .state; charge = one .charge + two .charge }) (w .state) (readAndSplit t onPath key value w)
+      RequestsAs P T pages rows (both one two) (w .state) (readAndSplit t onPath key value w)
   unfolding readAndSplit
   then-split s =
-      record {
-        is =
-            requests-is (s .is ∙ ap (λ (z : World). splitUpwards t key value onPath z .now) (r .kept .is))
-            (ap₂ _+_ (r .charge) (s .charge ∙ ap (λ (z : World). splitUpwards t key value onPath z .charge) (r .kept .is)));
-        growing = s .growing;
-        blocks = s .blocks ∙ r .kept .blocks;
-        most = omega (arith, r .most, s .most);
-      }
+      let step : World → World = λ z. splitUpwards t key value onPath z .now in
+      charged-is (then step (λ (z : World). splitUpwards t key value onPath z .charge) (grew-then step) r s) (omega (arith, few)) refl refl
+
+pub done-is : {P T : ℕ} {pages : List (List ℕ)} {rows : List Row} {r : Answered} {s : State} {a b : Doing} → a ≡ b → DoneAs P T pages rows r s a →
+    DoneAs P T pages rows r s b
+done-is {P} {T} {pages} {rows} {r} {s} e k = subst (λ (z : Doing). DoneAs P T pages rows r s z) e k
 
 -- A new key: refused, or put with the splits.
 module _ (t : Tariff) (onPath : List ℕ) (needed counted key value : ℕ) (w : World) (e : needed ≡ counted) where
   pub new-refused : {P T : ℕ} → nodeLimit (w .state .blocks) < w .state .nodes + needed → Growing P T (w .state) →
-      DoneAs P T (w .pages) (w .rows) (record { state = w .state; charge = 0; answer = Refused 9 }) (w .state) (putSplitting t onPath counted key value w)
+      DoneAs P T (w .pages) (w .rows) (record { charged = record { state = w .state; charge = 0 }; answer = Refused 9 }) (w .state)
+      (putSplitting t onPath counted key value w)
   unfolding putSplitting
   new-refused l g =
-      record {
-        is = rw (← e, lt-ltb (nodeLimit (w .state .blocks)) (w .state .nodes + needed) l) refl;
-        growing = g;
-        blocks = refl;
-        most = omega arith;
-      }
+      let is : refused w ≡ putSplitting t onPath counted key value w =
+      rw (← e, lt-ltb (nodeLimit (w .state .blocks)) (w .state .nodes + needed) l) refl in
+      done-is is (record { charged = charged-is (charged-none w (grew-same w g)) (omega arith) refl refl; answer = refl })
 
   pub new-split : {P T : ℕ} (pages : List (List ℕ)) (rows : List Row) (r : Charged) → w .state .nodes + needed ≤ nodeLimit (w .state .blocks) →
       RequestsAs P T pages rows r (w .state) (readAndSplit t onPath key value w) →
-      DoneAs P T pages rows (record { state = r .state; charge = r .charge; answer = Absent }) (w .state) (putSplitting t onPath counted key value w)
+      DoneAs P T pages rows (record { charged = r; answer = Absent }) (w .state) (putSplitting t onPath counted key value w)
   unfolding putSplitting
   new-split pages rows r l k =
-      record {
-        is = ap (answering Absent) (k .is) ∙ rw (← e, le-ltb (nodeLimit (w .state .blocks)) (w .state .nodes + needed) l) refl;
-        growing = k .growing;
-        blocks = k .blocks;
-        most = k .most;
-      }
-
-pub done-is : {P T : ℕ} {pages : List (List ℕ)} {rows : List Row} {r : Done} {s : State} {a b : Doing} → DoneAs P T
-    pages rows r s a → a ≡ b → DoneAs P T pages rows r s b
-done-is k e = record { is = k .is ∙ e; growing = k .growing; blocks = k .blocks; most = k .most }
+      let is : answering Absent (readAndSplit t onPath key value w) ≡ putSplitting t onPath counted key value w =
+      rw (← e, le-ltb (nodeLimit (w .state .blocks)) (w .state .nodes + needed) l) refl in
+      done-is is (record { charged = k; answer = refl })
 
 -- The put, by what its leaf says.
 module _ (t : Tariff) (key value : ℕ) (w : World) (p : Path) (to : PathTo (tableAt w) key p) (f : Fitting) (e : f ≡ fitOf key (pairsIn (p .leaf))) where
@@ -136,19 +117,14 @@ module _ (t : Tariff) (key value : ℕ) (w : World) (p : Path) (to : PathTo (tab
   pub put-edit : {P T : ℕ} (pages : List (List ℕ)) (rows : List Row) (answer : Answer) (r : Charged) → f ≡ Room →
       answer ≡ valueOr Replaced (lookup key (pairsIn (p .leaf))) →
       RequestsAs P T pages rows r (w .state) (readAndEdit t (take (p .length) (p .ids)) (lastOf (p .length) (p .ids)) key value w) →
-      DoneAs P T pages rows (record { state = r .state; charge = r .charge; answer = answer }) (w .state) (put t key value w)
+      DoneAs P T pages rows (record { charged = r; answer = answer }) (w .state) (put t key value w)
   unfolding putIn
   put-edit pages rows answer r room said k =
-      record {
-        is =
-            ap (answering answer) (k .is ∙ ap₂ (λ (ids : List ℕ) (id : ℕ). readAndEdit t ids id key value w) (to .ids) (to .end)) ∙
-            ap (λ (a : Answer). answering a (readAndEdit t onPath leaf key value w))
-            (said ∙ ap (λ (ps : _). valueOr Replaced (lookup key ps)) pairs-are) ∙
-            rw (fit-is ∙ room) refl;
-        growing = k .growing;
-        blocks = k .blocks;
-        most = k .most;
-      }
+      let done : answering answer (readAndEdit t (take (p .length) (p .ids)) (lastOf (p .length) (p .ids)) key value w) ≡ put t key value w =
+      ap₂ (λ (ids : List ℕ) (id : ℕ). answering answer (readAndEdit t ids id key value w)) (to .ids) (to .end) ∙
+      ap (λ (a : Answer). answering a (readAndEdit t onPath leaf key value w)) (said ∙ ap (λ (ps : _). valueOr Replaced (lookup key ps)) pairs-are) ∙
+      rw (fit-is ∙ room) refl in
+      done-is done (record { charged = k; answer = refl })
 
   -- it does not
   module _ (at : ℕ) (full : f ≡ Full at) where

@@ -1,14 +1,12 @@
 -- THE COMMAND PUT over pages, rows and state (document 01, "Nodes and tree", and question 9). The table of the moment decides; then come
 -- "the nodes from root to leaf" read, and one edit, or the splits.
-use mathlib.Core.Path.{_≡_}
 use mathlib.Core.List.{List}
-use Prim.Native.Nat.{ℕ, _+_, _-_, _*_, _≤_}
+use Prim.Native.Nat.{ℕ, _+_, _-_}
 use lib.Dec.{ltb}
-use lib.ListN.{getD, length}
+use lib.ListN.{getD}
 use Rattle.laws.specs.Tests.{choose}
 use Rattle.layout.specs.Layout.{nodeLimit}
 use Rattle.account.specs.declared.Tariff.{Tariff}
-use Rattle.account.specs.Fair.{mostCharge}
 use Rattle.command.specs.declared.Answer.{Answer}
 use Rattle.command.specs.declared.Answer.the-variants.{Absent, Replaced, Refused}
 use Rattle.command.specs.Answer.{valueOr}
@@ -21,18 +19,17 @@ use Rattle.book.specs.Command.{noIds}
 use Rattle.flash_rows.specs.declared.Row.{Row}
 use Rattle.store.specs.Serve.{edit}
 use Rattle.flash_allocate.specs.declared.state.State.{State}
-use Rattle.flash_allocate.specs.World.{World, world}
+use Rattle.flash_allocate.specs.World.{World}
 use Rattle.flash_read.specs.NodeTable.{tableOf}
-use Rattle.run_serve.specs.declared.request.Charged.{Charged}
+use Rattle.run_serve.specs.declared.charged.Charged.{Charged}
+use Rattle.run_serve.specs.declared.charged.Answered.{Answered}
+use Rattle.run_serve.specs.Step.{ChargedAs, AnsweredAs}
 use Rattle.run_serve.specs.Serve.{serve, charge}
 use Rattle.run_path.specs.Path.{mostSteps}
 use Rattle.run_path.specs.Reads.{readAll, readCharges}
 use Rattle.node.specs.Fit.{byFit, fitOf}
-use Rattle.run_split.specs.Growing.{Growing}
+use Rattle.run_split.specs.Growing.{Grew}
 use Rattle.run_split.specs.SplitUpwards.{splitUpwards}
-use Rattle.run_put.specs.declared.put.Done.{Done}
-use Rattle.flash_blocks.specs.Pages.{pagesOf}
-use Rattle.flash_rows.specs.Row.{rowsOf}
 
 -- Requests that were served: the world after them, and what they were charged.
 pub record Requests : Type 0 where
@@ -94,23 +91,10 @@ abbrev pub put : Tariff → ℕ → ℕ → World → Doing
 put t key value w = putIn (tableAt w) t key value w
 
 -- What the code of the requests leaves.
-pub record RequestsAs (poolLength tableLength : ℕ) (pages : List (List ℕ)) (rows : List Row) (r : Charged) (before : State) (right : Requests) : Type 0 where
-  pub is : requests (world pages rows (r .state)) (r .charge) ≡ right
-  pub growing : Growing poolLength tableLength (r .state)
-  pub blocks : r .state .blocks ≡ before .blocks
-  pub most : r .charge ≤ mostCharge * 27
-
--- The same of a pool and a table, as bytes.
-abbrev pub RequestsIn : List ℕ → List ℕ → Charged → State → Requests → Type 0
-RequestsIn pool table r before right = RequestsAs (length pool) (length table) (pagesOf pool) (rowsOf table) r before right
+abbrev pub RequestsAs : ℕ → ℕ → List (List ℕ) → List Row → Charged → State → Requests → Type 0
+RequestsAs poolLength tableLength pages rows r before right = ChargedAs Grew poolLength tableLength pages rows r before 27 (right .now) (right .charge)
 
 -- What the code of a command leaves: the world, the charge and the answer of the definition.
-pub record DoneAs (poolLength tableLength : ℕ) (pages : List (List ℕ)) (rows : List Row) (r : Done) (before : State) (right : Doing) : Type 0 where
-  pub is : doing (world pages rows (r .state)) (r .charge) (r .answer) ≡ right
-  pub growing : Growing poolLength tableLength (r .state)
-  pub blocks : r .state .blocks ≡ before .blocks
-  pub most : r .charge ≤ mostCharge * 27
-
--- The same of a pool and a table, as bytes.
-abbrev pub DoneIn : List ℕ → List ℕ → Done → State → Doing → Type 0
-DoneIn pool table r before right = DoneAs (length pool) (length table) (pagesOf pool) (rowsOf table) r before right
+abbrev pub DoneAs : ℕ → ℕ → List (List ℕ) → List Row → Answered → State → Doing → Type 0
+DoneAs poolLength tableLength pages rows r before right =
+    AnsweredAs Grew poolLength tableLength pages rows r before 27 (right .now) (right .charge) (right .answer)

@@ -14,8 +14,9 @@ ghost use Rattle.tree_laws.specs.IdsNeeded.{sizeAt};
 ghost use Rattle.flash_allocate.specs.World.{worldIn};
 ghost use Rattle.flash_read.specs.NodeTable.{tableOf};
 ghost use Rattle.run_split.specs.Growing.{Growing};
+ghost use Rattle.run_serve.specs.Step.{InBytes};
 ghost use Rattle.run_put.specs.Put as def;
-ghost use Rattle.run_put.specs.Put.{RequestsIn, DoneIn};
+ghost use Rattle.run_put.specs.Put.{RequestsAs, DoneAs};
 use super::ids::ids_needed;
 use account::Tariff;
 use command::Answer;
@@ -31,16 +32,10 @@ use node::search::find;
 use node::search::pointer;
 use run_path::path::path_to;
 use run_path::reads::serve_reads;
-use run_serve::request::Charged;
+use run_serve::charged::Answered;
+use run_serve::charged::Charged;
 use run_serve::request::serve_edit;
 use run_split::split_upwards::split_upwards;
-
-// A put that is done: the state after it, what was charged, and its answer.
-pub struct Done {
-    pub state: State,
-    pub charge: u64,
-    pub answer: Answer,
-}
 
 // The value that a put replaces, where there is one.
 fn replaced_answer(v: NodeValue, key: u32) -> Answer
@@ -69,7 +64,7 @@ fn read_and_edit(
     value: u32,
 ) -> Charged
     requires { ⌜ (Growing (length (now pool)) (length (now table)) state) × (Ranged tariff) × (1 ≤ n) × (n ≤ 9) ⌝ }
-    ensures { λ r. ⌜ RequestsIn (now (pool .exit)) (now (table .exit)) r state
+    ensures { λ r. ⌜ InBytes RequestsAs (now (pool .exit)) (now (table .exit)) r state
         (def.readAndEdit tariff (take n ids) (def.lastOf n ids) key value
         (worldIn (now (pool .entry)) (now (table .entry)) state)) ⌝ }
 {
@@ -99,7 +94,7 @@ fn read_and_split(
     value: u32,
 ) -> Charged
     requires { ⌜ (Growing (length (now pool)) (length (now table)) state) × (Ranged tariff) × (1 ≤ n) × (n ≤ 9) ⌝ }
-    ensures { λ r. ⌜ RequestsIn (now (pool .exit)) (now (table .exit)) r state
+    ensures { λ r. ⌜ InBytes RequestsAs (now (pool .exit)) (now (table .exit)) r state
         (def.readAndSplit tariff (take n ids) key value
         (worldIn (now (pool .entry)) (now (table .entry)) state)) ⌝ }
 {
@@ -123,31 +118,23 @@ fn put_splitting(
     n: usize,
     key: u32,
     value: u32,
-) -> Done
+) -> Answered
     requires { ⌜ (Growing (length (now pool)) (length (now table)) state) × (Ranged tariff) × (1 ≤ n) × (n ≤ 9)
         × (mostKeys ≤ sizeAt (tableOf (pagesOf (now pool)) (rowsOf (now table)) state) (def.lastOf n ids)) ⌝ }
-    ensures { λ r. ⌜ DoneIn (now (pool .exit)) (now (table .exit)) r state
+    ensures { λ r. ⌜ InBytes DoneAs (now (pool .exit)) (now (table .exit)) r state
         (def.putSplitting tariff (take n ids)
         (idsNeeded (tableOf (pagesOf (now (pool .entry))) (rowsOf (now (table .entry))) state) (take n ids))
         key value (worldIn (now (pool .entry)) (now (table .entry)) state)) ⌝ }
 {
     let needed = ids_needed(pool, table, state, ids, n);
     if node_limit(state.blocks) < state.nodes + needed {
+        let charged = Charged { state, charge: 0 };
         let answer = Answer::Refused(9);
-        return Done {
-            state,
-            charge: 0,
-            answer,
-        };
+        return Answered { charged, answer };
     }
-    let split = read_and_split(pool, table, state, tariff, ids, n, key, value);
-    let s = split.state;
+    let charged = read_and_split(pool, table, state, tariff, ids, n, key, value);
     let answer = Answer::Absent;
-    Done {
-        state: s,
-        charge: split.charge,
-        answer,
-    }
+    Answered { charged, answer }
 }
 
 // A value put at a key.
@@ -158,9 +145,9 @@ pub fn put(
     tariff: Tariff,
     key: u32,
     value: u32,
-) -> Done
+) -> Answered
     requires { ⌜ (Growing (length (now pool)) (length (now table)) state) × (Ranged tariff) ⌝ }
-    ensures { λ r. ⌜ DoneIn (now (pool .exit)) (now (table .exit)) r state
+    ensures { λ r. ⌜ InBytes DoneAs (now (pool .exit)) (now (table .exit)) r state
         (def.put tariff key value (worldIn (now (pool .entry)) (now (table .entry)) state)) ⌝ }
 {
     let path = path_to(pool, table, state, key);
@@ -171,13 +158,8 @@ pub fn put(
     match found {
         Fitting::Room => {
             let answer = replaced_answer(leaf, key);
-            let edited = read_and_edit(pool, table, state, tariff, ids, n, key, value);
-            let s = edited.state;
-            return Done {
-                state: s,
-                charge: edited.charge,
-                answer,
-            };
+            let charged = read_and_edit(pool, table, state, tariff, ids, n, key, value);
+            return Answered { charged, answer };
         }
         Fitting::Full(_) => {
             return put_splitting(pool, table, state, tariff, ids, n, key, value);

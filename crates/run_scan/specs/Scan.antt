@@ -2,20 +2,20 @@
 use mathlib.Core.Path.{_≡_, refl, sym, ap, ap₂, _∙_}
 use mathlib.Core.Bool.{true, false}
 use mathlib.Core.List.{List, [], _++_}
-use Prim.Native.Nat.{ℕ, _+_, _*_, _≤_, _<_}
+use Prim.Native.Nat.{ℕ, _+_, _≤_, _<_}
 use native.Mathlib.Omega.{arith}
 use borrow.Author.Tests.{lt-ltb, le-ltb}
 use lib.Dec.{ltb}
 use lib.ListN.{length, take}
 use Rattle.account.specs.declared.Tariff.{Tariff}
-use Rattle.account.specs.Fair.{mostCharge}
 use Rattle.layout.specs.Layout.{nodeLimit, mostBlocks}
 use Rattle.pairs.specs.Pairs.{Pair}
 use Rattle.tree.specs.Scan.{pairsFrom, leavesAfter}
 use Rattle.flash_rows.specs.declared.Row.{Row}
 use Rattle.flash_allocate.specs.World.{World, world, Good}
 use Rattle.flash_log.specs.Flush.{Kept}
-use Rattle.run_serve.specs.declared.request.Charged.{Charged}
+use Rattle.run_serve.specs.Step.{ChargedAs, kept-same, charged-none, charged-is, both}
+use Rattle.run_serve.specs.declared.charged.Charged.{Charged}
 use Rattle.run_path.specs.declared.path.Path.{Path}
 use Rattle.run_path.specs.Path.{tableIn, pathTo, leafAt, PathTo}
 use Rattle.run_path.specs.Reads.{readAll, readCharges, ReadAs}
@@ -25,8 +25,6 @@ use Rattle.run_scan.specs.declared.gather.Gathered.{Gathered}
 use Rattle.run_scan.specs.declared.scan.Scanned.{Scanned}
 use Rattle.run_scan.specs.Pairs.{pairsOf, Sized}
 use Rattle.run_scan.specs.Gathered.{GatheredAs}
-use Rattle.flash_blocks.specs.Pages.{pagesOf}
-use Rattle.flash_rows.specs.Row.{rowsOf}
 
 -- The nodes that a scan reads: those to the leaf of the low key, then the leaves behind it; "low above high: no node read".
 unfoldable pub scanReads : ℕ → ℕ → ℕ → World → List ℕ
@@ -46,35 +44,26 @@ scanPairs low high most w =
 
 -- What the code of a scan leaves: these nodes read, what that is charged, and these pairs.
 pub record ScannedAs (poolLength tableLength : ℕ) (pages : List (List ℕ)) (rows : List Row) (r : Scanned) (t : Tariff) (low high wanted : ℕ) (w : World) : Type 0 where
-  pub kept : Kept poolLength tableLength (w .state) (world pages rows (r .state)) (readAll t (scanReads low high wanted w) w)
-  pub charge : r .charge ≡ readCharges t (scanReads low high wanted w) w
-  pub most : r .charge ≤ mostCharge * (9 + nodeLimit mostBlocks)
+  pub charged : ChargedAs Kept poolLength tableLength pages rows (r .charged) (w .state) (9 + nodeLimit mostBlocks) (readAll t (scanReads low high wanted w) w)
+      (readCharges t (scanReads low high wanted w) w)
   pub pairs : pairsOf (r .pairs) ≡ scanPairs low high wanted w
   pub sized : Sized (r .pairs)
   pub count : r .pairs .count ≤ wanted
 
--- The same of a pool and a table, as bytes.
-abbrev pub ScannedIn : List ℕ → List ℕ → Scanned → Tariff → ℕ → ℕ → ℕ → World → Type 0
-ScannedIn pool table r t low high wanted w = ScannedAs (length pool) (length table) (pagesOf pool) (rowsOf table) r t low high wanted w
-
 module _ (t : Tariff) (low high most : ℕ) (w : World) where
+  -- reads of the same nodes
+  reads-are : (ns : List ℕ) → ns ≡ scanReads low high most w →
+      (readAll t ns w ≡ readAll t (scanReads low high most w) w) × (readCharges t ns w ≡ readCharges t (scanReads low high most w) w)
+  reads-are ns e = (ap (λ (ns : List ℕ). readAll t ns w) e, ap (λ (ns : List ℕ). readCharges t ns w) e)
+
   -- low above high
   pub scanned-none : {P T : ℕ} (p : Pairs) → high < low → Good P T (w .state) → pairsOf p ≡ [] → Sized p → p .count ≤ most →
-      ScannedAs P T (w .pages) (w .rows) (record { state = w .state; charge = 0; pairs = p }) t low high most w
+      ScannedAs P T (w .pages) (w .rows) (record { charged = record { state = w .state; charge = 0 }; pairs = p }) t low high most w
   unfolding scanReads scanPairs
   scanned-none p l g e s f =
-      let none : scanReads low high most w ≡ [] = rw (lt-ltb high low l, scanReads) refl in
+      let none = reads-are [] (sym (rw (lt-ltb high low l, scanReads) refl)) in
       record {
-        kept =
-            record {
-              is = sym (ap (λ (ns : List ℕ). readAll t ns w) none);
-              good = g;
-              blocks = refl;
-              nodes = refl;
-              checkpoint = refl;
-            };
-        charge = sym (ap (λ (ns : List ℕ). readCharges t ns w) none);
-        most = omega arith;
+        charged = charged-is (charged-none w (kept-same w g)) (omega arith) (none .0) (none .1);
         pairs = e ∙ sym (rw (lt-ltb high low l, scanPairs) refl);
         sized = s;
         count = f;
@@ -85,23 +74,16 @@ module _ (t : Tariff) (low high most : ℕ) (w : World) where
     pub scanned : low ≤ high → w .state .nodes ≤ nodeLimit mostBlocks → PathTo (tableIn w) low onPath → GatheredAs (tableIn w) (w .state .nodes) low high most g →
         ReadAs P T pages rows c t (onPath .length) (take (onPath .length) (onPath .ids)) w →
         ReadAs P′ T′ pages′ rows′ d t (g .visited) (take (g .visited) (g .leaves)) (world pages rows (c .state)) →
-        ScannedAs P′ T′ pages′ rows′ (record { state = d .state; charge = c .charge + d .charge; pairs = g .pairs }) t low high most w
+        ScannedAs P′ T′ pages′ rows′ (record { charged = both c d; pairs = g .pairs }) t low high most w
     unfolding scanReads scanPairs
     scanned l limit found gathered down along =
-        let all = reads-then down along in
-        let read : take (onPath .length) (onPath .ids) ++ take (g .visited) (g .leaves) ≡ scanReads low high most w =
-        ap₂ (λ (ms ns : List ℕ). ms ++ ns) (found .ids) (gathered .leaves) ∙ sym (rw (le-ltb high low l, scanReads) refl) in
+        let ms = take (onPath .length) (onPath .ids) in
+        let ns = take (g .visited) (g .leaves) in
+        let all =
+        reads-are (ms ++ ns)
+        (ap₂ (λ (ms ns : List ℕ). ms ++ ns) (found .ids) (gathered .leaves) ∙ sym (rw (le-ltb high low l, scanReads) refl)) in
         record {
-          kept =
-              record {
-                is = all .kept .is ∙ ap (λ (ns : List ℕ). readAll t ns w) read;
-                good = all .kept .good;
-                blocks = all .kept .blocks;
-                nodes = all .kept .nodes;
-                checkpoint = all .kept .checkpoint;
-              };
-          charge = all .charge ∙ ap (λ (ns : List ℕ). readCharges t ns w) read;
-          most = omega (arith, all .most, found .few, gathered .few);
+          charged = charged-is (reads-then t ms ns w down along) (omega (arith, found .few, gathered .few)) (all .0) (all .1);
           pairs = gathered .pairs ∙ sym (rw (le-ltb high low l, scanPairs) refl);
           sized = gathered .sized;
           count = gathered .wanted;

@@ -4,7 +4,8 @@ ghost use lib.ListN.{length};
 ghost use Rattle.layout.specs.Layout.{nodeLimit, mostBlocks, mostPairs};
 ghost use Rattle.account.specs.Range.{Ranged};
 ghost use Rattle.flash_allocate.specs.World.{Good, worldIn};
-ghost use Rattle.run_scan.specs.Scan.{ScannedIn};
+ghost use Rattle.run_serve.specs.Step.{InBytes};
+ghost use Rattle.run_scan.specs.Scan.{ScannedAs};
 use super::Pairs;
 use super::gather::gather;
 use account::Tariff;
@@ -13,11 +14,11 @@ use layout::MOST_PAIRS;
 use run_path::path::path_to;
 use run_path::reads::read_nodes;
 use run_path::reads::serve_reads;
+use run_serve::charged::Charged;
 
-// A scan that was served: the state after it, what its reads were charged, and the pairs found.
+// A scan that was served: its reads, and the pairs found.
 pub struct Scanned {
-    pub state: State,
-    pub charge: u64,
+    pub charged: Charged,
     pub pairs: Pairs,
 }
 
@@ -33,7 +34,7 @@ pub fn scan(
 ) -> Scanned
     requires { ⌜ (Good (length (now pool)) (length (now table)) state) × (Ranged tariff)
         × (state .nodes ≤ nodeLimit mostBlocks) × (1 ≤ most) × (most ≤ mostPairs) ⌝ }
-    ensures { λ r. ⌜ ScannedIn (now (pool .exit)) (now (table .exit)) r tariff low high most
+    ensures { λ r. ⌜ InBytes ScannedAs (now (pool .exit)) (now (table .exit)) r tariff low high most
         (worldIn (now (pool .entry)) (now (table .entry)) state) ⌝ }
 {
     if high < low {
@@ -42,11 +43,8 @@ pub fn scan(
             values: [0u32; MOST_PAIRS],
             count: 0,
         };
-        return Scanned {
-            state,
-            charge: 0,
-            pairs,
-        };
+        let charged = Charged { state, charge: 0 };
+        return Scanned { charged, pairs };
     }
     let path = path_to(pool, table, state, low);
     let found = gather(pool, table, state, path, low, high, most as usize);
@@ -57,10 +55,10 @@ pub fn scan(
     let visited = found.visited;
     let along = read_nodes(pool, table, s, tariff, &leaves[0..visited]);
     let after = along.state;
-    let pairs = found.pairs;
-    Scanned {
+    let charged = Charged {
         state: after,
         charge: down.charge + along.charge,
-        pairs,
-    }
+    };
+    let pairs = found.pairs;
+    Scanned { charged, pairs }
 }

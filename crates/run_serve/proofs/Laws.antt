@@ -27,6 +27,7 @@ use Rattle.flash_allocate.specs.declared.state.State.{State}
 use Rattle.flash_allocate.specs.World.{World, world, Good}
 use Rattle.flash_log.specs.Flush.{Kept}
 use Rattle.run_serve.specs.declared.settle.Settled.{Settled}
+use Rattle.run_serve.specs.Step.{kept-is, kept-same, kept-then, charged-none, charged-is}
 use Rattle.run_serve.specs.Content.{contentOf, contentAfter}
 use Rattle.run_serve.specs.Write.{writeWhole, write}
 use Rattle.run_serve.specs.Settle.{accountIn, servedAt, sameMode, switch, rescored, settleBy, settle, SettledAs}
@@ -36,27 +37,9 @@ use Rattle.run_serve.specs.Serve.{requestOf, serveThere, serve, charge, 
 pub becomes-is : {v : NodeValue} {x y : Node} → Becomes v x → x ≡ y → Becomes v y
 becomes-is b e = record { is = b .is ∙ e; held = b .held }
 
-pub kept-is : {P T : ℕ} {s : State} {made a b : World} → Kept P T s made a → a ≡ b → Kept P T s made b
-kept-is k e = record { is = k .is ∙ e; good = k .good; blocks = k .blocks; nodes = k .nodes; checkpoint = k .checkpoint }
-
 pub kept-mode : {P T : ℕ} {s : State} {made : World} (by : Mode → World) {m m′ : Mode} → m ≡ m′ → Kept P T s made
     (by m′) → Kept P T s made (by m)
 kept-mode by e k = kept-is k (ap by (sym e))
-
--- Nothing done, and two steps one after the other.
-pub kept-same : {P T : ℕ} (w : World) → Good P T (w .state) → Kept P T (w .state) w w
-kept-same w g = record { is = refl; good = g; blocks = refl; nodes = refl; checkpoint = refl }
-
-kept-then : {P T P′ T′ : ℕ} {s : State} {a b right : World} (step : World → World) → Kept P T s a right → Kept P′ T′ (a .state) b (step a) →
-    Kept P′ T′ s b (step right)
-kept-then step k l =
-    record {
-      is = l .is ∙ ap step (k .is);
-      good = l .good;
-      blocks = l .blocks ∙ k .blocks;
-      nodes = l .nodes ∙ k .nodes;
-      checkpoint = l .checkpoint ∙ k .checkpoint;
-    }
 
 -- The node of a draft, by the state that it is in.
 pub node-as : (d : DraftValue) (s : DraftState) → d .state ≡ s → nodeIn (draftAs s (d .node)) ≡ nodeIn (draftOf d)
@@ -88,20 +71,24 @@ module _ {P T T′ : ℕ} (t : Tariff) (q : Request) (n : ℕ) (w w₁ : World) 
       ap (λ (z : World). world (z .pages) (rescored n (served .account .score) (z .rows)) (z .state)) (k .is) ∙
       ap₂ (λ (m : Mode) (z : Served). settleBy m (z .account) n w) (ap (λ (z : Row). z .mode) r) is-served
 
-  pub settled : SettledAs P T′ (w₁ .pages) rows₂ (record { state = w₁ .state; mode = served .account .mode; charge = served .charge }) t q n w
+  pub settled : SettledAs P T′ (w₁ .pages) rows₂
+      (record { charged = record { state = w₁ .state; charge = served .charge }; mode = served .account .mode }) t q n w
   settled =
       record {
-        kept =
+        charged =
             record {
-              is = is-settled;
-              good = subst (λ (z : ℕ). Good P z (w₁ .state)) (sym l) (k .good);
-              blocks = k .blocks;
-              nodes = k .nodes;
-              checkpoint = k .checkpoint;
+              kept =
+                  record {
+                    is = is-settled;
+                    good = subst (λ (z : ℕ). Good P z (w₁ .state)) (sym l) (k .good);
+                    blocks = k .blocks;
+                    nodes = k .nodes;
+                    checkpoint = k .checkpoint;
+                  };
+              charge = ap (λ (z : Served). z .charge) is-served;
+              most = omega (arith, f .most);
             };
         mode = ap (λ (z : Served). z .account .mode) is-served;
-        charge = ap (λ (z : Served). z .charge) is-served;
-        most = f .most;
       }
 
 -- A request of a node that is there: the account settled, then the own change with the content that the request leaves.
@@ -109,14 +96,14 @@ module _ {P T P′ T′ : ℕ} (t : Tariff) (n : ℕ) (work : Work) (w : World) 
     (pages₁ : List (List ℕ)) (rows₁ : List Row) (r : Settled)
     (s : SettledAs P T pages₁ rows₁ r t (requestOf work) n w) (x : Node) (e : x ≡ contentAfter work n w) where
   pub served-there : (pages₂ : List (List ℕ)) (rows₂ : List Row) (s₂ : State) →
-      Kept P′ T′ (r .state) (world pages₂ rows₂ s₂) (write (r .mode) n work x (world pages₁ rows₁ (r .state))) →
-      ServedAs P′ T′ pages₂ rows₂ (record { state = s₂; charge = r .charge }) t n work w
+      Kept P′ T′ (r .charged .state) (world pages₂ rows₂ s₂) (write (r .mode) n work x (world pages₁ rows₁ (r .charged .state))) →
+      ServedAs P′ T′ pages₂ rows₂ (record { state = s₂; charge = r .charged .charge }) t n work w
   unfolding serve serveThere charge
   served-there pages₂ rows₂ s₂ k =
       record {
-        kept = kept-is (kept-then (write (r .mode) n work x) (s .kept) k) own;
-        charge = s .charge ∙ rw (lt-ltb n (w .state .nodes) there) refl;
-        most = s .most;
+        kept = kept-is (kept-then (write (r .mode) n work x) (s .charged .kept) k) own;
+        charge = s .charged .charge ∙ rw (lt-ltb n (w .state .nodes) there) refl;
+        most = s .charged .most;
       }
     where
       own : write (r .mode) n work x (settle t (requestOf work) n w) ≡ serve t n work w
@@ -129,8 +116,4 @@ pub served-nowhere : {P T : ℕ} (t : Tariff) (n : ℕ) (work : Work) (w : World
     ServedAs P T (w .pages) (w .rows) (record { state = w .state; charge = 0 }) t n work w
 unfolding serve charge
 served-nowhere t n work w h g =
-    record {
-      kept = kept-is (kept-same w g) (rw (le-ltb n (w .state .nodes) h) refl);
-      charge = rw (le-ltb n (w .state .nodes) h) refl;
-      most = omega arith;
-    }
+    charged-is (charged-none w (kept-same w g)) (omega arith) (rw (le-ltb n (w .state .nodes) h) refl) (rw (le-ltb n (w .state .nodes) h) refl)

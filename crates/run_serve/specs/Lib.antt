@@ -1,4 +1,5 @@
 pub mod Content
 pub mod Write
+pub mod Step
 pub mod Settle
 pub mod Serve

@@ -2,8 +2,8 @@
 use mathlib.Core.Path.{_≡_}
 use mathlib.Core.Bool.{Bool, true, false}
 use mathlib.Core.List.{List}
-use Prim.Native.Nat.{ℕ, _≤_}
-use lib.ListN.{getD, set, length}
+use Prim.Native.Nat.{ℕ}
+use lib.ListN.{getD, set}
 use Rattle.laws.specs.Tests.{choose}
 use Rattle.account.specs.declared.Mode.{Mode}
 use Rattle.account.specs.declared.Mode.the-variants.{Log, Disk}
@@ -12,16 +12,15 @@ use Rattle.account.specs.declared.Tariff.{Tariff}
 use Rattle.account.specs.declared.Account.{Account}
 use Rattle.account.specs.declared.Served.{Served}
 use Rattle.account.specs.Serve.{serveOf}
-use Rattle.account.specs.Fair.{mostCharge}
-use Rattle.flash_rows.specs.Row.{noRow, rowsOf}
+use Rattle.flash_rows.specs.Row.{noRow}
 use Rattle.flash_rows.specs.Step.{scored}
 use Rattle.flash_rows.specs.declared.Row.{Row}
 use Rattle.flash_allocate.specs.World.{World, world}
 use Rattle.flash_log.specs.Flush.{Kept}
 use Rattle.run_serve.specs.declared.settle.Settled.{Settled}
+use Rattle.run_serve.specs.Step.{ChargedAs}
 use Rattle.run_serve.specs.Content.{contentOf}
 use Rattle.run_serve.specs.Write.{writeWhole}
-use Rattle.flash_blocks.specs.Pages.{pagesOf}
 
 -- The account that a row keeps, and that of node n.
 abbrev pub accountIn : Row → Account
@@ -57,13 +56,7 @@ settleBy from after n w =
 abbrev pub settle : Tariff → Request → ℕ → World → World
 settle t q n w = settleBy (accountAt n w .mode) (servedAt t q n w .account) n w
 
--- What the code of it leaves: this world, and the mode and the charge that the account says.
+-- What the code of it leaves: this world and this charge, and the mode that the account says.
 pub record SettledAs (poolLength tableLength : ℕ) (pages : List (List ℕ)) (rows : List Row) (r : Settled) (t : Tariff) (q : Request) (n : ℕ) (w : World) : Type 0 where
-  pub kept : Kept poolLength tableLength (w .state) (world pages rows (r .state)) (settle t q n w)
+  pub charged : ChargedAs Kept poolLength tableLength pages rows (r .charged) (w .state) 1 (settle t q n w) (servedAt t q n w .charge)
   pub mode : r .mode ≡ servedAt t q n w .account .mode
-  pub charge : r .charge ≡ servedAt t q n w .charge
-  pub most : r .charge ≤ mostCharge
-
--- The same of a pool and a table, as bytes.
-abbrev pub SettledIn : List ℕ → List ℕ → Settled → Tariff → Request → ℕ → World → Type 0
-SettledIn pool table r t q n w = SettledAs (length pool) (length table) (pagesOf pool) (rowsOf table) r t q n w

@@ -14,28 +14,28 @@ use node::ChangeValue;
 use node::NodeValue;
 use node_replay::redo;
 
-// The content of node n.
-pub fn content_of<'a>(pool: &'a [u8], table: &'a [u8], state: State, n: usize) -> NodeValue
-    requires { ⌜ (state .entries ≤ mostEntries) × (rowBytes * n + rowBytes ≤ length (now table)) ⌝ }
-    ensures { λ r. ⌜ Becomes r (contentOf n (worldIn (now (pool .entry)) (now (table .entry)) state)) ⌝ }
+// The content of a node.
+pub fn content_of<'a>(pool: &'a [u8], table: &'a [u8], state: State, id: usize) -> NodeValue
+    requires { ⌜ (state .entries ≤ mostEntries) × (rowBytes * id + rowBytes ≤ length (now table)) ⌝ }
+    ensures { λ r. ⌜ Becomes r (contentOf id (worldIn (now (pool .entry)) (now (table .entry)) state)) ⌝ }
 {
-    let d = content(pool, table, state, n);
+    let d = content(pool, table, state, id);
     node_in(d)
 }
 
-// The content of node n with one change more.
+// The content of a node with one change more.
 pub fn edited_content<'a>(
     pool: &'a [u8],
     table: &'a [u8],
     state: State,
-    n: usize,
+    id: usize,
     change: ChangeValue,
 ) -> NodeValue
-    requires { ⌜ (state .entries ≤ mostEntries) × (rowBytes * n + rowBytes ≤ length (now table)) ⌝ }
-    ensures { λ r. ⌜ Becomes r (editedOf (changeOf change) n
+    requires { ⌜ (state .entries ≤ mostEntries) × (rowBytes * id + rowBytes ≤ length (now table)) ⌝ }
+    ensures { λ r. ⌜ Becomes r (editedOf (changeOf change) id
         (worldIn (now (pool .entry)) (now (table .entry)) state)) ⌝ }
 {
-    let d = content(pool, table, state, n);
+    let d = content(pool, table, state, id);
     let e = redo(d, change);
     node_in(e)
 }

@@ -1,4 +1,5 @@
 // One node request served: by the node's account, in the mode that the account says.
+pub mod charged;
 pub mod content;
 pub mod request;
 pub mod settle;

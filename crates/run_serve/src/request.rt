@@ -5,7 +5,9 @@ ghost use Rattle.node.specs.Value.{nodeOf, Sized};
 ghost use Rattle.node.specs.Drafts.{changeOf};
 ghost use Rattle.store.specs.Serve as work;
 ghost use Rattle.flash_allocate.specs.World.{Good, worldIn};
-ghost use Rattle.run_serve.specs.Serve.{ServedIn};
+ghost use Rattle.run_serve.specs.Step.{InBytes};
+ghost use Rattle.run_serve.specs.Serve.{ServedAs};
+use super::charged::Charged;
 use super::content::edited_content;
 use super::settle::settle;
 use super::write::write_edit;
@@ -16,83 +18,76 @@ use flash_allocate::state::State;
 use node::ChangeValue;
 use node::NodeValue;
 
-// A request that was served: the state after it, and what was charged.
-pub struct Charged {
-    pub state: State,
-    pub charge: u64,
-}
-
-// A read of node n.
+// A read of a node.
 pub fn serve_read(
     pool: &mut [u8],
     table: &mut [u8],
     state: State,
     tariff: Tariff,
-    n: usize,
+    id: usize,
 ) -> Charged
     requires { ⌜ (Good (length (now pool)) (length (now table)) state) × (Ranged tariff) ⌝ }
-    ensures { λ r. ⌜ ServedIn (now (pool .exit)) (now (table .exit)) r tariff n work.read
+    ensures { λ r. ⌜ InBytes ServedAs (now (pool .exit)) (now (table .exit)) r tariff id work.read
         (worldIn (now (pool .entry)) (now (table .entry)) state) ⌝ }
 {
-    if n < state.nodes {
-        let settled = settle(pool, table, state, tariff, n, Request::Read);
-        let s = settled.state;
-        return Charged {
-            state: s,
-            charge: settled.charge,
-        };
+    if id < state.nodes {
+        let settled = settle(pool, table, state, tariff, id, Request::Read);
+        let charged = settled.charged;
+        return charged;
     }
     Charged { state, charge: 0 }
 }
 
-// An edit of node n: its content is read before the first page is written.
+// An edit of a node: its content is read before the first page is written.
 pub fn serve_edit(
     pool: &mut [u8],
     table: &mut [u8],
     state: State,
     tariff: Tariff,
-    n: usize,
+    id: usize,
     change: ChangeValue,
 ) -> Charged
     requires { ⌜ (Good (length (now pool)) (length (now table)) state) × (Ranged tariff) ⌝ }
-    ensures { λ r. ⌜ ServedIn (now (pool .exit)) (now (table .exit)) r tariff n (work.edit (changeOf change))
+    ensures { λ r. ⌜ InBytes ServedAs (now (pool .exit)) (now (table .exit)) r tariff id (work.edit (changeOf change))
         (worldIn (now (pool .entry)) (now (table .entry)) state) ⌝ }
 {
-    if n < state.nodes {
-        let new = edited_content(pool, table, state, n, change);
-        let settled = settle(pool, table, state, tariff, n, Request::Edit);
+    if id < state.nodes {
+        let new = edited_content(pool, table, state, id, change);
+        let settled = settle(pool, table, state, tariff, id, Request::Edit);
+        let charged = settled.charged;
+        let s = charged.state;
         let mode = settled.mode;
-        let s = settled.state;
-        let t = write_edit(pool, table, s, n, mode, change, new);
+        let t = write_edit(pool, table, s, id, mode, change, new);
         return Charged {
             state: t,
-            charge: settled.charge,
+            charge: charged.charge,
         };
     }
     Charged { state, charge: 0 }
 }
 
-// A rewrite of node n.
+// A rewrite of a node.
 pub fn serve_rewrite(
     pool: &mut [u8],
     table: &mut [u8],
     state: State,
     tariff: Tariff,
-    n: usize,
+    id: usize,
     v: NodeValue,
 ) -> Charged
     requires { ⌜ (Good (length (now pool)) (length (now table)) state) × (Ranged tariff) × (Sized v) ⌝ }
-    ensures { λ r. ⌜ ServedIn (now (pool .exit)) (now (table .exit)) r tariff n (work.rewrite (nodeOf v))
+    ensures { λ r. ⌜ InBytes ServedAs (now (pool .exit)) (now (table .exit)) r tariff id (work.rewrite (nodeOf v))
         (worldIn (now (pool .entry)) (now (table .entry)) state) ⌝ }
 {
-    if n < state.nodes {
-        let settled = settle(pool, table, state, tariff, n, Request::Rewrite);
+    if id < state.nodes {
+        let settled = settle(pool, table, state, tariff, id, Request::Rewrite);
+        let charged = settled.charged;
+        let s = charged.state;
         let mode = settled.mode;
-        let s = settled.state;
-        let t = write_whole(pool, table, s, n, mode, v);
+        let t = write_whole(pool, table, s, id, mode, v);
         return Charged {
             state: t,
-            charge: settled.charge,
+            charge: charged.charge,
         };
     }
     Charged { state, charge: 0 }

@@ -6,8 +6,10 @@ ghost use Rattle.account.specs.Range.{Ranged};
 ghost use Rattle.flash_rows.specs.Row.{rowsOf, rowBytes};
 ghost use Rattle.flash_allocate.specs.World.{Good, worldIn};
 ghost use Rattle.flash_log.specs.Flush.{KeptIn};
+ghost use Rattle.run_serve.specs.Step.{InBytes};
 ghost use Rattle.run_serve.specs.Settle as def;
-ghost use Rattle.run_serve.specs.Settle.{accountIn, sameMode, rescored, SettledIn};
+ghost use Rattle.run_serve.specs.Settle.{accountIn, sameMode, rescored, SettledAs};
+use super::charged::Charged;
 use super::content::content_of;
 use super::write::write_whole;
 use account::Account;
@@ -17,11 +19,10 @@ use account::Tariff;
 use flash_allocate::state::State;
 use flash_rows::Row;
 
-// A request whose account is settled: the state, the mode that serves it, and what it is charged.
+// A request whose account is settled: its charge and the state, and the mode that serves it.
 pub struct Settled {
-    pub state: State,
+    pub charged: Charged,
     pub mode: Mode,
-    pub charge: u64,
 }
 
 // The account that a row keeps.
@@ -51,52 +52,52 @@ fn same_mode(a: Mode, b: Mode) -> bool
     }
 }
 
-// The score of node n, in its row as it is now.
-fn rescore(table: &mut [u8], n: usize, score: u32)
-    requires { ⌜ rowBytes * n + rowBytes ≤ length (now table) ⌝ }
-    ensures { λ _. ⌜ rowsOf (now (table .exit)) ≡ rescored n score (rowsOf (now (table .entry))) ⌝ }
+// The score of a node, in its row as it is now.
+fn rescore(table: &mut [u8], id: usize, score: u32)
+    requires { ⌜ rowBytes * id + rowBytes ≤ length (now table) ⌝ }
+    ensures { λ _. ⌜ rowsOf (now (table .exit)) ≡ rescored id score (rowsOf (now (table .entry))) ⌝ }
 {
-    let row = flash_rows::read_row(table, n);
-    flash_rows::write_row(table, n, row.scored(score));
+    let row = flash_rows::read_row(table, id);
+    flash_rows::write_row(table, id, row.scored(score));
 }
 
 // A switch where the modes differ: the content that the node has, whole in the other mode.
-fn switch(pool: &mut [u8], table: &mut [u8], state: State, n: usize, from: Mode, to: Mode) -> State
-    requires { ⌜ (Good (length (now pool)) (length (now table)) state) × (n < state .nodes) ⌝ }
+fn switch(pool: &mut [u8], table: &mut [u8], state: State, id: usize, from: Mode, to: Mode) -> State
+    requires { ⌜ (Good (length (now pool)) (length (now table)) state) × (id < state .nodes) ⌝ }
     ensures { λ r. ⌜ KeptIn (now (pool .exit)) (now (table .exit)) state r
-        (def.switch from to n (worldIn (now (pool .entry)) (now (table .entry)) state)) ⌝ }
+        (def.switch from to id (worldIn (now (pool .entry)) (now (table .entry)) state)) ⌝ }
 {
     if same_mode(from, to) {
         return state;
     }
-    let old = content_of(pool, table, state, n);
-    write_whole(pool, table, state, n, to, old)
+    let old = content_of(pool, table, state, id);
+    write_whole(pool, table, state, id, to, old)
 }
 
-// The account of node n serves a request: the switch that it asks for is made, and its score stored.
+// The account of a node serves a request: the switch that it asks for is made, and its score stored.
 pub fn settle(
     pool: &mut [u8],
     table: &mut [u8],
     state: State,
     tariff: Tariff,
-    n: usize,
+    id: usize,
     request: Request,
 ) -> Settled
-    requires { ⌜ (Good (length (now pool)) (length (now table)) state) × (n < state .nodes) × (Ranged tariff) ⌝ }
-    ensures { λ r. ⌜ SettledIn (now (pool .exit)) (now (table .exit)) r tariff request n
+    requires { ⌜ (Good (length (now pool)) (length (now table)) state) × (id < state .nodes) × (Ranged tariff) ⌝ }
+    ensures { λ r. ⌜ InBytes SettledAs (now (pool .exit)) (now (table .exit)) r tariff request id
         (worldIn (now (pool .entry)) (now (table .entry)) state) ⌝ }
 {
-    let row = flash_rows::read_row(table, n);
+    let row = flash_rows::read_row(table, id);
     let account = account_in(row);
     let served = account.serve(tariff, request);
     let after = served.account;
     let from = row.mode;
-    let to = after.mode;
-    let s = switch(pool, table, state, n, from, to);
-    rescore(table, n, after.score);
-    Settled {
+    let mode = after.mode;
+    let s = switch(pool, table, state, id, from, mode);
+    rescore(table, id, after.score);
+    let charged = Charged {
         state: s,
-        mode: to,
         charge: served.charge,
-    }
+    };
+    Settled { charged, mode }
 }

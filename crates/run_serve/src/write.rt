@@ -19,20 +19,20 @@ pub fn write_whole(
     pool: &mut [u8],
     table: &mut [u8],
     state: State,
-    n: usize,
+    id: usize,
     mode: Mode,
     v: NodeValue,
 ) -> State
-    requires { ⌜ (Good (length (now pool)) (length (now table)) state) × (n < state .nodes) × (Sized v) ⌝ }
+    requires { ⌜ (Good (length (now pool)) (length (now table)) state) × (id < state .nodes) × (Sized v) ⌝ }
     ensures { λ r. ⌜ KeptIn (now (pool .exit)) (now (table .exit)) state r
-        (writeWhole mode n (nodeOf v) (worldIn (now (pool .entry)) (now (table .entry)) state)) ⌝ }
+        (writeWhole mode id (nodeOf v) (worldIn (now (pool .entry)) (now (table .entry)) state)) ⌝ }
 {
     match mode {
         Mode::Log => {
-            return group(pool, table, state, n, v);
+            return group(pool, table, state, id, v);
         }
         Mode::Disk => {
-            return node_page(pool, table, state, n, v);
+            return node_page(pool, table, state, id, v);
         }
     }
 }
@@ -42,22 +42,22 @@ pub fn write_edit(
     pool: &mut [u8],
     table: &mut [u8],
     state: State,
-    n: usize,
+    id: usize,
     mode: Mode,
     change: ChangeValue,
     edited: NodeValue,
 ) -> State
-    requires { ⌜ (Good (length (now pool)) (length (now table)) state) × (n < state .nodes) × (Sized edited) ⌝ }
+    requires { ⌜ (Good (length (now pool)) (length (now table)) state) × (id < state .nodes) × (Sized edited) ⌝ }
     ensures { λ r. ⌜ KeptIn (now (pool .exit)) (now (table .exit)) state r
-        (writeEdit mode n (changeOf change) (nodeOf edited)
+        (writeEdit mode id (changeOf change) (nodeOf edited)
         (worldIn (now (pool .entry)) (now (table .entry)) state)) ⌝ }
 {
     match mode {
         Mode::Log => {
-            return edit(pool, table, state, n, change, edited);
+            return edit(pool, table, state, id, change, edited);
         }
         Mode::Disk => {
-            return node_page(pool, table, state, n, edited);
+            return node_page(pool, table, state, id, edited);
         }
     }
 }

@@ -1,5 +1,5 @@
 -- The steps of a node's turn put together. Assumes nothing.
-use mathlib.Core.Path.{_≡_, refl, sym, ap, ap₂, _∙_}
+use mathlib.Core.Path.{_≡_, refl, sym, ap, ap₂, _∙_, subst}
 use mathlib.Core.Bool.{Bool, true, false}
 use mathlib.Core.Logic.{_⊎_, inl, inr}
 use mathlib.Core.List.{List, [], _∷_}
@@ -31,13 +31,14 @@ use Rattle.flash_allocate.specs.declared.state.State.{State}
 use Rattle.flash_allocate.specs.World.{World, world}
 use Rattle.flash_write.specs.Group.{create, Grown}
 use Rattle.flash_read.specs.NodeTable.{tableOf-out}
-use Rattle.run_serve.specs.declared.request.Charged.{Charged}
+use Rattle.run_serve.specs.Step.{kept-then, charged-none, charged-is, both, then}
+use Rattle.run_serve.specs.declared.charged.Charged.{Charged}
 use Rattle.run_serve.specs.Serve.{serve, charge, ServedAs}
 use Rattle.run_split.specs.declared.Pending.{Pending}
 use Rattle.run_split.specs.declared.Pending.the-variants.{Nothing, Halves}
 use Rattle.run_split.specs.declared.Absorbed.{Absorbed}
-use Rattle.run_split.specs.Growing.{Growing, growing-kept, Grew}
-use Rattle.run_split.specs.Absorbing.{Absorbing, absorbing-is, AbsorbedAs}
+use Rattle.run_split.specs.Growing.{Growing, growing-kept, Grew, grew-same, grew-charged}
+use Rattle.run_split.specs.Absorbing.{Absorbing, AbsorbedAs}
 use Rattle.run_split.specs.Split.{grow, splitBelow, splitRoot, split}
 use Rattle.run_split.specs.Absorb.{nodeAt, absorbEdit, absorbEdits, absorbPair, renaming, absorbHalves, absorb}
 
@@ -56,7 +57,7 @@ full-splits v h key at e =
 pub absorbed-is : {P T : ℕ} {pages : List (List ℕ)} {rows : List Row} {r : Absorbed} {s : State} {a b : Absorbing} →
     AbsorbedAs P T pages rows r s a → a ≡ b →
     AbsorbedAs P T pages rows r s b
-absorbed-is k e = record { is = k .is ∙ e; growing = k .growing; blocks = k .blocks; most = k .most }
+absorbed-is {P} {T} {pages} {rows} {r} {s} k e = subst (AbsorbedAs P T pages rows r s) e k
 
 -- A node more, or none where the limit is reached.
 module _ {P T P₀ T₀ : ℕ} (x : Node) (w : World) (g : Growing P₀ T₀ (w .state)) where
@@ -83,17 +84,23 @@ module _ (t : Tariff) (whole : Node) (w : World) where
       (pages₂ : List (List ℕ)) (rows₂ : List Row) (s₂ : State) → Grew P T (r .state) (world pages₂ rows₂ s₂)
       (grow high (world pages₁ rows₁ (r .state))) →
       AbsorbedAs P T pages₂ rows₂ (record
-      { state = s₂; charge = r .charge; pending = Halves middle id (w .state .nodes) }) (w .state)
+      { charged = record { state = s₂; charge = r .charge }; pending = Halves middle id (w .state .nodes) }) (w .state)
       (splitBelow t id whole w)
   unfolding splitBelow
   below-split id low high middle e f m pages₁ rows₁ r s pages₂ rows₂ s₂ k =
       record {
-        is =
-            absorbing-is (k .is ∙ ap₂ grow f (s .kept .is ∙ ap (λ (x : Node). serve t id (rewrite x) w) e))
-            (s .charge ∙ ap (λ (x : Node). charge t id (rewrite x) w) e) (ap (λ (z : ℕ). Halves z id (w .state .nodes)) m);
-        growing = k .growing;
-        blocks = k .blocks ∙ s .kept .blocks;
-        most = omega (arith, s .most);
+        charged =
+            record {
+              kept =
+                  record {
+                    is = k .is ∙ ap₂ grow f (s .kept .is ∙ ap (λ (x : Node). serve t id (rewrite x) w) e);
+                    growing = k .growing;
+                    blocks = k .blocks ∙ s .kept .blocks;
+                  };
+              charge = s .charge ∙ ap (λ (x : Node). charge t id (rewrite x) w) e;
+              most = omega (arith, s .most);
+            };
+        pending = ap (λ (z : ℕ). Halves z id (w .state .nodes)) m;
       }
 
   pub root-split : {P T P₁ T₁ P₂ T₂ : ℕ} (low high : Node) (middle : ℕ) (top : Node) →
@@ -102,16 +109,22 @@ module _ (t : Tariff) (whole : Node) (w : World) where
       (w₁ : World) → Grew P₁ T₁ (w .state) w₁ (grow low w) →
       (w₂ : World) → Grew P₂ T₂ (w₁ .state) w₂ (grow high w₁) →
       (pages : List (List ℕ)) (rows : List Row) (r : Charged) → ServedAs P T pages rows r t 0 (rewrite top) w₂ →
-      AbsorbedAs P T pages rows (record { state = r .state; charge = r .charge; pending = Nothing }) (w .state) (splitRoot t whole w)
+      AbsorbedAs P T pages rows (record { charged = r; pending = Nothing }) (w .state) (splitRoot t whole w)
   unfolding splitRoot
   root-split low high middle top e f m g w₁ k w₂ l pages rows r s =
       record {
-        is =
-            absorbing-is (s .kept .is ∙ ap₂ (λ (x : Node) (z : World). serve t 0 (rewrite x) z) top-is grown-is)
-            (s .charge ∙ ap₂ (λ (x : Node) (z : World). charge t 0 (rewrite x) z) top-is grown-is) refl;
-        growing = growing-kept (l .growing) (s .kept);
-        blocks = s .kept .blocks ∙ l .blocks ∙ k .blocks;
-        most = omega (arith, s .most);
+        charged =
+            record {
+              kept =
+                  record {
+                    is = s .kept .is ∙ ap₂ (λ (x : Node) (z : World). serve t 0 (rewrite x) z) top-is grown-is;
+                    growing = growing-kept (l .growing) (s .kept);
+                    blocks = s .kept .blocks ∙ l .blocks ∙ k .blocks;
+                  };
+              charge = s .charge ∙ ap₂ (λ (x : Node) (z : World). charge t 0 (rewrite x) z) top-is grown-is;
+              most = omega (arith, s .most);
+            };
+        pending = refl;
       }
     where
       grown-is : w₂ ≡ grow (upperHalf whole) (grow (lowerHalf whole (w .state .nodes + 1)) w)
@@ -131,27 +144,19 @@ module _ (t : Tariff) (whole : Node) (w : World) where
 -- The edits.
 module _ {P₀ T₀ : ℕ} (t : Tariff) (id : ℕ) (w : World) (g : Growing P₀ T₀ (w .state)) where
   pub one-edit : {P T : ℕ} (c : Change) (pages : List (List ℕ)) (rows : List Row) (r : Charged) → ServedAs P T pages rows r t id (edit c) w →
-      AbsorbedAs P T pages rows (record { state = r .state; charge = r .charge; pending = Nothing }) (w .state) (absorbEdit t id c w)
+      AbsorbedAs P T pages rows (record { charged = r; pending = Nothing }) (w .state) (absorbEdit t id c w)
   unfolding absorbEdit
   one-edit c pages rows r s =
-      record { is = absorbing-is (s .kept .is) (s .charge) refl; growing = growing-kept g (s .kept); blocks = s .kept .blocks; most = omega (arith, s .most) }
+      record { charged = charged-is (grew-charged g s) (omega arith) refl refl; pending = refl }
 
   pub two-edits : {P T P₁ T₁ : ℕ} (first second : Change) (pages₁ : List (List ℕ)) (rows₁ : List Row) (one : Charged) →
       ServedAs P₁ T₁ pages₁ rows₁ one t id (edit first) w →
       (pages : List (List ℕ)) (rows : List Row) (two : Charged) → ServedAs P T pages rows two t id (edit second) (world pages₁ rows₁ (one .state)) →
-      AbsorbedAs P T pages rows (record
-      { state = two .state; charge = one .charge + two .charge; pending = Nothing }) (w .state)
-      (absorbEdits t id first second w)
+      AbsorbedAs P T pages rows (record { charged = both one two; pending = Nothing }) (w .state) (absorbEdits t id first second w)
   unfolding absorbEdits
   two-edits first second pages₁ rows₁ one s pages rows two s′ =
-      record {
-        is =
-            absorbing-is (s′ .kept .is ∙ ap (λ (z : World). serve t id (edit second) z) (s .kept .is))
-            (ap₂ _+_ (s .charge) (s′ .charge ∙ ap (λ (z : World). charge t id (edit second) z) (s .kept .is))) refl;
-        growing = growing-kept (growing-kept g (s .kept)) (s′ .kept);
-        blocks = s′ .kept .blocks ∙ s .kept .blocks;
-        most = omega (arith, s .most, s′ .most);
-      }
+      let step = serve t id (edit second) in
+      record { charged = grew-charged g (then step (charge t id (edit second)) (kept-then step) s s′); pending = refl }
 
 -- A node that is full is there.
 there : (n id : ℕ) → (n ≤ id → ⊥) → id < n
@@ -228,8 +233,9 @@ module _ (t : Tariff) (root : Bool) (id wanted middle left right : ℕ) (w : Wor
 
 -- What is pending, known.
 pub absorb-nothing : {P T : ℕ} (t : Tariff) (wanted : ℕ) (root : Bool) (id : ℕ) (p : Pending) (w : World) → p ≡ Nothing → Growing P T (w .state) →
-    AbsorbedAs P T (w .pages) (w .rows) (record { state = w .state; charge = 0; pending = p }) (w .state) (absorb t wanted root id p w)
-absorb-nothing t wanted root id p w e g = rw e (record { is = refl; growing = g; blocks = refl; most = omega arith })
+    AbsorbedAs P T (w .pages) (w .rows) (record { charged = record { state = w .state; charge = 0 }; pending = p }) (w .state) (absorb t wanted root id p w)
+absorb-nothing t wanted root id p w e g =
+    rw e (record { charged = charged-is (charged-none w (grew-same w g)) (omega arith) refl refl; pending = refl })
 
 pub absorb-known : (t : Tariff) (wanted : ℕ) (root : Bool) (id : ℕ) (p q : Pending) (w : World) → p ≡ q → absorb t
     wanted root id q w ≡ absorb t wanted root id p w

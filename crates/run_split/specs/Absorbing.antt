@@ -1,17 +1,14 @@
 -- What a node's turn leaves on the way up. Assumes nothing.
 use mathlib.Core.Path.{_≡_, ap, _∙_}
 use mathlib.Core.List.{List}
-use Prim.Native.Nat.{ℕ, _*_, _≤_}
-use Rattle.account.specs.Fair.{mostCharge}
+use Prim.Native.Nat.{ℕ}
 use Rattle.flash_rows.specs.declared.Row.{Row}
 use Rattle.flash_allocate.specs.declared.state.State.{State}
 use Rattle.flash_allocate.specs.World.{World, world}
+use Rattle.run_serve.specs.Step.{ChargedAs}
 use Rattle.run_split.specs.declared.Pending.{Pending}
 use Rattle.run_split.specs.declared.Absorbed.{Absorbed}
-use Rattle.run_split.specs.Growing.{Growing}
-use lib.ListN.{length}
-use Rattle.flash_blocks.specs.Pages.{pagesOf}
-use Rattle.flash_rows.specs.Row.{rowsOf}
+use Rattle.run_split.specs.Growing.{Grew}
 
 -- The world, what was charged, and what the node above has still to take.
 pub record Absorbing : Type 0 where
@@ -28,11 +25,11 @@ absorbing-is {b = b} {m = m} {n = n} {p = p} e f g =
 
 -- What the code of a turn leaves: the world, the charge and the rest of the definition; at most two requests were charged.
 pub record AbsorbedAs (poolLength tableLength : ℕ) (pages : List (List ℕ)) (rows : List Row) (r : Absorbed) (before : State) (right : Absorbing) : Type 0 where
-  pub is : absorbing (world pages rows (r .state)) (r .charge) (r .pending) ≡ right
-  pub growing : Growing poolLength tableLength (r .state)
-  pub blocks : r .state .blocks ≡ before .blocks
-  pub most : r .charge ≤ mostCharge * 2
+  pub charged : ChargedAs Grew poolLength tableLength pages rows (r .charged) before 2 (right .now) (right .charge)
+  pub pending : r .pending ≡ right .pending
 
--- The same of a pool and a table, as bytes.
-abbrev pub AbsorbedIn : List ℕ → List ℕ → Absorbed → State → Absorbing → Type 0
-AbsorbedIn pool table r before right = AbsorbedAs (length pool) (length table) (pagesOf pool) (rowsOf table) r before right
+-- All three as one.
+pub absorbed-whole : {P T : ℕ} {pages : List (List ℕ)} {rows : List Row} {r : Absorbed} {s : State} {right : Absorbing} →
+    AbsorbedAs P T pages rows r s right →
+    absorbing (world pages rows (r .charged .state)) (r .charged .charge) (r .pending) ≡ right
+absorbed-whole k = absorbing-is (k .charged .kept .is) (k .charged .charge) (k .pending)

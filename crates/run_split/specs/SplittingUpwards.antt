@@ -14,7 +14,7 @@ use Rattle.run_split.specs.declared.Pending.{Pending}
 use Rattle.run_split.specs.declared.Pending.the-variants.{Pair}
 use Rattle.run_split.specs.declared.Absorbed.{Absorbed}
 use Rattle.run_split.specs.Growing.{Growing}
-use Rattle.run_split.specs.Absorbing.{Absorbing, absorbing, AbsorbedAs}
+use Rattle.run_split.specs.Absorbing.{Absorbing, absorbing, AbsorbedAs, absorbed-whole}
 use Rattle.run_split.specs.Absorb as Turn
 use Rattle.run_split.specs.SplitUpwards.{afterIt, upward, splitUpwardsBelow, splitUpwards, SplitUpwardsAs}
 
@@ -47,40 +47,43 @@ module _ {P T : ℕ} {t : Tariff} {key value : ℕ} {ids : List ℕ} {i : ℕ} {
     (r : SplittingUpwards P T t key value ids i start now paid pending) {P′ T′ : ℕ} (pages : List (List ℕ)) (rows : List Row) (x : Absorbed) where
   -- a node's turn above those that are done
   turn-is : (root : Bool) (id : ℕ) → AbsorbedAs P′ T′ pages rows x (now .state) (Turn.absorb t key root id pending now) →
-      absorbing (world pages rows (x .state)) (paid + x .charge) (x .pending) ≡
+      absorbing (world pages rows (x .charged .state)) (paid + x .charged .charge) (x .pending) ≡
       upward t key root id (splitUpwardsBelow t key (drop i ids) (absorbing start 0 (Pair key value)))
   unfolding upward
-  turn-is root id k = ap (afterIt paid) (k .is) ∙ ap (upward t key root id) (r .is)
+  turn-is root id k = ap (afterIt paid) (absorbed-whole k) ∙ ap (upward t key root id) (r .is)
 
   -- one node more
   pub splitting-next : 1 < i → (id : ℕ) → id ≡ getD ids (i - 1) 0 → AbsorbedAs P′ T′ pages rows x (now .state) (Turn.absorb t key false id pending now) →
-      SplittingUpwards P′ T′ t key value ids (i - 1) start (world pages rows (x .state)) (paid + x .charge) (x .pending)
+      SplittingUpwards P′ T′ t key value ids (i - 1) start (world pages rows (x .charged .state)) (paid + x .charged .charge) (x .pending)
   unfolding splitUpwardsBelow
   splitting-next l id e k =
       let before : suc (i - 1) ≡ i = omega arith in
       let next : drop (i - 1) ids ≡ id ∷ drop i ids =
       drop-cons ids (i - 1) 0 (omega (arith, r .inside)) ∙ ap₂ (λ (z : ℕ) (j : ℕ). z ∷ drop j ids) (sym e) before in
       record {
-        growing = k .growing;
-        blocks = k .blocks ∙ r .blocks;
+        growing = k .charged .kept .growing;
+        blocks = k .charged .kept .blocks ∙ r .blocks;
         some = omega arith;
         inside = omega (arith, r .inside);
         is = turn-is false id k ∙ sym (ap (λ (xs : List ℕ). splitUpwardsBelow t key xs (absorbing start 0 (Pair key value))) next);
-        most = omega (arith, r .most, k .most);
+        most = omega (arith, r .most, k .charged .most);
       }
 
   -- the root last
   pub splitting-end : i ≤ 1 → AbsorbedAs P′ T′ pages rows x (now .state) (Turn.absorb t key true 0 pending now) →
-      SplitUpwardsAs P′ T′ pages rows (record { state = x .state; charge = paid + x .charge }) t key value ids start
+      SplitUpwardsAs P′ T′ pages rows (record { state = x .charged .state; charge = paid + x .charged .charge }) t key value ids start
   unfolding splitUpwards
   splitting-end l k =
       let one : i ≡ 1 = omega (arith, r .some) in
-      let whole : absorbing (world pages rows (x .state)) (paid + x .charge) (x .pending) ≡ splitUpwards t key value ids start =
+      let whole : absorbing (world pages rows (x .charged .state)) (paid + x .charged .charge) (x .pending) ≡ splitUpwards t key value ids start =
       turn-is true 0 k ∙ ap (λ (j : ℕ). upward t key true 0 (splitUpwardsBelow t key (drop j ids) (absorbing start 0 (Pair key value)))) one in
       record {
-        is = ap (λ (c : Absorbing). c .now) whole;
+        kept =
+            record {
+              is = ap (λ (c : Absorbing). c .now) whole;
+              growing = k .charged .kept .growing;
+              blocks = k .charged .kept .blocks ∙ r .blocks;
+            };
         charge = ap (λ (c : Absorbing). c .charge) whole;
-        growing = k .growing;
-        blocks = k .blocks ∙ r .blocks;
-        most = omega (arith, r .most, k .most);
+        most = omega (arith, r .most, k .charged .most);
       }

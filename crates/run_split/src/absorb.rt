@@ -6,8 +6,9 @@ ghost use Rattle.node.specs.Drafts.{changeOf};
 ghost use Rattle.node.specs.Repoint.{repoint};
 ghost use Rattle.node.specs.Value.{nodeOf, Held};
 ghost use Rattle.flash_allocate.specs.World.{worldIn};
+ghost use Rattle.run_serve.specs.Step.{InBytes};
 ghost use Rattle.run_split.specs.Growing.{Growing};
-ghost use Rattle.run_split.specs.Absorbing.{AbsorbedIn};
+ghost use Rattle.run_split.specs.Absorbing.{AbsorbedAs};
 ghost use Rattle.run_split.specs.Absorb as def;
 use super::Absorbed;
 use super::Pending;
@@ -22,6 +23,7 @@ use node::fit::Fitting;
 use node::fit::fit;
 use node::search::child_place;
 use node::search::key;
+use run_serve::charged::Charged;
 use run_serve::request::serve_edit;
 
 // The edit that makes the pointer at a place name another node.
@@ -49,17 +51,12 @@ fn absorb_edit(
     edit: ChangeValue,
 ) -> Absorbed
     requires { ⌜ (Growing (length (now pool)) (length (now table)) state) × (Ranged tariff) ⌝ }
-    ensures { λ r. ⌜ AbsorbedIn (now (pool .exit)) (now (table .exit)) r state
+    ensures { λ r. ⌜ InBytes AbsorbedAs (now (pool .exit)) (now (table .exit)) r state
         (def.absorbEdit tariff id (changeOf edit) (worldIn (now (pool .entry)) (now (table .entry)) state)) ⌝ }
 {
-    let served = serve_edit(pool, table, state, tariff, id, edit);
-    let s = served.state;
+    let charged = serve_edit(pool, table, state, tariff, id, edit);
     let pending = Pending::Nothing;
-    Absorbed {
-        state: s,
-        charge: served.charge,
-        pending,
-    }
+    Absorbed { charged, pending }
 }
 
 // A node takes two edits, one after the other.
@@ -73,7 +70,7 @@ fn absorb_edits(
     second: ChangeValue,
 ) -> Absorbed
     requires { ⌜ (Growing (length (now pool)) (length (now table)) state) × (Ranged tariff) ⌝ }
-    ensures { λ r. ⌜ AbsorbedIn (now (pool .exit)) (now (table .exit)) r state
+    ensures { λ r. ⌜ InBytes AbsorbedAs (now (pool .exit)) (now (table .exit)) r state
         (def.absorbEdits tariff id (changeOf first) (changeOf second)
         (worldIn (now (pool .entry)) (now (table .entry)) state)) ⌝ }
 {
@@ -81,12 +78,12 @@ fn absorb_edits(
     let s = one.state;
     let two = serve_edit(pool, table, s, tariff, id, second);
     let t = two.state;
-    let pending = Pending::Nothing;
-    Absorbed {
+    let charged = Charged {
         state: t,
         charge: one.charge + two.charge,
-        pending,
-    }
+    };
+    let pending = Pending::Nothing;
+    Absorbed { charged, pending }
 }
 
 // A leaf takes its pair.
@@ -101,7 +98,7 @@ fn absorb_pair(
     value: u32,
 ) -> Absorbed
     requires { ⌜ (Growing (length (now pool)) (length (now table)) state) × (Ranged tariff) ⌝ }
-    ensures { λ r. ⌜ AbsorbedIn (now (pool .exit)) (now (table .exit)) r state
+    ensures { λ r. ⌜ InBytes AbsorbedAs (now (pool .exit)) (now (table .exit)) r state
         (def.absorbPair tariff root id key value (worldIn (now (pool .entry)) (now (table .entry)) state)) ⌝ }
 {
     let v = node_at(pool, table, state, id);
@@ -135,7 +132,7 @@ fn absorb_halves(
     right: u32,
 ) -> Absorbed
     requires { ⌜ (Growing (length (now pool)) (length (now table)) state) × (Ranged tariff) ⌝ }
-    ensures { λ r. ⌜ AbsorbedIn (now (pool .exit)) (now (table .exit)) r state
+    ensures { λ r. ⌜ InBytes AbsorbedAs (now (pool .exit)) (now (table .exit)) r state
         (def.absorbHalves tariff root id wanted middle left right
         (worldIn (now (pool .entry)) (now (table .entry)) state)) ⌝ }
 {
@@ -181,16 +178,13 @@ pub fn absorb(
     pending: Pending,
 ) -> Absorbed
     requires { ⌜ (Growing (length (now pool)) (length (now table)) state) × (Ranged tariff) ⌝ }
-    ensures { λ r. ⌜ AbsorbedIn (now (pool .exit)) (now (table .exit)) r state
+    ensures { λ r. ⌜ InBytes AbsorbedAs (now (pool .exit)) (now (table .exit)) r state
         (def.absorb tariff wanted root id pending (worldIn (now (pool .entry)) (now (table .entry)) state)) ⌝ }
 {
     match pending {
         Pending::Nothing => {
-            return Absorbed {
-                state,
-                charge: 0,
-                pending,
-            };
+            let charged = Charged { state, charge: 0 };
+            return Absorbed { charged, pending };
         }
         Pending::Pair { key, value } => {
             return absorb_pair(pool, table, state, tariff, root, id, key, value);

@@ -3,7 +3,7 @@ pub mod absorb;
 pub mod split;
 pub mod split_upwards;
 
-use flash_allocate::state::State;
+use run_serve::charged::Charged;
 
 // What a node has still to take: nothing; a leaf its pair; a branch the halves of a child, with the key between them.
 pub enum Pending {
@@ -12,9 +12,8 @@ pub enum Pending {
     Halves { middle: u32, left: u32, right: u32 },
 }
 
-// After a node took its edits: the state, what they were charged, and what the node above has still to take.
+// After a node took its edits: they were charged, and the node above has still this to take.
 pub struct Absorbed {
-    pub state: State,
-    pub charge: u64,
+    pub charged: Charged,
     pub pending: Pending,
 }

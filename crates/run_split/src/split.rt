@@ -9,8 +9,9 @@ ghost use Rattle.node.specs.Change.{change, put};
 ghost use Rattle.node.specs.Value.{nodeOf, Sized, Becomes};
 ghost use Rattle.node_split.specs.Split.{Splits};
 ghost use Rattle.flash_allocate.specs.World.{worldIn};
+ghost use Rattle.run_serve.specs.Step.{InBytes};
 ghost use Rattle.run_split.specs.Growing.{Growing, GrewIn};
-ghost use Rattle.run_split.specs.Absorbing.{AbsorbedIn};
+ghost use Rattle.run_split.specs.Absorbing.{AbsorbedAs};
 ghost use Rattle.run_split.specs.Split as def;
 use super::Absorbed;
 use super::Pending;
@@ -25,6 +26,7 @@ use node::empty_node;
 use node_split::lower;
 use node_split::middle;
 use node_split::upper;
+use run_serve::charged::Charged;
 use run_serve::request::serve_rewrite;
 
 // A node more, where the limit leaves an id for it.
@@ -61,7 +63,7 @@ fn split_below(
 ) -> Absorbed
     requires { ⌜ (Growing (length (now pool)) (length (now table)) state) × (Ranged tariff)
         × (id < state .nodes) × (Splits v at key) ⌝ }
-    ensures { λ r. ⌜ AbsorbedIn (now (pool .exit)) (now (table .exit)) r state
+    ensures { λ r. ⌜ InBytes AbsorbedAs (now (pool .exit)) (now (table .exit)) r state
         (def.splitBelow tariff id (change (put key pointer) (nodeOf v))
         (worldIn (now (pool .entry)) (now (table .entry)) state)) ⌝ }
 {
@@ -78,11 +80,11 @@ fn split_below(
         left,
         right: next,
     };
-    Absorbed {
+    let charged = Charged {
         state: grown,
         charge: rewritten.charge,
-        pending,
-    }
+    };
+    Absorbed { charged, pending }
 }
 
 // "A splitting root makes two nodes, lower id lower half, then is rewritten above them."
@@ -97,7 +99,7 @@ fn split_root(
     pointer: u32,
 ) -> Absorbed
     requires { ⌜ (Growing (length (now pool)) (length (now table)) state) × (Ranged tariff) × (Splits v at key) ⌝ }
-    ensures { λ r. ⌜ AbsorbedIn (now (pool .exit)) (now (table .exit)) r state
+    ensures { λ r. ⌜ InBytes AbsorbedAs (now (pool .exit)) (now (table .exit)) r state
         (def.splitRoot tariff (change (put key pointer) (nodeOf v))
         (worldIn (now (pool .entry)) (now (table .entry)) state)) ⌝ }
 {
@@ -109,14 +111,9 @@ fn split_root(
     let s = grow(pool, table, state, low);
     let grown = grow(pool, table, s, high);
     let top = root_above(between, left, right);
-    let rewritten = serve_rewrite(pool, table, grown, tariff, 0, top);
-    let t = rewritten.state;
+    let charged = serve_rewrite(pool, table, grown, tariff, 0, top);
     let pending = Pending::Nothing;
-    Absorbed {
-        state: t,
-        charge: rewritten.charge,
-        pending,
-    }
+    Absorbed { charged, pending }
 }
 
 // The root, or a node below it, split.
@@ -134,7 +131,7 @@ pub fn split(
 ) -> Absorbed
     requires { ⌜ (Growing (length (now pool)) (length (now table)) state) × (Ranged tariff)
         × (id < state .nodes) × (Splits v at key) ⌝ }
-    ensures { λ r. ⌜ AbsorbedIn (now (pool .exit)) (now (table .exit)) r state
+    ensures { λ r. ⌜ InBytes AbsorbedAs (now (pool .exit)) (now (table .exit)) r state
         (def.split tariff root id (change (put key pointer) (nodeOf v))
         (worldIn (now (pool .entry)) (now (table .entry)) state)) ⌝ }
 {

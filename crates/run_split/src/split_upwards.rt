@@ -3,14 +3,15 @@ ghost use Prim.Native.Nat.{_≤_};
 ghost use lib.ListN.{length, take};
 ghost use Rattle.account.specs.Range.{Ranged};
 ghost use Rattle.flash_allocate.specs.World.{worldIn};
+ghost use Rattle.run_serve.specs.Step.{InBytes};
 ghost use Rattle.run_split.specs.Growing.{Growing};
-ghost use Rattle.run_split.specs.SplitUpwards.{SplitUpwardsIn};
+ghost use Rattle.run_split.specs.SplitUpwards.{SplitUpwardsAs};
 use super::Pending;
 use super::absorb::absorb;
 use account::Tariff;
 use flash_allocate::state::State;
 use layout::MOST_LEVELS;
-use run_serve::request::Charged;
+use run_serve::charged::Charged;
 
 // The leaf takes the pair, then each node of the path what the one below it left, and the root last.
 pub fn split_upwards(
@@ -24,7 +25,7 @@ pub fn split_upwards(
     value: u32,
 ) -> Charged
     requires { ⌜ (Growing (length (now pool)) (length (now table)) state) × (Ranged tariff) × (1 ≤ n) × (n ≤ 9) ⌝ }
-    ensures { λ r. ⌜ SplitUpwardsIn (now (pool .exit)) (now (table .exit)) r tariff key value (take n ids)
+    ensures { λ r. ⌜ InBytes SplitUpwardsAs (now (pool .exit)) (now (table .exit)) r tariff key value (take n ids)
         (worldIn (now (pool .entry)) (now (table .entry)) state) ⌝ }
 {
     let mut s = state;
@@ -34,14 +35,16 @@ pub fn split_upwards(
     while 1 < i {
         i -= 1;
         let taken = absorb(pool, table, s, tariff, false, ids[i], key, pending);
-        s = taken.state;
-        charge += taken.charge;
+        let paid = taken.charged;
+        s = paid.state;
+        charge += paid.charge;
         pending = taken.pending;
     }
     let last = absorb(pool, table, s, tariff, true, 0, key, pending);
-    let t = last.state;
+    let paid = last.charged;
+    let t = paid.state;
     Charged {
         state: t,
-        charge: charge + last.charge,
+        charge: charge + paid.charge,
     }
 }

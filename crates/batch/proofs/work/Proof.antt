@@ -62,9 +62,9 @@ same-length-4 : tie.Need-same-length-4
 same-length-4 c =
     let c2 = c .before .before in
     let c8 = c2 .before .before .before .before .before .before in
-    let c18 = c8 .before .before .before .before .before .before .before .before .before .before in
-    let c28 = c18 .before .before .before .before .before .before .before .before .before .before in
-    c2 .fill2 .kept .0 ∙ c8 .checkpoint .kept .1 .0 ∙ c18 .run-commands .kept .1 .0 ∙ c28 .mount .kept .1 .0
+    let c19 = c8 .before .before .before .before .before .before .before .before .before .before .before in
+    let c29 = c19 .before .before .before .before .before .before .before .before .before .before in
+    c2 .fill2 .kept .0 ∙ c8 .checkpoint .kept .1 .0 ∙ c19 .run-commands .kept .1 .0 ∙ c29 .mount .kept .1 .0
 
 same-length-5 : tie.Need-same-length-5
 same-length-5 c = search needs
@@ -73,17 +73,17 @@ returns-2 : tie.Need-returns-2
 returns-2 c =
     let c2 = c .before .before in
     let c8 = c2 .before .before .before .before .before .before in
-    let c18 = c8 .before .before .before .before .before .before .before .before .before .before in
-    let c24 = c18 .before .before .before .before .before .before in
-    let c28 = c24 .before .before .before .before in
-    let c32 = c28 .before .before .before .before in
-    let c35 = c32 .before .before .before in
-    let a = c35 .args in
-    let m = c28 .mount in
-    let r = c18 .run-commands in
+    let c19 = c8 .before .before .before .before .before .before .before .before .before .before .before in
+    let c25 = c19 .before .before .before .before .before .before in
+    let c29 = c25 .before .before .before .before in
+    let c33 = c29 .before .before .before .before in
+    let c36 = c33 .before .before .before in
+    let a = c36 .args in
+    let m = c29 .mount in
+    let r = c19 .run-commands in
     let e = c8 .checkpoint in
-    worked-by (c35 .pre) (c2 .fill2 .last .0) (c2 .fill2 .ensures ∙ ap zeros (e .kept .1 .0 ∙ r .kept .1 .0 ∙ m .kept .1 .0))
-    (bytes-getD (a .commands .now) (λ i. c32 .shared-slice-known .given i .fits)) (m .ensures .opened (c24 .if1 .taken)) (r .ensures) (e .last .0) (e .ensures)
+    worked-by (c36 .pre) (c2 .fill2 .last .0) (c2 .fill2 .ensures ∙ ap zeros (e .kept .1 .0 ∙ r .kept .1 .0 ∙ m .kept .1 .0))
+    (bytes-getD (a .commands .now) (λ i. c33 .shared-slice-known .given i .fits)) (m .ensures .opened (c25 .if1 .taken)) (r .ensures) (e .last .0) (e .ensures)
     (e .kept .0 ∙ r .kept .0)
 
 pub work-spec : {M : Type 1} → statement M

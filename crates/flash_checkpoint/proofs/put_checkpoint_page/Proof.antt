@@ -54,7 +54,7 @@ returns c =
     let i = c4 .checkpoint-image in
     let w = c2 .put-page in
     checkpoint-page-put (a .number) (a .tariff) (a .k) (a .nodes) (rowsOf (a .table .now)) (f .result) (n .result)
-    (m .result) (r .result) (i .result) (pagesOf (a .pool .now)) (pagesOf (w .last .0)) (a .at) (f .ensures)
+    (m .result) (r .result) (i .result) (pagesOf (a .pool .now)) (pagesOf (w .last .0)) (a .page) (f .ensures)
     (n .ensures .is) (m .ensures) (r .ensures) (i .ensures) (w .ensures .0)
 
 pub put-checkpoint-page-spec : {M : Type 1} → statement M

@@ -6,11 +6,11 @@ use borrow.Author.Needs.{needs}
 use Rattle.flash_checkpoint.proofs.write_checkpoint_page.Statement.{statement}
 use Rattle.flash_checkpoint.proofs.write_checkpoint_page.Tie as tie
 
-mul-at : tie.Need-mul-at
-mul-at c = search needs
+mul-page : tie.Need-mul-page
+mul-page c = search needs
 
-add-at : tie.Need-add-at
-add-at c = search needs
+add-page : tie.Need-add-page
+add-page c = search needs
 
 next-sequence-requires : tie.Need-next-sequence-requires
 next-sequence-requires c κs = search needs
@@ -55,8 +55,8 @@ pub write-checkpoint-page-spec : {M : Type 1} → statement M
 write-checkpoint-page-spec =
     tie.close
     (tie.spec
-    mul-at
-    add-at
+    mul-page
+    add-page
     next-sequence-requires
     put-checkpoint-page-requires
     add-store-checkpoint-page

@@ -33,7 +33,7 @@ returns c =
     let a = c14 .args in
     let m = c9 .make-room in
     let l = c3 .read-row in
-    edit-entry (a .n) (changeOf (a .change)) (nodeOf (a .edited))
+    edit-entry (a .id) (changeOf (a .change)) (nodeOf (a .edited))
     (world (pagesOf (a .pool .now)) (rowsOf (a .table .now)) (a .state))
     (world (pagesOf (m .last .0)) (rowsOf (m .last .1 .0)) (m .result)) (m .ensures) (l .result) (l .ensures)
     (c .append .result) (c1 .if1 .taken) (c .append .ensures)
@@ -58,7 +58,7 @@ returns-2 c =
     let m = c15 .make-room in
     let l = c9 .read-row in
     let g = c4 .group in
-    edit-group (a .n) (changeOf (a .change)) (nodeOf (a .edited))
+    edit-group (a .id) (changeOf (a .change)) (nodeOf (a .edited))
     (world (pagesOf (a .pool .now)) (rowsOf (a .table .now)) (a .state))
     (world (pagesOf (m .last .0)) (rowsOf (m .last .1 .0)) (m .result)) (m .ensures) (l .result) (l .ensures)
     (world (pagesOf (g .last .0)) (rowsOf (g .last .1 .0)) (g .result)) (c7 .if1 .left) (g .ensures)

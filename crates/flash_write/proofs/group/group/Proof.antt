@@ -46,7 +46,7 @@ returns c =
     group-made (nodeOf (a .v)) (world (pagesOf (a .pool .now)) (rowsOf (a .table .now)) (a .state))
     (world (pagesOf (m .last .0)) (rowsOf (m .last .1 .0)) (m .result)) (a .v .count + 1)
     (ap (λ (k : ℕ). k + 1) (sym (length-pairsIn (a .v) (c17 .pre .2)))) (m .ensures) (t .kept .0) (n .result)
-    (n .ensures) (a .n) (l .result) (rowsOf (t .last .0)) (t .result) (l .ensures) (t .ensures)
+    (n .ensures) (a .id) (l .result) (rowsOf (t .last .0)) (t .result) (l .ensures) (t .ensures)
 
 pub group-spec : {M : Type 1} → statement M
 group-spec = tie.close (tie.spec add-make-room make-room-requires next-sequence-requires read-row-requires start-requires same-length same-length-2 returns)

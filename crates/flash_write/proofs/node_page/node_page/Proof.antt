@@ -21,7 +21,7 @@ write-node-requires c κs =
     let a = c13 .args in
     let p = c13 .pre in
     let x = c8 .allocate in
-    let b = allocated (writeNode (a .n) (nodeOf (a .v)))
+    let b = allocated (writeNode (a .id) (nodeOf (a .v)))
     (world (pagesOf (a .pool .now)) (rowsOf (a .table .now)) (a .state))
     (world (pagesOf (x .last .0)) (rowsOf (x .last .1 .0)) (x .result)) (x .ensures) in
     (x .ensures .good, c2 .if1 .taken, omega (arith, b .nodes, p .1), p .2)
@@ -42,7 +42,7 @@ returns c =
     let a = c18 .args in
     let x = c13 .allocate in
     let y = c4 .write-node in
-    kept-room (writeNode (a .n) (nodeOf (a .v))) (world (pagesOf (a .pool .now)) (rowsOf (a .table .now)) (a .state))
+    kept-room (writeNode (a .id) (nodeOf (a .v))) (world (pagesOf (a .pool .now)) (rowsOf (a .table .now)) (a .state))
     (world (pagesOf (x .last .0)) (rowsOf (x .last .1 .0)) (x .result)) (x .ensures)
     (world (pagesOf (y .last .0)) (rowsOf (y .last .1 .0)) (y .result)) (c7 .if1 .taken) (y .ensures)
 
@@ -59,7 +59,7 @@ returns-2 c =
     let c11 = c6 .before .before .before .before .before in
     let a = c11 .args in
     let x = c6 .allocate in
-    kept-stuck (writeNode (a .n) (nodeOf (a .v)))
+    kept-stuck (writeNode (a .id) (nodeOf (a .v)))
     (world (pagesOf (a .pool .now)) (rowsOf (a .table .now)) (a .state))
     (world (pagesOf (x .last .0)) (rowsOf (x .last .1 .0)) (x .result)) (x .ensures) (c .if1 .left)
 

@@ -7,11 +7,11 @@ use borrow.Author.Needs.{needs}
 use Rattle.flash_write.proofs.node_page.write_node.Statement.{statement}
 use Rattle.flash_write.proofs.node_page.write_node.Tie as tie
 
-mul-at : tie.Need-mul-at
-mul-at c = search needs
+mul-page : tie.Need-mul-page
+mul-page c = search needs
 
-add-at : tie.Need-add-at
-add-at c = search needs
+add-page : tie.Need-add-page
+add-page c = search needs
 
 next-sequence-requires : tie.Need-next-sequence-requires
 next-sequence-requires c κs = search needs
@@ -45,7 +45,7 @@ returns c =
     let n = c9 .next-sequence in
     let w = c7 .put-node in
     let d = c3 .node-page-row in
-    node-written (a .n) (nodeOf (a .v)) (pagesOf (a .pool .now)) (pagesOf (w .last .0)) (rowsOf (a .table .now))
+    node-written (a .id) (nodeOf (a .v)) (pagesOf (a .pool .now)) (pagesOf (w .last .0)) (rowsOf (a .table .now))
     (rowsOf (d .last .0)) (a .state) (c .advance .result) (n .result) (p .0) (w .kept .0) (d .kept .0) (p .1)
     (n .ensures) (w .ensures) (d .ensures) (c .advance .ensures)
 
@@ -53,8 +53,8 @@ pub write-node-spec : {M : Type 1} → statement M
 write-node-spec =
     tie.close
     (tie.spec
-    mul-at
-    add-at
+    mul-page
+    add-page
     next-sequence-requires
     put-node-requires
     cast-node-page-row

@@ -1,8 +1,11 @@
--- `run::run_command` meets its contract: each command is run by its own function. Assumes nothing.
+-- `run::run_command` meets its contract: each command is served by its own function, then its reply is laid. Assumes nothing.
 use mathlib.Core.Path.{ap}
 use native.Mathlib.Omega.{arith}
 use Rattle.command.specs.Batch.{roomFor}
-use Rattle.run.specs.One.{command-is, range-is}
+use Rattle.flash_rows.specs.Row.{rowsOf}
+use Rattle.flash_blocks.specs.Pages.{pagesOf}
+use Rattle.flash_allocate.specs.World.{world}
+use Rattle.run.specs.Replies.{put-replied, get-replied, delete-replied, scan-replied, range-is}
 use borrow.Author.Needs.{needs}
 use Rattle.run.proofs.run.run_command.Statement.{statement}
 use Rattle.run.proofs.run.run_command.Tie as tie
@@ -10,11 +13,14 @@ use Rattle.run.proofs.run.run_command.Tie as tie
 enum-known-command : tie.Need-enum-known-command
 enum-known-command c = search needs
 
-run-get-requires : tie.Need-run-get-requires
-run-get-requires c κs =
-    let c4 = c .before .before .before .before in
-    let c9 = c4 .before .before .before .before .before in
-    (c9 .pre .0, c9 .pre .1, omega (arith, c9 .pre .3, ap roomFor (c4 .command .given .1)))
+get-requires : tie.Need-get-requires
+get-requires c κs = search needs
+
+reply-requires : tie.Need-reply-requires
+reply-requires c κs =
+    let c9 = c .before .before .before .before .before .before .before .before .before in
+    let c14 = c9 .before .before .before .before .before in
+    omega (arith, c14 .pre .3, ap roomFor (c9 .command .given .1))
 
 same-length : tie.Need-same-length
 same-length c = search needs
@@ -27,18 +33,25 @@ same-length-3 c = search needs
 
 returns : tie.Need-returns
 returns c =
-    let c6 = c .before .before .before .before .before .before in
-    let c11 = c6 .before .before .before .before .before in
-    command-is (c11 .command .given .1) (c6 .run-get .ensures)
+    let c2 = c .before .before in
+    let c8 = c2 .before .before .before .before .before .before in
+    let c12 = c8 .before .before .before .before in
+    let c17 = c12 .before .before .before .before .before in
+    let a = c17 .args in
+    get-replied (a .tariff) (world (pagesOf (a .pool .now)) (rowsOf (a .table .now)) (a .state)) (c17 .pre .0) (c12 .command .given .1)
+    (c8 .get .ensures) (c2 .reply .ensures)
 
 enum-known-command-2 : tie.Need-enum-known-command-2
 enum-known-command-2 c = search needs
 
-run-put-requires : tie.Need-run-put-requires
-run-put-requires c κs =
-    let c4 = c .before .before .before .before in
-    let c9 = c4 .before .before .before .before .before in
-    (c9 .pre .0, c9 .pre .1, omega (arith, c9 .pre .3, ap roomFor (c4 .command2 .given .1)))
+put-requires : tie.Need-put-requires
+put-requires c κs = search needs
+
+reply-requires-2 : tie.Need-reply-requires-2
+reply-requires-2 c κs =
+    let c9 = c .before .before .before .before .before .before .before .before .before in
+    let c14 = c9 .before .before .before .before .before in
+    omega (arith, c14 .pre .3, ap roomFor (c9 .command2 .given .1))
 
 same-length-4 : tie.Need-same-length-4
 same-length-4 c = search needs
@@ -51,18 +64,25 @@ same-length-6 c = search needs
 
 returns-2 : tie.Need-returns-2
 returns-2 c =
-    let c6 = c .before .before .before .before .before .before in
-    let c11 = c6 .before .before .before .before .before in
-    command-is (c11 .command2 .given .1) (c6 .run-put .ensures)
+    let c2 = c .before .before in
+    let c8 = c2 .before .before .before .before .before .before in
+    let c12 = c8 .before .before .before .before in
+    let c17 = c12 .before .before .before .before .before in
+    let a = c17 .args in
+    put-replied (a .tariff) (world (pagesOf (a .pool .now)) (rowsOf (a .table .now)) (a .state)) (c12 .command2 .given .1)
+    (c8 .put .ensures) (c2 .reply2 .ensures)
 
 enum-known-command-3 : tie.Need-enum-known-command-3
 enum-known-command-3 c = search needs
 
-run-delete-requires : tie.Need-run-delete-requires
-run-delete-requires c κs =
-    let c4 = c .before .before .before .before in
-    let c9 = c4 .before .before .before .before .before in
-    (c9 .pre .0, c9 .pre .1, omega (arith, c9 .pre .3, ap roomFor (c4 .command3 .given .1)))
+delete-requires : tie.Need-delete-requires
+delete-requires c κs = search needs
+
+reply-requires-3 : tie.Need-reply-requires-3
+reply-requires-3 c κs =
+    let c9 = c .before .before .before .before .before .before .before .before .before in
+    let c14 = c9 .before .before .before .before .before in
+    omega (arith, c14 .pre .3, ap roomFor (c9 .command3 .given .1))
 
 same-length-7 : tie.Need-same-length-7
 same-length-7 c = search needs
@@ -75,19 +95,30 @@ same-length-9 c = search needs
 
 returns-3 : tie.Need-returns-3
 returns-3 c =
-    let c6 = c .before .before .before .before .before .before in
-    let c11 = c6 .before .before .before .before .before in
-    command-is (c11 .command3 .given .1) (c6 .run-delete .ensures)
+    let c2 = c .before .before in
+    let c8 = c2 .before .before .before .before .before .before in
+    let c12 = c8 .before .before .before .before in
+    let c17 = c12 .before .before .before .before .before in
+    let a = c17 .args in
+    delete-replied (a .tariff) (world (pagesOf (a .pool .now)) (rowsOf (a .table .now)) (a .state)) (c17 .pre .0) (c12 .command3 .given .1)
+    (c8 .delete .ensures) (c2 .reply3 .ensures)
 
 enum-known-command-4 : tie.Need-enum-known-command-4
 enum-known-command-4 c = search needs
 
-run-scan-requires : tie.Need-run-scan-requires
-run-scan-requires c κs =
-    let c4 = c .before .before .before .before in
-    let c9 = c4 .before .before .before .before .before in
-    let range = range-is (c4 .command4 .given .1) (c9 .pre .2) in
-    (c9 .pre .0, c9 .pre .1, range .0, range .1, omega (arith, c9 .pre .3, ap roomFor (c4 .command4 .given .1)))
+scan-requires : tie.Need-scan-requires
+scan-requires c κs =
+    let c3 = c .before .before .before in
+    let c8 = c3 .before .before .before .before .before in
+    let range = range-is (c3 .command4 .given .1) (c8 .pre .2) in
+    (c8 .pre .0 .good, c8 .pre .1, omega (arith, c8 .pre .0 .limited, c8 .pre .0 .good .most), range .0, range .1)
+
+reply-pairs-requires : tie.Need-reply-pairs-requires
+reply-pairs-requires c κs =
+    let c5 = c .before .before .before .before .before in
+    let c9 = c5 .before .before .before .before in
+    let c14 = c9 .before .before .before .before .before in
+    (c5 .scan .ensures .sized, omega (arith, c5 .scan .ensures .count, c14 .pre .3, ap roomFor (c9 .command4 .given .1)))
 
 same-length-10 : tie.Need-same-length-10
 same-length-10 c = search needs
@@ -100,34 +131,42 @@ same-length-12 c = search needs
 
 returns-4 : tie.Need-returns-4
 returns-4 c =
-    let c6 = c .before .before .before .before .before .before in
-    let c11 = c6 .before .before .before .before .before in
-    command-is (c11 .command4 .given .1) (c6 .run-scan .ensures)
+    let c2 = c .before .before in
+    let c8 = c2 .before .before .before .before .before .before in
+    let c12 = c8 .before .before .before .before in
+    let c17 = c12 .before .before .before .before .before in
+    let a = c17 .args in
+    scan-replied (a .tariff) (world (pagesOf (a .pool .now)) (rowsOf (a .table .now)) (a .state)) (c17 .pre .0) (c12 .command4 .given .1)
+    (c8 .scan .ensures) (c2 .reply-pairs .ensures)
 
 pub run-command-spec : {M : Type 1} → statement M
 run-command-spec =
     tie.close
     (tie.spec
     enum-known-command
-    run-get-requires
+    get-requires
+    reply-requires
     same-length
     same-length-2
     same-length-3
     returns
     enum-known-command-2
-    run-put-requires
+    put-requires
+    reply-requires-2
     same-length-4
     same-length-5
     same-length-6
     returns-2
     enum-known-command-3
-    run-delete-requires
+    delete-requires
+    reply-requires-3
     same-length-7
     same-length-8
     same-length-9
     returns-3
     enum-known-command-4
-    run-scan-requires
+    scan-requires
+    reply-pairs-requires
     same-length-10
     same-length-11
     same-length-12

@@ -72,32 +72,32 @@ run-command-requires c κs =
 
 add-charge : tie.Need-add-charge Inv-loop μ-loop
 add-charge c =
-    let c8 = c .before .before .before .before .before .before .before .before in
-    let c16 = c8 .before .before .before .before .before .before .before .before in
-    let c17 = c16 .before in
-    let c22 = c17 .before .before .before .before .before in
-    omega (arith, c17 .loop .inv .3 .most, c8 .run-command .ensures .most, c22 .pre .2 .short, c16 .loop-test .taken)
+    let c9 = c .before .before .before .before .before .before .before .before .before in
+    let c17 = c9 .before .before .before .before .before .before .before .before in
+    let c18 = c17 .before in
+    let c23 = c18 .before .before .before .before .before in
+    omega (arith, c18 .loop .inv .3 .most, c9 .run-command .ensures .charged .most, c23 .pre .2 .short, c17 .loop-test .taken)
 
 loop-less : tie.Need-loop-less Inv-loop μ-loop
 loop-less c =
-    let c12 = c .before .before .before .before .before .before .before .before .before .before .before .before in
-    let c16 = c12 .before .before .before .before in
-    let further = onward (c12) in
-    omega (arith, further .0, further .1, c16 .loop-test .taken)
+    let c13 = c .before .before .before .before .before .before .before .before .before .before .before .before .before in
+    let c17 = c13 .before .before .before .before in
+    let further = onward (c13) in
+    omega (arith, further .0, further .1, c17 .loop-test .taken)
 
 loop-again : tie.Need-loop-again Inv-loop μ-loop
 loop-again c =
-    let c8 = c .before .before .before .before .before .before .before .before in
-    let c12 = c8 .before .before .before .before in
-    let c16 = c12 .before .before .before .before in
-    let c17 = c16 .before in
-    let l = c17 .loop in
-    let x = c8 .run-command in
-    let further = onward (c12) in (
+    let c9 = c .before .before .before .before .before .before .before .before .before in
+    let c13 = c9 .before .before .before .before in
+    let c17 = c13 .before .before .before .before in
+    let c18 = c17 .before in
+    let l = c18 .loop in
+    let x = c9 .run-command in
+    let further = onward (c13) in (
       x .kept .0 ∙ l .inv .0,
       x .kept .1 .0 ∙ l .inv .1,
       x .kept .1 .1 .0 ∙ l .inv .2,
-      running-next (l .inv .3) (c16 .loop-test .taken) _ _ (step-is (c12)) (length (x .last .0))
+      running-next (l .inv .3) (c17 .loop-test .taken) _ _ (step-is (c13)) (length (x .last .0))
           (length (x .last .1 .0)) (pagesOf (x .last .0)) (rowsOf (x .last .1 .0)) (x .last .1 .1 .0) (x .result)
           (further .0) (further .1) (x .ensures),
     )

@@ -38,8 +38,8 @@ serve-edit-requires c κs =
     let c22 = c10 .before .before .before .before .before .before .before .before .before .before .before .before in
     (c10 .serve-reads .ensures .kept .good, c22 .pre .1)
 
-add-t37 : tie.Need-add-t37
-add-t37 c =
+add-t38 : tie.Need-add-t38
+add-t38 c =
     let c7 = c .before .before .before .before .before .before .before in
     let c18 = c7 .before .before .before .before .before .before .before .before .before .before .before in
     let c25 = c18 .before .before .before .before .before .before .before in
@@ -66,7 +66,7 @@ returns c =
     let w = world (pagesOf (a .pool .now)) (rowsOf (a .table .now)) (a .state) in
     let path = c25 .path-to .ensures in
     let value = c21 .value-at in
-    deleted-one (path .few) (path-read w path (c18 .serve-reads .ensures)) _ _ (path .end)
+    deleted-one (a .tariff) (a .key) w (path-read w path (a .tariff) (c18 .serve-reads .ensures)) _ _ (path .end)
     (value-in w path (valueOf (value .result)) (value .ensures) ∙ ap valueOf (c11 .value .given .1)) (c7 .serve-edit .ensures)
 
 same-length-3 : tie.Need-same-length-3
@@ -85,7 +85,7 @@ returns-2 c =
     let w = world (pagesOf (a .pool .now)) (rowsOf (a .table .now)) (a .state) in
     let path = c14 .path-to .ensures in
     let value = c10 .value-at in
-    deleted-none (path .few) (path-read w path (c7 .serve-reads .ensures))
+    deleted-none (a .tariff) (a .key) w (path-read w path (a .tariff) (c7 .serve-reads .ensures))
     (value-in w path (valueOf (value .result)) (value .ensures) ∙ ap valueOf (c .enum-told .given .1))
 
 pub delete-spec : {M : Type 1} → statement M
@@ -100,7 +100,7 @@ delete-spec =
     mul-serve-edit
     array-read-serve-edit
     serve-edit-requires
-    add-t37
+    add-t38
     enum-told
     same-length
     same-length-2

@@ -27,15 +27,15 @@ same-length-2 c = search needs
 
 returns : tie.Need-returns
 returns c =
-    let c5 = c .before .before .before .before .before in
-    let c9 = c5 .before .before .before .before in
-    let c10 = c9 .before in
-    let c12 = c10 .before .before in
-    let c17 = c12 .before .before .before .before .before in
-    let a = c17 .args in
-    got-as (world (pagesOf (a .pool .now)) (rowsOf (a .table .now)) (a .state)) (c12 .path-to .ensures)
-    (c5 .serve-reads .ensures) (c10 .value-at .result) (c10 .value-at .ensures) (c9 .get-answer .result)
-    (c9 .get-answer .ensures)
+    let c4 = c .before .before .before .before in
+    let c8 = c4 .before .before .before .before in
+    let c9 = c8 .before in
+    let c11 = c9 .before .before in
+    let c16 = c11 .before .before .before .before .before in
+    let a = c16 .args in
+    got-as (world (pagesOf (a .pool .now)) (rowsOf (a .table .now)) (a .state)) (c11 .path-to .ensures)
+    (a .tariff) (c4 .serve-reads .ensures) (c9 .value-at .result) (c9 .value-at .ensures) (c8 .get-answer .result)
+    (c8 .get-answer .ensures)
 
 pub get-spec : {M : Type 1} → statement M
 get-spec =

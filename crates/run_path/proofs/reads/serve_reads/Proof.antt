@@ -3,6 +3,9 @@ use mathlib.Core.Path.{_≡_}
 use Prim.Native.Nat.{_≤_}
 use native.Mathlib.Omega.{arith}
 use lib.ListN.{length}
+use Rattle.flash_rows.specs.Row.{rowsOf}
+use Rattle.flash_blocks.specs.Pages.{pagesOf}
+use Rattle.flash_allocate.specs.World.{world}
 use borrow.Author.Needs.{needs}
 use Rattle.run_path.specs.Reading.{reads-part}
 use Rattle.run_path.proofs.reads.serve_reads.Statement.{statement}
@@ -31,7 +34,9 @@ returns c =
     let entry = c .before .before .before .before .before .before .before .before .before .before .before in
     let whole : length (entry .args .t5) ≡ 9 = search needs in
     let few : entry .args .n ≤ length (entry .args .t5) = omega (arith, whole, entry .pre .2) in
-    reads-part (entry .args .n) (entry .args .t5) few (c .before .before .before .before .read-nodes .ensures)
+    let a = entry .args in
+    reads-part (a .tariff) (world (pagesOf (a .pool .now)) (rowsOf (a .table .now)) (a .state)) (a .n) (a .t5) few
+    (c .before .before .before .before .read-nodes .ensures)
 
 pub serve-reads-spec : {M : Type 1} → statement M
 serve-reads-spec =

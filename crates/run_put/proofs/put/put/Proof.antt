@@ -34,19 +34,19 @@ same-length-2 c = search needs
 
 returns : tie.Need-returns
 returns c =
-    let c5 = c .before .before .before .before .before in
-    let c8 = c5 .before .before .before in
-    let c9 = c8 .before in
-    let c11 = c9 .before .before in
-    let c14 = c11 .before .before .before in
-    let c19 = c14 .before .before .before .before .before in
-    let a = c19 .args in
-    let p = c14 .path-to in
-    let f = c11 .fit in
-    let x = c5 .read-and-edit in
+    let c4 = c .before .before .before .before in
+    let c7 = c4 .before .before .before in
+    let c8 = c7 .before in
+    let c10 = c8 .before .before in
+    let c13 = c10 .before .before .before in
+    let c18 = c13 .before .before .before .before .before in
+    let a = c18 .args in
+    let p = c13 .path-to in
+    let f = c10 .fit in
+    let x = c4 .read-and-edit in
     put-edit (a .tariff) (a .key) (a .value) (world (pagesOf (a .pool .now)) (rowsOf (a .table .now)) (a .state))
     (p .result) (p .ensures) (f .result) (f .ensures) (pagesOf (x .last .0)) (rowsOf (x .last .1 .0))
-    (c8 .replaced-answer .result) (x .result) (c9 .enum-told .given .1) (c8 .replaced-answer .ensures) (x .ensures)
+    (c7 .replaced-answer .result) (x .result) (c8 .enum-told .given .1) (c7 .replaced-answer .ensures) (x .ensures)
 
 enum-told-2 : tie.Need-enum-told-2
 enum-told-2 c = search needs
@@ -85,9 +85,9 @@ returns-2 c =
     let a = c17 .args in
     let p = c12 .path-to in
     let f = c9 .fit in
-    done-is (c4 .put-splitting .ensures)
+    done-is
     (put-new (a .tariff) (a .key) (a .value) (world (pagesOf (a .pool .now)) (rowsOf (a .table .now)) (a .state))
-    (p .result) (p .ensures) (f .result) (f .ensures) _ (c7 .enum-told2 .given .1))
+    (p .result) (p .ensures) (f .result) (f .ensures) _ (c7 .enum-told2 .given .1)) (c4 .put-splitting .ensures)
 
 pub put-spec : {M : Type 1} → statement M
 put-spec = tie.close (tie.spec path-to-requires fit-requires enum-told replaced-answer-requires

@@ -56,19 +56,19 @@ same-length-4 c = search needs
 
 returns-2 : tie.Need-returns-2
 returns-2 c =
-    let c5 = c .before .before .before .before .before in
-    let c8 = c5 .before .before .before in
-    let c10 = c8 .before .before in
-    let c11 = c10 .before in
-    let c16 = c11 .before .before .before .before .before in
-    let a = c16 .args in
-    let x = c11 .ids-needed in
-    let y = c5 .read-and-split in
+    let c4 = c .before .before .before .before in
+    let c7 = c4 .before .before .before in
+    let c9 = c7 .before .before in
+    let c10 = c9 .before in
+    let c15 = c10 .before .before .before .before .before in
+    let a = c15 .args in
+    let x = c10 .ids-needed in
+    let y = c4 .read-and-split in
     new-split (a .tariff) (take (a .n) (a .ids)) (x .result)
     (idsNeeded (tableOf (pagesOf (a .pool .now)) (rowsOf (a .table .now)) (a .state)) (take (a .n) (a .ids)))
     (a .key) (a .value) (world (pagesOf (a .pool .now)) (rowsOf (a .table .now)) (a .state)) (x .ensures .0)
     (pagesOf (y .last .0)) (rowsOf (y .last .1 .0)) (y .result)
-    (omega (arith, c8 .if1 .left, c10 .node-limit .ensures .0)) (y .ensures)
+    (omega (arith, c7 .if1 .left, c9 .node-limit .ensures .0)) (y .ensures)
 
 pub put-splitting-spec : {M : Type 1} → statement M
 put-splitting-spec = tie.close

@@ -57,16 +57,19 @@ read-nodes-requires c κs =
           (omega (arith, few, found .ensures .room)),
     )
 
-add-t43 : tie.Need-add-t43
-add-t43 c =
-    let c8 = c .before .before .before .before .before .before .before .before in
-    let c19 = c8 .before .before .before .before .before .before .before .before .before .before .before in
-    let c23 = c19 .before .before .before .before in
-    let c26 = c23 .before .before .before in
-    let c32 = c26 .before .before .before .before .before .before in
-    let found = c23 .gather in
-    let few : found .result .visited ≤ length (found .result .leaves) = omega (arith, found .ensures .few, found .ensures .room, c32 .pre .2) in
-    omega (arith, c19 .serve-reads .ensures .most, c26 .path-to .ensures .few, reads-part _ _ few (c8 .read-nodes .ensures) .most, found .ensures .room)
+add-t45 : tie.Need-add-t45
+add-t45 c =
+    let c7 = c .before .before .before .before .before .before .before in
+    let c18 = c7 .before .before .before .before .before .before .before .before .before .before .before in
+    let c22 = c18 .before .before .before .before in
+    let c25 = c22 .before .before .before in
+    let c31 = c25 .before .before .before .before .before .before in
+    let found = c22 .gather in
+    let few : found .result .visited ≤ length (found .result .leaves) = omega (arith, found .ensures .few, found .ensures .room, c31 .pre .2) in
+    let x = c18 .serve-reads in
+    let left = world (pagesOf (x .last .0)) (rowsOf (x .last .1 .0)) (x .result .state) in
+    let along = reads-part (c31 .args .tariff) left (found .result .visited) (found .result .leaves) few (c7 .read-nodes .ensures) in
+    omega (arith, x .ensures .most, c25 .path-to .ensures .few, along .most, found .ensures .room)
 
 same-length : tie.Need-same-length
 same-length c = search needs
@@ -86,10 +89,12 @@ returns-2 c =
     let a = entry .args in
     let found = c23 .gather in
     let few : found .result .visited ≤ length (found .result .leaves) = omega (arith, found .ensures .few, found .ensures .room, entry .pre .2) in
+    let x = c19 .serve-reads in
     scanned (a .tariff) (a .low) (a .high) (a .most)
     (world (pagesOf (a .pool .now)) (rowsOf (a .table .now)) (a .state)) (c29 .if1 .left) (entry .pre .2)
-    (c26 .path-to .ensures) (found .ensures) (c19 .serve-reads .ensures)
-    (reads-part (found .result .visited) (found .result .leaves) few (c8 .read-nodes .ensures))
+    (c26 .path-to .ensures) (found .ensures) (x .ensures)
+    (reads-part (a .tariff) (world (pagesOf (x .last .0)) (rowsOf (x .last .1 .0)) (x .result .state))
+    (found .result .visited) (found .result .leaves) few (c8 .read-nodes .ensures))
 
 pub scan-spec : {M : Type 1} → statement M
 scan-spec =
@@ -103,7 +108,7 @@ scan-spec =
     part-read-nodes-start
     part-read-nodes-end
     read-nodes-requires
-    add-t43
+    add-t45
     same-length
     same-length-2
     returns-2)

@@ -28,16 +28,16 @@ same-length-2 c = search needs
 returns : tie.Need-returns
 returns c =
     let c4 = c .before .before .before .before in
-    let c12 = c4 .before .before .before .before .before .before .before .before in
-    let c15 = c12 .before .before .before in
-    let c18 = c15 .before .before .before in
-    let c22 = c18 .before .before .before .before in
-    let a = c22 .args in
-    let x = c12 .settle in
+    let c13 = c4 .before .before .before .before .before .before .before .before .before in
+    let c16 = c13 .before .before .before in
+    let c19 = c16 .before .before .before in
+    let c23 = c19 .before .before .before .before in
+    let a = c23 .args in
+    let x = c13 .settle in
     let y = c4 .write-edit in
-    let v = c15 .edited-content in
-    served-there (a .tariff) (a .n) (edit (changeOf (a .change)))
-    (world (pagesOf (a .pool .now)) (rowsOf (a .table .now)) (a .state)) (c18 .if1 .taken) (pagesOf (x .last .0))
+    let v = c16 .edited-content in
+    served-there (a .tariff) (a .id) (edit (changeOf (a .change)))
+    (world (pagesOf (a .pool .now)) (rowsOf (a .table .now)) (a .state)) (c19 .if1 .taken) (pagesOf (x .last .0))
     (rowsOf (x .last .1 .0)) (x .result) (x .ensures) (nodeOf (v .result)) (v .ensures .is) (pagesOf (y .last .0))
     (rowsOf (y .last .1 .0)) (y .result) (y .ensures)
 
@@ -45,7 +45,7 @@ returns-2 : tie.Need-returns-2
 returns-2 c =
     let c4 = c .before .before .before .before in
     let a = c4 .args in
-    served-nowhere (a .tariff) (a .n) (edit (changeOf (a .change)))
+    served-nowhere (a .tariff) (a .id) (edit (changeOf (a .change)))
     (world (pagesOf (a .pool .now)) (rowsOf (a .table .now)) (a .state)) (c .if1 .left) (c4 .pre .0)
 
 pub serve-edit-spec : {M : Type 1} → statement M

@@ -25,14 +25,14 @@ same-length-2 c = search needs
 returns : tie.Need-returns
 returns c =
     let c4 = c .before .before .before .before in
-    let c12 = c4 .before .before .before .before .before .before .before .before in
-    let c15 = c12 .before .before .before in
-    let c19 = c15 .before .before .before .before in
-    let a = c19 .args in
-    let x = c12 .settle in
+    let c13 = c4 .before .before .before .before .before .before .before .before .before in
+    let c16 = c13 .before .before .before in
+    let c20 = c16 .before .before .before .before in
+    let a = c20 .args in
+    let x = c13 .settle in
     let y = c4 .write-whole in
-    served-there (a .tariff) (a .n) (rewrite (nodeOf (a .v)))
-    (world (pagesOf (a .pool .now)) (rowsOf (a .table .now)) (a .state)) (c15 .if1 .taken) (pagesOf (x .last .0))
+    served-there (a .tariff) (a .id) (rewrite (nodeOf (a .v)))
+    (world (pagesOf (a .pool .now)) (rowsOf (a .table .now)) (a .state)) (c16 .if1 .taken) (pagesOf (x .last .0))
     (rowsOf (x .last .1 .0)) (x .result) (x .ensures) (nodeOf (a .v)) refl (pagesOf (y .last .0))
     (rowsOf (y .last .1 .0)) (y .result) (y .ensures)
 
@@ -40,7 +40,8 @@ returns-2 : tie.Need-returns-2
 returns-2 c =
     let c4 = c .before .before .before .before in
     let a = c4 .args in
-    served-nowhere (a .tariff) (a .n) (rewrite (nodeOf (a .v))) (world (pagesOf (a .pool .now)) (rowsOf (a .table .now)) (a .state)) (c .if1 .left) (c4 .pre .0)
+    served-nowhere (a .tariff) (a .id) (rewrite (nodeOf (a .v)))
+    (world (pagesOf (a .pool .now)) (rowsOf (a .table .now)) (a .state)) (c .if1 .left) (c4 .pre .0)
 
 pub serve-rewrite-spec : {M : Type 1} → statement M
 serve-rewrite-spec =

@@ -39,7 +39,7 @@ returns c =
     let a = c18 .args in
     let x = c8 .switch in
     let y = c2 .rescore in
-    settled (a .tariff) (a .request) (a .n) (world (pagesOf (a .pool .now)) (rowsOf (a .table .now)) (a .state))
+    settled (a .tariff) (a .request) (a .id) (world (pagesOf (a .pool .now)) (rowsOf (a .table .now)) (a .state))
     (world (pagesOf (x .last .0)) (rowsOf (x .last .1 .0)) (x .result)) (c14 .read-row .result)
     (c13 .account-in .result) (c12 .serve .result) (rowsOf (y .last .0)) (c14 .read-row .ensures)
     (c13 .account-in .ensures) (c12 .serve .ensures) (x .ensures) (y .ensures) (y .kept .0)

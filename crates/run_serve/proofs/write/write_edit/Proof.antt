@@ -29,7 +29,7 @@ returns c =
     let c7 = c4 .before .before .before in
     let c11 = c7 .before .before .before .before in
     let a = c11 .args in
-    kept-mode (λ (m : Mode). writeEdit m (a .n) (changeOf (a .change)) (nodeOf (a .edited))
+    kept-mode (λ (m : Mode). writeEdit m (a .id) (changeOf (a .change)) (nodeOf (a .edited))
     (world (pagesOf (a .pool .now)) (rowsOf (a .table .now)) (a .state))) (c7 .enum-told .given .1)
     (c4 .edit .ensures)
 
@@ -51,7 +51,7 @@ returns-2 c =
     let c7 = c4 .before .before .before in
     let c11 = c7 .before .before .before .before in
     let a = c11 .args in
-    kept-mode (λ (m : Mode). writeEdit m (a .n) (changeOf (a .change)) (nodeOf (a .edited))
+    kept-mode (λ (m : Mode). writeEdit m (a .id) (changeOf (a .change)) (nodeOf (a .edited))
     (world (pagesOf (a .pool .now)) (rowsOf (a .table .now)) (a .state))) (c7 .enum-told2 .given .1)
     (c4 .node-page .ensures)
 

@@ -28,7 +28,7 @@ returns c =
     let c7 = c4 .before .before .before in
     let c11 = c7 .before .before .before .before in
     let a = c11 .args in
-    kept-mode (λ (m : Mode). writeWhole m (a .n) (nodeOf (a .v))
+    kept-mode (λ (m : Mode). writeWhole m (a .id) (nodeOf (a .v))
     (world (pagesOf (a .pool .now)) (rowsOf (a .table .now)) (a .state))) (c7 .enum-told .given .1)
     (c4 .group .ensures)
 
@@ -50,7 +50,7 @@ returns-2 c =
     let c7 = c4 .before .before .before in
     let c11 = c7 .before .before .before .before in
     let a = c11 .args in
-    kept-mode (λ (m : Mode). writeWhole m (a .n) (nodeOf (a .v))
+    kept-mode (λ (m : Mode). writeWhole m (a .id) (nodeOf (a .v))
     (world (pagesOf (a .pool .now)) (rowsOf (a .table .now)) (a .state))) (c7 .enum-told2 .given .1)
     (c4 .node-page .ensures)
 

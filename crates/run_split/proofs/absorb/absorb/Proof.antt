@@ -1,4 +1,4 @@
--- `take::absorb` meets its contract: each case of what is pending is one turn. Assumes nothing.
+-- `absorb::absorb` meets its contract: each case of what is pending is one turn. Assumes nothing.
 use Rattle.flash_rows.specs.Row.{rowsOf}
 use Rattle.flash_blocks.specs.Pages.{pagesOf}
 use Rattle.flash_allocate.specs.World.{world}

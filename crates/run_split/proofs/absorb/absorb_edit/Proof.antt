@@ -1,4 +1,4 @@
--- `take::absorb_edit` meets its contract: one request. Assumes nothing.
+-- `absorb::absorb_edit` meets its contract: one request. Assumes nothing.
 use Rattle.flash_rows.specs.Row.{rowsOf}
 use Rattle.flash_blocks.specs.Pages.{pagesOf}
 use Rattle.node.specs.Drafts.{changeOf}
@@ -21,11 +21,11 @@ same-length-2 c = search needs
 
 returns : tie.Need-returns
 returns c =
-    let c5 = c .before .before .before .before .before in
-    let c10 = c5 .before .before .before .before .before in
-    let a = c10 .args in
-    let x = c5 .serve-edit in
-    one-edit (a .tariff) (a .id) (world (pagesOf (a .pool .now)) (rowsOf (a .table .now)) (a .state)) (c10 .pre .0)
+    let c4 = c .before .before .before .before in
+    let c9 = c4 .before .before .before .before .before in
+    let a = c9 .args in
+    let x = c4 .serve-edit in
+    one-edit (a .tariff) (a .id) (world (pagesOf (a .pool .now)) (rowsOf (a .table .now)) (a .state)) (c9 .pre .0)
     (changeOf (a .edit)) (pagesOf (x .last .0)) (rowsOf (x .last .1 .0)) (x .result) (x .ensures)
 
 pub absorb-edit-spec : {M : Type 1} → statement M

@@ -1,4 +1,4 @@
--- `take::absorb_edits` meets its contract: two requests. Assumes nothing.
+-- `absorb::absorb_edits` meets its contract: two requests. Assumes nothing.
 use native.Mathlib.Omega.{arith}
 use Rattle.flash_rows.specs.Row.{rowsOf}
 use Rattle.flash_blocks.specs.Pages.{pagesOf}
@@ -20,8 +20,8 @@ serve-edit-requires-2 c κs =
     let c12 = c7 .before .before .before .before .before in
     (c7 .serve-edit .ensures .kept .good, c12 .pre .1)
 
-add-t21 : tie.Need-add-t21
-add-t21 c =
+add-t22 : tie.Need-add-t22
+add-t22 c =
     let c7 = c .before .before .before .before .before .before .before in
     let c15 = c7 .before .before .before .before .before .before .before .before in
     omega (arith, c15 .serve-edit .ensures .most, c7 .serve-edit2 .ensures .most)
@@ -45,4 +45,4 @@ returns c =
     (x .ensures) (pagesOf (y .last .0)) (rowsOf (y .last .1 .0)) (y .result) (y .ensures)
 
 pub absorb-edits-spec : {M : Type 1} → statement M
-absorb-edits-spec = tie.close (tie.spec serve-edit-requires serve-edit-requires-2 add-t21 same-length same-length-2 returns)
+absorb-edits-spec = tie.close (tie.spec serve-edit-requires serve-edit-requires-2 add-t22 same-length same-length-2 returns)

@@ -1,4 +1,4 @@
--- `take::absorb_halves` meets its contract: two edits where the middle key fits, else the split. Assumes nothing.
+-- `absorb::absorb_halves` meets its contract: two edits where the middle key fits, else the split. Assumes nothing.
 use Rattle.flash_rows.specs.Row.{rowsOf}
 use Rattle.flash_blocks.specs.Pages.{pagesOf}
 use Rattle.node.specs.Drafts.{changeOf}

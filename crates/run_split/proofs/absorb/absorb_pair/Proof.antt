@@ -1,4 +1,4 @@
--- `take::absorb_pair` meets its contract: one edit where the pair fits, else the split. Assumes nothing.
+-- `absorb::absorb_pair` meets its contract: one edit where the pair fits, else the split. Assumes nothing.
 use Rattle.flash_rows.specs.Row.{rowsOf}
 use Rattle.flash_blocks.specs.Pages.{pagesOf}
 use Rattle.flash_allocate.specs.World.{world}

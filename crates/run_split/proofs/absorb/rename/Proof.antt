@@ -1,4 +1,4 @@
--- `take::rename` meets its contract: a put at the key of the place, behind all keys the link. Assumes nothing.
+-- `absorb::rename` meets its contract: a put at the key of the place, behind all keys the link. Assumes nothing.
 use Rattle.run_split.proofs.Laws.{rename-key, rename-link}
 use borrow.Author.Needs.{needs}
 use Rattle.run_split.proofs.absorb.rename.Statement.{statement}

@@ -49,36 +49,36 @@ serve-rewrite-requires c κs =
 
 same-length : tie.Need-same-length
 same-length c =
-    let c5 = c .before .before .before .before .before in
-    let c13 = c5 .before .before .before .before .before .before .before .before in
-    let c20 = c13 .before .before .before .before .before .before .before in
-    omega (arith, c5 .serve-rewrite .kept .0, c13 .grow2 .kept .0, c20 .grow .kept .0)
+    let c4 = c .before .before .before .before in
+    let c12 = c4 .before .before .before .before .before .before .before .before in
+    let c19 = c12 .before .before .before .before .before .before .before in
+    omega (arith, c4 .serve-rewrite .kept .0, c12 .grow2 .kept .0, c19 .grow .kept .0)
 
 same-length-2 : tie.Need-same-length-2
 same-length-2 c =
-    let c5 = c .before .before .before .before .before in
-    let c13 = c5 .before .before .before .before .before .before .before .before in
-    let c20 = c13 .before .before .before .before .before .before .before in
-    omega (arith, c5 .serve-rewrite .kept .1 .0, c13 .grow2 .kept .1 .0, c20 .grow .kept .1 .0)
+    let c4 = c .before .before .before .before in
+    let c12 = c4 .before .before .before .before .before .before .before .before in
+    let c19 = c12 .before .before .before .before .before .before .before in
+    omega (arith, c4 .serve-rewrite .kept .1 .0, c12 .grow2 .kept .1 .0, c19 .grow .kept .1 .0)
 
 returns : tie.Need-returns
 returns c =
-    let c5 = c .before .before .before .before .before in
-    let c8 = c5 .before .before .before in
-    let c13 = c8 .before .before .before .before .before in
-    let c20 = c13 .before .before .before .before .before .before .before in
-    let c23 = c20 .before .before .before in
+    let c4 = c .before .before .before .before in
+    let c7 = c4 .before .before .before in
+    let c12 = c7 .before .before .before .before .before in
+    let c19 = c12 .before .before .before .before .before .before .before in
+    let c22 = c19 .before .before .before in
+    let c23 = c22 .before in
     let c24 = c23 .before in
-    let c25 = c24 .before in
-    let c29 = c25 .before .before .before .before in
-    let a = c29 .args in
-    let x = c20 .grow in
-    let y = c13 .grow2 in
-    let z = c5 .serve-rewrite in
+    let c28 = c24 .before .before .before .before in
+    let a = c28 .args in
+    let x = c19 .grow in
+    let y = c12 .grow2 in
+    let z = c4 .serve-rewrite in
     root-split (a .tariff) (change (put (a .key) (a .pointer)) (nodeOf (a .v)))
-    (world (pagesOf (a .pool .now)) (rowsOf (a .table .now)) (a .state)) (nodeOf (c25 .lower .result))
-    (nodeOf (c24 .upper .result)) (c23 .middle .result) (nodeOf (c8 .root-above .result)) (c25 .lower .ensures .is)
-    (c24 .upper .ensures .is) (c23 .middle .ensures) (c8 .root-above .ensures .is)
+    (world (pagesOf (a .pool .now)) (rowsOf (a .table .now)) (a .state)) (nodeOf (c24 .lower .result))
+    (nodeOf (c23 .upper .result)) (c22 .middle .result) (nodeOf (c7 .root-above .result)) (c24 .lower .ensures .is)
+    (c23 .upper .ensures .is) (c22 .middle .ensures) (c7 .root-above .ensures .is)
     (world (pagesOf (x .last .0)) (rowsOf (x .last .1 .0)) (x .result)) (x .ensures)
     (world (pagesOf (y .last .0)) (rowsOf (y .last .1 .0)) (y .result)) (y .ensures) (pagesOf (z .last .0))
     (rowsOf (z .last .1 .0)) (z .result) (z .ensures)

@@ -54,26 +54,26 @@ absorb-requires c κs = (c .before .before .before .loop .inv .3 .growing, c .be
 
 add-charge : tie.Need-add-charge Inv-loop μ-loop
 add-charge c =
-    let c6 = c .before .before .before .before .before .before in
-    let c10 = c6 .before .before .before .before in
-    omega (arith, c10 .loop .inv .3 .most, c6 .absorb .ensures .most)
+    let c7 = c .before .before .before .before .before .before .before in
+    let c11 = c7 .before .before .before .before in
+    omega (arith, c11 .loop .inv .3 .most, c7 .absorb .ensures .charged .most)
 
 loop-less : tie.Need-loop-less Inv-loop μ-loop
 loop-less c = omega arith
 
 loop-again : tie.Need-loop-again Inv-loop μ-loop
 loop-again c =
-    let c6 = c .before .before .before .before .before .before in
-    let c9 = c6 .before .before .before in
-    let c10 = c9 .before in
-    let c13 = c10 .before .before .before in
-    let a = c13 .args in
-    let l = c10 .loop in
-    let x = c6 .absorb in (
+    let c7 = c .before .before .before .before .before .before .before in
+    let c10 = c7 .before .before .before in
+    let c11 = c10 .before in
+    let c14 = c11 .before .before .before in
+    let a = c14 .args in
+    let l = c11 .loop in
+    let x = c7 .absorb in (
       l .inv .0,
       x .kept .0 ∙ l .inv .1,
       x .kept .1 .0 ∙ l .inv .2,
-      splitting-next (l .inv .3) (pagesOf (x .last .0)) (rowsOf (x .last .1 .0)) (x .result) (c9 .loop-test .taken)
+      splitting-next (l .inv .3) (pagesOf (x .last .0)) (rowsOf (x .last .1 .0)) (x .result) (c10 .loop-test .taken)
           (getD (a .t5) (l .i - 1) 0) (sym
           (getD-take (a .n) (a .t5) (l .i - 1) 0
           (omega (arith, l .inv .3 .inside, l .inv .3 .some, length-take (a .n) (a .t5))))) (x .ensures),
@@ -82,34 +82,34 @@ loop-again c =
 absorb-requires-2 : tie.Need-absorb-requires-2 Inv-loop μ-loop
 absorb-requires-2 c κs = (c .before .before .before .loop .inv .3 .growing, c .before .before .before .before .before .before .pre .1)
 
-add-t30 : tie.Need-add-t30 Inv-loop μ-loop
-add-t30 c =
-    let c6 = c .before .before .before .before .before .before in
-    let c10 = c6 .before .before .before .before in
-    omega (arith, c10 .loop .inv .3 .most, c6 .absorb2 .ensures .most)
+add-t32 : tie.Need-add-t32 Inv-loop μ-loop
+add-t32 c =
+    let c7 = c .before .before .before .before .before .before .before in
+    let c11 = c7 .before .before .before .before in
+    omega (arith, c11 .loop .inv .3 .most, c7 .absorb2 .ensures .charged .most)
 
 same-length : tie.Need-same-length Inv-loop μ-loop
 same-length c =
-    let c6 = c .before .before .before .before .before .before in
-    let c10 = c6 .before .before .before .before in
-    let l = c10 .loop in omega (arith, l .inv .1, c6 .absorb2 .kept .0)
+    let c7 = c .before .before .before .before .before .before .before in
+    let c11 = c7 .before .before .before .before in
+    let l = c11 .loop in omega (arith, l .inv .1, c7 .absorb2 .kept .0)
 
 same-length-2 : tie.Need-same-length-2 Inv-loop μ-loop
 same-length-2 c =
-    let c6 = c .before .before .before .before .before .before in
-    let c10 = c6 .before .before .before .before in
-    let l = c10 .loop in omega (arith, l .inv .2, c6 .absorb2 .kept .1 .0)
+    let c7 = c .before .before .before .before .before .before .before in
+    let c11 = c7 .before .before .before .before in
+    let l = c11 .loop in omega (arith, l .inv .2, c7 .absorb2 .kept .1 .0)
 
 returns : tie.Need-returns Inv-loop μ-loop
 returns c =
-    let c6 = c .before .before .before .before .before .before in
-    let c9 = c6 .before .before .before in
-    let c10 = c9 .before in
-    let l = c10 .loop in
-    let x = c6 .absorb2 in
-    splitting-end (l .inv .3) (pagesOf (x .last .0)) (rowsOf (x .last .1 .0)) (x .result) (c9 .loop-test .left) (x .ensures)
+    let c7 = c .before .before .before .before .before .before .before in
+    let c10 = c7 .before .before .before in
+    let c11 = c10 .before in
+    let l = c11 .loop in
+    let x = c7 .absorb2 in
+    splitting-end (l .inv .3) (pagesOf (x .last .0)) (rowsOf (x .last .1 .0)) (x .result) (c10 .loop-test .left) (x .ensures)
 
 pub split-upwards-spec : {M : Type 1} → statement M
 split-upwards-spec = tie.close
     (tie.spec Inv-loop μ-loop loop-holds sub-i mul-absorb array-read-absorb absorb-requires add-charge loop-less
-    loop-again absorb-requires-2 add-t30 same-length same-length-2 returns)
+    loop-again absorb-requires-2 add-t32 same-length same-length-2 returns)

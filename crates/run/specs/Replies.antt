@@ -1,0 +1,71 @@
+-- One command put together: served, then its reply laid. Assumes nothing.
+use mathlib.Core.Path.{_≡_, refl, sym, ap, _∙_, subst}
+use mathlib.Core.List.{List}
+use Prim.Native.Nat.{ℕ, _+_, _≤_}
+use native.Mathlib.Omega.{arith}
+use lib.ListN.{length}
+use Rattle.laws.specs.Lay.{lay}
+use Rattle.account.specs.declared.Tariff.{Tariff}
+use Rattle.command.specs.declared.Command.{Command}
+use Rattle.command.specs.declared.Command.the-variants.{Get, Put, Delete, Scan}
+use Rattle.command.specs.Answer.{answerBytes, scanBytes}
+use Rattle.book.specs.Command.{replyBytes}
+use Rattle.flash_rows.specs.declared.Row.{Row}
+use Rattle.flash_allocate.specs.World.{World}
+use Rattle.run_serve.specs.declared.charged.Charged.{Charged}
+use Rattle.run_serve.specs.declared.charged.Answered.{Answered}
+use Rattle.run_serve.specs.Step.{ChargedAs, charged-is}
+use Rattle.run_lookup.specs.Get.{GotAs}
+use Rattle.run_lookup.specs.Delete.{DeletedAs}
+use Rattle.run_scan.specs.declared.scan.Scanned.{Scanned}
+use Rattle.run_scan.specs.Pairs.{pairsOf}
+use Rattle.run_scan.specs.Scan.{ScannedAs}
+use Rattle.run_split.specs.Growing.{Growing, Grew, grew-charged}
+use Rattle.run_put.specs.Put as Put
+use Rattle.run_put.specs.Put.{DoneAs}
+use Rattle.run.specs.declared.Progress.{Progress}
+use Rattle.run.specs.Run.{commandWorld, commandCharge, commandReply, InRange, mostRequests, CommandAs}
+
+-- What the code of a reply leaves: these bytes at a place, and what was charged as it was.
+pub record RepliedAs (before after : List ℕ) (r : Progress) (c : Charged) (at : ℕ) (bytes : List ℕ) : Type 0 where
+  pub charged : r .charged ≡ c
+  pub answers : after ≡ lay before at bytes
+  pub behind : r .at ≡ at + length bytes
+
+-- Served, and its reply laid, of a command that is known by an equation.
+module _ {P T : ℕ} {pages : List (List ℕ)} {rows : List Row} (t : Tariff) (w : World) {before after : List ℕ} {r : Progress}
+    {at : ℕ} {c : Command} where
+  replied : {d : Command} {paid : Charged} {m : ℕ} {bytes : List ℕ} → c ≡ d →
+      ChargedAs Grew P T pages rows paid (w .state) m (commandWorld t d w) (commandCharge t d w) → m ≤ mostRequests →
+      bytes ≡ replyBytes (commandReply t d w) → RepliedAs before after r paid at bytes → CommandAs P T pages rows before after r t c at w
+  replied {d} {m = m} e k most f l =
+      subst (λ (x : Command). CommandAs P T pages rows before after r t x at w) (sym e)
+      (record {
+        charged =
+            charged-is
+            (subst (λ (z : Charged). ChargedAs Grew P T pages rows z (w .state) m (commandWorld t d w) (commandCharge t d w)) (sym (l .charged)) k) most refl
+            refl;
+        answers = l .answers ∙ ap (lay before at) f;
+        behind = l .behind ∙ ap (λ (xs : List ℕ). at + length xs) f;
+      })
+
+  pub put-replied : {k v : ℕ} {d : Answered} → c ≡ Put k v → DoneAs P T pages rows d (w .state) (Put.put t k v w) →
+      RepliedAs before after r (d .charged) at (answerBytes (d .answer)) → CommandAs P T pages rows before after r t c at w
+  put-replied e h l = replied e (h .charged) (omega arith) (ap answerBytes (h .answer)) l
+
+  -- those that make no node
+  module _ {P₀ T₀ : ℕ} (g : Growing P₀ T₀ (w .state)) where
+    pub get-replied : {k : ℕ} {d : Answered} → c ≡ Get k → GotAs P T pages rows d t k w →
+        RepliedAs before after r (d .charged) at (answerBytes (d .answer)) → CommandAs P T pages rows before after r t c at w
+    get-replied e h l = replied e (grew-charged g (h .charged)) (omega arith) (ap answerBytes (h .answer)) l
+
+    pub delete-replied : {k : ℕ} {d : Answered} → c ≡ Delete k → DeletedAs P T pages rows d t k w →
+        RepliedAs before after r (d .charged) at (answerBytes (d .answer)) → CommandAs P T pages rows before after r t c at w
+    delete-replied e h l = replied e (grew-charged g (h .charged)) (omega arith) (ap answerBytes (h .answer)) l
+
+    pub scan-replied : {low high most : ℕ} {d : Scanned} → c ≡ Scan low high most → ScannedAs P T pages rows d t low high most w →
+        RepliedAs before after r (d .charged) at (scanBytes (pairsOf (d .pairs))) → CommandAs P T pages rows before after r t c at w
+    scan-replied e h l = replied e (grew-charged g (h .charged)) (omega arith) (ap scanBytes (h .pairs)) l
+
+pub range-is : {c d : Command} → c ≡ d → InRange c → InRange d
+range-is e k = subst InRange e k

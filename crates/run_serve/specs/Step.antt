@@ -1,0 +1,91 @@
+-- WHAT THE CODE OF NODE REQUESTS LEAVES: the world that a definition says, and what they are charged. The contracts of a request, of several and of
+-- a command are this one, each with its own world and charge. Assumes nothing.
+use mathlib.Core.Path.{_≡_, refl, ap, ap₂, _∙_, subst}
+use mathlib.Core.List.{List}
+use Prim.Native.Nat.{ℕ, _+_, _*_, _≤_}
+use native.Mathlib.Omega.{arith}
+use lib.ListN.{length}
+use Rattle.account.specs.Fair.{mostCharge}
+use Rattle.command.specs.declared.Answer.{Answer}
+use Rattle.flash_blocks.specs.Pages.{pagesOf}
+use Rattle.flash_rows.specs.Row.{rowsOf}
+use Rattle.flash_rows.specs.declared.Row.{Row}
+use Rattle.flash_allocate.specs.declared.state.State.{State}
+use Rattle.flash_allocate.specs.World.{World, world, Good}
+use Rattle.flash_log.specs.Flush.{Kept}
+use Rattle.run_serve.specs.declared.charged.Charged.{Charged}
+use Rattle.run_serve.specs.declared.charged.Answered.{Answered}
+
+-- How a step leaves a pool and a table of these lengths: the state before it, the world that it made, the world asked for. `Kept` is one.
+abbrev pub Leaves : Type 1
+Leaves = ℕ → ℕ → State → World → World → Type 0
+
+-- What is said of the pages and the rows of a pool and a table, said of their bytes.
+abbrev pub InBytes : {A : Type 1} → (ℕ → ℕ → List (List ℕ) → List Row → A) → List ℕ → List ℕ → A
+InBytes said pool table = said (length pool) (length table) (pagesOf pool) (rowsOf table)
+
+-- So many requests at most: the world right, and what was paid for it.
+pub record ChargedAs (L : Leaves) (poolLength tableLength : ℕ) (pages : List (List ℕ)) (rows : List Row) (r : Charged) (before : State)
+    (requests : ℕ) (right : World) (paid : ℕ) : Type 0 where
+  pub kept : L poolLength tableLength before (world pages rows (r .state)) right
+  pub charge : r .charge ≡ paid
+  pub most : r .charge ≤ mostCharge * requests
+
+-- The same with an answer.
+pub record AnsweredAs (L : Leaves) (poolLength tableLength : ℕ) (pages : List (List ℕ)) (rows : List Row) (r : Answered) (before : State)
+    (requests : ℕ) (right : World) (paid : ℕ) (said : Answer) : Type 0 where
+  pub charged : ChargedAs L poolLength tableLength pages rows (r .charged) before requests right paid
+  pub answer : r .answer ≡ said
+
+-- A step said otherwise.
+pub kept-is : {P T : ℕ} {s : State} {made a b : World} → Kept P T s made a → a ≡ b → Kept P T s made b
+kept-is k e = record { is = k .is ∙ e; good = k .good; blocks = k .blocks; nodes = k .nodes; checkpoint = k .checkpoint }
+
+-- Nothing done, and two steps one after the other.
+pub kept-same : {P T : ℕ} (w : World) → Good P T (w .state) → Kept P T (w .state) w w
+kept-same w g = record { is = refl; good = g; blocks = refl; nodes = refl; checkpoint = refl }
+
+pub kept-then : {P T P′ T′ : ℕ} {s : State} {a b right : World} (step : World → World) → Kept P T s a right →
+    Kept P′ T′ (a .state) b (step a) → Kept P′ T′ s b (step right)
+kept-then step k l =
+    record {
+      is = l .is ∙ ap step (k .is);
+      good = l .good;
+      blocks = l .blocks ∙ k .blocks;
+      nodes = l .nodes ∙ k .nodes;
+      checkpoint = l .checkpoint ∙ k .checkpoint;
+    }
+
+-- No request.
+pub charged-none : {L : Leaves} {P T : ℕ} (w : World) → L P T (w .state) w w →
+    ChargedAs L P T (w .pages) (w .rows) (record { state = w .state; charge = 0 }) (w .state) 0 w 0
+charged-none w k = record { kept = k; charge = refl; most = omega arith }
+
+-- Requests said otherwise, or as some of more.
+pub charged-is : {L : Leaves} {P T : ℕ} {pages : List (List ℕ)} {rows : List Row} {r : Charged} {s : State} {m m′ : ℕ} {a b : World} {c d : ℕ} →
+    ChargedAs L P T pages rows r s m a c → m ≤ m′ → a ≡ b → c ≡ d → ChargedAs L P T pages rows r s m′ b d
+charged-is {L} {P} {T} {pages} {rows} {r} {s} k l e f =
+    record {
+      kept = subst (λ (z : World). L P T s (world pages rows (r .state)) z) e (k .kept);
+      charge = k .charge ∙ f;
+      most = omega (arith, k .most, l);
+    }
+
+-- Requests, then others in the world that they left: what both leave, and the sum of their charges.
+abbrev pub both : Charged → Charged → Charged
+both one two = record { state = two .state; charge = one .charge + two .charge }
+
+pub then : {L : Leaves} {P T P′ T′ : ℕ} {pages pages′ : List (List ℕ)} {rows rows′ : List Row} {one two : Charged}
+    {s : State} {m n : ℕ} {right : World} {paid : ℕ} (step : World → World) (cost : World → ℕ) →
+    (Kept P T s (world pages rows (one .state)) right →
+    L P′ T′ (one .state) (world pages′ rows′ (two .state)) (step (world pages rows (one .state))) →
+    L P′ T′ s (world pages′ rows′ (two .state)) (step right)) →
+    ChargedAs Kept P T pages rows one s m right paid →
+    ChargedAs L P′ T′ pages′ rows′ two (one .state) n (step (world pages rows (one .state))) (cost (world pages rows (one .state))) →
+    ChargedAs L P′ T′ pages′ rows′ (both one two) s (m + n) (step right) (paid + cost right)
+then step cost join a b =
+    record {
+      kept = join (a .kept) (b .kept);
+      charge = ap₂ _+_ (a .charge) (b .charge ∙ ap cost (a .kept .is));
+      most = omega (arith, a .most, b .most);
+    }
