@@ -1,7 +1,6 @@
 -- `lay_puts` meets its contract: every put is laid within the 275 bytes. Assumes nothing.
 use mathlib.Core.Path.{_≡_}
 use Prim.Native.Nat.{_-_, _≤_}
-use native.Mathlib.Omega.{arith}
 use lib.ListN.{length}
 use borrow.Author.Needs.{needs}
 use Rattle.worked.proofs.lay_puts.Statement.{statement}
