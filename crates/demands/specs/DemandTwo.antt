@@ -35,12 +35,12 @@ use Rattle.store_laws.specs.BlockTests.{Passing, passing, passing-rules, rules-
 use Rattle.store_laws.specs.CellLaws.{cells-blocksIn}
 use Rattle.store_laws.specs.PageTests.{passing-numbers, passing-versions}
 use Rattle.store_laws.specs.Versions.{VersionRules}
-use Rattle.store_laws.specs.Opening.{own-passes}
+use Rattle.store_laws.specs.Opening.{own-passes, complete-newest}
 use Rattle.model.specs.State.{State, bookOf}
 use Rattle.model.specs.Mount.{opened, stateOf, threePages, scoresBelow, treeSound}
 use Rattle.model.specs.Bytes.{bytesOf, cellsOf}
 use Rattle.model.specs.Call.{blocksOf, poolLength, mountBy, mountOf, accept, batchOf}
-use Rattle.demands.specs.Mount.{Mounts, mounts-opened, opened-mounts, three-each, some-page, ranged, rest-tests, range-tests, kept}
+use Rattle.demands.specs.Mount.{Mounts, mounts-opened, opened-mounts, three-each, ranged, rest-tests, range-tests, kept}
 use Rattle.demands.specs.Mount as Mount
 use Rattle.demands.specs.Close.{three-below}
 use Rattle.demands.specs.PoolBytes.{CellFits, cellsOf-bytesOf, IsPool, cellsOf-is}
@@ -176,7 +176,7 @@ module _ (pool : List ℕ) (bytes : Bytes pool) (t : Tariff) (size : poolLength 
         blocks = bs;
         is = rw cells-are (image .is);
         fits = rw cells-are (image .fits);
-        rules = passing-rules pagesInBlock B c block-tests (passing-numbers bs page-tests) (some-page four m);
+        rules = passing-rules pagesInBlock B c block-tests (passing-numbers bs page-tests) (complete-newest B c (m .complete));
         versions = passing-versions bs page-tests;
         set = m .complete;
         tariff = m .tariff;

@@ -1,16 +1,11 @@
 -- Tests are Bools: taking their answers apart and putting them together. Assumes nothing.
 use mathlib.Core.Path.{_≡_, refl, sym, _∙_}
 use mathlib.Core.Bool.{Bool, true, false, _&&_, _||_, true≢false}
-use mathlib.Core.Logic.{_⊎_, inl, inr}
 
 -- The first of two values where a test passed, else the second.
 abbrev pub choose : {A : Type 0} → Bool → A → A → A
 choose true a b = a
 choose false a b = b
-
-pub test-cases : (b : Bool) → (b ≡ true) ⊎ (b ≡ false)
-test-cases true = inl refl
-test-cases false = inr refl
 
 -- No test is both passed and failed.
 pub test-clash : (b : Bool) → b ≡ true → b ≡ false → ⊥

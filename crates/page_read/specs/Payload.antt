@@ -33,10 +33,6 @@ pub taken-some : (p : List ℕ) → 1 ≤ length p → taken p ≡ 3 + length p
 taken-some [] h = absurd (omega arith)
 taken-some (x ∷ p) h = refl
 
-pub taken-none : (p : List ℕ) → length p < 1 → taken p ≡ 0
-taken-none [] h = refl
-taken-none (x ∷ p) h = absurd (omega arith)
-
 -- A payload that has not its tag's length is empty.
 module _ (b : List ℕ) (at tag len : ℕ) (only : (n : ℕ) → allowed (lengthOf tag) n ≡ true → n ≡ len) where
   pub payload-empty : (length (payloadAt b at tag) ≡ len → ⊥) → payloadAt b at tag ≡ []
@@ -45,9 +41,6 @@ module _ (b : List ℕ) (at tag len : ℕ) (only : (n : ℕ) → allowed (length
       go : (payloadAt b at tag ≡ []) ⊎ (1 ≤ length (payloadAt b at tag)) → payloadAt b at tag ≡ []
       go (inl e) = e
       go (inr l) = absurd (h (only (length (payloadAt b at tag)) (allowed-payload b at tag (stands-payload b at tag l))))
-
-  pub payload-size : 1 ≤ length (payloadAt b at tag) → length (payloadAt b at tag) ≡ len
-  payload-size l = only (length (payloadAt b at tag)) (allowed-payload b at tag (stands-payload b at tag l))
 
 -- The number that a whole payload spells.
 pub number-whole : (p : List ℕ) (w : ℕ) → length p ≡ w → numberAt w p 0 ≡ number p

@@ -61,6 +61,3 @@ agree-back count table table′ e i l = go (e i l)
 pub sound-proper : (limit count : ℕ) (table table′ : Table) → AgreeProper count table table′ → sound limit count table ≡ sound limit count table′
 sound-proper limit count table table′ e =
     same-test _ _ (sound-over limit count table table′ e) (sound-over limit count table′ table (agree-back count table table′ e))
-
-pub sound-agree : (limit count : ℕ) (table table′ : Table) → Agree count table table′ → sound limit count table ≡ sound limit count table′
-sound-agree limit count table table′ e = sound-proper limit count table table′ (λ i l. inl (e i l))

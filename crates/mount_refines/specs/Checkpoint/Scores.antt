@@ -286,10 +286,3 @@ module _ {pool : List ℕ} {blocks : ℕ} {c : Cells} (j : Judged pool blocks c)
                 ap bit (le-leb limit (scoreIn scores m) q),
                 eqb-true (sumBelow nodes (λ i. bit (leb limit (scoreIn scores i)))) 0 (sym total ∙ f),
               ))
-
-  -- So it is after the scores were taken, whatever the rows had before.
-  pub taken-below : (limit : ℕ) (rows : List Row) → nodes ≤ length rows →
-      everyFrom (isBelow limit (takePages ps (32 * blocks) since nodes rows)) nodes 0 ≡ scoresBelow limit scores
-  unfolding scored
-  taken-below limit rows h = scores-below limit (takePages ps (32 * blocks) since nodes rows)
-      (λ m l. ap (λ (r : Row). r .score) (scores-taken rows h .own m l))

@@ -131,12 +131,6 @@ module _ (since : ℕ) (b : List ℕ) (x : Option Page) (h : Header b x) where
       (g (checkpointPageIn x))
   adds f g e = ap₂ (λ (n m : ℕ). choose (ltb n since) 0 m) (h .seq) e
 
-  adds-scores : fromBytes since scoresOn b ≡ choose (ltb (numberIn x) since) 0 (scoreCount (checkpointPageIn x))
-  adds-scores = adds scoresOn scoreCount (sym (scoresOn-read b) ∙ ap length (h .scores))
-
-  adds-nodes : fromBytes since (λ p. number (countPart p)) b ≡ choose (ltb (numberIn x) since) 0 (countOn (checkpointPageIn x))
-  adds-nodes = adds (λ p. number (countPart p)) countOn (number-read (countPart b) ∙ ap (λ (o : Option ℕ). countOr o 0) (h .count))
-
   adds-misfit : (newest : ℕ) → fromBytes since (misfitOn newest) b ≡ misfit since newest x
   adds-misfit newest =
       let counted : found (countPart b) ≡ hasCount (checkpointPageIn x .count) = found-read (countPart b) ∙ ap hasCount (h .count) in

@@ -72,8 +72,8 @@ path-of (suc d) (suc fuel) table count k t low high next a b f o h =
     )
 
 -- In a table that spells a map.
-pub path-found : (table : Table) (count : ℕ) (pairs : List Pair) (s : Spells table count pairs) (k : ℕ) → k < bound32 → Paths table (path count table k 0)
-path-found table count pairs s k small =
+pub path-walked : (table : Table) (count : ℕ) (pairs : List Pair) (s : Spells table count pairs) (k : ℕ) → k < bound32 → Paths table (path count table k 0)
+path-walked table count pairs s k small =
     rw (s .root) at
     (path-of (s .depth) count table count k (s .tree) 0 bound32 noLeaf (omega arith) small (omega (arith, depth-count table count pairs s))
     (spells-once table count pairs s) (s .stands) .0)

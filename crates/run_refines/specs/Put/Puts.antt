@@ -58,7 +58,7 @@ use Rattle.run_refines.specs.Commands.Commands.{reads-served, reads-char
 use Rattle.run_refines.specs.Put.Lists.{Suits, served-together}
 use Rattle.run_refines.specs.Put.Moments.{nodes-are, blocks-are, table-is, Moment, moment}
 use Rattle.run_refines.specs.Put.Sizes.{room-size, pairs-put}
-use Rattle.run_refines.specs.Put.Paths.{path-found, path-head}
+use Rattle.run_refines.specs.Put.Paths.{path-walked, path-head}
 use Rattle.run_refines.specs.Put.Splits.{Course, fits-behind, countAfterAll-append}
 use Rattle.run_refines.specs.Put.SplitsUpwards.{splitUpwards-is}
 
@@ -282,7 +282,7 @@ module _ (t : Tariff) {B : ℕ} (s : State) (w : World) (a : Runs B w s) (pairs 
       splitUpwards-done =
           let head = path-head count table key 0 in
           ap (λ (ids : List ℕ). splitUpwards t key value ids (servedAll t reads w)) (head .1) ∙
-          splitUpwards-is course key value (head .0) (rw (head .1) at (path-found table count pairs spells key small))
+          splitUpwards-is course key value (head .0) (rw (head .1) at (path-walked table count pairs spells key small))
           (rw (head .1) at (path-found table count pairs spells key small .0))
           (ap (λ (ids : List ℕ). finish table (work table key (Change.put key value) count ids)) (sym (head .1)))
 

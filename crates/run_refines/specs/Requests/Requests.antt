@@ -11,7 +11,7 @@ use Rattle.account.specs.declared.Account.{Account}
 use Rattle.account.specs.Serve.{serveOf}
 use Rattle.node.specs.Narrow.{Narrow}
 use Rattle.tree.specs.Table.{Table}
-use Rattle.tree.specs.NodeRequest.{NodeRequest, read, edit, rewrite, create}
+use Rattle.tree.specs.NodeRequest.{NodeRequest, read, edit, rewrite, create, idOf}
 use Rattle.tree.specs.Fit.{Fit}
 use Rattle.store.specs.Store.{modeOf}
 use Rattle.store.specs.Run.{Run}
@@ -20,7 +20,6 @@ use Rattle.store.specs.Serve as Store
 use Rattle.store_laws.specs.Contents.{neat-fits}
 use Rattle.store_laws.specs.StoreFits.{StoreFits}
 use Rattle.store_laws.specs.Keeps.{Keeps, Fits}
-use Rattle.book.specs.Book.{idOf}
 use Rattle.book.specs.Book as Book
 use Rattle.model.specs.State.{State, bookOf}
 use Rattle.model.specs.State as Model

@@ -30,7 +30,7 @@ returns c =
     let a = c12 .args in
     let y = c4 .create in
     grow-made (nodeOf (a .v)) (world (pagesOf (a .pool .now)) (rowsOf (a .table .now)) (a .state)) (c12 .pre .0)
-    (world (pagesOf (y .last .0)) (rowsOf (y .last .1 .0)) (y .result)) 
+    (world (pagesOf (y .last .0)) (rowsOf (y .last .1 .0)) (y .result))
     (omega (arith, c7 .if1 .taken, c9 .node-limit .ensures .0)) (y .ensures)
 
 returns-2 : tie.Need-returns-2
