@@ -9,6 +9,7 @@ use native.Mathlib.Omega.{arith}
 use lib.Dec.{ltb}
 use lib.ListN.{length}
 use Rattle.laws.specs.BigEndian.{Bytes}
+use Rattle.laws.specs.Loops.{allFrom}
 use Rattle.layout.specs.Layout.{blockBytes, fewestBlocks, tableBytes}
 use Rattle.store.specs.Pool.{block}
 use Rattle.store.specs.Reopen.{Cells, blocksIn, pagesPass}
@@ -20,7 +21,6 @@ use Rattle.mount_sequences.specs.Ascend.{Same}
 use Rattle.mount_sequences.specs.Digits.{greatest}
 use Rattle.mount_sequences.specs.Strict.{is}
 use Rattle.mount_sequences.specs.Find.{has}
-use Rattle.mount_blocks.specs.All.{allFrom}
 use Rattle.mount_blocks.specs.Rules.{blockOf}
 use Rattle.mount_pages.specs.Collect.{sequencesFrom}
 use Rattle.mount_pages.specs.Versions.{apartOn, pageApart, pagesApart}

@@ -15,6 +15,7 @@ use Rattle.laws.specs.Tests.{choose, and-left}
 use Rattle.laws.specs.Order.{le-or}
 use Rattle.laws.specs.Counts.{count, tally}
 use Rattle.laws.specs.BigEndian.{Bytes}
+use Rattle.laws.specs.Loops.{allFrom}
 use Rattle.page.specs.Page.{Page, sequence}
 use Rattle.store.specs.Pool.{Blocks, block, numbered}
 use Rattle.store.specs.Allocate.{blanks}
@@ -27,7 +28,6 @@ use Rattle.flash_blocks.specs.Pages.{pagesOf, pageAt, blankPage}
 use Rattle.mount_sequences.specs.Digits.{greatest}
 use Rattle.mount_sequences.specs.Strict.{is}
 use Rattle.mount_sequences.specs.Differ.{differs}
-use Rattle.mount_blocks.specs.All.{allFrom}
 use Rattle.mount_blocks.specs.Rules.{sequenceOn, blankAt, blocksPass, blockOf, fillOf}
 use Rattle.mount_pages.specs.Versions.{pageApart, pagesApart}
 use Rattle.mount_survey_refines.specs.Written.{pagesIn, pagesOver, sequencesIn, pagesIn-blocks, tally-pages, every-pages, count-sequences}
