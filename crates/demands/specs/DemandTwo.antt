@@ -14,6 +14,7 @@ use Rattle.laws.specs.Tests.{and-left, and-right, and-both}
 use Rattle.laws.specs.Every.{Every, both}
 use Rattle.laws.specs.Every as Every
 use Rattle.laws.specs.BigEndian.{Bytes}
+use Rattle.laws.specs.Options.{some-same}
 use Rattle.layout.specs.Layout.{pagesInBlock, tableBytes, nodeLimit, mostLogPages, lastSequence}
 use Rattle.account.specs.declared.Tariff.{Tariff}
 use Rattle.account.specs.Tariff.{limit}
@@ -130,13 +131,10 @@ pub obeys-unique : {pool : List ℕ} {t t′ : Tariff} {ps qs : List Pair} → O
 obeys-unique {pool} o p =
     sym (obeys-map o) ∙ ap (λ (bs : Blocks). mapOf (bookOf (stateOf (storeOf bs)) .count) (bookOf (stateOf (storeOf bs)) .table)) same ∙ obeys-map p
   where
-    inside : (c d : Cells) → some c ≡ some d → c ≡ d
-    inside c d e = cc
-
     same : o .blocks ≡ p .blocks
     same =
         sym (rules-blocks (o .rules)) ∙
-        ap (blocksIn pagesInBlock (blocksOf pool)) (inside _ _ (sym (reads o) ∙ reads p)) ∙
+        ap (blocksIn pagesInBlock (blocksOf pool)) (some-same (sym (reads o) ∙ reads p)) ∙
         rules-blocks (p .rules)
 
 -- A POOL THAT OPENS obeys the layout and has stamps left: any other is refused.

@@ -1,13 +1,14 @@
 -- What a counting loop does, as one definition for each kind: steps taken from a number on, a sum, a search, a test of each. A loop's invariant says that what
 -- is left, done from here, gives the whole; `-more` is a turn of the loop and `-done` its end. Assumes nothing.
-use mathlib.Core.Path.{_≡_, refl, ap, _∙_, subst}
+use mathlib.Core.Path.{_≡_, refl, sym, ap, _∙_, subst}
 use mathlib.Core.Bool.{Bool, true, false, _&&_}
 use mathlib.Core.Logic.{_⊎_, inl, inr}
 use Prim.Native.Nat.{ℕ, zero, suc, _+_, _-_, _≤_, _<_}
 use native.Mathlib.Nat.{add-zero, sub-zero}
 use native.Mathlib.Omega.{arith}
+use native.Mathlib.Numerals.{lt-of-le-of-ne}
 use Rattle.laws.specs.Tests.{choose, and-left, and-right, and-both}
-use Rattle.laws.specs.Order.{eq-or, le-or}
+use Rattle.laws.specs.Order.{eq-or}
 
 -- A step for each of k numbers from i on.
 unfoldable pub steps : {A : Type 0} → (ℕ → A → A) → ℕ → ℕ → A → A
@@ -98,11 +99,7 @@ module _ (f : ℕ → Bool) where
     where
       go : (j ≡ i) ⊎ (j ≡ i → ⊥) → (i + 1 ≤ j → f j ≡ true) → f j ≡ true
       go (inl q) r = rw q (and-left (f i) (allFrom f k (i + 1)) e)
-      go (inr q) r = r (above (le-or j i))
-        where
-          above : (j ≤ i) ⊎ (i < j) → i + 1 ≤ j
-          above (inl l) = absurd (q (omega arith))
-          above (inr l) = omega arith
+      go (inr q) r = r (omega (arith, lt-of-le-of-ne a (λ z. q (sym z))))
 
   pub all-true : (k i : ℕ) → ((j : ℕ) → i ≤ j → j < i + k → f j ≡ true) → allFrom f k i ≡ true
   unfolding allFrom

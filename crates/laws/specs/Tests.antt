@@ -11,6 +11,12 @@ choose false a b = b
 pub test-clash : (b : Bool) → b ≡ true → b ≡ false → ⊥
 test-clash b p q = true≢false (sym p ∙ q)
 
+-- Two tests are the same where each passes with the other.
+pub test-same : (a b : Bool) → (a ≡ true → b ≡ true) → (b ≡ true → a ≡ true) → a ≡ b
+test-same true b f g = sym (f refl)
+test-same false true f g = g refl
+test-same false false f g = refl
+
 pub and-left : (a b : Bool) → (a && b) ≡ true → a ≡ true
 and-left true b e = refl
 and-left false b e = e

@@ -30,6 +30,10 @@ pub sumBelow-ext : (n : ℕ) (f g : ℕ → ℕ) → ((i : ℕ) → i < n → f 
 sumBelow-ext zero f g h = refl
 sumBelow-ext (suc n) f g h = ap₂ _+_ (sumBelow-ext n f g (λ i l. h i (omega arith))) (h n (omega arith))
 
+pub sumBelow-add : (n : ℕ) (f g : ℕ → ℕ) → sumBelow n (λ i. f i + g i) ≡ sumBelow n f + sumBelow n g
+sumBelow-add zero f g = refl
+sumBelow-add (suc n) f g = omega (arith, sumBelow-add n f g)
+
 -- Two tables that differ at one entry only.
 pub sumBelow-change : (n : ℕ) (f g : ℕ → ℕ) (k : ℕ) → k < n → ((i : ℕ) → (i ≡ k → ⊥) → g i ≡ f i) → sumBelow n g + f k ≡ sumBelow n f + g k
 sumBelow-change zero f g k l h = absurd (omega arith)

@@ -1,7 +1,7 @@
 -- The written pages of a pool as one list: cell by cell, and block by block. Every rule on pages is told by their sequence numbers.
 -- Assumes nothing.
 use mathlib.Core.Path.{_≡_, refl, sym, ap, ap₂, _∙_}
-use mathlib.Core.Bool.{Bool, true, false, _&&_}
+use mathlib.Core.Bool.{Bool, true, _&&_, and-assoc}
 use mathlib.Core.Option.{none, some}
 use mathlib.Core.List.{List, [], _∷_, _++_, map}
 use Prim.Native.Nat.{ℕ, zero, suc, _+_, _*_, max}
@@ -64,13 +64,9 @@ pub tally-pages : (f : Page → Bool) (bs : Blocks) → count f (pagesOver bs) �
 tally-pages f [] = refl
 tally-pages f (b ∷ bs) = count-append f b (pagesOver bs) ∙ omega (arith, tally-pages f bs)
 
-and-assoc : (a b c : Bool) → (a && (b && c)) ≡ ((a && b) && c)
-and-assoc true b c = refl
-and-assoc false b c = refl
-
 every-append : (f : Page → Bool) (xs ys : List Page) → every f (xs ++ ys) ≡ (every f xs && every f ys)
 every-append f [] ys = refl
-every-append f (x ∷ xs) ys = ap (λ z. f x && z) (every-append f xs ys) ∙ and-assoc (f x) (every f xs) (every f ys)
+every-append f (x ∷ xs) ys = ap (λ z. f x && z) (every-append f xs ys) ∙ sym (and-assoc (f x) (every f xs) (every f ys))
 
 pub every-pages : (f : Page → Bool) (bs : Blocks) → every f (pagesOver bs) ≡ everyPage f bs
 every-pages f [] = refl
@@ -103,4 +99,4 @@ differs-pages (b ∷ bs) = go (differs-pages bs) b
     go rest [] = rest
     go rest (p ∷ b) =
         ap₂ (λ n t. eqb n 0 && t) (alone (sequence p) b) (go rest b) ∙
-        and-assoc (eqb (count (numbered (sequence p)) b + tally (numbered (sequence p)) bs) 0) (differIn b bs) (differ bs)
+        sym (and-assoc (eqb (count (numbered (sequence p)) b + tally (numbered (sequence p)) bs) 0) (differIn b bs) (differ bs))

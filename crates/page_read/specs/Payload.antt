@@ -11,15 +11,12 @@ use borrow.Author.Tests.{eqb-true}
 use Rattle.laws.specs.Tests.{and-left}
 use Rattle.laws.specs.BigEndian.{number, numberAt}
 use Rattle.laws.specs.Lay.{part-whole}
+use Rattle.laws.specs.Lists.{empty-or}
 use Rattle.wire.specs.Tag.{lengthOf, allowed, isNodeBytes}
 use Rattle.wire.specs.Field.{payloadAt}
 use Rattle.wire.specs.FieldLaws.{stands-payload, allowed-payload, stands-within}
 use Rattle.page.specs.Decode.{found, taken}
 use Rattle.page.specs.Tags.{allowed-11}
-
-empty-or : (p : List ℕ) → (p ≡ []) ⊎ (1 ≤ length p)
-empty-or [] = inl refl
-empty-or (x ∷ p) = inr (omega arith)
 
 pub found-true : (p : List ℕ) → 1 ≤ length p → found p ≡ true
 found-true [] h = absurd (omega arith)

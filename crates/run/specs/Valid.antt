@@ -11,9 +11,10 @@ use borrow.Author.Tests.{leb-true}
 use lib.Dec.{eqb, leb}
 use lib.ListN.{length, getD}
 use Rattle.laws.specs.Order.{le-or}
-use Rattle.laws.specs.Tests.{choose, and-left, and-right, test-clash}
+use Rattle.laws.specs.Tests.{choose, and-left, and-right}
 use Rattle.laws.specs.Lay.{part}
 use Rattle.laws.specs.BigEndian.{numberAt}
+use Rattle.laws.specs.Options.{none-some}
 use Rattle.layout.specs.Layout.{mostBatchBytes}
 use Rattle.wire.specs.Field.{fieldAt}
 use Rattle.wire.specs.declared.field.Field.{Field}
@@ -41,13 +42,6 @@ pub record Fits (batch : List ℕ) (bytes : ℕ) : Type 0 where
   pub short : length batch ≤ mostBatchBytes
   pub valid : commandsFrom batch 0 ≡ some (commandsIn batch)
   pub room : roomForAll (commandsIn batch) ≤ bytes
-
-abbrev isSome : Option (List Command) → Bool
-isSome none = false
-isSome (some cs) = true
-
-pub none-some : {cs : List Command} → none ≡ some cs → ⊥
-none-some e = test-clash true refl (sym (ap isSome e))
 
 module _ (batch : List ℕ) where
   -- by question 3: commands that are valid are those here

@@ -10,6 +10,7 @@ use native.Mathlib.Omega.{arith}
 use lib.Dec.{ltb}
 use lib.ListN.{getD}
 use borrow.Author.Tests.{ltb-true, ltb-false}
+use native.Mathlib.Numerals.{lt-of-le-of-ne}
 use Rattle.laws.specs.Tests.{choose, and-left, and-right, test-clash}
 use Rattle.laws.specs.Order.{eq-or, le-or}
 use Rattle.laws.specs.Loops.{steps-keep}
@@ -57,11 +58,7 @@ module _ (c : Cells) where
     x = getD c i none
 
     below : (q : ℕ) → q < i + 1 → (q ≡ i → ⊥) → q < i
-    below q l d = go (le-or i q)
-      where
-        go : (i ≤ q) ⊎ (q < i) → q < i
-        go (inl g) = absurd (d (omega arith))
-        go (inr g) = g
+    below q l d = lt-of-le-of-ne (omega arith) d
 
     top-next : (q : ℕ) → q < i + 1 → (q ≡ i) ⊎ (q ≡ i → ⊥) → numberIn (getD c q none) ≤ max (e .newest) (numberIn x)
     top-next q l (inl z) = rw z (omega arith)

@@ -12,6 +12,7 @@ use lib.ListN.{length, getD}
 use borrow.Author.Tests.{eqb-true, eqb-false, eq-eqb, ne-eqb, leb-true, leb-false}
 use Rattle.laws.specs.Tests.{choose, and-left, and-right, test-clash}
 use Rattle.laws.specs.BigEndian.{number}
+use Rattle.laws.specs.Options.{some-same}
 use Rattle.layout.specs.Layout.{pageBytes}
 use Rattle.wire.specs.Field.{payloadAt}
 use Rattle.wire.specs.FieldLaws.{stands-payload}
@@ -216,18 +217,15 @@ all-blank : allBlank blankBytes ≡ true
 unfolding blankBytes
 all-blank = allBlank-replicate pageBytes
 
-same-cell : {A : Type 0} (a b : A) → some a ≡ some b → a ≡ b
-same-cell a b e = cc
-
 -- THE HEADERS of a page that checks are its cell's.
 pub header : (b : List ℕ) → length b ≡ pageBytes → (x : Option Page) → cellFrom (decode b) ≡ some x → Header b x
 header b l x e = go (allBlank b) refl
   where
     other : (d : Decoded) → decode b ≡ d → cellFrom d ≡ some x → allBlank b ≡ false → Header b x
     other blank q r f = absurd (test-clash (allBlank b) (ap allBlank (blank-decode b l q) ∙ all-blank) f)
-    other (written p) q r f = subst (Header b) (same-cell (some p) x r) (written-header b p (sym (decode-other b f) ∙ q))
+    other (written p) q r f = subst (Header b) (some-same r) (written-header b p (sym (decode-other b f) ∙ q))
     other bad q r f = absurd (let z : _≡_ {A = ℕ} 0 1 = cc in omega arith)
 
     go : (t : Bool) → allBlank b ≡ t → Header b x
-    go true f = subst (Header b) (same-cell none x (ap cellFrom (sym (decode-blank b f)) ∙ e)) (blank-header b f)
+    go true f = subst (Header b) (some-same (ap cellFrom (sym (decode-blank b f)) ∙ e)) (blank-header b f)
     go false f = other (decode b) refl e f

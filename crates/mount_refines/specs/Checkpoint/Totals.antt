@@ -11,6 +11,7 @@ use native.Mathlib.Omega.{arith}
 use lib.Dec.{eqb, ltb}
 use lib.ListN.{length, getD, length-map, length-append}
 use borrow.Author.Tests.{eq-eqb, ne-eqb, lt-ltb, le-ltb}
+use native.Mathlib.Numerals.{lt-of-le-of-ne}
 use Rattle.laws.specs.Tests.{choose, test-clash}
 use Rattle.laws.specs.Order.{eq-or, le-or}
 use Rattle.laws.specs.Counts.{bit}
@@ -224,11 +225,7 @@ module _ {pool : List ℕ} {blocks : ℕ} {c : Cells} (j : Judged pool blocks c)
         opened (some (page n (log es))) o = absurd (test-clash false o refl)
         opened (some (page n (whole m y))) o = absurd (test-clash false o refl)
         opened (some (page n (checkpoint t ss cc))) o = refl
-    kind-set i a b (inr z) = r .kind i (above (le-or i (suc s))) (omega arith)
-      where
-        above : (i ≤ suc s) ⊎ (suc s < i) → suc s < i
-        above (inl l) = absurd (z (omega arith))
-        above (inr l) = l
+    kind-set i a b (inr z) = r .kind i (lt-of-le-of-ne (omega arith) (λ e. z (sym e))) (omega arith)
 
     -- below the newest page a misfit has the node count; the newest is one without it
     misfit-below : (i : ℕ) → i < last → misfit (suc s) last (at i) ≡ choose (ltb (numberIn (at i)) (suc s)) 0 (countBit (checkpointPageIn (at i)))

@@ -13,6 +13,7 @@ use Rattle.laws.specs.Tests.{choose, and-left, and-right}
 use Rattle.laws.specs.Counts.{bit, count, tally, count-append}
 use Rattle.laws.specs.Loops.{sumFrom}
 use Rattle.laws.specs.Update.{sumBelow, sumBelow-change}
+use Rattle.laws.specs.Options.{some-same}
 use Rattle.page.specs.Page.{Page, sequence}
 use Rattle.store.specs.Pool.{Blocks, numbered, pageIn, orElse, find}
 use Rattle.store.specs.Reopen.{Cells, blockIn, blocksIn, blank, filled, allFilled, greatestOf, newest}
@@ -119,11 +120,8 @@ pub pageIn-number : (s : ℕ) (ps : List Page) (p : Page) → pageIn s ps ≡ so
 pageIn-number s [] p e = absurd (let z : _≡_ {A = ℕ} 0 1 = cc in omega arith)
 pageIn-number s (x ∷ ps) p e = go (numbered s x) refl (λ r. pageIn-number s ps p r)
   where
-    same : some x ≡ some p → x ≡ p
-    same f = cc
-
     go : (t : Bool) → numbered s x ≡ t → (pageIn s ps ≡ some p → sequence p ≡ s) → sequence p ≡ s
-    go true f r = ap sequence (sym (same (rw f at e))) ∙ eqb-true (sequence x) s f
+    go true f r = ap sequence (sym (some-same (rw f at e))) ∙ eqb-true (sequence x) s f
     go false f r = r (rw f at e)
 
 -- a page that is found lies somewhere
@@ -151,10 +149,7 @@ unfolding pagesIn
 placed-count [] q p e = absurd (let z : _≡_ {A = ℕ} 0 1 = cc in omega arith)
 placed-count (none ∷ c) zero p e = absurd (let z : _≡_ {A = ℕ} 0 1 = cc in omega arith)
 placed-count (none ∷ c) (suc q) p e = placed-count c q p e
-placed-count (some x ∷ c) zero p e = omega (arith, ap bit (eq-eqb (sequence x) (sequence p) (ap sequence (same e))))
-  where
-    same : some x ≡ some p → x ≡ p
-    same f = cc
+placed-count (some x ∷ c) zero p e = omega (arith, ap bit (eq-eqb (sequence x) (sequence p) (ap sequence (some-same e))))
 placed-count (some x ∷ c) (suc q) p e = omega (arith, placed-count c q p e)
 
 pub place-pageIn : (c : Cells) (q : ℕ) (p : Page) → count (numbered (sequence p)) (pagesIn c) ≤ 1 → getD c q none ≡ some p →
@@ -163,10 +158,7 @@ unfolding pagesIn
 place-pageIn [] q p o e = absurd (let z : _≡_ {A = ℕ} 0 1 = cc in omega arith)
 place-pageIn (none ∷ c) zero p o e = absurd (let z : _≡_ {A = ℕ} 0 1 = cc in omega arith)
 place-pageIn (none ∷ c) (suc q) p o e = place-pageIn c q p o e
-place-pageIn (some x ∷ c) zero p o e = rw (eq-eqb (sequence x) (sequence p) (ap sequence (same e))) e
-  where
-    same : some x ≡ some p → x ≡ p
-    same f = cc
+place-pageIn (some x ∷ c) zero p o e = rw (eq-eqb (sequence x) (sequence p) (ap sequence (some-same e))) e
 place-pageIn (some x ∷ c) (suc q) p o e = go (numbered (sequence p) x) refl (λ l. place-pageIn c q p l e)
   where
     go : (t : Bool) → numbered (sequence p) x ≡ t → (count (numbered (sequence p)) (pagesIn c) ≤ 1 → pageIn (sequence p) (pagesIn c) ≡ some p) →

@@ -2,12 +2,13 @@
 use mathlib.Core.Path.{_≡_, refl, sym, ap, _∙_, subst}
 use mathlib.Core.Logic.{_⊎_, inl, inr}
 use mathlib.Core.List.{List, [], _∷_}
-use mathlib.Core.Option.{none, some}
+use mathlib.Core.Option.{some}
 use Prim.Native.Nat.{ℕ, _≤_, _<_}
 use native.Mathlib.Omega.{arith}
 use borrow.Author.Tests.{lt-ltb, le-ltb}
 use lib.ListN.{length, length-set}
 use Rattle.laws.specs.Order.{Tri, less, same, more, tri, eq-or, le-or}
+use Rattle.laws.specs.Options.{none-some}
 use Rattle.layout.specs.Layout.{mostKeys, bound32}
 use Rattle.pairs.specs.Pairs.{Pair, lookup, insert, Within}
 use Rattle.pairs.specs.Clauses.{lookup-same, lookup-other, insert-before, insert-same, insert-behind}
@@ -68,12 +69,9 @@ module _ (key value : ℕ) (ps : List Pair) (low high : ℕ) (w : Within low hig
   put-present : Present key (insert key value ps)
   put-present = go (present-or key (insert key value ps))
     where
-      clash : none ≡ some value → ⊥
-      clash z = let y : _≡_ {A = ℕ} 0 1 = cc in omega arith
-
       go : Present key (insert key value ps) ⊎ Absent key (insert key value ps) → Present key (insert key value ps)
       go (inl p) = p
-      go (inr a) = absurd (clash (sym (lookup-absent key low high (insert key value ps) w a) ∙ lookup-insert key value ps))
+      go (inr a) = absurd (none-some (sym (lookup-absent key low high (insert key value ps) w a) ∙ lookup-insert key value ps))
 
   put-room : fitOf key (insert key value ps) ≡ Room
   put-room = fit-at key (insert key value ps) (place key (insert key value ps)) (found-present key (insert key value ps) put-present)

@@ -25,7 +25,8 @@ returns : tie.Need-returns
 unfolding holds firstBlank
 returns c = let a = c .before .before .before .args in
     let e = c .before .first-blank .ensures .0 in
-    ap₂ ltb (c .first-numbered .ensures ∙ ap (λ (k : ℕ). firstFrom (numberedAt (pagesOf (a .pool .now)) (a .number)) (k - 32 * a .block) (32 * a .block)) e) e
+    let from = 32 * a .block in
+    ap₂ ltb (c .first-numbered .ensures ∙ ap (λ (k : ℕ). firstFrom (numberedAt (pagesOf (a .pool .now)) (a .number)) (k - from) from) e) e
 
 pub holds-spec : {M : Type 1} → statement M
 holds-spec =
