@@ -29,8 +29,9 @@ use Rattle.mount_sequences.specs.Digits.{greatest}
 use Rattle.mount_sequences.specs.Strict.{is}
 use Rattle.mount_sequences.specs.Differ.{differs}
 use Rattle.mount_blocks.specs.Rules.{sequenceOn, blankAt, blocksPass, blockOf, fillOf}
+use Rattle.store_laws.specs.WrittenPages.{pagesIn, pagesOver, pagesIn-blocks, pagesOver-tally}
 use Rattle.mount_pages.specs.Versions.{pageApart, pagesApart}
-use Rattle.mount_survey_refines.specs.Written.{pagesIn, pagesOver, sequencesIn, pagesIn-blocks, tally-pages, every-pages, count-sequences}
+use Rattle.mount_survey_refines.specs.Written.{sequencesIn, every-pages, count-sequences}
 use Rattle.mount_survey_refines.specs.Written.{greatest-pages, differs-pages}
 use Rattle.mount_survey_refines.specs.Cells.{Spells, noPage, onePage, Spelled, length-pool, pool-spelled}
 use Rattle.mount_survey_refines.specs.PageCells.{blank-read, sequence-read, cellPasses, apart-read}
@@ -89,7 +90,7 @@ pages-apart pages c s n e bs w =
     every-pages (pagePasses bs) bs
   where
     same : (v : ℕ) → count (is v) (sequencesIn c) ≡ tally (numbered v) bs
-    same v = count-sequences v (pagesIn c) ∙ ap (count (numbered v)) w ∙ tally-pages (numbered v) bs
+    same v = count-sequences v (pagesIn c) ∙ ap (count (numbered v)) w ∙ pagesOver-tally (numbered v) bs
 
 -- ---- a pool whose pages check one by one
 

@@ -15,7 +15,7 @@ use Rattle.laws.specs.Lists.{empty-or}
 use Rattle.wire.specs.Tag.{lengthOf, allowed, isNodeBytes}
 use Rattle.wire.specs.Field.{payloadAt}
 use Rattle.wire.specs.FieldLaws.{stands-payload, allowed-payload, stands-within}
-use Rattle.page.specs.Decode.{found, taken}
+use Rattle.page.specs.Decode.{found}
 use Rattle.page.specs.Tags.{allowed-11}
 
 pub found-true : (p : List ℕ) → 1 ≤ length p → found p ≡ true
@@ -25,10 +25,6 @@ found-true (x ∷ p) h = refl
 pub found-false : (p : List ℕ) → length p < 1 → found p ≡ false
 found-false [] h = refl
 found-false (x ∷ p) h = absurd (omega arith)
-
-pub taken-some : (p : List ℕ) → 1 ≤ length p → taken p ≡ 3 + length p
-taken-some [] h = absurd (omega arith)
-taken-some (x ∷ p) h = refl
 
 -- A payload that has not its tag's length is empty.
 module _ (b : List ℕ) (at tag len : ℕ) (only : (n : ℕ) → allowed (lengthOf tag) n ≡ true → n ≡ len) where

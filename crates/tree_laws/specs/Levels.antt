@@ -53,7 +53,7 @@ module _ {X : Type 0} (first : X → ℕ) (S : X → ℕ → ℕ → ℕ → Typ
   two-children (x ∷ xs) last low high next l e =
       omega (arith, child (x .0) low (x .1) (firstOf first xs last) (e .0), one-child xs last (x .1) high next (e .1))
 
-stands-fewest : (d : ℕ) (table : Table) (t : Tree d) (low high next : ℕ) → Stands d table t low high next → fewestNodes d ≤ size d t
+pub stands-fewest : (d : ℕ) (table : Table) (t : Tree d) (low high next : ℕ) → Stands d table t low high next → fewestNodes d ≤ size d t
 unfolding Holds size
 stands-fewest zero table t low high next h = omega arith
 stands-fewest (suc d) table t low high next h =

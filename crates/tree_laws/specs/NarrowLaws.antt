@@ -144,7 +144,8 @@ module _ (table : Table) (k : ℕ) where
           {x = rewrite 0 (node Branch ((middleKey whole, next) ∷ []) (suc next))}
           (record { pairs = both (middleKey-narrow whole narrow, omega arith) none; last = omega arith }) none))))
 
-reads-narrow : (ids : List ℕ) → Every NarrowRequest (map read ids)
+-- A read brings no number.
+pub reads-narrow : (ids : List ℕ) → Every NarrowRequest (map read ids)
 reads-narrow [] = none
 reads-narrow (i ∷ ids) = both tt (reads-narrow ids)
 

@@ -9,13 +9,14 @@ use lib.Dec.{eqb, leb, ltb}
 use lib.ListN.{length}
 use borrow.Author.Tests.{eqb-true, eq-eqb, ne-eqb, le-leb, lt-leb, lt-ltb, le-ltb}
 use native.Mathlib.Numerals.{lt-of-le-of-ne}
-use Rattle.laws.specs.Tests.{choose, and-left, and-right, and-both}
+use Rattle.laws.specs.Tests.{choose, and-left, and-right}
 use Rattle.laws.specs.Order.{eq-or, le-or}
 use Rattle.laws.specs.Counts.{bit, bit-le-one, count}
 use Rattle.laws.specs.Update.{sumBelow, sumBelow-ext, sumBelow-add}
 use Rattle.page.specs.Page.{Score}
 use Rattle.store.specs.Checkpoint.{scoreIn, scoreOf, onceBelow}
 use Rattle.model.specs.Mount.{scoresBelow}
+use Rattle.store_laws.specs.CheckpointPageLaws.{onceBelow-true}
 
 -- A sum over scores, and over those of one id.
 abbrev pub sumScores : (Score → ℕ) → List Score → ℕ
@@ -116,18 +117,13 @@ once-at (suc n) xs e i l = go (eq-or i n) (λ h. once-at n xs (and-right (eqb (c
     go (inl q) r = rw q (eqb-true (count (scoreOf n) xs) 1 (and-left (eqb (count (scoreOf n) xs) 1) (onceBelow n xs) e))
     go (inr q) r = r (lt-of-le-of-ne (omega arith) q)
 
-once-all : (n : ℕ) (xs : List Score) → ((i : ℕ) → i < n → count (scoreOf i) xs ≡ 1) → onceBelow n xs ≡ true
-once-all zero xs h = refl
-once-all (suc n) xs h =
-    and-both (eqb (count (scoreOf n) xs) 1) (onceBelow n xs) (eq-eqb _ 1 (h n (omega arith))) (once-all n xs (λ i l. h i (omega arith)))
-
 module _ (n : ℕ) (xs : List Score) (size : length xs ≡ n) where
   shared : sumBelow n (λ m. sumScores (ofId m one) xs) + sumScores (beyond n one) xs ≡ n
   shared = by-id one n xs ∙ sumScores-one xs ∙ size
 
   -- AS MANY SCORES AS IDS, each id at least once: each exactly once
   pub once-enough : ((i : ℕ) → i < n → 1 ≤ count (scoreOf i) xs) → onceBelow n xs ≡ true
-  once-enough h = once-all n xs each
+  once-enough h = onceBelow-true n xs each
     where
       some : (i : ℕ) → i < n → 1 ≤ sumScores (ofId i one) xs
       some i l = omega (arith, h i l, count-ofId i xs)

@@ -24,10 +24,10 @@ use Rattle.store.specs.Pool.{pageIn}
 use Rattle.store.specs.Checkpoint.{CheckpointPage, scoresIn, scoreOf, onceBelow}
 use Rattle.store.specs.Reopen.{Cells, greatestOf}
 use Rattle.flash_blocks.specs.Pages.{pagesOf, pageAt}
+use Rattle.store_laws.specs.WrittenPages.{pagesIn}
 use Rattle.mount_checkpoint_pages.specs.CheckpointPage.{numberOf, scoresFrom, scoresOn}
 use Rattle.mount_checkpoint.specs.Marks.{scoreAt, marked, markScores, markPage, markPages, marksOf, isMarked, windowOf, coversOf}
 use Rattle.mount_refines.specs.Checkpoint.Header.{scoresRead}
-use Rattle.mount_refines.specs.Checkpoint.Written.{pagesIn}
 use Rattle.mount_refines.specs.Checkpoint.Collect.{Reach, gathered, sumCheckpointPages}
 use Rattle.mount_refines.specs.Checkpoint.Pool.{Judged, headers}
 use Rattle.mount_refines.specs.Checkpoint.Totals.{fromBytes, by-checkpoint-pages}

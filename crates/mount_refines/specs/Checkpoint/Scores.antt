@@ -27,12 +27,12 @@ use Rattle.store.specs.Checkpoint.{CheckpointPage, checkpointOf, scoresIn, coun
 use Rattle.store.specs.Reopen.{Cells, reopened}
 use Rattle.model.specs.Mount.{scoresBelow}
 use Rattle.flash_blocks.specs.Pages.{pagesOf, pageAt}
+use Rattle.store_laws.specs.WrittenPages.{pagesIn}
 use Rattle.mount_checkpoint_pages.specs.CheckpointPage.{numberOf, scoresOn}
 use Rattle.mount_checkpoint.specs.Marks.{scoreAt}
 use Rattle.mount_checkpoint.specs.Find.{checkpointIn}
 use Rattle.mount_checkpoint.specs.Scores.{scoreTaken, takeScores, takePage, takePages, isBelow}
 use Rattle.mount_checkpoint.specs.declared.find.Checkpoint.the-variants.{Complete}
-use Rattle.mount_refines.specs.Checkpoint.Written.{pagesIn}
 use Rattle.mount_refines.specs.Checkpoint.Collect.{gathered, sumCheckpointPages}
 use Rattle.mount_refines.specs.Checkpoint.Pool.{Judged, headers}
 use Rattle.mount_refines.specs.Checkpoint.Totals.{fromBytes, by-checkpoint-pages}

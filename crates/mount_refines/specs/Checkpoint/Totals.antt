@@ -25,11 +25,12 @@ use Rattle.store.specs.Pool.{pageIn}
 use Rattle.store.specs.Checkpoint.{CheckpointPage, scoresIn, countOr, countIn, hasCount, noCount, countLast}
 use Rattle.store.specs.Reopen.{Cells, greatestOf}
 use Rattle.flash_blocks.specs.Pages.{pagesOf, pageAt}
+use Rattle.store_laws.specs.WrittenPages.{pagesIn}
 use Rattle.mount_checkpoint_pages.specs.CheckpointPage.{numberOf, scoresFrom, scoresOn, countPart, checkpointPageOf, countFits, fitsIn}
 use Rattle.mount_checkpoint_pages.specs.Totals.{plus, addPage, nothing, totalsOf}
 use Rattle.mount_checkpoint_pages.specs.declared.totals.Totals.{Totals}
 use Rattle.mount_refines.specs.Checkpoint.Header.{numberIn, noCheckpointPage, checkpointPageIn, foreign, foreignTag, scoresRead, Header}
-use Rattle.mount_refines.specs.Checkpoint.Written.{pagesIn, sum-by-number}
+use Rattle.mount_refines.specs.Checkpoint.Written.{sum-by-number}
 use Rattle.mount_refines.specs.Checkpoint.Collect.{
   opens,
   Reach,

@@ -23,10 +23,7 @@ use Rattle.node.specs.Found.{found-present, found-absent, above-absent}
 use Rattle.node.specs.Repoint.{repoint, place-keyAt}
 use Rattle.node.specs.BothEdits.{repoint-put}
 use Rattle.run_split.specs.declared.fit.Fitting.the-variants.{Room, Full}
-use Rattle.run_split.specs.Fit.{fitOf, fit-at, fit-full, full-above}
-
-room-not-full : (i : ℕ) → Room ≡ Full i → ⊥
-room-not-full i e = let z : _≡_ {A = ℕ} 0 1 = cc in omega arith
+use Rattle.run_split.specs.Fit.{fitOf, fit-at, fit-full, full-above, room-full}
 
 -- A pair that fits, and one that does not.
 module _ (key value : ℕ) (ps : List Pair) where
@@ -47,7 +44,7 @@ module _ (key value : ℕ) (ps : List Pair) where
   room-size l e = go (present-or key ps)
     where
       below : Absent key ps → (mostKeys ≤ length ps) ⊎ (length ps < mostKeys) → length (insert key value ps) ≤ mostKeys
-      below a (inl m) = absurd (room-not-full (place key ps) (sym e ∙ fit-full key ps (place key ps) (found-absent key ps a) m))
+      below a (inl m) = absurd (room-full (place key ps) (sym e ∙ fit-full key ps (place key ps) (found-absent key ps a) m))
       below a (inr m) = omega (arith, length-insert key value ps)
 
       go : Present key ps ⊎ Absent key ps → length (insert key value ps) ≤ mostKeys
@@ -158,4 +155,4 @@ module _ (at middle left right : ℕ) (ps : List Pair) (last : ℕ) (w : Within 
         e,
         omega (arith, ap (λ (n : Node). length (pairsOf n)) e, ap length (pairs-put middle left renamed), full-size middle left (pairsOf renamed) i f),
       )
-      go (inr p) = absurd (room-not-full i (sym (p .0) ∙ f))
+      go (inr p) = absurd (room-full i (sym (p .0) ∙ f))
