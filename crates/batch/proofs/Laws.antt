@@ -26,12 +26,6 @@ unfolding wiped
 lent-zero table bytes part e =
     lay-lent 0 bytes table part (omega arith) (ap length e ∙ length-zeros bytes ∙ sym (sub-zero bytes)) ∙ ap (lay table 0) e
 
-pub lent-filled : (table : List ℕ) (bytes : ℕ) (part : List ℕ) → bytes ≤ length table → part ≡ zeros
-    (length (take (bytes - 0) (drop 0 table))) →
-    putMid 0 (bytes - 0) table part ≡ wiped bytes table
-lent-filled table bytes part l e =
-    lent-zero table bytes part (e ∙ ap zeros (length-take-le (bytes - 0) (drop 0 table) (rw sub-zero l) ∙ sub-zero bytes))
-
 -- What is left of a pool, mounted or not, differs by the table alone.
 pub widened : (m : Mounted) (cs : List Command) (pool part table answers : List ℕ) (r : Outcome) (left rest replies : List ℕ) →
     Leaves (batchMounted m cs pool part answers) r left rest replies → (whole : List ℕ) → whole ≡ cleared (blocksOf pool) table →

@@ -13,17 +13,18 @@ use command::Asked;
 use command::batch::asked;
 use flash_checkpoint::checkpoint;
 use layout::TABLE_BYTES;
+use layout::pool_blocks;
 use mount::mount;
-use prepare::pool_blocks;
 use run::run::run_commands;
 use wire::bytes::fill;
+use wire::bytes::fill_part;
 
 // The first bytes of the table zero.
 fn wipe(table: &mut [u8], bytes: usize)
     requires { ⌜ bytes ≤ length (now table) ⌝ }
     ensures { λ _. ⌜ now (table .exit) ≡ wiped bytes (now (table .entry)) ⌝ }
 {
-    fill(&mut table[0..bytes], 0);
+    fill_part(table, 0, bytes, 0);
 }
 
 // Questions 5 to 8, the commands and the checkpoint, in a table of the pool's size.

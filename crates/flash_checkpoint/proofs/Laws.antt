@@ -20,16 +20,16 @@ use Rattle.page.specs.Page as p
 use Rattle.page.specs.Image.{scoreBytes, tariffBytes, countBytes, fields, fieldIf, contentBytes, numbered, sealed, image}
 use Rattle.page.specs.Decode.{mostScores}
 use Rattle.page.specs.Decode as decode
-use Rattle.page.specs.Spelled.{scoreBytes-of}
+use Rattle.page.specs.Spelled.{scoreBytes-of, length-scoreBytes}
 use Rattle.page.specs.ReadBack.{map-back}
 use Rattle.page_write.specs.Chunks.{chunks}
-use Rattle.page_checkpoint.specs.Checkpoint.{onlyIf, scoresIn, recordsPage}
+use Rattle.page_checkpoint.specs.Checkpoint.{onlyIf, scored, scoresIn, recordsPage}
 use Rattle.flash_allocate.specs.World.{World, world, spot, used, Good, Made}
 use Rattle.flash_allocate.specs.Allocate.{allocate}
 use Rattle.flash_allocate.specs.declared.state.State.{State}
 use Rattle.flash_log.specs.Flush.{ifRoom, flush, Kept}
 use Rattle.flash_log.proofs.Laws.{Beside, room-yes, room-no, allocated}
-use Rattle.flash_checkpoint.specs.Scores.{scoreOf, scoresOf, scoresBytes}
+use Rattle.flash_checkpoint.specs.Scores.{scoresOf, scoresBytes}
 use Rattle.flash_checkpoint.specs.CheckpointPages.{scoresBefore, scoresOfPage, ScoresOfPage, pageCount, checkpointImage, checkpointRow}
 use Rattle.flash_checkpoint.specs.CheckpointPages.{writeCheckpointPage, checkpointPage, checkpointPages, drain, checkpoint}
 use Rattle.flash_checkpoint.specs.CheckpointPages.{Closing, CheckpointPageWritten, Ended}
@@ -41,10 +41,6 @@ pub length-scoresOf : (rows : List Row) (from n : ℕ) → length (scoresOf rows
 unfolding scoresOf
 length-scoresOf rows from zero = refl
 length-scoresOf rows from (suc n) = ap suc (length-scoresOf rows (from + 1) n)
-
-pub length-scoreBytes : (s : Score) → length (scoreBytes s) ≡ 6
-unfolding scoreBytes
-length-scoreBytes s = refl
 
 bytes-scoreBytes : (s : Score) → Bytes (scoreBytes s)
 unfolding scoreBytes
@@ -61,12 +57,12 @@ module _ (rows : List Row) (from n : ℕ) where
   records-begin records = ap₂ (λ (i k : ℕ). lay records 0 (scoresBytes (scoresOf rows i k))) (add-zero from) (sub-zero n)
 
   pub records-more : (records : List ℕ) (i : ℕ) → i < n → 6 * i ≤ length records →
-      lay (lay records (6 * i) (scoreBytes (scoreOf (from + i) (getD rows (from + i) noRow .score)))) (6 * (i + 1))
+      lay (lay records (6 * i) (scoreBytes (scored (from + i) (getD rows (from + i) noRow .score)))) (6 * (i + 1))
       (scoresBytes (scoresOf rows (from + (i + 1)) (n - (i + 1)))) ≡
       lay records (6 * i) (scoresBytes (scoresOf rows (from + i) (n - i)))
   unfolding scoresOf scoresBytes
   records-more records i h l =
-      let first : Score = scoreOf (from + i) (getD rows (from + i) noRow .score) in
+      let first : Score = scored (from + i) (getD rows (from + i) noRow .score) in
       let turn : n - i ≡ suc (n - (i + 1)) = omega arith in
       let next : from + i + 1 ≡ from + (i + 1) = omega arith in
       let at : 6 * (i + 1) ≡ 6 * i + length (scoreBytes first) = omega (arith, length-scoreBytes first) in

@@ -6,14 +6,12 @@ use Rattle.flash_rows.specs.Row.{noRow}
 use Rattle.flash_rows.specs.declared.Row.{Row}
 use Rattle.page.specs.Page.{Score}
 use Rattle.page.specs.Image.{scoreBytes}
-
-abbrev pub scoreOf : ℕ → ℕ → Score
-scoreOf id score = record { id = id; score = score }
+use Rattle.page_checkpoint.specs.Checkpoint.{scored}
 
 -- The scores of n nodes from one on.
 unfoldable pub scoresOf : List Row → ℕ → ℕ → List Score
 scoresOf rows from zero = []
-scoresOf rows from (suc n) = scoreOf from (getD rows from noRow .score) ∷ scoresOf rows (from + 1) n
+scoresOf rows from (suc n) = scored from (getD rows from noRow .score) ∷ scoresOf rows (from + 1) n
 
 -- Their records, one behind another.
 unfoldable pub scoresBytes : List Score → List ℕ

@@ -6,10 +6,9 @@ ghost use Rattle.laws.specs.Lay.{lay};
 ghost use Rattle.layout.specs.Layout.{nodeLimit, pageBytes, pagesInBlock};
 ghost use Rattle.flash_rows.specs.Row.{rowsOf, rowBytes};
 ghost use Rattle.flash_blocks.specs.Pages.{pagesOf};
-ghost use Rattle.page.specs.Image.{scoreBytes};
 ghost use Rattle.flash_allocate.specs.World.{Good, worldIn};
 ghost use Rattle.flash_log.specs.Flush.{KeptIn};
-ghost use Rattle.flash_checkpoint.specs.Scores.{scoreOf, scoresOf, scoresBytes};
+ghost use Rattle.flash_checkpoint.specs.Scores.{scoresOf, scoresBytes};
 ghost use Rattle.flash_checkpoint.specs.CheckpointPages as def;
 ghost use Rattle.flash_checkpoint.specs.CheckpointPages.{scoresBefore, ScoresOfPage, pageCount, checkpointImage, checkpointRow};
 ghost use Rattle.flash_checkpoint.specs.CheckpointPages.{writeCheckpointPage, CheckpointPageIn, Closing, EndedIn};
@@ -19,9 +18,9 @@ use flash_allocate::allocate::allocate;
 use flash_allocate::state::State;
 use flash_allocate::state::count_page;
 use flash_allocate::state::next_sequence;
-use flash_log::claim::no_row;
+use flash_blocks::page::put_page;
 use flash_log::flush::flush;
-use flash_log::flush::put_image;
+use flash_rows::no_row;
 use layout::FIRST_SCORES;
 use layout::OTHER_SCORES;
 use layout::PAGES_IN_BLOCK;
@@ -29,8 +28,7 @@ use layout::SCORE_BYTES;
 use layout::SCORES_LESS;
 use layout::SCORES_ROUND_UP;
 use page_checkpoint::checkpoint_image;
-use wire::number::write16;
-use wire::number::write32;
+use page_checkpoint::lay_score;
 
 // The node whose score is the first of checkpoint page k: 50 scores stand on the first, 54 on each other.
 fn scores_before(k: usize) -> usize
@@ -64,15 +62,6 @@ fn page_count(nodes: usize) -> usize
     (nodes + SCORES_ROUND_UP) / OTHER_SCORES
 }
 
-// Lays the record of a score.
-fn lay_score(records: &mut [u8], at: usize, id: usize, score: u32)
-    requires { ⌜ (at + 6 ≤ length (now records)) × (id < 65536) ⌝ }
-    ensures { λ _. ⌜ now (records .exit) ≡ lay (now (records .entry)) at (scoreBytes (scoreOf id score)) ⌝ }
-{
-    write16(records, at, id as u32);
-    write32(records, at + 2, score);
-}
-
 // The records of n scores from a node on.
 fn score_records(table: &[u8], from: usize, n: usize) -> [u8; SCORE_BYTES * OTHER_SCORES]
     requires { ⌜ (n ≤ 54) × (from + n ≤ 4096) × (rowBytes * (from + n) ≤ length (now table)) ⌝ }
@@ -82,7 +71,7 @@ fn score_records(table: &[u8], from: usize, n: usize) -> [u8; SCORE_BYTES * OTHE
     let mut i: usize = 0;
     while i < n {
         let row = flash_rows::read_row(table, from + i);
-        lay_score(&mut records, 6 * i, from + i, row.score);
+        lay_score(&mut records, SCORE_BYTES * i, (from + i) as u32, row.score);
         i += 1;
     }
     records
@@ -108,7 +97,7 @@ fn put_checkpoint_page(
     let records = score_records(table, from, n);
     let last = k + 1 == page_count(nodes);
     let image = checkpoint_image(number, k == 0, tariff, &records, n, last, nodes as u32);
-    put_image(pool, at, image);
+    put_page(pool, at, image);
 }
 
 // The row of a checkpoint page, behind the nodes' rows.

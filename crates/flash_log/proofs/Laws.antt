@@ -2,7 +2,7 @@
 use mathlib.Core.Path.{_≡_, refl, ap, _∙_}
 use mathlib.Core.Bool.{Bool, true, false}
 use mathlib.Core.List.{List}
-use Prim.Native.Nat.{ℕ, _+_, _*_, _≤_, _<_}
+use Prim.Native.Nat.{ℕ, _+_, _*_, _/_, _%_, _≤_, _<_}
 use native.Mathlib.Omega.{arith}
 use lib.Dec.{ltb, leb}
 use lib.ListN.{getD, set}
@@ -15,23 +15,31 @@ use Rattle.flash_rows.specs.declared.Row.{Row}
 use Rattle.flash_rows.specs.declared.Claim.{Claim}
 use Rattle.flash_blocks.specs.Blank.{blankBlocks, nextBlank}
 use Rattle.node.specs.Change.{Change}
-use Rattle.page.specs.Image.{entryBytes}
+use Rattle.page.specs.Image.{changeNumber, changeKey, changePointer, entryBytes}
 use Rattle.flash_allocate.specs.World.{World, world, spot, used, Good, Made}
 use Rattle.flash_allocate.specs.Compact.{compact}
 use Rattle.flash_allocate.specs.Allocate.{behind, nextBlock, allocate}
 use Rattle.flash_allocate.specs.declared.state.State.{State}
-use Rattle.page_write.specs.Pages.{logImage}
+use Rattle.page_write.specs.Pages.{entryRecord, entryRecord-bytes, logImage}
 use Rattle.flash_log.specs.Entry.{entryOf, entered, append}
 use Rattle.flash_log.specs.Claim.{idAt, versionAt, claimRow, claimEntry, claimEntries}
 use Rattle.flash_log.specs.Flush.{writeBuffer, ifRoom, flush, room, Kept}
 use Rattle.flash_allocate.specs.State.{inBlock, withEntries, nextSequence, advanced, withoutEntries}
 
+-- The bytes of an entry from its numbers, the id cut to two bytes.
+pub record-entry : (id version : ℕ) (c : Change) (kind key pointer : ℕ) → kind ≡ changeNumber c → key ≡ changeKey c → pointer ≡ changePointer c →
+    entryRecord (id % 65536) version kind key pointer ≡ entryBytes (entryOf id version c)
+unfolding entryRecord
+record-entry id version c kind key pointer k y p =
+    let high : id % 65536 / 256 % 256 ≡ id / 256 % 256 = omega arith in
+    let low : id % 65536 % 256 ≡ id % 256 = omega arith in
+    rw (k, y, p, high, low) (entryRecord-bytes id version c)
+
 -- An entry more, where the buffer has room.
-pub append-in : (id version : ℕ) (c : Change) (s : State) (bytes buffer : List ℕ) → s .entries < 27 →
-    bytes ≡ entryBytes (entryOf id version c) → buffer ≡ lay (s .buffer) (15 * s .entries) bytes → withEntries
-    (s .entries + 1) buffer s ≡ append id version c s
+pub append-in : (id version : ℕ) (c : Change) (s : State) (buffer : List ℕ) → s .entries < 27 →
+    buffer ≡ lay (s .buffer) (15 * s .entries) (entryBytes (entryOf id version c)) → withEntries (s .entries + 1) buffer s ≡ append id version c s
 unfolding append entered
-append-in id version c s bytes buffer h e f = rw (lt-ltb (s .entries) 27 h, f, e) refl
+append-in id version c s buffer h e = rw (lt-ltb (s .entries) 27 h, e) refl
 
 pub append-full : (id version : ℕ) (c : Change) (s : State) → 27 ≤ s .entries → s ≡ append id version c s
 unfolding append
@@ -75,9 +83,6 @@ pub record Beside (s s′ : State) : Type 0 where
   pub blocks : s′ .blocks ≡ s .blocks
   pub nodes : s′ .nodes ≡ s .nodes
   pub checkpoint : s′ .checkpoint ≡ s .checkpoint
-
-pub beside-refl : (s : State) → Beside s s
-beside-refl s = record { blocks = refl; nodes = refl; checkpoint = refl }
 
 pub beside-append : (id version : ℕ) (c : Change) (s : State) → Beside s (append id version c s)
 unfolding append entered

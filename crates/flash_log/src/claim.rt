@@ -2,32 +2,15 @@
 ghost use mathlib.Core.Path.{_≡_};
 ghost use Prim.Native.Nat.{_+_, _*_, _≤_, _<_};
 ghost use lib.ListN.{length};
-ghost use Rattle.flash_rows.specs.Row.{rowsOf, noRow, rowBytes};
+ghost use Rattle.flash_rows.specs.Row.{rowsOf, rowBytes};
 ghost use Rattle.flash_rows.specs.Step.{settled};
 ghost use Rattle.flash_log.specs.Claim.{claimEntry, claimEntries};
 ghost use Rattle.layout.specs.Layout.{mostEntries};
-use account::Mode;
 use flash_rows::Claim;
-use flash_rows::Row;
 use layout::BUFFER_BYTES;
 use layout::ENTRY_BYTES;
 use wire::number::read16;
 use wire::number::read32;
-
-// The row of a node that lies nowhere.
-pub fn no_row() -> Row
-    ensures { λ r. ⌜ r ≡ noRow ⌝ }
-{
-    Row {
-        version: 0,
-        score: 0,
-        mode: Mode::Log,
-        pages: 0,
-        first: 0,
-        second: 0,
-        third: 0,
-    }
-}
 
 // Stores what a claim made of a row.
 fn store_claim(table: &mut [u8], n: usize, claim: Claim)

@@ -3,7 +3,7 @@ ghost use mathlib.Core.Path.{_≡_};
 ghost use Prim.Native.Nat.{_*_, _<_};
 ghost use Rattle.laws.specs.Lay.{lay};
 ghost use Rattle.node.specs.Drafts.{changeOf};
-ghost use Rattle.page.specs.Image.{shapeNumber, changeNumber, changeKey, changePointer, entryBytes};
+ghost use Rattle.page.specs.Image.{changeNumber, changeKey, changePointer, entryBytes};
 ghost use Rattle.flash_log.specs.Entry as def;
 ghost use Rattle.flash_log.specs.Entry.{entryOf};
 ghost use Rattle.layout.specs.Layout.{entrySize, mostEntries};
@@ -12,18 +12,8 @@ use layout::BUFFER_BYTES;
 use layout::ENTRY_BYTES;
 use layout::MOST_ENTRIES;
 use node::ChangeValue;
-use node::Shape;
-use wire::bytes::lay_bytes;
-
-// 3 for a leaf's link, 4 for a branch's last pointer.
-fn shape_number(shape: Shape) -> u8
-    ensures { λ r. ⌜ r ≡ shapeNumber shape ⌝ }
-{
-    match shape {
-        Shape::Leaf => 3,
-        Shape::Branch => 4,
-    }
-}
+use page::shape_number;
+use page_write::log_page::lay_entry;
 
 // The number of a change's kind.
 fn change_number(change: ChangeValue) -> u8
@@ -58,38 +48,30 @@ fn change_pointer(change: ChangeValue) -> u32
     }
 }
 
-// The fifteen bytes of an entry.
-fn entry_bytes(id: usize, version: u32, change: ChangeValue) -> [u8; ENTRY_BYTES]
-    ensures { λ r. ⌜ r ≡ entryBytes (entryOf id version (changeOf change)) ⌝ }
+// Lays an entry behind the first n of the buffer; an id has two bytes.
+fn lay_change(
+    buffer: &mut [u8; BUFFER_BYTES],
+    n: usize,
+    id: usize,
+    version: u32,
+    change: ChangeValue,
+)
+    requires { ⌜ n < mostEntries ⌝ }
+    ensures { λ _. ⌜ now (buffer .exit) ≡ lay (now (buffer .entry)) (entrySize * n)
+        (entryBytes (entryOf id version (changeOf change))) ⌝ }
 {
-    let number = change_number(change);
+    let kind = change_number(change);
     let key = change_key(change);
     let pointer = change_pointer(change);
-    [
-        (id / 256 % 256) as u8,
-        (id % 256) as u8,
-        (version / 256 / 256 / 256 % 256) as u8,
-        (version / 256 / 256 % 256) as u8,
-        (version / 256 % 256) as u8,
-        (version % 256) as u8,
-        number,
-        (key / 256 / 256 / 256 % 256) as u8,
-        (key / 256 / 256 % 256) as u8,
-        (key / 256 % 256) as u8,
-        (key % 256) as u8,
-        (pointer / 256 / 256 / 256 % 256) as u8,
-        (pointer / 256 / 256 % 256) as u8,
-        (pointer / 256 % 256) as u8,
-        (pointer % 256) as u8,
-    ]
-}
-
-// Lays an entry behind the first n of the buffer.
-fn lay_entry(buffer: &mut [u8; BUFFER_BYTES], n: usize, bytes: &[u8; ENTRY_BYTES])
-    requires { ⌜ n < mostEntries ⌝ }
-    ensures { λ _. ⌜ now (buffer .exit) ≡ lay (now (buffer .entry)) (entrySize * n) (now (bytes .entry)) ⌝ }
-{
-    lay_bytes(buffer, ENTRY_BYTES * n, bytes);
+    lay_entry(
+        buffer,
+        ENTRY_BYTES * n,
+        (id % 65536) as u32,
+        version,
+        kind,
+        key,
+        pointer,
+    );
 }
 
 // The state with one entry more in the buffer, where it has room.
@@ -97,9 +79,8 @@ pub fn append(state: State, id: usize, version: u32, change: ChangeValue) -> Sta
     ensures { λ r. ⌜ r ≡ def.append id version (changeOf change) state ⌝ }
 {
     if state.entries < MOST_ENTRIES {
-        let bytes = entry_bytes(id, version, change);
         let mut s = state;
-        lay_entry(&mut s.buffer, state.entries, &bytes);
+        lay_change(&mut s.buffer, state.entries, id, version, change);
         s.entries = state.entries + 1;
         return s;
     }

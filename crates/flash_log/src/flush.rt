@@ -14,20 +14,11 @@ use flash_allocate::state::State;
 use flash_allocate::state::advance;
 use flash_allocate::state::next_sequence;
 use flash_allocate::state::without_entries;
+use flash_blocks::page::put_page;
 use layout::BUFFER_BYTES;
 use layout::MOST_ENTRIES;
-use layout::PAGE_BYTES;
 use layout::PAGES_IN_BLOCK;
-use page_write::frame::write_page;
 use page_write::log_page::log_image;
-
-// An image written as a page of the pool.
-pub fn put_image(pool: &mut [u8], page: usize, image: [u8; PAGE_BYTES])
-    requires { ⌜ pageBytes * page + pageBytes ≤ length (now pool) ⌝ }
-    ensures { λ _. ⌜ pagesOf (now (pool .exit)) ≡ set (pagesOf (now (pool .entry))) page image ⌝ }
-{
-    write_page(pool, PAGE_BYTES * page, image);
-}
 
 // The first n entries of the buffer written as a log page.
 fn put_log(pool: &mut [u8], page: usize, number: u32, buffer: &[u8; BUFFER_BYTES], n: usize)
@@ -36,7 +27,7 @@ fn put_log(pool: &mut [u8], page: usize, number: u32, buffer: &[u8; BUFFER_BYTES
         (logImage number n (now (buffer .entry))) ⌝ }
 {
     let image = log_image(number, buffer, n);
-    put_image(pool, page, image);
+    put_page(pool, page, image);
 }
 
 // The buffer as the next page, in a block that has room.

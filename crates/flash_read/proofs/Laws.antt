@@ -15,8 +15,7 @@ use Rattle.layout.specs.Layout.{mostEntries, bound32}
 use Rattle.pairs.specs.Pairs.{Pair}
 use Rattle.wire.specs.Field.{payloadAt}
 use Rattle.wire.specs.FieldLaws.{payloadAt-absent}
-use Rattle.flash_blocks.specs.Pages.{pagesOf, pageAt, blankPage}
-use Rattle.flash_blocks.proofs.Laws.{pageAt-part, length-pages}
+use Rattle.flash_blocks.specs.Pages.{pageAt, blankPage}
 use Rattle.account.specs.declared.Mode.{Mode}
 use Rattle.account.specs.declared.Mode.the-variants.{Log, Disk}
 use Rattle.flash_rows.specs.Step.{byMode}
@@ -94,32 +93,27 @@ pub payload-blank : (at tag : ℕ) → at < 512 → (tag ≡ 255 → ⊥) → pa
 unfolding blankPage
 payload-blank at tag h t = payloadAt-absent (replicate 512 255) at tag (λ e. t (sym e ∙ getD-replicate {A = ℕ} 512 at 255 0 h))
 
--- A page within the pool, lent as a part of it; behind the pool's end every page is blank.
-module _ (pool : List ℕ) (q : ℕ) where
-  page-part : (n : ℕ) → 512 * q + 512 ≤ length pool → n ≡ 512 → take n (drop (512 * q) pool) ≡ pageAt (pagesOf pool) q
-  unfolding part
-  page-part n h e = ap (λ (m : ℕ). take m (drop (512 * q) pool)) e ∙ sym (pageAt-part pool q h)
-
-  page-behind : length pool < 512 * q + 512 → pageAt (pagesOf pool) q ≡ blankPage
+-- What is read of a page within the pool; behind the pool's end every page is blank.
+module _ (pages : List (List ℕ)) (q : ℕ) where
+  page-behind : length pages ≤ q → pageAt pages q ≡ blankPage
   unfolding pageAt
-  page-behind h = List·getD-eq-default (pagesOf pool) blankPage (omega (arith, length-pages pool))
+  page-behind h = List·getD-eq-default pages blankPage h
 
-  pub sequence-in : (n : ℕ) → 512 * q + 512 ≤ length pool → n ≡ 512 → number
-      (payloadAt (take n (drop (512 * q) pool)) 0 0x10) ≡ sequenceAt (pagesOf pool) q
+  pub sequence-in : (b : List ℕ) → b ≡ pageAt pages q → number (payloadAt b 0 0x10) ≡ sequenceAt pages q
   unfolding sequenceAt
-  sequence-in n h e = ap (λ (b : List ℕ). number (payloadAt b 0 0x10)) (page-part n h e)
+  sequence-in b e = ap (λ (b : List ℕ). number (payloadAt b 0 0x10)) e
 
-  pub sequence-behind : length pool < 512 * q + 512 → 0 ≡ sequenceAt (pagesOf pool) q
+  pub sequence-behind : length pages ≤ q → 0 ≡ sequenceAt pages q
   unfolding sequenceAt
   sequence-behind h =
       sym (ap (λ (b : List ℕ). number (payloadAt b 0 0x10)) (page-behind h) ∙ ap number (payload-blank 0 0x10 (omega arith) (λ e. omega arith)))
 
-  pub redo-in : (n id version : ℕ) (d : Draft) → 512 * q + 512 ≤ length pool → n ≡ 512 →
-      redoRun id version mostEntries (take n (drop (512 * q) pool)) 7 d ≡ redoAt (pagesOf pool) q id version d
+  pub redo-in : (b : List ℕ) (id version : ℕ) (d : Draft) → b ≡ pageAt pages q →
+      redoRun id version mostEntries b 7 d ≡ redoAt pages q id version d
   unfolding redoAt
-  redo-in n id version d h e = ap (λ (b : List ℕ). redoRun id version mostEntries b 7 d) (page-part n h e)
+  redo-in b id version d e = ap (λ (b : List ℕ). redoRun id version mostEntries b 7 d) e
 
-  pub redo-behind : (id version : ℕ) (d : Draft) → length pool < 512 * q + 512 → d ≡ redoAt (pagesOf pool) q id version d
+  pub redo-behind : (id version : ℕ) (d : Draft) → length pages ≤ q → d ≡ redoAt pages q id version d
   unfolding redoAt
   redo-behind id version d h =
       sym
@@ -225,17 +219,16 @@ module _ (p : List ℕ) where
       unfolding nodeOfPayload
       whole-loose a = rw (le-ltb (length p) 7 h, ← e, le-ltb 24 n l, ← pairs-are, a) refl
 
--- A page within the pool, and none behind its end.
-pub whole-in : (pool : List ℕ) (q n : ℕ) → 512 * q + 512 ≤ length pool → n ≡ 512 →
-    nodeOfPayload (payloadAt (take n (drop (512 * q) pool)) 7 0x11) ≡ nodePageAt (pagesOf pool) q
+-- The node of a page within the pool, and none behind its end.
+pub node-in : (pages : List (List ℕ)) (q : ℕ) (b : List ℕ) → b ≡ pageAt pages q → nodeOfPayload (payloadAt b 7 0x11) ≡ nodePageAt pages q
 unfolding nodePageAt
-whole-in pool q n h e = ap (λ (b : List ℕ). nodeOfPayload (payloadAt b 7 0x11)) (page-part pool q n h e)
+node-in pages q b e = ap (λ (b : List ℕ). nodeOfPayload (payloadAt b 7 0x11)) e
 
-pub whole-behind : (pool : List ℕ) (q : ℕ) → length pool < 512 * q + 512 → broken ≡ nodePageAt (pagesOf pool) q
+pub node-behind : (pages : List (List ℕ)) (q : ℕ) → length pages ≤ q → broken ≡ nodePageAt pages q
 unfolding nodePageAt
-whole-behind pool q h =
+node-behind pages q h =
     whole-short [] (omega arith) ∙
-    sym (ap (λ (b : List ℕ). nodeOfPayload (payloadAt b 7 0x11)) (page-behind pool q h) ∙ ap nodeOfPayload
+    sym (ap (λ (b : List ℕ). nodeOfPayload (payloadAt b 7 0x11)) (page-behind pages q h) ∙ ap nodeOfPayload
     (payload-blank 7 0x11 (omega arith) (λ e. omega arith)))
 
 -- A node by its mode.

@@ -11,7 +11,7 @@ use node::DraftState;
 use node::DraftValue;
 use node::NodeValue;
 use node::Shape;
-use node_replay::empty_node;
+use node::empty_node;
 
 // The node that a draft has made; a branch without a key, which is in no sound tree, where it has made none.
 pub fn node_in(d: DraftValue) -> NodeValue

@@ -18,7 +18,7 @@ use account::Mode;
 use flash_allocate::state::State;
 use flash_rows::Row;
 use node::DraftValue;
-use node_replay::empty_draft;
+use node::empty_draft;
 
 // The entries of a version on the pages that a row names, by sequence number.
 fn redo_pages(pool: &[u8], row: Row, n: usize, d: DraftValue) -> DraftValue

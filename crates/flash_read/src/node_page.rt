@@ -1,5 +1,4 @@
 // A node read from its node page.
-ghost use mathlib.Core.Path.{_≡_};
 ghost use Prim.Native.Nat.{_+_, _*_, _≤_};
 ghost use lib.ListN.{length};
 ghost use Rattle.flash_blocks.specs.Pages.{pagesOf};
@@ -11,14 +10,16 @@ ghost use Rattle.wire.specs.Field.{payloadAt};
 ghost use Rattle.page.specs.Decode as decode;
 ghost use Rattle.flash_read.specs.NodePage.{nodeOfPayload, nodePageAt};
 ghost use Rattle.layout.specs.Layout.{mostKeys};
+use flash_blocks::page::has_page;
+use flash_blocks::page::page_part;
 use layout::MOST_KEYS;
-use layout::PAGE_BYTES;
 use node::DraftState;
 use node::DraftValue;
 use node::NodeValue;
 use node::Shape;
+use node::empty_node;
 use node::search::ascends;
-use node_replay::empty_node;
+use page::shape_of;
 use wire::field::payload;
 use wire::number::read32;
 
@@ -31,16 +32,6 @@ fn no_node() -> DraftValue
         state: DraftState::Broken,
         node,
     }
-}
-
-// The shape that a number says.
-fn shape_of(number: u8) -> Shape
-    ensures { λ r. ⌜ r ≡ decode.shapeOfNumber number ⌝ }
-{
-    if number == 3 {
-        return Shape::Leaf;
-    }
-    Shape::Branch
 }
 
 // A node of the first n pairs of a payload.
@@ -103,10 +94,9 @@ fn read_node(page: &[u8]) -> DraftValue
 pub fn node_page_at(pool: &[u8], page: u16) -> DraftValue
     ensures { λ r. ⌜ Redone r (nodePageAt (pagesOf (now (pool .entry))) page) ⌝ }
 {
-    let from = PAGE_BYTES * (page as usize);
-    let to = from + PAGE_BYTES;
-    if to <= pool.len() {
-        return read_node(&pool[from..to]);
+    let place = page as usize;
+    if has_page(pool, place) {
+        return read_node(page_part(pool, place));
     }
     no_node()
 }

@@ -30,6 +30,21 @@ pub enum Claim {
     Noted(Row),
 }
 
+// The row of a node that lies nowhere.
+pub fn no_row() -> Row
+    ensures { λ r. ⌜ r ≡ noRow ⌝ }
+{
+    Row {
+        version: 0,
+        score: 0,
+        mode: Mode::Log,
+        pages: 0,
+        first: 0,
+        second: 0,
+        third: 0,
+    }
+}
+
 // The mode that a byte says.
 fn mode_from(byte: u8) -> Mode
     ensures { λ r. ⌜ r ≡ modeFrom byte ⌝ }
@@ -52,7 +67,7 @@ fn mode_byte(mode: Mode) -> u8
 
 // The row that sixteen bytes spell.
 fn decode(part: &[u8]) -> Row
-    requires { ⌜ length (now part) ≡ 16 ⌝ }
+    requires { ⌜ length (now part) ≡ rowBytes ⌝ }
     ensures { λ r. ⌜ r ≡ def.decode (now (part .entry)) ⌝ }
 {
     let version = read32(part, 0);

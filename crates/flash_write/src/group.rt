@@ -15,10 +15,10 @@ use flash_allocate::state::State;
 use flash_allocate::state::next_sequence;
 use flash_allocate::state::with_nodes;
 use flash_allocate::state::with_sequence;
-use flash_log::claim::no_row;
 use flash_log::entry::append;
 use flash_log::flush::make_room;
 use flash_rows::Row;
+use flash_rows::no_row;
 use node::ChangeValue;
 use node::NodeValue;
 

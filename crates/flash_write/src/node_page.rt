@@ -17,7 +17,7 @@ use flash_allocate::allocate::allocate;
 use flash_allocate::state::State;
 use flash_allocate::state::advance;
 use flash_allocate::state::next_sequence;
-use flash_log::flush::put_image;
+use flash_blocks::page::put_page;
 use layout::PAGES_IN_BLOCK;
 use node::NodeValue;
 use page_write::node_page::node_image;
@@ -32,7 +32,7 @@ fn put_node(pool: &mut [u8], at: usize, number: u32, id: usize, v: NodeValue)
     let keys = v.keys;
     let pointers = v.pointers;
     let bytes = node_image(number, id as u32, shape, &keys, &pointers, v.count, v.link);
-    put_image(pool, at, bytes);
+    put_page(pool, at, bytes);
 }
 
 // The row of a node that has this page for its version, alone.

@@ -1,6 +1,7 @@
 // Every size and limit of document 01, for code; specs/Layout.antt names the same for contracts.
 ghost use mathlib.Core.Path.{_≡_};
 ghost use Prim.Native.Nat.{_≤_};
+ghost use Rattle.layout.specs.Blocks.{blocksIf};
 ghost use Rattle.layout.specs.Layout.{nodeLimit, fewestBlocks, mostBlocks, mostNodes};
 
 // The pool: blocks of 32 pages of 512 bytes.
@@ -74,4 +75,21 @@ pub fn node_limit(blocks: usize) -> usize
     ensures { λ r. ⌜ (r ≡ nodeLimit blocks) × (r ≤ mostNodes) ⌝ }
 {
     10 * (blocks - 2)
+}
+
+// How many blocks a pool of so many bytes has; 0 where no pool has that length.
+pub fn pool_blocks(bytes: usize) -> usize
+    ensures { λ r. ⌜ r ≡ blocksIf bytes ⌝ }
+{
+    let blocks = bytes / BLOCK_BYTES;
+    if blocks < FEWEST_BLOCKS {
+        return 0;
+    }
+    if MOST_BLOCKS < blocks {
+        return 0;
+    }
+    if BLOCK_BYTES * blocks == bytes {
+        return blocks;
+    }
+    0
 }

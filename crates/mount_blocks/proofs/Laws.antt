@@ -2,19 +2,10 @@
 use mathlib.Core.Path.{_≡_, sym, ap, _∙_}
 use mathlib.Core.Bool.{Bool, true, false, not}
 use mathlib.Core.List.{List}
-use Prim.Native.Nat.{ℕ, _+_, _*_, _≤_}
-use native.Mathlib.Omega.{arith}
-use lib.ListN.{length}
+use Prim.Native.Nat.{ℕ}
 use borrow.Author.Tests.{eq-eqb, ne-eqb}
-use Rattle.laws.specs.BigEndian.{numberAt, numberAt-part}
-use Rattle.flash_blocks.specs.Pages.{pagesOf, pageAt, isBlank}
-use Rattle.flash_blocks.proofs.Laws.{pageAt-part}
+use Rattle.flash_blocks.specs.Pages.{pageAt, isBlank}
 use Rattle.mount_blocks.specs.Rules.{sequenceOn, blankAt, writtenAt, numberedAt, fillOf, restBlank, holds, blockPasses}
-
-pub sequence-read : (pool : List ℕ) (q : ℕ) → 512 * q + 512 ≤ length pool → numberAt 4 pool (512 * q + 3) ≡ sequenceOn (pagesOf pool) q
-unfolding sequenceOn
-sequence-read pool q h =
-    sym (ap (λ (b : List ℕ). numberAt 4 b 3) (pageAt-part pool q h) ∙ numberAt-part 4 pool (512 * q) 512 3 (omega arith))
 
 module _ (pages : List (List ℕ)) (q : ℕ) where
   pub blank-at : (b : Bool) → isBlank (pageAt pages q) ≡ b → blankAt pages q ≡ b

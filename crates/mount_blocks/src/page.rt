@@ -7,7 +7,7 @@ ghost use Rattle.flash_blocks.specs.Pages.{pagesOf};
 ghost use Rattle.mount_blocks.specs.Rules.{sequenceOn, blankAt, writtenAt, numberedAt};
 ghost use Rattle.layout.specs.Layout.{pageBytes};
 use flash_blocks::page::is_blank;
-use layout::PAGE_BYTES;
+use flash_blocks::page::page_part;
 use wire::number::read32;
 
 // The sequence number in a page's header.
@@ -15,7 +15,7 @@ pub fn sequence_on(pool: &[u8], page: usize) -> u32
     requires { ⌜ pageBytes * page + pageBytes ≤ length (now pool) ⌝ }
     ensures { λ r. ⌜ r ≡ sequenceOn (pagesOf (now (pool .entry))) page ⌝ }
 {
-    read32(pool, PAGE_BYTES * page + 3)
+    read32(page_part(pool, page), 3)
 }
 
 // The first blank page from one on and before another, or that other.

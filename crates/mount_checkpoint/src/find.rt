@@ -8,10 +8,10 @@ ghost use Rattle.mount_checkpoint.specs.Find.{tariffAt, Found};
 use super::marks::covers;
 use account::Costs;
 use account::Tariff;
+use flash_blocks::page::page_part;
 use layout::PAGES_IN_BLOCK;
 use layout::TARIFF_BYTES;
 use mount_checkpoint_pages::extent::extent_of;
-use mount_checkpoint_pages::part::page_in;
 use mount_checkpoint_pages::totals::sum_pages;
 use page_read::value::tariff_of;
 use wire::field::payload;
@@ -31,7 +31,7 @@ fn tariff_at(pool: &[u8], q: usize) -> Tariff
     requires { ⌜ pageBytes * q + pageBytes ≤ length (now pool) ⌝ }
     ensures { λ r. ⌜ r ≡ tariffAt (pagesOf (now (pool .entry))) q ⌝ }
 {
-    let p = payload(page_in(pool, q), 7, 0x13);
+    let p = payload(page_part(pool, q), 7, 0x13);
     if p.len() != TARIFF_BYTES {
         let none = Costs {
             read: 0,

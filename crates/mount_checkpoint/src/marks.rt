@@ -6,8 +6,8 @@ ghost use Rattle.laws.specs.Loops.{allFrom};
 ghost use Rattle.flash_blocks.specs.Pages.{pagesOf};
 ghost use Rattle.mount_checkpoint.specs.Marks.{marked, markPage, markPages, isMarked, Windowed, Covered};
 ghost use Rattle.layout.specs.Layout.{pageBytes};
+use flash_blocks::page::page_part;
 use mount_checkpoint_pages::checkpoint_page::scores_of;
-use mount_checkpoint_pages::part::page_in;
 use page_read::seal::sequence;
 use page_read::value::score_at;
 use wire::bytes::fill;
@@ -51,7 +51,7 @@ fn mark_pages(pool: &[u8], marks: &mut [u8], pages: usize, since: u32, start: us
 {
     let mut q: usize = 0;
     while q < pages {
-        mark_page(page_in(pool, q), marks, since, start);
+        mark_page(page_part(pool, q), marks, since, start);
         q += 1;
     }
 }

@@ -7,9 +7,9 @@ ghost use Rattle.layout.specs.Layout.{blockBytes, pagesInBlock};
 ghost use Rattle.flash_rows.specs.Row.{rowsOf, rowBytes};
 ghost use Rattle.flash_blocks.specs.Pages.{pagesOf};
 ghost use Rattle.mount_checkpoint.specs.Scores.{scoreTaken, takePage, takePages, isBelow};
+use flash_blocks::page::page_part;
 use layout::PAGES_IN_BLOCK;
 use mount_checkpoint_pages::checkpoint_page::scores_of;
-use mount_checkpoint_pages::part::page_in;
 use page_read::seal::sequence;
 use page_read::value::score_at;
 
@@ -53,7 +53,7 @@ pub fn take_scores(pool: &[u8], table: &mut [u8], blocks: usize, since: u32, nod
     let pages = PAGES_IN_BLOCK * blocks;
     let mut q: usize = 0;
     while q < pages {
-        take_page(page_in(pool, q), table, since, nodes);
+        take_page(page_part(pool, q), table, since, nodes);
         q += 1;
     }
 }

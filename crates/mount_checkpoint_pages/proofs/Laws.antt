@@ -5,14 +5,11 @@ use mathlib.Core.List.{List, []}
 use Prim.Native.Nat.{ℕ, _+_, _-_, _*_, _≤_, _<_, max}
 use native.Mathlib.Omega.{arith}
 use lib.Dec.{ltb}
-use lib.ListN.{length, getD, take, drop}
+use lib.ListN.{length, getD}
 use borrow.Author.Tests.{eq-eqb, ne-eqb, lt-ltb, le-ltb}
 use Rattle.laws.specs.Tests.{choose}
-use Rattle.laws.specs.Lay.{part, length-part}
 use Rattle.laws.specs.BigEndian.{number}
 use Rattle.wire.specs.Field.{payloadAt}
-use Rattle.flash_blocks.specs.Pages.{pagesOf, pageAt}
-use Rattle.flash_blocks.proofs.Laws.{pageAt-part}
 use Rattle.page.specs.Decode.{run, found, taken, scoreOk, mostScores}
 use Rattle.page.specs.ReadBack.{taken-found}
 use Rattle.page_read.specs.Payload.{found-true}
@@ -23,11 +20,6 @@ use Rattle.mount_checkpoint_pages.specs.declared.checkpoint_page.Scores.
 use Rattle.mount_checkpoint_pages.specs.declared.checkpoint_page.CheckpointPage.{CheckpointPage}
 use Rattle.mount_checkpoint_pages.specs.declared.extent.Extent.{Extent}
 use Rattle.mount_checkpoint_pages.specs.declared.totals.Totals.{Totals}
-
--- A page's part of the pool.
-pub page-part : (pool : List ℕ) (q n : ℕ) → n ≡ 512 → 512 * q + 512 ≤ length pool → take n (drop (512 * q) pool) ≡ pageAt (pagesOf pool) q
-unfolding part
-page-part pool q n e h = ap (λ (k : ℕ). take k (drop (512 * q) pool)) e ∙ sym (pageAt-part pool q h)
 
 -- ---- the scores of a page
 
@@ -168,7 +160,3 @@ module _ (since newest : ℕ) (b : List ℕ) (t : Totals) (n : ℕ) (own : n ≡
         Added since newest b t (record { misfits = t .misfits + 1; scores = t .scores + s .scores; nodes = t .nodes + s .nodes })
     unfolding plus
     add-misfit e = record { is = add-is false e; misfits = omega arith; scores = omega (arith, r .few); nodes = omega (arith, r .small) }
-
--- A page of the pool has 512 bytes.
-pub length-page : (pool : List ℕ) (q : ℕ) → 512 * q + 512 ≤ length pool → length (pageAt (pagesOf pool) q) ≡ 512
-length-page pool q h = ap length (pageAt-part pool q h) ∙ length-part pool (512 * q) 512 h

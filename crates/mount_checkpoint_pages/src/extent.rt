@@ -6,7 +6,7 @@ ghost use Rattle.flash_blocks.specs.Pages.{pagesOf};
 ghost use Rattle.mount_checkpoint_pages.specs.Extent as def;
 ghost use Rattle.mount_checkpoint_pages.specs.Extent.{Reach};
 ghost use Rattle.layout.specs.Layout.{pageBytes};
-use super::part::page_in;
+use flash_blocks::page::page_part;
 use layout::TARIFF_BYTES;
 use page_read::seal::sequence;
 use wire::field::payload;
@@ -63,7 +63,7 @@ pub fn extent_of(pool: &[u8], pages: usize) -> Extent
     };
     let mut q: usize = 0;
     while q < pages {
-        e = extended(page_in(pool, q), q, e);
+        e = extended(page_part(pool, q), q, e);
         q += 1;
     }
     e

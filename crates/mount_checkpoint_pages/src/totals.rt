@@ -6,7 +6,7 @@ ghost use Rattle.flash_blocks.specs.Pages.{pagesOf};
 ghost use Rattle.mount_checkpoint_pages.specs.Totals.{Few, Added, Summed};
 use super::checkpoint_page::checkpoint_page_of;
 use super::checkpoint_page::fits;
-use super::part::page_in;
+use flash_blocks::page::page_part;
 use page_read::seal::sequence;
 
 // Over some pages: how many do not fit, the scores on them, and the node counts.
@@ -53,7 +53,7 @@ pub fn sum_pages(pool: &[u8], pages: usize, since: u32, newest: u32) -> Totals
     };
     let mut q: usize = 0;
     while q < pages {
-        t = add_page(page_in(pool, q), since, newest, t);
+        t = add_page(page_part(pool, q), since, newest, t);
         q += 1;
     }
     t

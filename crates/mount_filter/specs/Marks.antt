@@ -23,16 +23,16 @@ markOf blocks v =
     (choose (leb 32 blocks) (v % 16384) (choose (leb 16 blocks) (v % 8192) (choose (leb 8 blocks) (v % 4096) (v % 2048))))
 
 -- A number's print, 1 to 254, of its higher digits.
-unfoldable pub printOf : ℕ → ℕ
-printOf v = v / 2048 % 254 + 1
+unfoldable pub fingerprint : ℕ → ℕ
+fingerprint v = v / 2048 % 254 + 1
 
 -- A mark with one print more.
-unfoldable pub printed : ℕ → ℕ → ℕ
-printed mark print = choose (eqb mark 0) print (choose (eqb mark print) print 255)
+unfoldable pub withFingerprint : ℕ → ℕ → ℕ
+withFingerprint mark print = choose (eqb mark 0) print (choose (eqb mark print) print 255)
 
 -- A mark says that a number is not there: it is 0, or the print of another.
-unfoldable pub rulesOut : ℕ → ℕ → Bool
-rulesOut mark v = eqb mark 0 || (not (eqb mark 255) && not (eqb mark (printOf v)))
+unfoldable pub excludes : ℕ → ℕ → Bool
+excludes mark v = eqb mark 0 || (not (eqb mark 255) && not (eqb mark (fingerprint v)))
 
 -- A table with room for n numbers before the marks.
 pub record Room (t : List ℕ) (n blocks : ℕ) : Type 0 where
@@ -42,7 +42,7 @@ pub record Room (t : List ℕ) (n blocks : ℕ) : Type 0 where
 
 -- The marks tell of the first n numbers: one that is ruled out is not among them.
 abbrev pub Tells : ℕ → ℕ → List ℕ → Type 0
-Tells blocks n t = (v : ℕ) → rulesOut (getD t (marksAt blocks + markOf blocks v) 0) v ≡ true → count (is v) (row n 0 t) ≡ 0
+Tells blocks n t = (v : ℕ) → excludes (getD t (marksAt blocks + markOf blocks v) 0) v ≡ true → count (is v) (row n 0 t) ≡ 0
 
 -- A row of n numbers with their marks.
 pub record Marked (t : List ℕ) (n blocks : ℕ) : Type 0 where

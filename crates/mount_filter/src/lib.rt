@@ -9,15 +9,20 @@ ghost use Rattle.mount_sequences.specs.Row.{row};
 ghost use Rattle.mount_sequences.specs.Find as find;
 ghost use Rattle.mount_filter.specs.Marks as def;
 ghost use Rattle.mount_sequences.specs.Find.{Ascending};
-ghost use Rattle.mount_filter.specs.Marks.{markOf, printOf, rulesOut, marksAt, Room, Marked, Marking};
+ghost use Rattle.mount_filter.specs.Marks.{markOf, fingerprint, excludes, marksAt, Room, Marked, Marking};
+use layout::TABLE_BYTES;
 use mount_sequences::find::has;
+use wire::bytes::fill_part;
 use wire::number::read8;
 use wire::number::read32;
+
+// The marks are the second half of the table: so many bytes a block.
+const MARK_BYTES: usize = TABLE_BYTES / 2;
 
 // The place of a number's mark among the marks: the more blocks, the more marks.
 fn mark_of(blocks: usize, v: u32) -> usize
     requires { ⌜ fewestBlocks ≤ blocks ⌝ }
-    ensures { λ r. ⌜ (r ≡ markOf blocks v) × (r < 512 * blocks) ⌝ }
+    ensures { λ r. ⌜ (r ≡ markOf blocks v) × (r < marksAt blocks) ⌝ }
 {
     if 64 <= blocks {
         return (v % 32768) as usize;
@@ -36,7 +41,7 @@ fn mark_of(blocks: usize, v: u32) -> usize
 
 // A number's print.
 fn fingerprint(v: u32) -> u32
-    ensures { λ r. ⌜ (r ≡ printOf v) × (r < 256) ⌝ }
+    ensures { λ r. ⌜ (r ≡ fingerprint v) × (r < 256) ⌝ }
 {
     v / 2048 % 254 + 1
 }
@@ -44,7 +49,7 @@ fn fingerprint(v: u32) -> u32
 // A mark with one print more.
 fn with_fingerprint(mark: u32, print: u32) -> u32
     requires { ⌜ print < 256 ⌝ }
-    ensures { λ r. ⌜ (r ≡ def.printed mark print) × (r < 256) ⌝ }
+    ensures { λ r. ⌜ (r ≡ def.withFingerprint mark print) × (r < 256) ⌝ }
 {
     if mark == 0 {
         return print;
@@ -57,7 +62,7 @@ fn with_fingerprint(mark: u32, print: u32) -> u32
 
 // Whether a mark says that a number is not there.
 fn excludes(mark: u32, v: u32) -> bool
-    ensures { λ r. ⌜ r ≡ rulesOut mark v ⌝ }
+    ensures { λ r. ⌜ r ≡ excludes mark v ⌝ }
 {
     if mark == 0 {
         return true;
@@ -84,9 +89,8 @@ fn clear(table: &mut [u8], blocks: usize)
     requires { ⌜ length (now table) ≡ tableBytes blocks ⌝ }
     ensures { λ _. ⌜ now (table .exit) ≡ lay (now (table .entry)) (marksAt blocks) (replicate (marksAt blocks) 0) ⌝ }
 {
-    let from = 512 * blocks;
-    let to = from + from;
-    wire::bytes::fill(&mut table[from..to], 0);
+    let from = MARK_BYTES * blocks;
+    fill_part(table, from, from + from, 0);
 }
 
 // Sets the marks of a row's numbers.
@@ -97,7 +101,7 @@ fn set_marks(table: &mut [u8], n: usize, blocks: usize)
     let mut i: usize = 0;
     while i < n {
         let v = read32(table, 4 * i);
-        let at = 512 * blocks + mark_of(blocks, v);
+        let at = MARK_BYTES * blocks + mark_of(blocks, v);
         let mark = with_fingerprint(read8(table, at), fingerprint(v));
         put(table, at, mark);
         i += 1;
@@ -118,7 +122,7 @@ pub fn has_marked(table: &[u8], n: usize, blocks: usize, v: u32) -> bool
     requires { ⌜ Ascending (now table) n × Marked (now table) n blocks ⌝ }
     ensures { λ r. ⌜ r ≡ find.has (row n 0 (now (table .entry))) v ⌝ }
 {
-    let mark = read8(table, 512 * blocks + mark_of(blocks, v));
+    let mark = read8(table, MARK_BYTES * blocks + mark_of(blocks, v));
     if excludes(mark, v) {
         return false;
     }

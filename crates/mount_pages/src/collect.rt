@@ -6,7 +6,7 @@ ghost use Rattle.flash_blocks.specs.Pages.{pagesOf, pageAt};
 ghost use Rattle.mount_pages.specs.Seen.{seenIn, seenOf};
 ghost use Rattle.mount_pages.specs.Collect.{Collecting};
 ghost use Rattle.layout.specs.Layout.{pageBytes};
-use layout::PAGE_BYTES;
+use flash_blocks::page::page_part;
 use page_read::view::PageView;
 use page_read::view::view_page;
 use wire::number::write32;
@@ -56,9 +56,7 @@ fn see(pool: &[u8], page: usize) -> Seen
     requires { ⌜ pageBytes * page + pageBytes ≤ length (now pool) ⌝ }
     ensures { λ r. ⌜ r ≡ seenOf (pageAt (pagesOf (now (pool .entry))) page) ⌝ }
 {
-    let from = PAGE_BYTES * page;
-    let to = from + PAGE_BYTES;
-    seen_in(view_page(&pool[from..to]))
+    seen_in(view_page(page_part(pool, page)))
 }
 
 // Judges so many pages, and lays the sequence numbers of the written ones in a row.

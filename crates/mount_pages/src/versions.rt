@@ -8,8 +8,8 @@ ghost use Rattle.mount_sequences.specs.Find.{Ascending, has};
 ghost use Rattle.mount_filter.specs.Marks.{Marked};
 ghost use Rattle.mount_pages.specs.Versions.{apartOn, pageApart, pagesApart};
 ghost use Rattle.layout.specs.Layout.{pageBytes};
+use flash_blocks::page::page_part;
 use layout::MOST_ENTRIES;
-use layout::PAGE_BYTES;
 use mount_filter::has_marked;
 use wire::number::read8;
 use wire::number::read32;
@@ -45,9 +45,7 @@ fn page_versions_are_new<'a>(
     requires { ⌜ (pageBytes * page + pageBytes ≤ length (now pool)) × (Ascending (now table) n) × (Marked (now table) n blocks) ⌝ }
     ensures { λ r. ⌜ r ≡ pageApart (row n 0 (now (table .entry))) (pagesOf (now (pool .entry))) page ⌝ }
 {
-    let from = PAGE_BYTES * page;
-    let to = from + PAGE_BYTES;
-    is_new_version(&pool[from..to], table, n, blocks)
+    is_new_version(page_part(pool, page), table, n, blocks)
 }
 
 // Whether no entry of the first pages has a version that is a number of the row.

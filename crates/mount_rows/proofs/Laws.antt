@@ -1,13 +1,12 @@
--- The cases of a piece met on a page, a turn of each loop, and a page lent as a part of the pool. Assumes nothing.
+-- The cases of a piece met on a page, and a turn of each loop. Assumes nothing.
 use mathlib.Core.Path.{_≡_, refl, sym, ap, _∙_}
 use mathlib.Core.Bool.{Bool, true, false}
 use mathlib.Core.List.{List}
-use Prim.Native.Nat.{ℕ, suc, _+_, _-_, _*_, _≤_, _<_}
+use Prim.Native.Nat.{ℕ, suc, _+_, _-_, _≤_, _<_}
 use native.Mathlib.Omega.{arith}
 use borrow.Author.Tests.{eq-eqb, ne-eqb, lt-ltb, le-ltb, le-leb, lt-leb}
-use lib.ListN.{length, getD, set, take, drop}
+use lib.ListN.{length, getD, set}
 use lib.Seq.{set-getD}
-use Rattle.laws.specs.Lay.{part}
 use Rattle.laws.specs.BigEndian.{number, numberAt}
 use Rattle.account.specs.declared.Mode.{Mode}
 use Rattle.account.specs.declared.Mode.the-variants.{Log, Disk}
@@ -15,8 +14,7 @@ use Rattle.wire.specs.Field.{payloadAt}
 use Rattle.flash_rows.specs.Row.{noRow}
 use Rattle.flash_rows.specs.Step.{noted, fresh}
 use Rattle.flash_rows.specs.declared.Row.{Row}
-use Rattle.flash_blocks.specs.Pages.{pagesOf, pageAt}
-use Rattle.flash_blocks.proofs.Laws.{pageAt-part}
+use Rattle.flash_blocks.specs.Pages.{pageAt}
 use Rattle.mount_rows.specs.Seen.{oneMore, lacks, seen, seenAt}
 use Rattle.mount_rows.specs.Pieces.{seenEntry, seenRun, seenNode}
 use Rattle.mount_rows.specs.Fill.{seenPage, withinThree}
@@ -86,15 +84,11 @@ module _ (nodes page : ℕ) (bytes : List ℕ) where
   unfolding seenNode
   node-seen p rows rows′ id version e h i v x = rw (← e, le-ltb (length p) 7 h, ← i, ← v) x
 
--- A page lent as a part of the pool.
-pub page-seen : (nodes : ℕ) (pool : List ℕ) (q n : ℕ) (rows middle rows′ : List Row) → 512 * q + 512 ≤ length pool → n ≡ 512 →
-    middle ≡ seenRun nodes q 27 (take n (drop (512 * q) pool)) 7 rows → rows′ ≡ seenNode nodes q (take n (drop (512 * q) pool)) middle →
-    rows′ ≡ seenPage nodes (pagesOf pool) q rows
-unfolding seenPage part
-page-seen nodes pool q n rows middle rows′ h e a b =
-    let is : take n (drop (512 * q) pool) ≡ pageAt (pagesOf pool) q =
-    ap (λ (m : ℕ). take m (drop (512 * q) pool)) e ∙ sym (pageAt-part pool q h) in
-    rw (← is, ← a) b
+-- The entries of a page, then its node.
+pub page-seen : (nodes : ℕ) (pages : List (List ℕ)) (q : ℕ) (b : List ℕ) (rows middle rows′ : List Row) → b ≡ pageAt pages q →
+    middle ≡ seenRun nodes q 27 b 7 rows → rows′ ≡ seenNode nodes q b middle → rows′ ≡ seenPage nodes pages q rows
+unfolding seenPage
+page-seen nodes pages q b rows middle rows′ is e f = rw (← is, ← e) f
 
 -- The loop over the rows, from the last one down.
 module _ (rows : List Row) (left : ℕ) (r : Row) (some : 0 < left) (l : r ≡ getD rows (left - 1) noRow) where

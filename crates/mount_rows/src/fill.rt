@@ -8,7 +8,7 @@ ghost use Rattle.flash_blocks.specs.Pages.{pagesOf};
 ghost use Rattle.mount_rows.specs.Fill.{seenPage, filled, withinThree, Filled};
 use super::pieces::see_entries;
 use super::pieces::see_node;
-use layout::PAGE_BYTES;
+use flash_blocks::page::page_part;
 use layout::PAGES_IN_BLOCK;
 
 // The pieces on one page of the pool.
@@ -17,9 +17,7 @@ fn see_page(pool: &[u8], table: &mut [u8], nodes: usize, page: usize)
     ensures { λ _. ⌜ rowsOf (now (table .exit)) ≡ seenPage nodes (pagesOf (now (pool .entry))) page
         (rowsOf (now (table .entry))) ⌝ }
 {
-    let from = PAGE_BYTES * page;
-    let to = from + PAGE_BYTES;
-    let bytes = &pool[from..to];
+    let bytes = page_part(pool, page);
     let number = page as u16;
     see_entries(bytes, table, nodes, number);
     see_node(bytes, table, nodes, number);

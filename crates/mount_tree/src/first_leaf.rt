@@ -9,8 +9,8 @@ use flash_allocate::state::State;
 use flash_read::by_id::node_at;
 use layout::MOST_LEVELS;
 use node::Shape;
+use node::same_shape;
 use node::search::pointer;
-use node_replay::same_shape;
 
 pub struct FirstLeaf {
     pub depth: usize,

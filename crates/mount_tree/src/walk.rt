@@ -18,10 +18,10 @@ use layout::MOST_NODES;
 use layout::NO_LEAF;
 use node::NodeValue;
 use node::Shape;
+use node::same_shape;
 use node::search::ascends;
 use node::search::key;
 use node::search::pointer;
-use node_replay::same_shape;
 
 // Whether every node was in order so far, the leaf that must come next, and a mark for each id, 1 once it was reached.
 pub struct WalkValue {

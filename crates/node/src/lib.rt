@@ -1,7 +1,14 @@
 // A tree node by value: the search in it, and its edits.
+ghost use mathlib.Core.Path.{_≡_};
+ghost use mathlib.Core.List.{[]};
+ghost use Rattle.node.specs.Node.{node};
+ghost use Rattle.node.specs.Replay.{unlinked, sameShape};
+ghost use Rattle.node.specs.Value.{Becomes};
+ghost use Rattle.node.specs.Drafts.{Redone};
 use layout::MOST_KEYS;
 
 pub mod edit;
+pub mod fit;
 pub mod search;
 pub mod splice;
 
@@ -45,4 +52,44 @@ pub enum ChangeValue {
     Put { key: u32, pointer: u32 },
     Delete { key: u32 },
     Link { shape: Shape, link: u32 },
+}
+
+// A node with no key.
+pub fn empty_node(shape: Shape, to: u32) -> NodeValue
+    ensures { λ r. ⌜ Becomes r (node shape [] to) ⌝ }
+{
+    NodeValue {
+        shape,
+        count: 0,
+        keys: [0u32; MOST_KEYS],
+        pointers: [0u32; MOST_KEYS],
+        link: to,
+    }
+}
+
+// A node of which no entry was taken yet.
+pub fn empty_draft() -> DraftValue
+    ensures { λ r. ⌜ Redone r (unlinked []) ⌝ }
+{
+    let node = empty_node(Shape::Leaf, 0);
+    DraftValue {
+        state: DraftState::Unlinked,
+        node,
+    }
+}
+
+// Whether two shapes are the same.
+pub fn same_shape(a: Shape, b: Shape) -> bool
+    ensures { λ r. ⌜ r ≡ sameShape a b ⌝ }
+{
+    match a {
+        Shape::Leaf => match b {
+            Shape::Leaf => true,
+            Shape::Branch => false,
+        },
+        Shape::Branch => match b {
+            Shape::Leaf => false,
+            Shape::Branch => true,
+        },
+    }
 }

@@ -1,10 +1,8 @@
 // The replay of a node from the changes of its log entries, one by one.
 ghost use mathlib.Core.Path.{_≡_};
-ghost use mathlib.Core.List.{[]};
-ghost use Rattle.node.specs.Node.{node};
 ghost use Rattle.node.specs.Change.{put, remove, link};
-ghost use Rattle.node.specs.Replay.{unlinked, redo, sameShape};
-ghost use Rattle.node.specs.Value.{Held, Becomes};
+ghost use Rattle.node.specs.Replay.{redo};
+ghost use Rattle.node.specs.Value.{Held};
 ghost use Rattle.node.specs.Drafts.{draftOf, changeOf, brokenAt, Redone};
 use layout::MOST_KEYS;
 use node::ChangeValue;
@@ -14,47 +12,8 @@ use node::Found;
 use node::NodeValue;
 use node::Shape;
 use node::edit;
+use node::same_shape;
 use node::search;
-
-// A node with no key.
-pub fn empty_node(shape: Shape, to: u32) -> NodeValue
-    ensures { λ r. ⌜ Becomes r (node shape [] to) ⌝ }
-{
-    NodeValue {
-        shape,
-        count: 0,
-        keys: [0u32; MOST_KEYS],
-        pointers: [0u32; MOST_KEYS],
-        link: to,
-    }
-}
-
-// A node of which no entry was taken yet.
-pub fn empty_draft() -> DraftValue
-    ensures { λ r. ⌜ Redone r (unlinked []) ⌝ }
-{
-    let node = empty_node(Shape::Leaf, 0);
-    DraftValue {
-        state: DraftState::Unlinked,
-        node,
-    }
-}
-
-// Whether two kinds are the same.
-pub fn same_shape(a: Shape, b: Shape) -> bool
-    ensures { λ r. ⌜ r ≡ sameShape a b ⌝ }
-{
-    match a {
-        Shape::Leaf => match b {
-            Shape::Leaf => true,
-            Shape::Branch => false,
-        },
-        Shape::Branch => match b {
-            Shape::Leaf => false,
-            Shape::Branch => true,
-        },
-    }
-}
 
 // The draft broken.
 fn broken(v: NodeValue) -> DraftValue

@@ -20,13 +20,9 @@ use Rattle.page_write.specs.Chunks.{chunks, every-chunk, length-chunk-fields}
 use Rattle.page_write.specs.Laid.{numbered-laid}
 use Rattle.page_write.specs.Pages.{bodyOf}
 
--- The bytes of one.
-unfoldable pub scoreRecord : ℕ → ℕ → List ℕ
-scoreRecord id score = bigEndian 2 id ++ bigEndian 4 score
-
-pub scoreRecord-bytes : (id score : ℕ) → scoreRecord id score ≡ scoreBytes (record { id = id; score = score })
-unfolding scoreRecord scoreBytes
-scoreRecord-bytes id score = refl
+-- The score of a node.
+abbrev pub scored : ℕ → ℕ → Score
+scored id score = record { id = id; score = score }
 
 -- What there is where a flag says so.
 abbrev pub onlyIf : {A : Type 0} → Bool → A → Option A

@@ -7,11 +7,11 @@ ghost use Rattle.laws.specs.Lay.{lay};
 ghost use Rattle.laws.specs.BigEndian.{bigEndian};
 ghost use Rattle.layout.specs.Layout.{pageBytes};
 ghost use Rattle.wire.specs.Field.{field};
-ghost use Rattle.page.specs.Image.{tariffBytes, countBytes, fieldIf, image};
+ghost use Rattle.page.specs.Image.{tariffBytes, scoreBytes, countBytes, fieldIf, image};
 ghost use Rattle.page.specs.Decode.{mostScores};
 ghost use Rattle.page_write.specs.Laid.{summed};
 ghost use Rattle.page_write.specs.Pages.{bodyOf};
-ghost use Rattle.page_checkpoint.specs.Checkpoint.{scoreRecord, onlyIf, recordsPage, LaidTo};
+ghost use Rattle.page_checkpoint.specs.Checkpoint.{scored, onlyIf, recordsPage, LaidTo};
 use account::Tariff;
 use layout::FIRST_SCORES_AT;
 use layout::PAGE_BYTES;
@@ -26,7 +26,7 @@ use wire::number::write32;
 // Lays the 6 bytes of a record: a node's id and its score.
 pub fn lay_score(records: &mut [u8], at: usize, id: u32, score: u32)
     requires { ⌜ (at + 6 ≤ length (now records)) × (id < 65536) ⌝ }
-    ensures { λ _. ⌜ now (records .exit) ≡ lay (now (records .entry)) at (scoreRecord id score) ⌝ }
+    ensures { λ _. ⌜ now (records .exit) ≡ lay (now (records .entry)) at (scoreBytes (scored id score)) ⌝ }
 {
     write16(records, at, id);
     write32(records, at + 2, score);

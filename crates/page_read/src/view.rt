@@ -6,7 +6,7 @@ ghost use lib.Dec.{eqb};
 ghost use lib.ListN.{length};
 ghost use Rattle.layout.specs.Layout.{pageBytes, mostEntries};
 ghost use Rattle.wire.specs.Field.{payloadAt};
-ghost use Rattle.page.specs.Decode.{entryOk, run, decodeLog, decodeNode, decodeCounted, decodeCheckpoint, shapeOfNumber};
+ghost use Rattle.page.specs.Decode.{entryOk, run, decodeLog, decodeNode, decodeCounted, decodeCheckpoint};
 ghost use Rattle.page_read.specs.View.{view, viewOf};
 ghost use Rattle.page_read.specs.Asked.{Asked};
 use super::field::count_entries;
@@ -21,6 +21,7 @@ use layout::OTHER_SCORES;
 use layout::SCORE_FIELD;
 use layout::TARIFF_BYTES;
 use node::Shape;
+use page::shape_of;
 use wire::field::payload;
 use wire::number::read16;
 
@@ -84,16 +85,6 @@ fn is_shape(number: u8) -> bool
         return true;
     }
     number == 4
-}
-
-// The shape that a number says.
-fn shape_of(number: u8) -> Shape
-    ensures { λ r. ⌜ r ≡ shapeOfNumber number ⌝ }
-{
-    if number == 3 {
-        return Shape::Leaf;
-    }
-    Shape::Branch
 }
 
 // A node page.

@@ -1,4 +1,4 @@
-// What every page has around its content: field 10 before it, field 1F behind it; and a page's place in the pool.
+// What every page has around its content: field 10 before it, field 1F behind it.
 ghost use mathlib.Core.Path.{_≡_};
 ghost use mathlib.Core.List.{[], _∷_};
 ghost use Prim.Native.Nat.{_+_, _*_, _≤_, _<_};
@@ -9,8 +9,6 @@ ghost use Rattle.layout.specs.Layout.{pageBytes};
 ghost use Rattle.wire.specs.Field.{field};
 ghost use Rattle.page.specs.Image.{fields, sumsField};
 ghost use Rattle.page_write.specs.Chunks.{chunks};
-use layout::PAGE_BYTES;
-use wire::bytes::lay_bytes;
 use wire::field::lay_field;
 use wire::field::lay_head;
 use wire::number::write16;
@@ -63,20 +61,4 @@ pub fn lay_run(p: &mut [u8], at: usize, tag: u8, records: &[u8], size: usize, n:
         from += size;
         left -= 1;
     }
-}
-
-// Fills the part of the pool that the page writer is lent.
-pub fn fill_page(part: &mut [u8], image: [u8; PAGE_BYTES])
-    requires { ⌜ length (now part) ≡ pageBytes ⌝ }
-    ensures { λ _. ⌜ now (part .exit) ≡ image ⌝ }
-{
-    lay_bytes(part, 0, &image);
-}
-
-// Writes a page at a place of the pool.
-pub fn write_page(pool: &mut [u8], at: usize, image: [u8; PAGE_BYTES])
-    requires { ⌜ at + pageBytes ≤ length (now pool) ⌝ }
-    ensures { λ _. ⌜ now (pool .exit) ≡ lay (now (pool .entry)) at image ⌝ }
-{
-    fill_page(&mut pool[at..at + PAGE_BYTES], image);
 }

@@ -4,7 +4,7 @@ ghost use Prim.Native.Nat.{_+_, _*_, _≤_, _<_};
 ghost use lib.ListN.{length};
 ghost use Rattle.laws.specs.Lay.{lay};
 ghost use Rattle.layout.specs.Layout.{pageBytes, mostKeys};
-ghost use Rattle.page.specs.Image.{shapeNumber, pairsBytes, image};
+ghost use Rattle.page.specs.Image.{pairsBytes, image};
 ghost use Rattle.page_write.specs.Laid.{summed};
 ghost use Rattle.page_write.specs.Pages.{firstPairs, bodyOf, nodePage};
 ghost use Rattle.page_write.specs.Parts.{nodeHead};
@@ -13,19 +13,10 @@ use super::frame::lay_sequence;
 use super::frame::lay_sums;
 use layout::PAGE_BYTES;
 use node::Shape;
+use page::shape_number;
 use wire::field::lay_head;
 use wire::number::write16;
 use wire::number::write32;
-
-// 3 for a leaf, 4 for a branch.
-fn shape_number(shape: Shape) -> u8
-    ensures { λ r. ⌜ r ≡ shapeNumber shape ⌝ }
-{
-    match shape {
-        Shape::Leaf => 3,
-        Shape::Branch => 4,
-    }
-}
 
 // Lays field 11 up to its pairs, of which there are n.
 fn lay_node_head(p: &mut [u8], at: usize, id: u32, shape: Shape, link: u32, n: usize)

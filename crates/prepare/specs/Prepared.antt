@@ -4,14 +4,13 @@ use mathlib.Core.Bool.{true, false}
 use mathlib.Core.Logic.{_⊎_, inl, inr}
 use mathlib.Core.List.{List, [], _∷_, _++_, append-assoc}
 use mathlib.Core.Option.{some}
-use Prim.Native.Nat.{ℕ, zero, suc, _+_, _-_, _*_, _/_, _≤_, _<_}
+use Prim.Native.Nat.{ℕ, zero, suc, _+_, _-_, _*_, _≤_, _<_}
 use native.Mathlib.Omega.{arith}
-use borrow.Author.Tests.{le-leb, lt-leb, lt-ltb, le-ltb, eq-eqb, ne-eqb}
-use lib.Dec.{eqb, ltb}
+use borrow.Author.Tests.{le-leb, lt-leb, eq-eqb, ne-eqb}
 use lib.ListN.{length, replicate, length-append, length-replicate, replicate-append-replicate}
-use Rattle.laws.specs.Tests.{choose}
 use Rattle.laws.specs.Order.{eq-or, le-or}
 use Rattle.laws.specs.Lay.{lay, lay-replicate, lay-next}
+use Rattle.layout.specs.Blocks.{blocksIf, too-few, too-many, whole-blocks, cut-block}
 use Rattle.layout.specs.Layout.{pageBytes, pagesInBlock, blockBytes, fewestBlocks, mostBlocks, noLeaf}
 use Rattle.account.specs.declared.Tariff.{Tariff}
 use Rattle.node.specs.declared.Shape.the-variants.{Leaf}
@@ -30,12 +29,6 @@ rootPage = page 2 (log (record { id = 0; version = 1; change = link Leaf noLeaf 
 abbrev pub checkpointPage : Tariff → Page
 checkpointPage t = page 3 (checkpoint (some t) (record { id = 0; score = 0 } ∷ []) (some 1))
 
--- The blocks of a pool of so many bytes; 0 where no pool has that length.
-unfoldable pub blocksIf : ℕ → ℕ
-blocksIf bytes =
-    choose (ltb (bytes / blockBytes) fewestBlocks) 0
-    (choose (ltb mostBlocks (bytes / blockBytes)) 0 (choose (eqb (blockBytes * (bytes / blockBytes)) bytes) (bytes / blockBytes) 0))
-
 -- Two images laid over erased bytes.
 unfoldable pub firstBytes : ℕ → List ℕ → List ℕ → List ℕ
 firstBytes bytes a b = lay (lay (replicate bytes 255) 0 a) pageBytes b
@@ -44,29 +37,6 @@ firstBytes bytes a b = lay (lay (replicate bytes 255) 0 a) pageBytes b
 pub record Leaves (right : Prepared) (returned : ℕ) (left : List ℕ) : Type 0 where
   pub number : returned ≡ right .number
   pub pool : left ≡ right .pool
-
--- The four ways out of the question for the length.
-module _ (bytes : ℕ) where
-  abbrev blocks : ℕ
-  blocks = bytes / blockBytes
-
-  pub too-few : blocks < fewestBlocks → 0 ≡ blocksIf bytes
-  unfolding blocksIf
-  too-few l = rw (lt-ltb blocks fewestBlocks l) refl
-
-  module _ (a : fewestBlocks ≤ blocks) where
-    pub too-many : mostBlocks < blocks → 0 ≡ blocksIf bytes
-    unfolding blocksIf
-    too-many l = rw (le-ltb blocks fewestBlocks a, lt-ltb mostBlocks blocks l) refl
-
-    module _ (b : blocks ≤ mostBlocks) where
-      pub whole-blocks : blockBytes * blocks ≡ bytes → blocks ≡ blocksIf bytes
-      unfolding blocksIf
-      whole-blocks e = rw (le-ltb blocks fewestBlocks a, le-ltb mostBlocks blocks b, eq-eqb (blockBytes * blocks) bytes e) refl
-
-      pub cut-block : (blockBytes * blocks ≡ bytes → ⊥) → 0 ≡ blocksIf bytes
-      unfolding blocksIf
-      cut-block d = rw (le-ltb blocks fewestBlocks a, le-ltb mostBlocks blocks b, ne-eqb (blockBytes * blocks) bytes d) refl
 
 -- A buffer is a pool by its length, or is none; question 1 says which.
 pub record IsPool (pool : List ℕ) : Type 0 where

@@ -5,36 +5,17 @@ ghost use Prim.Native.Nat.{_≤_};
 ghost use lib.ListN.{length};
 ghost use Rattle.page.specs.Image.{image};
 ghost use Rattle.model.specs.Call.{prepareOf};
-ghost use Rattle.prepare.specs.Prepared.{blocksIf, rootPage, checkpointPage, firstBytes, Leaves};
+ghost use Rattle.prepare.specs.Prepared.{rootPage, checkpointPage, firstBytes, Leaves};
 use account::Tariff;
-use layout::BLOCK_BYTES;
+use flash_blocks::page::put_page;
 use layout::ENTRY_BYTES;
-use layout::FEWEST_BLOCKS;
-use layout::MOST_BLOCKS;
 use layout::NO_LEAF;
 use layout::PAGE_BYTES;
+use layout::pool_blocks;
 use page_checkpoint::checkpoint_image;
-use page_write::frame::write_page;
 use page_write::log_page::lay_entry;
 use page_write::log_page::log_image;
 use wire::bytes::fill;
-
-// How many blocks a pool of so many bytes has; 0 where no pool has that length.
-pub fn pool_blocks(bytes: usize) -> usize
-    ensures { λ r. ⌜ r ≡ blocksIf bytes ⌝ }
-{
-    let blocks = bytes / BLOCK_BYTES;
-    if blocks < FEWEST_BLOCKS {
-        return 0;
-    }
-    if MOST_BLOCKS < blocks {
-        return 0;
-    }
-    if BLOCK_BYTES * blocks == bytes {
-        return blocks;
-    }
-    0
-}
 
 // The first page: node 0 as an empty leaf.
 fn root_page() -> [u8; PAGE_BYTES]
@@ -59,8 +40,8 @@ fn write_first(pool: &mut [u8], root: [u8; PAGE_BYTES], checkpoint: [u8; PAGE_BY
     ensures { λ _. ⌜ now (pool .exit) ≡ firstBytes (length (now (pool .entry))) root checkpoint ⌝ }
 {
     fill(pool, 255);
-    write_page(pool, 0, root);
-    write_page(pool, PAGE_BYTES, checkpoint);
+    put_page(pool, 0, root);
+    put_page(pool, 1, checkpoint);
 }
 
 // A pool prepared, or refused with 1, no pool's length, or 10, a tariff number out of range.

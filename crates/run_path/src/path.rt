@@ -8,8 +8,8 @@ use flash_read::by_id::node_at;
 use layout::MOST_LEVELS;
 use node::NodeValue;
 use node::Shape;
+use node::same_shape;
 use node::search::child;
-use node_replay::same_shape;
 
 // The nodes of the path, from the root on, and the leaf at its end.
 pub struct Path {

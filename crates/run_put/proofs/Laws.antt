@@ -31,9 +31,9 @@ use Rattle.run_serve.specs.Serve.{serve, charge, ServedAs}
 use Rattle.run_path.specs.declared.path.Path.{Path}
 use Rattle.run_path.specs.Path.{mostSteps, PathTo}
 use Rattle.run_path.specs.Reads.{ReadAs}
-use Rattle.run_split.specs.declared.fit.Fitting.{Fitting}
-use Rattle.run_split.specs.declared.fit.Fitting.the-variants.{Room, Full}
-use Rattle.run_split.specs.Fit.{fitOf, full-above}
+use Rattle.node.specs.declared.fit.Fitting.{Fitting}
+use Rattle.node.specs.declared.fit.Fitting.the-variants.{Room, Full}
+use Rattle.node.specs.Fit.{fitOf, full-above}
 use Rattle.run_split.specs.Growing.{Growing, growing-kept}
 use Rattle.run_split.specs.SplitUpwards.{splitUpwards, SplitUpwardsAs}
 use Rattle.run_put.specs.declared.put.Done.{Done}

@@ -27,7 +27,7 @@ use Rattle.run_serve.specs.declared.request.Charged.{Charged}
 use Rattle.run_serve.specs.Serve.{serve, charge}
 use Rattle.run_path.specs.Path.{mostSteps}
 use Rattle.run_path.specs.Reads.{readAll, readCharges}
-use Rattle.run_split.specs.Fit.{byFit, fitOf}
+use Rattle.node.specs.Fit.{byFit, fitOf}
 use Rattle.run_split.specs.Growing.{Growing}
 use Rattle.run_split.specs.SplitUpwards.{splitUpwards}
 use Rattle.run_put.specs.declared.put.Done.{Done}

@@ -25,14 +25,14 @@ use layout::node_limit;
 use node::ChangeValue;
 use node::Found;
 use node::NodeValue;
+use node::fit::Fitting;
+use node::fit::fit;
 use node::search::find;
 use node::search::pointer;
 use run_path::path::path_to;
 use run_path::reads::serve_reads;
 use run_serve::request::Charged;
 use run_serve::request::serve_edit;
-use run_split::fit::Fitting;
-use run_split::fit::fit;
 use run_split::split_upwards::split_upwards;
 
 // A put that is done: the state after it, what was charged, and its answer.

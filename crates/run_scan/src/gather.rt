@@ -10,6 +10,7 @@ use super::Pairs;
 use flash_allocate::state::State;
 use flash_read::by_id::node_at;
 use layout::MOST_NODES;
+use layout::MOST_PAIRS;
 use layout::NO_LEAF;
 use run_path::path::Path;
 
@@ -36,8 +37,8 @@ pub fn gather<'a>(
     ensures { λ r. ⌜ GatheredAs (tableOf (pagesOf (now (pool .entry))) (rowsOf (now (table .entry))) state)
         (state .nodes) low high most r ⌝ }
 {
-    let mut keys = [0u32; 32];
-    let mut values = [0u32; 32];
+    let mut keys = [0u32; MOST_PAIRS];
+    let mut values = [0u32; MOST_PAIRS];
     let mut count: usize = 0;
     let mut leaves = [0usize; MOST_NODES];
     let mut visited: usize = 0;

@@ -9,6 +9,7 @@ use super::Pairs;
 use super::gather::gather;
 use account::Tariff;
 use flash_allocate::state::State;
+use layout::MOST_PAIRS;
 use run_path::path::path_to;
 use run_path::reads::read_nodes;
 use run_path::reads::serve_reads;
@@ -37,8 +38,8 @@ pub fn scan(
 {
     if high < low {
         let pairs = Pairs {
-            keys: [0u32; 32],
-            values: [0u32; 32],
+            keys: [0u32; MOST_PAIRS],
+            values: [0u32; MOST_PAIRS],
             count: 0,
         };
         return Scanned {

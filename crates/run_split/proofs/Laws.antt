@@ -13,8 +13,12 @@ use Rattle.account.specs.declared.Tariff.{Tariff}
 use Rattle.pairs.specs.Pairs.{insert}
 use Rattle.node.specs.declared.Shape.the-variants.{Branch}
 use Rattle.node.specs.declared.NodeValue.{NodeValue}
+use Rattle.node.specs.declared.fit.Fitting.{Fitting}
+use Rattle.node.specs.declared.fit.Fitting.the-variants.{Room, Full}
 use Rattle.node.specs.Node.{Node, node, pairsOf}
 use Rattle.node.specs.Change.{Change, put, link, change}
+use Rattle.node.specs.Found.{above-absent, above-place}
+use Rattle.node.specs.Fit.{fitOf, full-above}
 use Rattle.node.specs.Halves.{lowerHalf, middleKey, upperHalf}
 use Rattle.node.specs.Search.{childPlace, keyAt}
 use Rattle.node.specs.Repoint.{repoint}
@@ -32,13 +36,21 @@ use Rattle.run_serve.specs.Serve.{serve, charge, ServedAs}
 use Rattle.run_split.specs.declared.Pending.{Pending}
 use Rattle.run_split.specs.declared.Pending.the-variants.{Nothing, Halves}
 use Rattle.run_split.specs.declared.Absorbed.{Absorbed}
-use Rattle.run_split.specs.declared.fit.Fitting.{Fitting}
-use Rattle.run_split.specs.declared.fit.Fitting.the-variants.{Room, Full}
-use Rattle.run_split.specs.Fit.{fitOf, full-splits}
 use Rattle.run_split.specs.Growing.{Growing, growing-kept, Grew}
 use Rattle.run_split.specs.Absorbing.{Absorbing, absorbing-is, AbsorbedAs}
 use Rattle.run_split.specs.Split.{grow, splitBelow, splitRoot, split}
 use Rattle.run_split.specs.Absorb.{nodeAt, absorbEdit, absorbEdits, absorbPair, renaming, absorbHalves, absorb}
+
+-- A key that does not fit is asked as a split asks it.
+full-splits : (v : NodeValue) → Held v → (key at : ℕ) → fitOf key (pairsIn v) ≡ Full at → Splits v at key
+full-splits v h key at e =
+    let f = full-above key (pairsIn v) at e in
+    record {
+      held = h;
+      full = omega (arith, f .1, length-pairsIn v (h .sized), h .sized .size);
+      absent = above-absent key (pairsIn v) at (f .0);
+      there = above-place key (pairsIn v) at (f .0);
+    }
 
 -- A turn's result said otherwise.
 pub absorbed-is : {P T : ℕ} {pages : List (List ℕ)} {rows : List Row} {r : Absorbed} {s : State} {a b : Absorbing} →

@@ -12,7 +12,7 @@ use Rattle.flash_read.specs.NodeTable.{tableOf}
 use Rattle.run_serve.specs.Serve.{serve, charge}
 use Rattle.run_split.specs.declared.Pending.{Pending}
 use Rattle.run_split.specs.declared.Pending.the-variants.{Nothing, Pair, Halves}
-use Rattle.run_split.specs.Fit.{byFit, fitOf}
+use Rattle.node.specs.Fit.{byFit, fitOf}
 use Rattle.run_split.specs.Absorbing.{Absorbing, absorbing}
 use Rattle.run_split.specs.Split.{split}
 

@@ -1,4 +1,3 @@
-pub mod Fit
 pub mod Growing
 pub mod Absorbing
 pub mod Split

@@ -1,6 +1,5 @@
 // A pair put into a leaf, and the splits that it makes, from the leaf upwards.
 pub mod absorb;
-pub mod fit;
 pub mod split;
 pub mod split_upwards;
 

@@ -21,7 +21,7 @@ use layout::node_limit;
 use node::NodeValue;
 use node::Shape;
 use node::edit::put;
-use node_replay::empty_node;
+use node::empty_node;
 use node_split::lower;
 use node_split::middle;
 use node_split::upper;

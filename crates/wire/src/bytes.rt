@@ -1,6 +1,6 @@
 // Bytes laid over buffers.
 ghost use mathlib.Core.Path.{_≡_};
-ghost use Prim.Native.Nat.{_+_, _≤_, _<_};
+ghost use Prim.Native.Nat.{_+_, _-_, _≤_, _<_};
 ghost use lib.ListN.{length, replicate};
 ghost use Rattle.laws.specs.Lay.{lay};
 
@@ -25,4 +25,12 @@ pub fn fill(dst: &mut [u8], byte: u8)
         dst[i] = byte;
         i += 1;
     }
+}
+
+// Fills the part of a buffer from one place to another with one byte.
+pub fn fill_part(dst: &mut [u8], from: usize, to: usize, byte: u8)
+    requires { ⌜ (from ≤ to) × (to ≤ length (now dst)) ⌝ }
+    ensures { λ _. ⌜ now (dst .exit) ≡ lay (now (dst .entry)) from (replicate (to - from) byte) ⌝ }
+{
+    fill(&mut dst[from..to], byte);
 }

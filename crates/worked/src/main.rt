@@ -1,10 +1,16 @@
 // worked: the cases of document 01, section "Worked", that a program executes, and the pools of two small runs, through the calls that C makes.
 // It prints a line for each; its file `stdout` has what must come out.
+ghost use mathlib.Core.Path.{_≡_};
+ghost use Prim.Native.Nat.{_+_, _≤_};
+ghost use lib.ListN.{length};
+
 pub mod hash;
 
 use hash::hash;
 use wall_book::wall_book_batch;
 use wall_book::wall_book_prepare;
+use wire::field::lay_head;
+use wire::number::write32;
 
 // Prints what a case is, and the number that it ended with.
 fn print_number(case: &[u8], number: u32) {
@@ -124,18 +130,25 @@ fn first_run() {
     print_pool(b"put 7, get 7, delete 7, get 7: ", charged, &pool);
 }
 
-// Puts of the keys 0 to 24 with the values 100 to 124, eleven bytes each.
-fn puts() -> [u8; 275] {
-    let mut commands = [0u8; 275];
-    let mut key: usize = 0;
+// One put, eleven bytes.
+fn lay_put(commands: &mut [u8], at: usize, key: u32, value: u32)
+    requires { ⌜ at + 11 ≤ length (now commands) ⌝ }
+    ensures { λ _. ⌜ length (now (commands .exit)) ≡ length (now (commands .entry)) ⌝ }
+{
+    lay_head(commands, at, 2, 8);
+    write32(commands, at + 3, key);
+    write32(commands, at + 7, value);
+}
+
+// Puts of the keys 0 to 24 with the values 100 to 124.
+fn lay_puts(commands: &mut [u8])
+    requires { ⌜ length (now commands) ≡ 275 ⌝ }
+{
+    let mut key: u32 = 0;
     while key < 25 {
-        commands[11 * key] = 2;
-        commands[11 * key + 2] = 8;
-        commands[11 * key + 6] = key as u8;
-        commands[11 * key + 10] = (100 + key) as u8;
+        lay_put(commands, 11 * key as usize, key, 100 + key);
         key += 1;
     }
-    commands
 }
 
 // A root that splits, under a tariff that moves nothing.
@@ -143,7 +156,8 @@ fn second_run() {
     let mut pool = [0u8; 65536];
     wall_book_prepare(&mut pool, 0, 0, 0, 0, 0, 0, 1, 1);
     print_pool(b"prepared, all free: ", 0, &pool);
-    let commands = puts();
+    let mut commands = [0u8; 275];
+    lay_puts(&mut commands);
     let charged = charge(&mut pool, &commands);
     print_pool(b"25 puts, all free: ", charged, &pool);
 }

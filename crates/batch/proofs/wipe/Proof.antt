@@ -1,31 +1,26 @@
--- `wipe` meets its contract: the part that was lent comes back zero. Assumes nothing.
-use Rattle.batch.proofs.Laws.{lent-filled}
+-- `wipe` meets its contract: the part in front filled with zeros. Assumes nothing.
+use mathlib.Core.Path.{ap, _∙_}
+use Prim.Native.Nat.{ℕ}
+use native.Mathlib.Nat.{sub-zero}
+use lib.ListN.{replicate}
 use borrow.Author.Needs.{needs}
+use Rattle.laws.specs.Lay.{lay}
+use Rattle.batch.specs.Left.{wiped}
 use Rattle.batch.proofs.wipe.Statement.{statement}
 use Rattle.batch.proofs.wipe.Tie as tie
 
-sub-fill : tie.Need-sub-fill
-sub-fill c = search needs
-
-part-fill-start : tie.Need-part-fill-start
-part-fill-start c = search needs
-
-part-fill-end : tie.Need-part-fill-end
-part-fill-end c = search needs
-
-fill-requires : tie.Need-fill-requires
-fill-requires c κs = search needs
+fill-part-requires : tie.Need-fill-part-requires
+fill-part-requires c κs = search needs
 
 same-length : tie.Need-same-length
 same-length c = search needs
 
 returns : tie.Need-returns
+unfolding wiped
 returns c =
     let c2 = c .before .before in
-    let c5 = c2 .before .before .before in
-    let a = c5 .args in
-    lent-filled (a .table .now) (a .bytes) (c2 .fill .last .0) (c5 .pre) (c2 .fill .ensures)
+    let a = c2 .before .before .before .args in
+    c2 .fill-part .ensures ∙ ap (λ (k : ℕ). lay (a .table .now) 0 (replicate k 0)) (sub-zero (a .bytes))
 
 pub wipe-spec : {M : Type 1} → statement M
-wipe-spec =
-    tie.close (tie.spec sub-fill part-fill-start part-fill-end fill-requires same-length returns)
+wipe-spec = tie.close (tie.spec fill-part-requires same-length returns)

@@ -31,8 +31,8 @@ cast-checkpoint-image c = search needs
 checkpoint-image-requires : tie.Need-checkpoint-image-requires
 checkpoint-image-requires c κs = search needs
 
-put-image-requires : tie.Need-put-image-requires
-put-image-requires c κs = search needs
+put-page-requires : tie.Need-put-page-requires
+put-page-requires c κs = search needs
 
 same-length : tie.Need-same-length
 same-length c = search needs
@@ -52,10 +52,10 @@ returns c =
     let r = c7 .score-records in
     let m = c6 .page-count in
     let i = c4 .checkpoint-image in
-    let w = c2 .put-image in
+    let w = c2 .put-page in
     checkpoint-page-put (a .number) (a .tariff) (a .k) (a .nodes) (rowsOf (a .table .now)) (f .result) (n .result)
     (m .result) (r .result) (i .result) (pagesOf (a .pool .now)) (pagesOf (w .last .0)) (a .at) (f .ensures)
-    (n .ensures .is) (m .ensures) (r .ensures) (i .ensures) (w .ensures)
+    (n .ensures .is) (m .ensures) (r .ensures) (i .ensures) (w .ensures .0)
 
 pub put-checkpoint-page-spec : {M : Type 1} → statement M
 put-checkpoint-page-spec =
@@ -69,6 +69,6 @@ put-checkpoint-page-spec =
     slice-aggregate-checkpoint-image
     cast-checkpoint-image
     checkpoint-image-requires
-    put-image-requires
+    put-page-requires
     same-length
     returns)

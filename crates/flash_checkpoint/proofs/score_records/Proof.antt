@@ -37,6 +37,9 @@ mul-lay-score c = omega arith
 add-lay-score : tie.Need-add-lay-score Inv-loop μ-loop
 add-lay-score c = omega arith
 
+cast-lay-score : tie.Need-cast-lay-score Inv-loop μ-loop
+cast-lay-score c = omega arith
+
 lay-score-requires : tie.Need-lay-score-requires Inv-loop μ-loop
 lay-score-requires c κs = omega arith
 
@@ -73,6 +76,7 @@ score-records-spec =
     slice-aggregate-lay-score
     mul-lay-score
     add-lay-score
+    cast-lay-score
     lay-score-requires
     add-i
     loop-less

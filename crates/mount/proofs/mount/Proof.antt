@@ -57,23 +57,31 @@ same-length-2 c = search needs
 
 returns-2 : tie.Need-returns-2
 returns-2 c =
-    let a = c .before .before .before .before .before .before .before .before .before .before .before .before .before .before .before .before .before .before .before .args in
-    let pre = c .before .before .before .before .before .before .before .before .before .before .before .before .before .before .before .before .before .before .before .pre in
-    let v = c .before .before .before .before .before .before .before .before .before .before .before .before .before .before .before .survey in
-    let f = c .before .before .before .before .before .before .before .before .before .before .find-checkpoint in
-    let found = c .before .before .before .before .before .before .checkpoint .given in
-    let asked = c .before .before .refusal in
+    let c2 = c .before .before in
+    let c4 = c2 .before .before in
+    let c6 = c4 .before .before in
+    let c10 = c6 .before .before .before .before in
+    let c12 = c10 .before .before in
+    let c15 = c12 .before .before .before in
+    let c18 = c15 .before .before .before in
+    let c19 = c18 .before in
+    let a = c19 .args in
+    let pre = c19 .pre in
+    let v = c15 .survey in
+    let f = c10 .find-checkpoint in
+    let found = c6 .checkpoint .given in
+    let asked = c2 .refusal in
     let size : length (asked .last .1 .0) ≡ tableBytes (a .blocks) = search needs in
     let width : length (v .last .1 .0) ≡ tableBytes (a .blocks) = search needs in
     mounted-by (pre .0, pre .1, pre .2, size)
     (bytes-getD (a .pool .now) (λ i.
-    c .before .before .before .before .before .before .before .before .before .before .before .before .before .before .before .before .before .before .shared-slice-known .given
+    c18 .shared-slice-known .given
     i .fits)) (v .ensures)
     (rowsOf (asked .last .1 .0)) _
-    (c .before .before .before .before .before .before .before .before .before .before .before .before .if1 .taken)
+    (c12 .if1 .taken)
     (length (v .last .1 .0)) width (found .0 .0) (found .0 .1 .0) (found .0 .1 .1 .0)
-    (sym (found .1) ∙ f .ensures .is) (c .before .before .before .before .first-state .result)
-    (c .before .before .before .before .first-state .ensures) (asked .result) (asked .ensures) refl
+    (sym (found .1) ∙ f .ensures .is) (c4 .first-state .result)
+    (c4 .first-state .ensures) (asked .result) (asked .ensures) refl
 
 same-length-3 : tie.Need-same-length-3
 same-length-3 c = search needs

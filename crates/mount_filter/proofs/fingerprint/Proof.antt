@@ -2,7 +2,7 @@
 use mathlib.Core.Path.{refl}
 use native.Mathlib.Omega.{arith}
 use borrow.Author.Needs.{needs}
-use Rattle.mount_filter.specs.Marks.{printOf}
+use Rattle.mount_filter.specs.Marks.{fingerprint}
 use Rattle.mount_filter.proofs.fingerprint.Statement.{statement}
 use Rattle.mount_filter.proofs.fingerprint.Tie as tie
 
@@ -10,7 +10,7 @@ add-result : tie.Need-add-result
 add-result c = search needs
 
 returns : tie.Need-returns
-unfolding printOf
+unfolding fingerprint
 returns c = (refl, omega arith)
 
 pub fingerprint-spec : {M : Type 1} → statement M

@@ -5,7 +5,7 @@ use lib.ListN.{getD}
 use borrow.Author.Needs.{needs}
 use Rattle.mount_sequences.specs.Row.{row}
 use Rattle.mount_sequences.specs.Find.{has-none}
-use Rattle.mount_filter.specs.Marks.{rulesOut}
+use Rattle.mount_filter.specs.Marks.{excludes}
 use Rattle.mount_filter.proofs.has_marked.Statement.{statement}
 use Rattle.mount_filter.proofs.has_marked.Tie as tie
 
@@ -34,7 +34,7 @@ returns c =
     let t = a .table .now in
     let mark = c2 .read8 .ensures .0 ∙ ap (λ (k : ℕ). getD t (512 * a .blocks + k) 0) (c3 .mark-of .ensures .0) in
     sym (has-none (a .v) (row (a .n) 0 t)
-    (c5 .pre .1 .none (a .v) (ap (λ (m : ℕ). rulesOut m (a .v)) (sym mark) ∙ sym (c1 .excludes .ensures) ∙
+    (c5 .pre .1 .none (a .v) (ap (λ (m : ℕ). excludes m (a .v)) (sym mark) ∙ sym (c1 .excludes .ensures) ∙
     c .if1 .taken)))
 
 has-requires : tie.Need-has-requires

@@ -5,7 +5,7 @@ use native.Mathlib.Omega.{arith}
 use lib.ListN.{length}
 use borrow.Author.Needs.{needs}
 use Rattle.mount_sequences.specs.Row.{row}
-use Rattle.mount_filter.specs.Marks.{printed, Tells}
+use Rattle.mount_filter.specs.Marks.{withFingerprint, Tells}
 use Rattle.mount_filter.proofs.Laws.{row-marked, tells-marked, room-kept}
 use Rattle.mount_filter.proofs.set_marks.Statement.{statement}
 use Rattle.mount_filter.proofs.set_marks.Tie as tie
@@ -68,7 +68,7 @@ loop-again c = let a = c .before .before .before .before .before .before .before
     let room = room-kept (a .table .now) (l .table) (a .n) (a .blocks)
     (c .before .before .before .before .before .before .before .before .before .before .before .before .before .before .pre)
     (l .inv .0 .1) in
-    let byte = r .ensures .0 ∙ ap₂ printed (c .before .before .before .before .before .before .read8 .ensures .0)
+    let byte = r .ensures .0 ∙ ap₂ withFingerprint (c .before .before .before .before .before .before .read8 .ensures .0)
     (c .before .before .before .before .before .fingerprint .ensures .0) in (
       omega arith,
       rw (c .before .before .put .ensures) (

@@ -21,7 +21,7 @@ use Rattle.store_laws.specs.BlockTests.{Passing, passing, differ-once}
 use Rattle.model.specs.Bytes.{cellFrom, joined, cellsFrom, cellsOf}
 use Rattle.flash_blocks.specs.Pages.{pagesOf, pageAt, blankPage}
 use Rattle.store_laws.specs.WrittenPages.{pagesIn}
-use Rattle.mount_checkpoint_pages.proofs.Laws.{length-page}
+use Rattle.flash_blocks.proofs.Laws.{length-page}
 use Rattle.mount_refines.specs.Checkpoint.Header.{numberIn, Header, header}
 use Rattle.mount_refines.specs.Checkpoint.Written.{find-pages, tally-pages, newest-pages, pageIn-number}
 

@@ -206,7 +206,9 @@ module _ (nodes q : ℕ) where
     where
       none-here : payloadAt (image (page s (whole id x))) 7 0x12 ≡ []
       none-here = payloadAt-absent (image (page s (whole id x))) 7 0x12 (λ z. omega (arith, tag-whole s id x))
-  page-items (page s (checkpoint t ss k)) h rows = nothing (image (page s (checkpoint t ss k))) (none-of 0x12 (omega arith) (tag-checkpoint s t ss k (h .content .some))) (none-of 0x11 (omega arith) (tag-checkpoint s t ss k (h .content .some))) rows
+  page-items (page s (checkpoint t ss k)) h rows = nothing (image (page s (checkpoint t ss k)))
+      (none-of 0x12 (omega arith) (tag-checkpoint s t ss k (h .content .some)))
+      (none-of 0x11 (omega arith) (tag-checkpoint s t ss k (h .content .some))) rows
     where
       b : List ℕ
       b = image (page s (checkpoint t ss k))

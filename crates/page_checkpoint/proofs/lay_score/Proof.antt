@@ -1,11 +1,11 @@
--- `checkpoint_write::lay_score` meets its contract. Two numbers laid one behind the other. Assumes nothing.
+-- `lay_score` meets its contract. Two numbers laid one behind the other. Assumes nothing.
 use mathlib.Core.Path.{refl, _∙_}
 use Prim.Native.Nat.{_+_}
 use native.Mathlib.Omega.{arith}
 use borrow.Author.Needs.{needs}
 use Rattle.laws.specs.Lay.{lay-next}
 use Rattle.laws.specs.BigEndian.{bigEndian}
-use Rattle.page_checkpoint.specs.Checkpoint.{scoreRecord}
+use Rattle.page.specs.Image.{scoreBytes}
 use Rattle.page_checkpoint.proofs.lay_score.Statement.{statement}
 use Rattle.page_checkpoint.proofs.lay_score.Tie as tie
 
@@ -22,7 +22,7 @@ same-length : tie.Need-same-length
 same-length c = search needs
 
 returns : tie.Need-returns
-unfolding scoreRecord
+unfolding scoreBytes
 returns c = let a = c .before .before .before .before .before .before .before .before .before .args in
     c .before .before .write32 .ensures ∙
     rw (c .before .before .before .before .before .before .write16 .ensures)

@@ -8,11 +8,11 @@ use Rattle.prepare.proofs.write_first.Tie as tie
 fill-requires : tie.Need-fill-requires
 fill-requires c κs = search needs
 
-write-page-requires : tie.Need-write-page-requires
-write-page-requires c κs = search needs
+put-page-requires : tie.Need-put-page-requires
+put-page-requires c κs = search needs
 
-write-page-requires-2 : tie.Need-write-page-requires-2
-write-page-requires-2 c κs = search needs
+put-page-requires-2 : tie.Need-put-page-requires-2
+put-page-requires-2 c κs = search needs
 
 same-length : tie.Need-same-length
 same-length c = search needs
@@ -25,12 +25,12 @@ returns c =
     let c13 = c10 .before .before .before in
     let a = c13 .args in
     let erased = c10 .fill in
-    let one = c6 .write-page in
-    let two = c2 .write-page2 in
+    let one = c6 .put-page in
+    let two = c2 .put-page2 in
     first-written (length (a .pool .now)) (a .root) (a .checkpoint) (erased .last .0) (one .last .0) (two .last .0)
-    (erased .ensures) (one .ensures) (two .ensures)
+    (erased .ensures) (one .ensures .1) (two .ensures .1)
 
 pub write-first-spec : {M : Type 1} → statement M
 write-first-spec =
     tie.close
-    (tie.spec fill-requires write-page-requires write-page-requires-2 same-length returns)
+    (tie.spec fill-requires put-page-requires put-page-requires-2 same-length returns)

@@ -46,10 +46,10 @@ use Rattle.run_path.specs.Path.{mostSteps}
 use Rattle.run_path.specs.Reads.{readAll, readCharges}
 use Rattle.run_serve.specs.Serve.{serve, charge}
 use Rattle.store.specs.Serve as Store
-use Rattle.run_split.specs.declared.fit.Fitting.{Fitting}
-use Rattle.run_split.specs.declared.fit.Fitting.the-variants.{Room, Full}
+use Rattle.node.specs.declared.fit.Fitting.{Fitting}
+use Rattle.node.specs.declared.fit.Fitting.the-variants.{Room, Full}
 use Rattle.run_split.specs.declared.Pending.the-variants.{Nothing}
-use Rattle.run_split.specs.Fit.{byFit, fitOf, full-above}
+use Rattle.node.specs.Fit.{byFit, fitOf, full-above}
 use Rattle.run_split.specs.Absorbing.{Absorbing, absorbing}
 use Rattle.run_split.specs.SplitUpwards.{splitUpwards}
 use Rattle.run_put.specs.Put.{readAndEdit, readAndSplit, Doing, doing, answering, refused, putSplitting, tableAt, putIn, put}

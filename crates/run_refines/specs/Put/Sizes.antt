@@ -22,8 +22,8 @@ use Rattle.node.specs.Search.{place, keyAt, Present, Absent, present-or, insert
 use Rattle.node.specs.Found.{found-present, found-absent, above-absent}
 use Rattle.node.specs.Repoint.{repoint, place-keyAt}
 use Rattle.node.specs.BothEdits.{repoint-put}
-use Rattle.run_split.specs.declared.fit.Fitting.the-variants.{Room, Full}
-use Rattle.run_split.specs.Fit.{fitOf, fit-at, fit-full, full-above, room-full}
+use Rattle.node.specs.declared.fit.Fitting.the-variants.{Room, Full}
+use Rattle.node.specs.Fit.{fitOf, fit-at, fit-full, full-above, room-full}
 
 -- A pair that fits, and one that does not.
 module _ (key value : ℕ) (ps : List Pair) where

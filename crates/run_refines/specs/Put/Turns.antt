@@ -20,9 +20,9 @@ use Rattle.flash_allocate.specs.World.{World}
 use Rattle.run_path.specs.Steps.{slot-place}
 use Rattle.run_split.specs.declared.Pending.{Pending}
 use Rattle.run_split.specs.declared.Pending.the-variants.{Nothing, Pair, Halves}
-use Rattle.run_split.specs.declared.fit.Fitting.{Fitting}
-use Rattle.run_split.specs.declared.fit.Fitting.the-variants.{Room, Full}
-use Rattle.run_split.specs.Fit.{byFit, fitOf}
+use Rattle.node.specs.declared.fit.Fitting.{Fitting}
+use Rattle.node.specs.declared.fit.Fitting.the-variants.{Room, Full}
+use Rattle.node.specs.Fit.{byFit, fitOf}
 use Rattle.run_split.specs.Absorbing.{absorbing, absorbing-is}
 use Rattle.run_split.specs.Split.{split}
 use Rattle.run_split.specs.Absorb.{nodeAt, absorbEdit, absorbEdits, absorbPair, renaming, absorbHalvesIn, absorbHalves, absorb}

@@ -1,7 +1,8 @@
--- `page::erase_block` meets its contract: the lent part comes back filled, which blanks its 32 pages. Assumes nothing.
-use mathlib.Core.Path.{refl}
-use native.Mathlib.Omega.{arith}
+-- `page::erase_block` meets its contract: the part filled is 32 blank pages. Assumes nothing.
+use mathlib.Core.Path.{refl, ap, _∙_}
 use Prim.Native.Nat.{_+_, _*_}
+use native.Mathlib.Omega.{arith}
+use Rattle.flash_blocks.specs.Pages.{pagesOf}
 use Rattle.flash_blocks.proofs.Laws.{erase-pages}
 use borrow.Author.Needs.{needs}
 use Rattle.flash_blocks.proofs.page.erase_block.Statement.{statement}
@@ -10,38 +11,21 @@ use Rattle.flash_blocks.proofs.page.erase_block.Tie as tie
 mul-from : tie.Need-mul-from
 mul-from c = search needs
 
-add-to : tie.Need-add-to
-add-to c = search needs
+add-fill-part : tie.Need-add-fill-part
+add-fill-part c = search needs
 
-sub-fill : tie.Need-sub-fill
-sub-fill c = search needs
-
-part-fill-start : tie.Need-part-fill-start
-part-fill-start c = search needs
-
-part-fill-end : tie.Need-part-fill-end
-part-fill-end c = search needs
-
-fill-requires : tie.Need-fill-requires
-fill-requires c κs = search needs
+fill-part-requires : tie.Need-fill-part-requires
+fill-part-requires c κs = search needs
 
 same-length : tie.Need-same-length
 same-length c = search needs
 
 returns : tie.Need-returns
-returns c = let a = c .before .before .before .before .before .args in
-    erase-pages (a .pool .now) (a .block) (16384 * a .block) (16384 * a .block + 16384)
-    (c .before .before .fill .last .0) refl refl (omega arith) (c .before .before .fill .ensures)
+returns c =
+    let c2 = c .before .before in
+    let a = c2 .before .before .before .args in
+    ap pagesOf (c2 .fill-part .ensures) ∙ erase-pages (a .pool .now) (a .block) (16384 * a .block + 16384) refl (omega arith)
 
 pub erase-block-spec : {M : Type 1} → statement M
 erase-block-spec =
-    tie.close
-    (tie.spec
-    mul-from
-    add-to
-    sub-fill
-    part-fill-start
-    part-fill-end
-    fill-requires
-    same-length
-    returns)
+    tie.close (tie.spec mul-from add-fill-part fill-part-requires same-length returns)

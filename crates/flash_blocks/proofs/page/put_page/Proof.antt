@@ -1,24 +1,51 @@
--- `page::put_page` meets its contract: a whole chunk laid is an element set. Assumes nothing.
-use mathlib.Core.Path.{ap, _∙_}
-use native.Mathlib.Omega.{arith}
+-- `page::put_page` meets its contract: the part that was lent comes back as the image, which is a page set. Assumes nothing.
+use mathlib.Core.Path.{refl, ap, _∙_}
+use Prim.Native.Nat.{_+_, _*_}
 use Rattle.flash_blocks.specs.Pages.{pagesOf}
-use Rattle.flash_blocks.proofs.Laws.{lay-pages}
+use Rattle.flash_blocks.proofs.Laws.{lay-pages, lent-page}
 use borrow.Author.Needs.{needs}
 use Rattle.flash_blocks.proofs.page.put_page.Statement.{statement}
 use Rattle.flash_blocks.proofs.page.put_page.Tie as tie
 
-mul-lay-bytes : tie.Need-mul-lay-bytes
-mul-lay-bytes c = search needs
+mul-from : tie.Need-mul-from
+mul-from c = search needs
 
-lay-bytes-requires : tie.Need-lay-bytes-requires
-lay-bytes-requires c κs = search needs
+add-fill-page : tie.Need-add-fill-page
+add-fill-page c = search needs
+
+sub-fill-page : tie.Need-sub-fill-page
+sub-fill-page c = search needs
+
+part-fill-page-start : tie.Need-part-fill-page-start
+part-fill-page-start c = search needs
+
+part-fill-page-end : tie.Need-part-fill-page-end
+part-fill-page-end c = search needs
+
+fill-page-requires : tie.Need-fill-page-requires
+fill-page-requires c κs = search needs
 
 same-length : tie.Need-same-length
 same-length c = search needs
 
 returns : tie.Need-returns
-returns c = let a = c .before .before .before .before .before .before .args in
-    ap pagesOf (c .before .before .lay-bytes .ensures) ∙ lay-pages (a .pool .now) (a .page) (omega arith) (a .bytes .now) (search needs)
+returns c =
+    let c2 = c .before .before in
+    let c5 = c2 .before .before .before in
+    let a = c5 .args in
+    let is = lent-page (a .pool .now) (a .page) (c5 .pre) (c2 .fill-page .last .0) (a .image) (c2 .fill-page .ensures) (search needs)
+    (512 * a .page + 512) refl in
+    (ap pagesOf is ∙ lay-pages (a .pool .now) (a .page) (c5 .pre) (a .image) (search needs), is)
 
 pub put-page-spec : {M : Type 1} → statement M
-put-page-spec = tie.close (tie.spec mul-lay-bytes lay-bytes-requires same-length returns)
+put-page-spec =
+    tie.close
+    (tie.spec
+    mul-from
+    add-fill-page
+    sub-fill-page
+    part-fill-page-start
+    part-fill-page-end
+    fill-page-requires
+    same-length
+    returns)

@@ -1,51 +1,47 @@
 -- `node_page::node_page_at` meets its contract: a page in the pool, none behind its end. Assumes nothing.
-use Prim.Native.Nat.{_+_, _-_, _*_}
-use native.Mathlib.Omega.{arith}
-use Rattle.flash_read.proofs.Laws.{redone-is, whole-in, whole-behind}
+use mathlib.Core.Path.{sym, _∙_}
+use borrow.Author.Tests.{ltb-false}
+use Rattle.flash_blocks.specs.Pages.{pagesOf}
+use Rattle.flash_blocks.proofs.Laws.{page-inside}
+use Rattle.flash_read.proofs.Laws.{redone-is, node-in, node-behind}
 use borrow.Author.Needs.{needs}
 use Rattle.flash_read.proofs.node_page.node_page_at.Statement.{statement}
 use Rattle.flash_read.proofs.node_page.node_page_at.Tie as tie
 
-mul-from : tie.Need-mul-from
-mul-from c = search needs
+has-page-requires : tie.Need-has-page-requires
+has-page-requires c κs = search needs
 
-add-to : tie.Need-add-to
-add-to c = search needs
-
-sub-read-node : tie.Need-sub-read-node
-sub-read-node c = search needs
-
-part-read-node-start : tie.Need-part-read-node-start
-part-read-node-start c = search needs
-
-part-read-node-end : tie.Need-part-read-node-end
-part-read-node-end c = search needs
+page-part-requires : tie.Need-page-part-requires
+page-part-requires c κs =
+    let a = c .before .before .before .args in
+    page-inside (a .pool .now) (a .page) (sym (c .before .has-page .ensures) ∙ c .if1 .taken)
 
 read-node-requires : tie.Need-read-node-requires
 read-node-requires c κs = search needs
 
 returns : tie.Need-returns
-returns c = let a = c .before .before .before .before .args in
+returns c =
+    let c1 = c .before in
+    let a = c1 .before .before .before .before .args in
     redone-is (c .read-node .result) _ _ (c .read-node .ensures)
-    (whole-in (a .pool .now) (a .page) (512 * a .page + 512 - 512 * a .page) (c .before .before .if1 .taken)
-    (omega arith))
+    (node-in (pagesOf (a .pool .now)) (a .page) (c1 .page-part .result .now) (c1 .page-part .ensures .0))
 
 no-node-requires : tie.Need-no-node-requires
 no-node-requires c κs = search needs
 
 returns-2 : tie.Need-returns-2
-returns-2 c = let a = c .before .before .before .args in
-    redone-is (c .no-node .result) _ _ (c .no-node .ensures) (whole-behind (a .pool .now) (a .page) (c .before .if1 .left))
+returns-2 c =
+    let c2 = c .before .before in
+    let a = c2 .before .before .args in
+    redone-is (c .no-node .result) _ _ (c .no-node .ensures)
+    (node-behind (pagesOf (a .pool .now)) (a .page) (ltb-false _ _ (sym (c2 .has-page .ensures) ∙ c .before .if1 .left)))
 
 pub node-page-at-spec : {M : Type 1} → statement M
 node-page-at-spec =
     tie.close
     (tie.spec
-    mul-from
-    add-to
-    sub-read-node
-    part-read-node-start
-    part-read-node-end
+    has-page-requires
+    page-part-requires
     read-node-requires
     returns
     no-node-requires

@@ -24,8 +24,8 @@ slice-aggregate-node-image-2 c = search needs
 node-image-requires : tie.Need-node-image-requires
 node-image-requires c κs = search needs
 
-put-image-requires : tie.Need-put-image-requires
-put-image-requires c κs = search needs
+put-page-requires : tie.Need-put-page-requires
+put-page-requires c κs = search needs
 
 same-length : tie.Need-same-length
 same-length c = search needs
@@ -40,7 +40,7 @@ returns c =
     let i : c4 .node-image .result ≡ image (page (a .number) (whole (a .id) (nodeOf (a .v)))) =
     c4 .node-image .ensures ∙
     ap (λ (ps : List Pair). image (page (a .number) (whole (a .id) (node (a .v .shape) ps (a .v .link))))) (pairs-first (a .v) (c10 .pre .2)) in
-    rw (← i) (c2 .put-image .ensures)
+    rw (← i) (c2 .put-page .ensures .0)
 
 pub put-node-spec : {M : Type 1} → statement M
 put-node-spec =
@@ -50,6 +50,6 @@ put-node-spec =
     slice-aggregate-node-image
     slice-aggregate-node-image-2
     node-image-requires
-    put-image-requires
+    put-page-requires
     same-length
     returns)

@@ -23,8 +23,8 @@ unfolding markPages
 loop-holds c = let a = c .before .before .args in
     (omega arith, steps-begin (λ i. markPage (a .since) (a .start) (pageAt (pagesOf (a .pool .now)) i)) (a .pages) (a .marks .now))
 
-page-in-requires : tie.Need-page-in-requires Inv-loop μ-loop
-page-in-requires c κs = omega arith
+page-part-requires : tie.Need-page-part-requires Inv-loop μ-loop
+page-part-requires c κs = omega arith
 
 mark-page-requires : tie.Need-mark-page-requires Inv-loop μ-loop
 mark-page-requires c κs = tt
@@ -41,7 +41,7 @@ loop-again c = let l = c .before .before .before .before .before .before .loop i
     let ps = pagesOf (a .pool .now) in
     let e : c .before .before .mark-page .last .1 .0 ≡ markPage (a .since) (a .start) (pageAt ps (l .q))
     (l .marks) = c .before .before .mark-page .ensures ∙ ap (λ (b : List ℕ). markPage (a .since) (a .start) b (l .marks))
-    (c .before .before .before .before .page-in .ensures) in
+    (c .before .before .before .before .page-part .ensures .0) in
     (omega arith, rw e (steps-more (λ i. markPage (a .since) (a .start) (pageAt ps i)) (a .pages) (l .q) (l .marks) (omega arith) ∙ l .inv .1))
 
 same-length : tie.Need-same-length Inv-loop μ-loop
@@ -59,7 +59,7 @@ mark-pages-spec =
     Inv-loop
     μ-loop
     loop-holds
-    page-in-requires
+    page-part-requires
     mark-page-requires
     add-q
     loop-less

@@ -27,8 +27,8 @@ unfolding takePages
 loop-holds c = let a = c .before .before .args in
     (omega arith, steps-begin (λ i. takePage (a .since) (a .nodes) (pageAt (pagesOf (a .pool .now)) i)) (32 * a .blocks) (rowsOf (a .table .now)))
 
-page-in-requires : tie.Need-page-in-requires Inv-loop μ-loop
-page-in-requires c κs = omega arith
+page-part-requires : tie.Need-page-part-requires Inv-loop μ-loop
+page-part-requires c κs = omega arith
 
 take-page-requires : tie.Need-take-page-requires Inv-loop μ-loop
 take-page-requires c κs = omega arith
@@ -45,7 +45,7 @@ loop-again c = let l = c .before .before .before .before .before .before .loop i
     let ps = pagesOf (a .pool .now) in
     let e : rowsOf (c .before .before .take-page .last .1 .0) ≡ takePage (a .since) (a .nodes) (pageAt ps (l .q))
     (rowsOf (l .table)) = c .before .before .take-page .ensures ∙ ap (λ (b : List ℕ). takePage (a .since) (a .nodes) b (rowsOf (l .table)))
-    (c .before .before .before .before .page-in .ensures) in (
+    (c .before .before .before .before .page-part .ensures .0) in (
       omega arith,
       rw e (steps-more (λ i. takePage (a .since) (a .nodes) (pageAt ps i)) (32 * a .blocks) (l .q) (rowsOf (l .table)) (omega arith) ∙
           l .inv .1),
@@ -68,7 +68,7 @@ take-scores-spec =
     μ-loop
     mul-pages
     loop-holds
-    page-in-requires
+    page-part-requires
     take-page-requires
     add-q
     loop-less

@@ -22,8 +22,8 @@ unfolding extentOf noExtent
 loop-holds c = let a = c .before .args in
     (omega arith, steps-begin (λ i. extended i (pageAt (pagesOf (a .pool .now)) i)) (a .pages) noExtent)
 
-page-in-requires : tie.Need-page-in-requires Inv-loop μ-loop
-page-in-requires c κs = omega arith
+page-part-requires : tie.Need-page-part-requires Inv-loop μ-loop
+page-part-requires c κs = omega arith
 
 extended-requires : tie.Need-extended-requires Inv-loop μ-loop
 extended-requires c κs = tt
@@ -39,7 +39,7 @@ loop-again c = let l = c .before .before .before .loop in
     let a = c .before .before .before .before .before .args in
     let ps = pagesOf (a .pool .now) in
     let e : c .extended .result ≡ extended (l .q) (pageAt ps (l .q)) (l .e) = c .extended .ensures ∙ ap (λ (b : List ℕ). extended (l .q) b (l .e))
-    (c .before .page-in .ensures) in (
+    (c .before .page-part .ensures .0) in (
       (omega arith, rw e (extended-place (l .q) (a .pages) (pageAt ps (l .q)) (l .e) (omega arith) (l .inv .0 .1))),
       rw e (steps-more (λ i. extended i (pageAt ps i)) (a .pages) (l .q) (l .e) (omega arith) ∙ l .inv .1),
     )
@@ -60,7 +60,7 @@ extent-of-spec =
     Inv-loop
     μ-loop
     loop-holds
-    page-in-requires
+    page-part-requires
     extended-requires
     add-q
     loop-less

@@ -4,11 +4,9 @@ use mathlib.Core.Path.{_≡_, sym, ap, _∙_}
 use mathlib.Core.List.{List}
 use Prim.Native.Nat.{ℕ, _-_, _≤_}
 use native.Mathlib.Omega.{arith}
-use lib.ListN.{length}
 use Rattle.laws.specs.Loops.{steps, steps-begin, steps-more, steps-done}
 use Rattle.flash_blocks.specs.Pages.{pagesOf, pageAt}
 use Rattle.mount_checkpoint_pages.specs.Totals.{addPage, nothing, totalsOf, Few}
-use Rattle.mount_checkpoint_pages.proofs.Laws.{length-page}
 use Rattle.mount_checkpoint_pages.proofs.totals.sum_pages.Statement.{statement}
 use Rattle.mount_checkpoint_pages.proofs.totals.sum_pages.Tie as tie
 
@@ -27,21 +25,14 @@ loop-holds c = let a = c .before .args in (
       (pageAt (pagesOf (a .pool .now)) i)) (a .pages) nothing,
 )
 
-page-in-requires : tie.Need-page-in-requires Inv-loop μ-loop
-page-in-requires c κs = omega arith
+page-part-requires : tie.Need-page-part-requires Inv-loop μ-loop
+page-part-requires c κs = omega arith
 
 add-page-requires : tie.Need-add-page-requires Inv-loop μ-loop
-add-page-requires c κs = let l = c .before .before .loop in
-    let a = c .before .before .before .before .args in
-    let f = l .inv .0 .1 in (
-      omega (
-        arith,
-        ap length (c .page-in .ensures),
-        length-page (a .pool .now) (l .q)
-            (omega arith),
-      ),
-      record { misfits = omega (arith, f .misfits); scores = omega (arith, f .scores); nodes = omega (arith, f .nodes) },
-    )
+add-page-requires c κs = let f = c .before .before .loop .inv .0 .1 in (
+  omega (arith, c .page-part .ensures .1),
+  record { misfits = omega (arith, f .misfits); scores = omega (arith, f .scores); nodes = omega (arith, f .nodes) },
+)
 
 add-q : tie.Need-add-q Inv-loop μ-loop
 add-q c = omega arith
@@ -56,7 +47,7 @@ loop-again c = let l = c .before .before .before .loop in
     let f = l .inv .0 .1 in
     let r = c .add-page .ensures in
     let e : c .add-page .result ≡ addPage (a .since) (a .newest) (pageAt ps (l .q)) (l .t) = r .is ∙
-    ap (λ (b : List ℕ). addPage (a .since) (a .newest) b (l .t)) (c .before .page-in .ensures) in (
+    ap (λ (b : List ℕ). addPage (a .since) (a .newest) b (l .t)) (c .before .page-part .ensures .0) in (
       (
         omega arith,
         record {
@@ -86,7 +77,7 @@ sum-pages-spec =
     Inv-loop
     μ-loop
     loop-holds
-    page-in-requires
+    page-part-requires
     add-page-requires
     add-q
     loop-less

@@ -1,26 +1,13 @@
--- `fill::see_page` meets its contract: the page lent as a part of the pool, its entries and then its node. Assumes nothing.
-use Prim.Native.Nat.{_+_, _-_, _*_}
-use native.Mathlib.Omega.{arith}
+-- `fill::see_page` meets its contract: the page's entries and then its node. Assumes nothing.
+use Rattle.flash_blocks.specs.Pages.{pagesOf}
 use Rattle.flash_rows.specs.Row.{rowsOf}
 use Rattle.mount_rows.proofs.Laws.{page-seen}
 use borrow.Author.Needs.{needs}
 use Rattle.mount_rows.proofs.fill.see_page.Statement.{statement}
 use Rattle.mount_rows.proofs.fill.see_page.Tie as tie
 
-mul-from : tie.Need-mul-from
-mul-from c = search needs
-
-add-to : tie.Need-add-to
-add-to c = search needs
-
-sub-bytes : tie.Need-sub-bytes
-sub-bytes c = search needs
-
-part-bytes-start : tie.Need-part-bytes-start
-part-bytes-start c = search needs
-
-part-bytes-end : tie.Need-part-bytes-end
-part-bytes-end c = search needs
+page-part-requires : tie.Need-page-part-requires
+page-part-requires c κs = search needs
 
 cast-number : tie.Need-cast-number
 cast-number c = search needs
@@ -35,23 +22,20 @@ same-length : tie.Need-same-length
 same-length c = search needs
 
 returns : tie.Need-returns
-returns c = let a = c .before .before .before .before .before .before .before .before .before .before .before .args in
-    page-seen (a .nodes) (a .pool .now) (a .page) (512 * a .page + 512 - 512 * a .page) (rowsOf (a .table .now))
-    (rowsOf (c .before .before .before .before .before .before .see-entries .last .1 .0))
-    (rowsOf (c .before .before .see-node .last .1 .0))
-    (omega (arith, c .before .before .before .before .before .before .before .before .before .before .before .pre))
-    (omega arith) (c .before .before .before .before .before .before .see-entries .ensures)
-    (c .before .before .see-node .ensures)
+returns c =
+    let c2 = c .before .before in
+    let c6 = c2 .before .before .before .before in
+    let c8 = c6 .before .before in
+    let a = c8 .before .before .before .args in
+    page-seen (a .nodes) (pagesOf (a .pool .now)) (a .page) (c8 .page-part .result .now) (rowsOf (a .table .now))
+    (rowsOf (c6 .see-entries .last .1 .0)) (rowsOf (c2 .see-node .last .1 .0))
+    (c8 .page-part .ensures .0) (c6 .see-entries .ensures) (c2 .see-node .ensures)
 
 pub see-page-spec : {M : Type 1} → statement M
 see-page-spec =
     tie.close
     (tie.spec
-    mul-from
-    add-to
-    sub-bytes
-    part-bytes-start
-    part-bytes-end
+    page-part-requires
     cast-number
     see-entries-requires
     see-node-requires

@@ -43,17 +43,24 @@ same-length : tie.Need-same-length
 same-length c = search needs
 
 returns : tie.Need-returns
-returns c = let a = c .before .before .before .before .before .before .before .before .before .before .before .before .before .before .before .before .before .before .args in
-    c .before .before .write32 .ensures ∙
+returns c =
+    let c2 = c .before .before in
+    let c6 = c2 .before .before .before .before in
+    let c10 = c6 .before .before .before .before in
+    let c14 = c10 .before .before .before .before in
+    let c16 = c14 .before .before in
+    let c18 = c16 .before .before in
+    let a = c18 .args in
+    c2 .write32 .ensures ∙
     rw (
-      c .before .before .before .before .before .before .lay-byte .ensures,
-      c .before .before .before .before .before .before .before .before .before .before .write16 .ensures,
-      c .before .before .before .before .before .before .before .before .before .before .before .before .before .before .lay-head .ensures,
+      c6 .lay-byte .ensures,
+      c10 .write16 .ensures,
+      c14 .lay-head .ensures,
     )
     (nodeHead-laid (a .p .now) (a .at) (a .id)
-    (c .before .before .before .before .before .before .before .before .before .before .before .before .before .before .before .before .shape-number .result)
+    (c16 .shape-number .result)
     (a .shape) (a .link) (a .n) (omega arith)
-    (c .before .before .before .before .before .before .before .before .before .before .before .before .before .before .before .before .shape-number .ensures))
+    (c16 .shape-number .ensures))
 
 pub lay-node-head-spec : {M : Type 1} → statement M
 lay-node-head-spec =
