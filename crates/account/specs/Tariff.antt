@@ -1,8 +1,7 @@
 -- The tariff: what a request costs in each mode, and the switches (document 01, "Account", its first two sentences). Whatever is
 -- said of a mode is said with the mode as a parameter. Assumes nothing.
-use mathlib.Core.Path.{_≡_, refl}
+use mathlib.Core.Path.{_≡_}
 use mathlib.Core.Bool.{Bool, true, false}
-use mathlib.Core.List.{List, [], _∷_}
 use Prim.Native.Nat.{ℕ, _+_}
 use native.Mathlib.Omega.{arith}
 use Rattle.account.specs.declared.Mode.{Mode}
@@ -60,34 +59,3 @@ tariffOf logRead logEdit logRewrite diskRead diskEdit diskRewrite toDisk toLog =
       log = record { read = logRead; edit = logEdit; rewrite = logRewrite; enter = toLog };
       disk = record { read = diskRead; edit = diskEdit; rewrite = diskRewrite; enter = toDisk };
     }
-
--- The eight numbers of a tariff in that order.
-abbrev pub numbersOf : Tariff → List ℕ
-numbersOf t =
-    t .log .read ∷
-    t .log .edit ∷
-    t .log .rewrite ∷
-    t .disk .read ∷
-    t .disk .edit ∷
-    t .disk .rewrite ∷
-    t .disk .enter ∷
-    t .log .enter ∷
-    []
-
--- The two are inverse to each other.
-pub numbers-tariff : (a b c d e f g h : ℕ) →
-    numbersOf (tariffOf a b c d e f g h) ≡ a ∷ b ∷ c ∷ d ∷ e ∷ f ∷ g ∷ h ∷ []
-numbers-tariff a b c d e f g h = refl
-
-pub tariff-numbers : (t : Tariff) →
-    tariffOf
-    (t .log .read)
-    (t .log .edit)
-    (t .log .rewrite)
-    (t .disk .read)
-    (t .disk .edit)
-    (t .disk .rewrite)
-    (t .disk .enter)
-    (t .log .enter) ≡
-    t
-tariff-numbers t = refl

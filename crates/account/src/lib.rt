@@ -3,7 +3,6 @@ ghost use mathlib.Core.Path.{_≡_};
 ghost use Prim.Native.Nat.{_-_};
 ghost use Rattle.account.specs.Tariff as tariffs;
 ghost use Rattle.account.specs.Range.{Ranged, withinRange, costsInRange, inRange};
-ghost use Rattle.account.specs.Serve as serves;
 ghost use Rattle.account.specs.Serve.{scoreOf, switchedOf, stayedOf};
 ghost use Rattle.account.specs.Fair.{Fair};
 
@@ -140,22 +139,6 @@ impl Tariff {
         }
     }
 
-    // The eight numbers of the tariff in the order of document 01.
-    pub fn numbers(self) -> [u32; 8]
-        ensures { λ r. ⌜ r ≡ tariffs.numbersOf self ⌝ }
-    {
-        [
-            self.log.read,
-            self.log.edit,
-            self.log.rewrite,
-            self.disk.read,
-            self.disk.edit,
-            self.disk.rewrite,
-            self.disk.enter,
-            self.log.enter,
-        ]
-    }
-
     // Document 01's limit T: both switches together.
     pub fn limit(self) -> u64
         ensures { λ r. ⌜ r ≡ tariffs.limit self ⌝ }
@@ -183,16 +166,6 @@ fn floored(a: u64, b: u64) -> u64
 }
 
 impl Account {
-    // The account of a node just made.
-    pub fn fresh() -> Account
-        ensures { λ r. ⌜ r ≡ serves.fresh ⌝ }
-    {
-        Account {
-            mode: Mode::Log,
-            score: 0,
-        }
-    }
-
     // The score that a request leads to.
     pub fn scored(self, tariff: Tariff, request: Request) -> u64
         ensures { λ r. ⌜ r ≡ scoreOf tariff self request ⌝ }

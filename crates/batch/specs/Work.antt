@@ -1,12 +1,12 @@
 -- Questions 5 to 8, the commands and the checkpoint, put together from what the code of each leaves. Assumes nothing.
 use mathlib.Core.Path.{_≡_, refl, sym, ap, _∙_, subst}
 use mathlib.Core.List.{List}
-use mathlib.Core.Option.{some}
 use Prim.Native.Nat.{ℕ}
 use native.Mathlib.Omega.{arith}
 use lib.ListN.{length, replicate, length-replicate}
 use Rattle.laws.specs.BigEndian.{Bytes}
 use Rattle.laws.specs.Lay.{lay-whole}
+use Rattle.laws.specs.Options.{some-same}
 use Rattle.layout.specs.Layout.{tableBytes}
 use Rattle.account.specs.declared.Tariff.{Tariff}
 use Rattle.command.specs.declared.Command.{Command}
@@ -38,9 +38,6 @@ zeros n = replicate n 0
 pub cleared-whole : (blocks : ℕ) (table : List ℕ) → length table ≡ tableBytes blocks → cleared blocks table ≡ zeros (length table)
 cleared-whole blocks table e =
     lay-whole table (zeros (tableBytes blocks)) (length-replicate {A = ℕ} (tableBytes blocks) 0 ∙ sym e) ∙ ap zeros (sym e)
-
-same-some : {A : Type 0} (a b : A) → some a ≡ some b → a ≡ b
-same-some a b e = cc
 
 module _ (pool table batch answers : List ℕ) {blocks : ℕ} (a : Accepts (length pool) (length table) blocks batch (length answers)) (table′ : List ℕ)
     (zero : table′ ≡ zeros (length table)) where
@@ -94,7 +91,7 @@ module _ (pool table batch answers : List ℕ) {blocks : ℕ} (a : Accepts (leng
         record {
           leaves =
               λ cs are.
-              let same : a .commands ≡ cs = same-some (a .commands) cs (sym (a .are) ∙ are) in
+              let same : a .commands ≡ cs = some-same (sym (a .are) ∙ are) in
               subst (λ (m : Mounted). Leaves (batchMounted m cs pool table answers) (doneWith p) pool′
               table′ answers₁) (sym (o .is))
               (subst

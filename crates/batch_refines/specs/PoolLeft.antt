@@ -7,6 +7,7 @@ use native.Mathlib.Omega.{arith}
 use lib.ListN.{length, take, drop, length-drop, take-append-drop}
 use Rattle.laws.specs.Lay.{part}
 use Rattle.laws.specs.Chunks.{firstChunks, chunks}
+use Rattle.laws.specs.Lists.{length-zero}
 use Rattle.layout.specs.Layout.{pageBytes, pagesInBlock, blockBytes}
 use Rattle.page.specs.Image.{image, blankBytes}
 use Rattle.store.specs.Pool.{Blocks}
@@ -24,11 +25,7 @@ joined (p ∷ ps) = p ++ joined ps
 -- A buffer of whole chunks is its chunks joined.
 joined-chunks : (n : ℕ) (s : List ℕ) → length s ≡ pageBytes * n → joined (firstChunks pageBytes n s) ≡ s
 unfolding firstChunks part
-joined-chunks zero s e = sym (nothing s (omega arith))
-  where
-    nothing : (s : List ℕ) → length s ≡ 0 → s ≡ []
-    nothing [] e = refl
-    nothing (x ∷ s) e = absurd (omega arith)
+joined-chunks zero s e = sym (length-zero s (omega arith))
 joined-chunks (suc n) s e =
     ap (take pageBytes s ++_) (joined-chunks n (drop pageBytes s) (omega (arith, length-drop pageBytes s))) ∙ take-append-drop pageBytes s
 

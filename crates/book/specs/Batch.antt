@@ -5,14 +5,14 @@ use Rattle.account.specs.declared.Tariff.{Tariff}
 use Rattle.command.specs.declared.Command.{Command}
 use Rattle.tree.specs.NodeRequest.{NodeRequest}
 use Rattle.book.specs.Book.{Book, serveAll, afterEach, charges}
-use Rattle.book.specs.Command.{Reply, requests, answer}
+use Rattle.book.specs.Command.{requests}
 
 module _ (limit : ℕ) (t : Tariff) where
   -- The book after a command.
   abbrev pub doneBook : Command → Book → Book
   doneBook c b = serveAll t (requests limit c b) b
 
-  -- After a batch: the book, the books passed after each node request, the charge, the answers, all node requests in a row.
+  -- After a batch: the book, the books passed after each node request, the charge, all node requests in a row.
   abbrev pub runBook : List Command → Book → Book
   runBook [] b = b
   runBook (c ∷ cs) b = runBook cs (doneBook c b)
@@ -24,10 +24,6 @@ module _ (limit : ℕ) (t : Tariff) where
   abbrev pub chargeBook : List Command → Book → ℕ
   chargeBook [] b = 0
   chargeBook (c ∷ cs) b = charges t (requests limit c b) b + chargeBook cs (doneBook c b)
-
-  abbrev pub answersBook : List Command → Book → List Reply
-  answersBook [] b = []
-  answersBook (c ∷ cs) b = answer limit c b ∷ answersBook cs (doneBook c b)
 
   abbrev pub requestsBook : List Command → Book → List NodeRequest
   requestsBook [] b = []

@@ -9,20 +9,13 @@ use Rattle.account.specs.declared.Tariff.{Tariff}
 use Rattle.account.specs.declared.Account.{Account}
 use Rattle.account.specs.Serve.{serveOf, fresh}
 use Rattle.tree.specs.Table.{Table}
-use Rattle.tree.specs.NodeRequest.{NodeRequest, read, edit, rewrite, create, apply, countAfter}
+use Rattle.tree.specs.NodeRequest.{NodeRequest, read, edit, rewrite, create, apply, countAfter, idOf}
 
 -- How many nodes there are, what each holds, and each one's account: mode and score.
 pub record Book : Type 0 where
   pub count : ℕ
   pub table : Table
   pub account : ℕ → Account
-
--- The node of a request.
-abbrev pub idOf : NodeRequest → ℕ
-idOf (read id) = id
-idOf (edit id c) = id
-idOf (rewrite id n) = id
-idOf (create id n) = id
 
 -- What Account calls it; "creates .. are free", and no request.
 abbrev pub requestOf : NodeRequest → Option Request

@@ -3,7 +3,7 @@ use mathlib.Core.Bool.{Bool, true, false}
 use mathlib.Core.List.{List, [], _∷_, _++_, map}
 use Prim.Native.Nat.{ℕ, _≤_, _<_}
 use lib.Dec.{ltb}
-use Rattle.laws.specs.Every.{Every, none, both}
+use Rattle.laws.specs.Every.{Every, none}
 use Rattle.layout.specs.Layout.{bound32}
 use Rattle.pairs.specs.Pairs.{Pair}
 use Rattle.command.specs.declared.Command.{Command}
@@ -15,7 +15,7 @@ use Rattle.tree.specs.Scan.{leavesAfter, scanRequests}
 use Rattle.tree.specs.Spells.{Spells}
 use Rattle.node.specs.Narrow.{Narrow}
 use Rattle.tree.specs.Narrow.{NarrowRequest}
-use Rattle.tree_laws.specs.NarrowLaws.{put-narrow, delete-narrow}
+use Rattle.tree_laws.specs.NarrowLaws.{put-narrow, delete-narrow, reads-narrow}
 use Rattle.book.specs.Book.{Book}
 use Rattle.book.specs.Command.{requests}
 use Rattle.demands.specs.Commands.{Valid}
@@ -30,11 +30,6 @@ ValueFits (Scan low high most) = Unit {0}
 abbrev pub ValuesFit : List Command → Type 0
 ValuesFit [] = Unit {0}
 ValuesFit (c ∷ cs) = ValueFits c × ValuesFit cs
-
--- A read brings no number.
-reads-narrow : (ids : List ℕ) → Every NarrowRequest (map read ids)
-reads-narrow [] = none
-reads-narrow (i ∷ ids) = both tt (reads-narrow ids)
 
 reads-unless : (t : Bool) (ids : List ℕ) → Every NarrowRequest (elim t [ true ↦ [] | false ↦ map read ids ])
 reads-unless true ids = none

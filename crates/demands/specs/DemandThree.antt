@@ -3,7 +3,7 @@
 -- prepare." With it goes the part of demand 2 that is about such a list: the answers are the ordered map's, and the pool left spells that
 -- map. Assumes nothing.
 use mathlib.Core.Path.{_≡_, refl, sym, ap, ap₂, _∙_, subst}
-use mathlib.Core.List.{List, [], _∷_, _++_, map}
+use mathlib.Core.List.{List, [], _∷_, _++_, map, map-append}
 use mathlib.Core.Option.{Option, none, some}
 use Prim.Native.Nat.{ℕ, _+_, _-_, _*_, _≤_, _<_}
 use native.Mathlib.Omega.{arith}
@@ -39,7 +39,7 @@ use Rattle.model.specs.Bytes.{cellsOf}
 use Rattle.model.specs.Call.{Outcome, blocksOf}
 use Rattle.model.specs.Calls.{Lent, outcome, outcomes, lastPool, bookIn, workOf, statesBy, allStates, allMoments, fed, commandsIn, fedBook}
 use Rattle.model.specs.Calls.{booksAfter, lastBook, allBooks, allCharges, allRequests, mapReplies, lastMap, sum}
-use Rattle.demands.specs.Run.{map-append, serveAll-table, charges-append, runBook-requests, chargeBook-requests}
+use Rattle.demands.specs.Run.{serveAll-table, charges-append, runBook-requests, chargeBook-requests}
 use Rattle.demands.specs.OneCall.{OpenPool, Thin, bookIn-is, fedOf, called}
 
 -- Every batch is made of bytes.

@@ -14,6 +14,7 @@ use Rattle.laws.specs.Tests.{and-left, and-right, and-both}
 use Rattle.laws.specs.Every.{Every, both}
 use Rattle.laws.specs.Every as Every
 use Rattle.laws.specs.BigEndian.{Bytes}
+use Rattle.laws.specs.Options.{some-same}
 use Rattle.layout.specs.Layout.{pagesInBlock, tableBytes, nodeLimit, mostLogPages, lastSequence}
 use Rattle.account.specs.declared.Tariff.{Tariff}
 use Rattle.account.specs.Tariff.{limit}
@@ -35,12 +36,12 @@ use Rattle.store_laws.specs.BlockTests.{Passing, passing, passing-rules, rules-
 use Rattle.store_laws.specs.CellLaws.{cells-blocksIn}
 use Rattle.store_laws.specs.PageTests.{passing-numbers, passing-versions}
 use Rattle.store_laws.specs.Versions.{VersionRules}
-use Rattle.store_laws.specs.Opening.{own-passes}
+use Rattle.store_laws.specs.Opening.{own-passes, complete-newest}
 use Rattle.model.specs.State.{State, bookOf}
 use Rattle.model.specs.Mount.{opened, stateOf, threePages, scoresBelow, treeSound}
 use Rattle.model.specs.Bytes.{bytesOf, cellsOf}
 use Rattle.model.specs.Call.{blocksOf, poolLength, mountBy, mountOf, accept, batchOf}
-use Rattle.demands.specs.Mount.{Mounts, mounts-opened, opened-mounts, three-each, some-page, ranged, rest-tests, range-tests, kept}
+use Rattle.demands.specs.Mount.{Mounts, mounts-opened, opened-mounts, three-each, ranged, rest-tests, range-tests, kept}
 use Rattle.demands.specs.Mount as Mount
 use Rattle.demands.specs.Close.{three-below}
 use Rattle.demands.specs.PoolBytes.{CellFits, cellsOf-bytesOf, IsPool, cellsOf-is}
@@ -130,13 +131,10 @@ pub obeys-unique : {pool : List ℕ} {t t′ : Tariff} {ps qs : List Pair} → O
 obeys-unique {pool} o p =
     sym (obeys-map o) ∙ ap (λ (bs : Blocks). mapOf (bookOf (stateOf (storeOf bs)) .count) (bookOf (stateOf (storeOf bs)) .table)) same ∙ obeys-map p
   where
-    inside : (c d : Cells) → some c ≡ some d → c ≡ d
-    inside c d e = cc
-
     same : o .blocks ≡ p .blocks
     same =
         sym (rules-blocks (o .rules)) ∙
-        ap (blocksIn pagesInBlock (blocksOf pool)) (inside _ _ (sym (reads o) ∙ reads p)) ∙
+        ap (blocksIn pagesInBlock (blocksOf pool)) (some-same (sym (reads o) ∙ reads p)) ∙
         rules-blocks (p .rules)
 
 -- A POOL THAT OPENS obeys the layout and has stamps left: any other is refused.
@@ -176,7 +174,7 @@ module _ (pool : List ℕ) (bytes : Bytes pool) (t : Tariff) (size : poolLength 
         blocks = bs;
         is = rw cells-are (image .is);
         fits = rw cells-are (image .fits);
-        rules = passing-rules pagesInBlock B c block-tests (passing-numbers bs page-tests) (some-page four m);
+        rules = passing-rules pagesInBlock B c block-tests (passing-numbers bs page-tests) (complete-newest B c (m .complete));
         versions = passing-versions bs page-tests;
         set = m .complete;
         tariff = m .tariff;

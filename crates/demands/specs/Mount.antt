@@ -9,9 +9,9 @@ use Prim.Native.Nat.{ℕ, zero, suc, _≤_, _<_}
 use native.Mathlib.Omega.{arith}
 use borrow.Author.Tests.{leb-true, ltb-true}
 use lib.Dec.{eqb, leb, ltb}
-use Rattle.laws.specs.Tests.{choose, and-left, and-right, test-clash}
+use Rattle.laws.specs.Tests.{choose, and-left, and-right}
 use Rattle.laws.specs.Order.{le-suc-or}
-use Rattle.layout.specs.Layout.{fewestBlocks, nodeLimit, mostLogPages, pagesInBlock}
+use Rattle.layout.specs.Layout.{fewestBlocks, nodeLimit, mostLogPages}
 use Rattle.account.specs.declared.Mode.{Mode}
 use Rattle.account.specs.declared.Tariff.{Tariff}
 use Rattle.account.specs.declared.Account.{Account}
@@ -27,13 +27,12 @@ use Rattle.tree_laws.specs.SoundLaws.{sound-spells, sound-limit}
 use Rattle.tree_laws.specs.Standing.{Proper}
 use Rattle.tree_laws.specs.GetLaws.{node-proper}
 use Rattle.store.specs.View.{pages}
-use Rattle.store.specs.Pool.{find}
 use Rattle.store.specs.Store.{Store, view, draftOf, nodeIn, nodeOf}
 use Rattle.store.specs.Run.{Run}
 use Rattle.store_laws.specs.Keeps.{Keeps, Holds}
-use Rattle.store.specs.Checkpoint.{checkpointOf, collect, tariffIn, scoresIn, countIn, scoreIn, complete}
-use Rattle.store.specs.Reopen.{Cells, blocksIn, newest, reopened, pagesPass}
-use Rattle.store_laws.specs.Opening.{Opens, opened-keeps}
+use Rattle.store.specs.Checkpoint.{checkpointOf, tariffIn, scoresIn, countIn, scoreIn, complete}
+use Rattle.store.specs.Reopen.{Cells, reopened, pagesPass}
+use Rattle.store_laws.specs.Opening.{Opens, opened-keeps, complete-newest}
 use Rattle.store_laws.specs.Opening as Opening
 use Rattle.book.specs.Book.{Book}
 use Rattle.book.specs.Bound.{Scored}
@@ -187,25 +186,13 @@ module _ {blocks : ℕ} {c : Cells} {t : Tariff} (four : fewestBlocks ≤ blocks
       subst Proper (bookOf-table s n l)
       (node-proper (bookOf s .table) (bookOf s .count) (mapOf (bookOf s .count) (bookOf s .table)) spelled n (omega (arith, count-is)))
 
-  -- A complete checkpoint lies on a page.
-  pub some-page : 0 < newest (blocksIn pagesInBlock blocks c)
-  unfolding complete checkpointOf collect reopened
-  some-page = go (newest (blocksIn pagesInBlock blocks c)) refl
-    where
-      go : (k : ℕ) → newest (blocksIn pagesInBlock blocks c) ≡ k → 0 < newest (blocksIn pagesInBlock blocks c)
-      go (suc k) e = rw e (omega arith)
-      go zero e =
-          absurd
-          (test-clash (complete (checkpointOf st)) (m .complete)
-          (ap (λ (k : ℕ). complete (collect (λ s. find s (blocksIn pagesInBlock blocks c)) k [])) e))
-
   opens : Opens blocks N c
   opens =
       record {
         blocks = four;
         nodes = omega (arith, kept, count-is);
         pass = m .pass;
-        some = some-page;
+        some = complete-newest blocks c (m .complete);
         three = three-each N st (and-left (threePages N st) _ rest-tests);
       }
 

@@ -11,11 +11,11 @@ use Rattle.laws.specs.Tests.{choose}
 use Rattle.pairs.specs.Pairs.{Pair}
 use Rattle.node.specs.declared.Shape.{Shape}
 use Rattle.node.specs.Node.{node}
-use Rattle.node.specs.Change.{Change, put, remove, link}
+use Rattle.node.specs.Change.{link}
 use Rattle.node.specs.Replay.{Piece, Draft, unlinked, made, broken, replay}
 use Rattle.page.specs.Page.{Entry, Page, page, log, whole, checkpoint}
 use Rattle.page.specs.Limits.{EntryFits, PageFits, NodeFits}
-use Rattle.node.specs.Narrow.{Narrow, NarrowChange}
+use Rattle.node.specs.Narrow.{Narrow}
 use Rattle.store.specs.Item.{Item, entryItem, itemsOf, piecesIn}
 use Rattle.store.specs.View.{gather, greatest, pieces}
 use Rattle.store.specs.Pool.{Blocks, numbered, pageIn, orElse, find, itemsAt}
@@ -24,23 +24,12 @@ use Rattle.model.specs.State.{State, bookOf}
 use Rattle.store_laws.specs.StoreFits.{BlocksFit, StoreFits}
 use Rattle.demands.specs.ReplayNarrow.{NarrowPiece, NarrowDraft, replay-narrow}
 
--- The page's limits of a change are the tree's.
-pub change-fits : (c : Change) → NarrowChange c → NarrowChange c
-change-fits (put k p) n = n
-change-fits (remove k) n = n
-change-fits (link shape p) n = n
-
-pub fits-change : (c : Change) → NarrowChange c → NarrowChange c
-fits-change (put k p) f = f
-fits-change (remove k) f = f
-fits-change (link shape p) f = f
-
 -- An item of a page.
 abbrev NarrowItem : Item → Type 0
 NarrowItem i = NarrowPiece (i .piece)
 
 entries-narrow : {s : ℕ} {es : List Entry} → Every (EntryFits s) es → Every NarrowItem (map entryItem es)
-entries-narrow e = every-map entryItem (every-weaken (λ x f. fits-change (x .change) (f .change)) e)
+entries-narrow e = every-map entryItem (every-weaken (λ x f. f .change) e)
 
 whole-narrow : (shape : Shape) (ps : List Pair) (l : ℕ) → NodeFits ps l → Narrow (node shape ps l)
 whole-narrow shape ps l f = record { pairs = f .numbers; last = f .link }

@@ -15,6 +15,7 @@ use Rattle.laws.specs.Every.{Every, every-weaken}
 use Rattle.laws.specs.Every as Every
 use Rattle.laws.specs.Lay.{lay, lay-nil}
 use Rattle.laws.specs.BigEndian.{Bytes}
+use Rattle.laws.specs.Options.{some-same}
 use Rattle.layout.specs.Layout.{blockBytes, fewestBlocks, mostBlocks, nodeLimit, mostLogPages, noLeaf}
 use Rattle.account.specs.declared.Tariff.{Tariff}
 use Rattle.account.specs.Range.{limit-some}
@@ -157,10 +158,7 @@ module _ {t : Tariff} {pool : List ℕ} {b : Book} {ps : List Pair} (o : OpenPoo
     mounted = sym (ap (mountBy B) (o .reads)) ∙ m
 
     same-tariff : t′ ≡ t
-    same-tariff = let e = sym (opened-mounts mounted .mounts .tariff) ∙ o .sealed .tariff in inside t′ t e
-      where
-        inside : (a c : Tariff) → some a ≡ some c → a ≡ c
-        inside a c e = cc
+    same-tariff = let e = sym (opened-mounts mounted .mounts .tariff) ∙ o .sealed .tariff in some-same e
 
     same-state : s ≡ stateOf (reopened B (o .cells))
     same-state = opened-mounts mounted .is

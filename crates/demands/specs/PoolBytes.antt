@@ -9,6 +9,8 @@ use lib.ListN.{length, take, drop, length-append, length-drop, take-append-drop}
 use lib.Seq.{length-take-le, take-at, drop-at}
 use Rattle.laws.specs.Every.{Every, none, both, every-append, every-take, every-drop}
 use Rattle.laws.specs.BigEndian.{Bytes}
+use Rattle.laws.specs.Options.{some-same, none-some}
+use Rattle.laws.specs.Lists.{length-zero}
 use Rattle.layout.specs.Layout.{pageBytes}
 use Rattle.page.specs.Page.{Page}
 use Rattle.page.specs.Image.{blankBytes}
@@ -90,19 +92,13 @@ pub record IsPool (bs : List ℕ) (c : Cells) : Type 0 where
   pub is : bs ≡ bytesOf c
   pub fits : Every CellFits c
 
-same-cell : {A : Type 0} (a b : A) → some a ≡ some b → a ≡ b
-same-cell a b e = cc
-
 cell-is : (b : List ℕ) → Bytes b → length b ≡ pageBytes → (c : Option Page) → cellFrom (decode b) ≡ some c → IsCell b c
 cell-is b bytes l c e = go (decode b) refl e
   where
     go : (d : Decoded) → decode b ≡ d → cellFrom d ≡ some c → IsCell b c
-    go blank q r = subst (IsCell b) (same-cell none c r) (record { is = blank-decode b l q; fits = tt })
-    go (written p) q r = subst (IsCell b) (same-cell (some p) c r) (record { is = image-decode b bytes l p q; fits = decode-fits b bytes p q })
-    go bad q r = absurd (none-some c r)
-      where
-        none-some : (c : Option Page) → none ≡ some c → ⊥
-        none-some c r = let z : _≡_ {A = ℕ} 0 1 = cc in omega arith
+    go blank q r = subst (IsCell b) (some-same r) (record { is = blank-decode b l q; fits = tt })
+    go (written p) q r = subst (IsCell b) (some-same r) (record { is = image-decode b bytes l p q; fits = decode-fits b bytes p q })
+    go bad q r = absurd (none-some r)
 
 module _ (width : ℕ) (cell : (b : List ℕ) → Bytes b → length b ≡ width → (c : Option Page) → cellFrom (decode b) ≡ some c → IsCell b c) where
   -- the first part and the others, where together they are cells
@@ -113,16 +109,12 @@ module _ (width : ℕ) (cell : (b : List ℕ) → Bytes b → length b ≡ width
   joined-is b rest (some o) (some d) c e f g =
       let a = f o refl in
       let r = g d refl in
-      subst (IsPool (b ++ rest)) (same-cell (o ∷ d) c e)
+      subst (IsPool (b ++ rest)) (some-same e)
       (record { is = ap₂ {B = List ℕ} _++_ (a .is) (r .is); fits = both (a .fits) (r .fits) })
 
   cells-are : (k : ℕ) (bs : List ℕ) → Bytes bs → length bs ≡ width * k → (c : Cells) → cellsFrom width k bs ≡ some c → IsPool bs c
   unfolding cellsFrom
-  cells-are zero bs bytes l c e = subst (IsPool bs) (same-cell [] c e) (record { is = empty-is bs (omega arith); fits = none })
-    where
-      empty-is : (bs : List ℕ) → length bs ≡ 0 → bs ≡ []
-      empty-is [] l = refl
-      empty-is (x ∷ bs) l = absurd (omega arith)
+  cells-are zero bs bytes l c e = subst (IsPool bs) (some-same e) (record { is = length-zero bs (omega arith); fits = none })
   cells-are (suc k) bs bytes l c e =
       subst (λ (z : List ℕ). IsPool z c) (take-append-drop width bs)
       (joined-is (take width bs) (drop width bs) (cellFrom (decode (take width bs))) (cellsFrom width k (drop width bs)) c e

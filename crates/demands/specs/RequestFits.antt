@@ -11,14 +11,14 @@ use Rattle.account.specs.declared.Mode.{Mode}
 use Rattle.account.specs.declared.Tariff.{Tariff}
 use Rattle.page.specs.Limits.{bound16}
 use Rattle.tree.specs.Table.{Table}
-use Rattle.tree.specs.NodeRequest.{NodeRequest, read, edit, rewrite, create}
+use Rattle.tree.specs.NodeRequest.{NodeRequest, read, edit, rewrite, create, idOf}
 use Rattle.tree.specs.Fit.{Fit, Fits}
 use Rattle.tree.specs.Narrow.{NarrowRequest}
 use Rattle.store.specs.Run.{Run}
 use Rattle.store.specs.Serve as Store
 use Rattle.store_laws.specs.Keeps.{Keeps}
 use Rattle.store_laws.specs.Numbers.{last, serve-last, create-last}
-use Rattle.book.specs.Book.{Book, idOf, requestOf, accountBy}
+use Rattle.book.specs.Book.{Book, requestOf, accountBy}
 use Rattle.book.specs.Book as Book
 use Rattle.model.specs.State.{State, bookOf, write, serve, serveAll}
 use Rattle.demands.specs.Says.{Sound}

@@ -1,7 +1,7 @@
 -- A batch: its commands one after another. After every node request the run over the store says what the reference model says, and
 -- the answers are the ordered map's. Assumes nothing.
 use mathlib.Core.Path.{_≡_, refl, sym, ap, ap₂, _∙_, subst}
-use mathlib.Core.List.{List, [], _∷_, _++_, map}
+use mathlib.Core.List.{List, [], _∷_, _++_, map, map-append}
 use Prim.Native.Nat.{ℕ, _+_, _≤_, _<_}
 use native.Mathlib.Omega.{arith}
 use Rattle.layout.specs.Layout.{nodeLimit, noLeaf}
@@ -84,10 +84,6 @@ chargeBook-requests limit t (c ∷ cs) b =
       chargeBook-requests limit t cs (doneBook limit t c b),
       charges-append t (requests limit c b) (requestsBook limit t cs (doneBook limit t c b)) b,
     )
-
-pub map-append : {A C : Type 0} (f : A → C) (xs ys : List A) → map f (xs ++ ys) ≡ map f xs ++ map f ys
-map-append f [] ys = refl
-map-append {C = C} f (x ∷ xs) ys = ap {B = List C} (λ z. f x ∷ z) (map-append f xs ys)
 
 -- A book that spells a map, within the limit of nodes.
 pub record Holds (limit : ℕ) (b : Book) (ps : List Pair) : Type 0 where

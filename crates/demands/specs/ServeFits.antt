@@ -21,7 +21,7 @@ use Rattle.store_laws.specs.Good.{Good}
 use Rattle.store_laws.specs.Keeps.{Keeps, holds-node, holds-mode, Fits, writeGroup-keeps}
 use Rattle.store_laws.specs.Numbers.{last, write-last, writeGroup-last}
 use Rattle.store_laws.specs.StoreFits.{RunFits}
-use Rattle.demands.specs.NodesNarrow.{change-fits, node-narrow}
+use Rattle.demands.specs.NodesNarrow.{node-narrow}
 use Rattle.store_laws.specs.WriteFits.{writeGroup-fits, writeNode-fits, writeEdit-fits}
 
 -- What a request brings has 32-bit numbers.
@@ -44,7 +44,7 @@ module _ {run : Run} (h : RunFits run) (n : ℕ) (id : n < bound16) (old : Node)
       3 + last run < bound32 → RunFits (work Log n w old run)
   log-work-fits v there inLog read f w b = h
   log-work-fits v there inLog (edit c) f w b =
-      writeEdit-fits v h n id there inLog c (change-fits c w) (change c old) (change-narrow c old w narrow) (neat-fits (change c old) (f .1)) b
+      writeEdit-fits v h n id there inLog c w (change c old) (change-narrow c old w narrow) (neat-fits (change c old) (f .1)) b
   log-work-fits v there inLog (rewrite y) f w b = writeGroup-fits h n id y w (neat-fits y f) (omega arith)
 
 module _ {B N : ℕ} {table : ℕ → Node} {modes : ℕ → Mode} {run : Run} (v : Keeps B N table modes run) (h : RunFits run) (n : ℕ)

@@ -13,14 +13,15 @@ use Rattle.account.specs.declared.Tariff.{Tariff}
 use Rattle.account.specs.declared.Account.{Account}
 use Rattle.account.specs.Serve.{fresh}
 use Rattle.tree.specs.Table.{Table}
-use Rattle.tree.specs.NodeRequest.{NodeRequest, read, edit, rewrite, create, apply, countAfter}
+use Rattle.tree.specs.NodeRequest.{NodeRequest, read, edit, rewrite, create, apply, countAfter, idOf}
 use Rattle.tree.specs.Fit.{Fit}
 use Rattle.store.specs.Store.{noNode}
 use Rattle.store.specs.Run.{Run}
 use Rattle.store.specs.Serve as Store
 use Rattle.store_laws.specs.Keeps.{Keeps, serve-keeps, create-keeps}
-use Rattle.book.specs.Book.{Book, idOf, requestOf, accountBy}
+use Rattle.book.specs.Book.{Book, requestOf, accountBy}
 use Rattle.book.specs.Book as Book
+use Rattle.tree_laws.specs.Requests.{apply-other, countAfter-le}
 use Rattle.model.specs.State.{State, bookOf, write, serve}
 use Rattle.demands.specs.Says.{bookOf-trimmed, Sound, Says, score-is, says}
 
@@ -66,18 +67,6 @@ module _ {blocks : ℕ} (t : Tariff) (s : State) (v : Sound blocks s) (r : NodeR
   in-count (rewrite n x) limit table count f = f .0
   in-count (create n x) limit table count f = omega (arith, f .0)
 
-  grows : (r : NodeRequest) (count : ℕ) → count ≤ countAfter r count
-  grows (read n) count = omega arith
-  grows (edit n c) count = omega arith
-  grows (rewrite n x) count = omega arith
-  grows (create n x) count = omega arith
-
-  apply-off : (r : NodeRequest) (table : Table) (k : ℕ) → (k ≡ idOf r → ⊥) → apply r table k ≡ table k
-  apply-off (read n) table k e = refl
-  apply-off (edit n c) table k e = update-other table n _ k e
-  apply-off (rewrite n x) table k e = update-other table n x k e
-  apply-off (create n x) table k e = update-other table n x k e
-
   -- within the new count a node other than the request's was there before
   there-before : (r : NodeRequest) (limit : ℕ) (table : Table) (count : ℕ) → Fit limit r table count → (k : ℕ) → k < countAfter r count →
       (k ≡ idOf r → ⊥) → k < count
@@ -108,12 +97,12 @@ module _ {blocks : ℕ} (t : Tariff) (s : State) (v : Sound blocks s) (r : NodeR
 
       clear-table : (n : ℕ) → countAfter r (b .count) ≤ n → apply r (b .table) n ≡ noNode
       clear-table n l =
-          apply-off r (b .table) n (λ e. omega (arith, below)) ∙ bookOf-trimmed s .table n (omega (arith, grows r (b .count)))
+          apply-other r (b .table) n (λ e. omega (arith, below)) ∙ bookOf-trimmed s .table n (omega (arith, countAfter-le r (b .count)))
 
       clear-account : (n : ℕ) → countAfter r (b .count) ≤ n → update (b .account) id served n ≡ fresh
       clear-account n l =
           update-other (b .account) id served n (λ e. omega (arith, below)) ∙
-          bookOf-trimmed s .account n (omega (arith, grows r (b .count)))
+          bookOf-trimmed s .account n (omega (arith, countAfter-le r (b .count)))
 
       scores : (n : ℕ) → n < countAfter r (b .count) → (n ≡ id) ⊎ (n ≡ id → ⊥) →
           update (s .score) id (served .score) n ≡ update (b .account) id served n .score

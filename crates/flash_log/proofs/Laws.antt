@@ -85,9 +85,6 @@ pub record Beside (s s′ : State) : Type 0 where
   pub nodes : s′ .nodes ≡ s .nodes
   pub checkpoint : s′ .checkpoint ≡ s .checkpoint
 
-pub beside-refl : (s : State) → Beside s s
-beside-refl s = record { blocks = refl; nodes = refl; checkpoint = refl }
-
 pub beside-append : (id version : ℕ) (c : Change) (s : State) → Beside s (append id version c s)
 unfolding append entered
 beside-append id version c s = go (ltb (s .entries) 27)

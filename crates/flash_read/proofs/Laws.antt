@@ -14,7 +14,7 @@ use Rattle.laws.specs.BigEndian.{number, numberAt}
 use Rattle.layout.specs.Layout.{mostEntries, bound32}
 use Rattle.pairs.specs.Pairs.{Pair}
 use Rattle.wire.specs.Field.{payloadAt}
-use Rattle.wire.specs.FieldLaws.{stands-payload}
+use Rattle.wire.specs.FieldLaws.{payloadAt-absent}
 use Rattle.flash_blocks.specs.Pages.{pageAt, blankPage}
 use Rattle.account.specs.declared.Mode.{Mode}
 use Rattle.account.specs.declared.Mode.the-variants.{Log, Disk}
@@ -89,17 +89,9 @@ pub nth-part : (id version : ℕ) (buffer : List ℕ) (k n : ℕ) (d : Draft) �
 unfolding redoNth part
 nth-part id version buffer k n d e = ap (λ (m : ℕ). redoEntry id version (decode.entryOf (take m (drop (15 * k) buffer))) d) e
 
--- No field of a tag stands where another byte does.
-pub payload-none : (s : List ℕ) (at tag : ℕ) → (getD s at 0 ≡ tag → ⊥) → payloadAt s at tag ≡ []
-payload-none s at tag h = go (payloadAt s at tag) refl
-  where
-    go : (p : List ℕ) → payloadAt s at tag ≡ p → payloadAt s at tag ≡ []
-    go [] e = e
-    go (x ∷ p) e = absurd (h (stands-payload s at tag (omega (arith, ap length e)) .tag-is))
-
 pub payload-blank : (at tag : ℕ) → at < 512 → (tag ≡ 255 → ⊥) → payloadAt blankPage at tag ≡ []
 unfolding blankPage
-payload-blank at tag h t = payload-none (replicate 512 255) at tag (λ e. t (sym e ∙ getD-replicate {A = ℕ} 512 at 255 0 h))
+payload-blank at tag h t = payloadAt-absent (replicate 512 255) at tag (λ e. t (sym e ∙ getD-replicate {A = ℕ} 512 at 255 0 h))
 
 -- What is read of a page within the pool; behind the pool's end every page is blank.
 module _ (pages : List (List ℕ)) (q : ℕ) where

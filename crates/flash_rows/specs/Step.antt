@@ -1,4 +1,5 @@
 -- What a row says of pages, and how it follows what is written (document 01, "Pages" and "Nodes and tree").
+use mathlib.Core.Path.{_≡_, refl}
 use mathlib.Core.Bool.{Bool, _&&_, _||_}
 use mathlib.Core.List.{List}
 use Prim.Native.Nat.{ℕ, _-_}
@@ -40,6 +41,10 @@ fresh version mode r = lying version mode 0 (r .first) (r .second) (r .third) r
 unfoldable pub scored : ℕ → Row → Row
 scored score r =
     record { version = r .version; score = score; mode = r .mode; pages = r .pages; first = r .first; second = r .second; third = r .third }
+
+pub score-scored : (score : ℕ) (r : Row) → scored score r .score ≡ score
+unfolding scored
+score-scored score r = refl
 
 -- The first in log mode, the second in disk mode.
 abbrev pub byMode : {A : Type 0} → Mode → A → A → A

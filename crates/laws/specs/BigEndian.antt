@@ -7,7 +7,7 @@ use native.Mathlib.Nat.{pow-suc, div-add-mod', div-lt-iff-lt-mul, mod-lt, add-ze
 use native.Mathlib.Omega.{arith}
 use lib.ListN.{length, getD, take, drop, length-append}
 use Rattle.laws.specs.Every.{Every, none, both, every-append}
-use Rattle.laws.specs.Lay.{lay, part, part-lay, part-lay-before, part-lay-behind, length-part, part-cons, part-drop, part-part}
+use Rattle.laws.specs.Lay.{lay, part, part-lay, part-lay-before, part-lay-behind, length-part, part-cons, part-part}
 
 -- The number that bytes spell, a number so far in front of them.
 abbrev pub numberFrom : ℕ → List ℕ → ℕ
@@ -139,10 +139,6 @@ numberAt-4 s at h =
     (omega arith)
 
 -- A number's place counted from a part of the buffer.
-pub numberAt-drop : (w : ℕ) (s : List ℕ) (k at : ℕ) → numberAt w (drop k s) at ≡ numberAt w s (k + at)
-unfolding numberAt
-numberAt-drop w s k at = ap number (part-drop s k at w)
-
 pub numberAt-part : (w : ℕ) (s : List ℕ) (at n i : ℕ) → i + w ≤ n → numberAt w (part s at n) i ≡ numberAt w s (at + i)
 unfolding numberAt
 numberAt-part w s at n i h = ap number (part-part s at n i w h)

@@ -21,11 +21,6 @@ bit-or true true = omega arith
 bit-or true false = omega arith
 bit-or false b = omega arith
 
-pub bit-and-left : (a b : Bool) → bit (a && b) ≤ bit a
-bit-and-left true true = omega arith
-bit-and-left true false = omega arith
-bit-and-left false b = omega arith
-
 pub bit-and-right : (a b : Bool) → bit (a && b) ≤ bit b
 bit-and-right true b = omega arith
 bit-and-right false b = omega arith

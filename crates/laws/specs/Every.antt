@@ -18,10 +18,6 @@ module _ {A : Type 0} {P : A → Type 0} where
   every-append-left [] ys e = none
   every-append-left (x ∷ xs) ys (both p a) = both p (every-append-left xs ys a)
 
-  pub every-append-right : (xs ys : List A) → Every P (xs ++ ys) → Every P ys
-  every-append-right [] ys e = e
-  every-append-right (x ∷ xs) ys (both p a) = every-append-right xs ys a
-
   pub every-weaken : {Q : A → Type 0} {xs : List A} → ((x : A) → P x → Q x) → Every P xs → Every Q xs
   every-weaken f none = none
   every-weaken f (both p a) = both (f _ p) (every-weaken f a)

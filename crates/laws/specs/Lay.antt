@@ -221,9 +221,3 @@ part-front a b n e = take-at a b n e
 pub part-whole : (s : List ℕ) (n : ℕ) → length s ≡ n → part s 0 n ≡ s
 unfolding part
 part-whole s n e = take-all n s (omega arith)
-
-pub part-rest : (s : List ℕ) (at : ℕ) → part s at (length s - at) ≡ drop at s
-unfolding part
-part-rest s at =
-    let d : length (drop at s) ≡ length s - at = length-drop at s in
-    take-all (length s - at) (drop at s) (omega arith)

@@ -1,5 +1,7 @@
 pub mod Tests
 pub mod Order
+pub mod Options
+pub mod Lists
 pub mod Counts
 pub mod Every
 pub mod Update

@@ -1,11 +1,14 @@
--- What a counting loop does, as one definition for each kind: steps taken from a number on, a sum, a search. A loop's invariant says that what
+-- What a counting loop does, as one definition for each kind: steps taken from a number on, a sum, a search, a test of each. A loop's invariant says that what
 -- is left, done from here, gives the whole; `-more` is a turn of the loop and `-done` its end. Assumes nothing.
-use mathlib.Core.Path.{_≡_, refl, ap, _∙_, subst}
-use mathlib.Core.Bool.{Bool, true, false}
+use mathlib.Core.Path.{_≡_, refl, sym, ap, _∙_, subst}
+use mathlib.Core.Bool.{Bool, true, false, _&&_}
+use mathlib.Core.Logic.{_⊎_, inl, inr}
 use Prim.Native.Nat.{ℕ, zero, suc, _+_, _-_, _≤_, _<_}
 use native.Mathlib.Nat.{add-zero, sub-zero}
 use native.Mathlib.Omega.{arith}
-use Rattle.laws.specs.Tests.{choose}
+use native.Mathlib.Numerals.{lt-of-le-of-ne}
+use Rattle.laws.specs.Tests.{choose, and-left, and-right, and-both}
+use Rattle.laws.specs.Order.{eq-or}
 
 -- A step for each of k numbers from i on.
 unfoldable pub steps : {A : Type 0} → (ℕ → A → A) → ℕ → ℕ → A → A
@@ -21,6 +24,11 @@ sumFrom f (suc k) i = f i + sumFrom f k (i + 1)
 unfoldable pub firstFrom : (ℕ → Bool) → ℕ → ℕ → ℕ
 firstFrom f zero i = i
 firstFrom f (suc k) i = choose (f i) i (firstFrom f k (i + 1))
+
+-- Whether each of k numbers from i on passes a test.
+unfoldable pub allFrom : (ℕ → Bool) → ℕ → ℕ → Bool
+allFrom f zero i = true
+allFrom f (suc k) i = f i && allFrom f k (i + 1)
 
 -- The turns left before a turn are one more than those after it.
 turn : (n i : ℕ) → i < n → n - i ≡ suc (n - (i + 1))
@@ -65,6 +73,39 @@ module _ (f : ℕ → Bool) (n : ℕ) where
   pub first-done : (i : ℕ) → n ≤ i → i ≡ firstFrom f (n - i) i
   unfolding firstFrom
   first-done i h = rw (over n i h) refl
+
+module _ (f : ℕ → Bool) (n : ℕ) where
+  pub all-begin : allFrom f (n - 0) 0 ≡ allFrom f n 0
+  all-begin = rw sub-zero refl
+
+  pub all-more : (i : ℕ) → i < n → f i ≡ true → allFrom f (n - (i + 1)) (i + 1) ≡ allFrom f (n - i) i
+  unfolding allFrom
+  all-more i h e = rw (turn n i h, e) refl
+
+  pub all-stop : (i : ℕ) → i < n → f i ≡ false → false ≡ allFrom f (n - i) i
+  unfolding allFrom
+  all-stop i h e = rw (turn n i h, e) refl
+
+  pub all-done : (i : ℕ) → n ≤ i → true ≡ allFrom f (n - i) i
+  unfolding allFrom
+  all-done i h = rw (over n i h) refl
+
+-- What it says of each number, and the other way round.
+module _ (f : ℕ → Bool) where
+  pub all-at : (k i : ℕ) → allFrom f k i ≡ true → (j : ℕ) → i ≤ j → j < i + k → f j ≡ true
+  unfolding allFrom
+  all-at zero i e j a b = absurd (omega arith)
+  all-at (suc k) i e j a b = go (eq-or j i) (λ m. all-at k (i + 1) (and-right (f i) (allFrom f k (i + 1)) e) j m (omega arith))
+    where
+      go : (j ≡ i) ⊎ (j ≡ i → ⊥) → (i + 1 ≤ j → f j ≡ true) → f j ≡ true
+      go (inl q) r = rw q (and-left (f i) (allFrom f k (i + 1)) e)
+      go (inr q) r = r (omega (arith, lt-of-le-of-ne a (λ z. q (sym z))))
+
+  pub all-true : (k i : ℕ) → ((j : ℕ) → i ≤ j → j < i + k → f j ≡ true) → allFrom f k i ≡ true
+  unfolding allFrom
+  all-true zero i h = refl
+  all-true (suc k) i h =
+      and-both (f i) (allFrom f k (i + 1)) (h i (omega arith) (omega arith)) (all-true k (i + 1) (λ j a b. h j (omega arith) (omega arith)))
 
 -- What holds at the start, and is kept by every step, holds at the end.
 pub steps-keep : {A : Type 0} (P : ℕ → A → Type 0) (f : ℕ → A → A) (n : ℕ) → ((i : ℕ) (a : A) → i < n → P i a → P (i + 1) (f i a)) →

@@ -1,7 +1,7 @@
 -- A table as a function from numbers: changed at one number, and sums over its first entries. Assumes nothing.
 use mathlib.Core.Path.{_≡_, refl, ap, ap₂}
 use mathlib.Core.Logic.{_⊎_, inl, inr}
-use Prim.Native.Nat.{ℕ, zero, suc, _+_, _≤_, _<_}
+use Prim.Native.Nat.{ℕ, zero, suc, _+_, _<_}
 use native.Mathlib.Omega.{arith}
 use borrow.Author.Tests.{eq-eqb, ne-eqb}
 use lib.Dec.{eqb}
@@ -30,9 +30,9 @@ pub sumBelow-ext : (n : ℕ) (f g : ℕ → ℕ) → ((i : ℕ) → i < n → f 
 sumBelow-ext zero f g h = refl
 sumBelow-ext (suc n) f g h = ap₂ _+_ (sumBelow-ext n f g (λ i l. h i (omega arith))) (h n (omega arith))
 
-pub sumBelow-mono : (n : ℕ) (f g : ℕ → ℕ) → ((i : ℕ) → i < n → f i ≤ g i) → sumBelow n f ≤ sumBelow n g
-sumBelow-mono zero f g h = omega arith
-sumBelow-mono (suc n) f g h = omega (arith, sumBelow-mono n f g (λ i l. h i (omega arith)), h n (omega arith))
+pub sumBelow-add : (n : ℕ) (f g : ℕ → ℕ) → sumBelow n (λ i. f i + g i) ≡ sumBelow n f + sumBelow n g
+sumBelow-add zero f g = refl
+sumBelow-add (suc n) f g = omega (arith, sumBelow-add n f g)
 
 -- Two tables that differ at one entry only.
 pub sumBelow-change : (n : ℕ) (f g : ℕ → ℕ) (k : ℕ) → k < n → ((i : ℕ) → (i ≡ k → ⊥) → g i ≡ f i) → sumBelow n g + f k ≡ sumBelow n f + g k

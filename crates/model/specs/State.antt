@@ -8,11 +8,11 @@ use Rattle.laws.specs.Update.{update}
 use Rattle.account.specs.declared.Mode.{Mode}
 use Rattle.account.specs.declared.Tariff.{Tariff}
 use Rattle.account.specs.Serve.{fresh}
-use Rattle.tree.specs.NodeRequest.{NodeRequest, read, edit, rewrite, create}
+use Rattle.tree.specs.NodeRequest.{NodeRequest, read, edit, rewrite, create, idOf}
 use Rattle.store.specs.Store.{Store, noNode, nodeOf, modeOf}
 use Rattle.store.specs.Run.{Run}
 use Rattle.store.specs.Serve as Store
-use Rattle.book.specs.Book.{Book, idOf, requestOf, accountBy, charge}
+use Rattle.book.specs.Book.{Book, requestOf, accountBy, charge}
 
 -- The run over the store, and the score of each node.
 pub record State : Type 0 where

@@ -5,11 +5,10 @@ use mathlib.Core.List.{List}
 use Prim.Native.Nat.{ℕ, _+_, _-_, _*_}
 use lib.Dec.{eqb, leb, ltb}
 use Rattle.laws.specs.BigEndian.{numberAt}
-use Rattle.laws.specs.Loops.{firstFrom}
+use Rattle.laws.specs.Loops.{firstFrom, allFrom}
 use Rattle.layout.specs.Layout.{pagesInBlock}
 use Rattle.flash_blocks.specs.Pages.{pageAt, isBlank}
 use Rattle.flash_blocks.specs.Blank.{blankBlocks}
-use Rattle.mount_blocks.specs.All.{firstIn, allFrom}
 
 -- The sequence number in a written page's field 10, which stands behind a tag and a length.
 unfoldable pub sequenceOn : List (List ℕ) → ℕ → ℕ
@@ -33,18 +32,18 @@ endOf block = pagesInBlock * block + pagesInBlock
 
 -- The first blank page of a block, or the page behind the block; and how many written pages are before it.
 unfoldable pub firstBlank : List (List ℕ) → ℕ → ℕ
-firstBlank pages block = firstIn (blankAt pages) (startOf block) (endOf block)
+firstBlank pages block = firstFrom (blankAt pages) (endOf block - startOf block) (startOf block)
 
 unfoldable pub fillOf : List (List ℕ) → ℕ → ℕ
 fillOf pages block = firstBlank pages block - startOf block
 
 -- No written page follows the first blank one.
 unfoldable pub restBlank : List (List ℕ) → ℕ → Bool
-restBlank pages block = eqb (firstIn (writtenAt pages) (firstBlank pages block) (endOf block)) (endOf block)
+restBlank pages block = eqb (firstFrom (writtenAt pages) (endOf block - firstBlank pages block) (firstBlank pages block)) (endOf block)
 
 -- One of the pages before it has this number.
 unfoldable pub holds : List (List ℕ) → ℕ → ℕ → Bool
-holds pages s block = ltb (firstIn (numberedAt pages s) (startOf block) (firstBlank pages block)) (firstBlank pages block)
+holds pages s block = ltb (firstFrom (numberedAt pages s) (firstBlank pages block - startOf block) (startOf block)) (firstBlank pages block)
 
 -- A block's own rules: filled from its first page up; blank, full, or with the greatest number.
 unfoldable pub blockPasses : List (List ℕ) → ℕ → ℕ → Bool

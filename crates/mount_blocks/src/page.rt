@@ -1,9 +1,9 @@
 // The first page of a stretch that is blank, is written, or has a number.
 ghost use mathlib.Core.Path.{_≡_};
-ghost use Prim.Native.Nat.{_+_, _*_, _≤_};
+ghost use Prim.Native.Nat.{_+_, _*_, _-_, _≤_};
 ghost use lib.ListN.{length};
+ghost use Rattle.laws.specs.Loops.{firstFrom};
 ghost use Rattle.flash_blocks.specs.Pages.{pagesOf};
-ghost use Rattle.mount_blocks.specs.All.{firstIn};
 ghost use Rattle.mount_blocks.specs.Rules.{sequenceOn, blankAt, writtenAt, numberedAt};
 ghost use Rattle.layout.specs.Layout.{pageBytes};
 use flash_blocks::page::is_blank;
@@ -21,7 +21,7 @@ pub fn sequence_on(pool: &[u8], page: usize) -> u32
 // The first blank page from one on and before another, or that other.
 pub fn first_blank(pool: &[u8], from: usize, to: usize) -> usize
     requires { ⌜ (from ≤ to) × (pageBytes * to ≤ length (now pool)) ⌝ }
-    ensures { λ r. ⌜ (r ≡ firstIn (blankAt (pagesOf (now (pool .entry)))) from to) × (from ≤ r) × (r ≤ to) ⌝ }
+    ensures { λ r. ⌜ (r ≡ firstFrom (blankAt (pagesOf (now (pool .entry)))) (to - from) from) × (from ≤ r) × (r ≤ to) ⌝ }
 {
     let mut page = from;
     while page < to {
@@ -36,7 +36,7 @@ pub fn first_blank(pool: &[u8], from: usize, to: usize) -> usize
 // The first written page.
 pub fn first_written(pool: &[u8], from: usize, to: usize) -> usize
     requires { ⌜ (from ≤ to) × (pageBytes * to ≤ length (now pool)) ⌝ }
-    ensures { λ r. ⌜ r ≡ firstIn (writtenAt (pagesOf (now (pool .entry)))) from to ⌝ }
+    ensures { λ r. ⌜ r ≡ firstFrom (writtenAt (pagesOf (now (pool .entry)))) (to - from) from ⌝ }
 {
     let mut page = from;
     while page < to {
@@ -52,7 +52,7 @@ pub fn first_written(pool: &[u8], from: usize, to: usize) -> usize
 // The first page with a sequence number.
 pub fn first_numbered(pool: &[u8], from: usize, to: usize, number: u32) -> usize
     requires { ⌜ (from ≤ to) × (pageBytes * to ≤ length (now pool)) ⌝ }
-    ensures { λ r. ⌜ r ≡ firstIn (numberedAt (pagesOf (now (pool .entry))) number) from to ⌝ }
+    ensures { λ r. ⌜ r ≡ firstFrom (numberedAt (pagesOf (now (pool .entry))) number) (to - from) from ⌝ }
 {
     let mut page = from;
     while page < to {

@@ -2,8 +2,8 @@
 ghost use mathlib.Core.Path.{_≡_};
 ghost use Prim.Native.Nat.{_*_, _≤_};
 ghost use lib.ListN.{length};
+ghost use Rattle.laws.specs.Loops.{allFrom};
 ghost use Rattle.flash_blocks.specs.Pages.{pagesOf};
-ghost use Rattle.mount_blocks.specs.All.{allFrom};
 ghost use Rattle.mount_blocks.specs.Rules.{blockPasses, blocksPass, blockOf};
 ghost use Rattle.layout.specs.Layout.{blockBytes};
 use super::block::holds;

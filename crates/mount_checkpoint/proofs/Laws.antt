@@ -7,6 +7,7 @@ use lib.ListN.{length, getD, set, replicate}
 use borrow.Author.Tests.{eq-eqb, ne-eqb, lt-ltb, le-ltb, le-leb, lt-leb}
 use Rattle.laws.specs.Lay.{part}
 use Rattle.laws.specs.BigEndian.{numberAt}
+use Rattle.laws.specs.Loops.{allFrom}
 use Rattle.account.specs.declared.Tariff.{Tariff}
 use Rattle.flash_rows.specs.Row.{noRow}
 use Rattle.flash_rows.specs.Step.{scored}
@@ -21,7 +22,6 @@ use Rattle.mount_checkpoint_pages.specs.Extent.{extentOf}
 use Rattle.mount_checkpoint_pages.specs.Totals.{totalsOf}
 use Rattle.mount_checkpoint_pages.specs.declared.extent.Extent.{Extent}
 use Rattle.mount_checkpoint_pages.specs.declared.totals.Totals.{Totals}
-use Rattle.mount_checkpoint.specs.EveryFrom.{everyFrom}
 use Rattle.mount_checkpoint.specs.Marks.{
   scoreAt,
   marked,
@@ -105,12 +105,12 @@ tariff-none = refl
 -- ---- one window, and two
 
 module _ (ps : List (List ℕ)) (n since start size width : ℕ) (blank marks : List ℕ) where
-  pub window-is : blank ≡ replicate width 0 → marks ≡ markPages ps n since start blank → (r : Bool) → r ≡ everyFrom (isMarked marks) size 0 →
+  pub window-is : blank ≡ replicate width 0 → marks ≡ markPages ps n since start blank → (r : Bool) → r ≡ allFrom (isMarked marks) size 0 →
       Windowed ps n since start size width marks r
   unfolding windowOf marksOf
   window-is eb em r e =
       let f : marks ≡ markPages ps n since start (replicate width 0) = em ∙ ap (markPages ps n since start) eb in
-      record { is = e ∙ ap (λ (m : List ℕ). everyFrom (isMarked m) size 0) f; marks-are = f }
+      record { is = e ∙ ap (λ (m : List ℕ). allFrom (isMarked m) size 0) f; marks-are = f }
 
 module _ (ps : List (List ℕ)) (n since nodes width : ℕ) (marks : List ℕ) where
   pub covers-one : nodes ≤ width → (r : Bool) → Windowed ps n since 0 nodes width marks r → Covered ps n since nodes width marks r

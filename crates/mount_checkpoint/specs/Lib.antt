@@ -1,4 +1,3 @@
-pub mod EveryFrom
 pub mod Marks
 pub mod Find
 pub mod Scores

@@ -7,13 +7,12 @@ use Prim.Native.Nat.{ℕ, _+_, _-_, _*_}
 use lib.Dec.{eqb, ltb, leb}
 use lib.ListN.{length, getD, set, replicate}
 use Rattle.laws.specs.Tests.{choose}
-use Rattle.laws.specs.Loops.{steps}
+use Rattle.laws.specs.Loops.{steps, allFrom}
 use Rattle.wire.specs.Field.{payloadAt}
 use Rattle.flash_blocks.specs.Pages.{pageAt}
 use Rattle.page_read.specs.Value.{scoreValue}
 use Rattle.page_read.specs.declared.value.ScoreValue.{ScoreValue}
 use Rattle.mount_checkpoint_pages.specs.CheckpointPage.{numberOf, scoresFrom, scoresOn}
-use Rattle.mount_checkpoint.specs.EveryFrom.{everyFrom}
 
 -- The score at an index of a checkpoint page.
 unfoldable pub scoreAt : List ℕ → ℕ → ScoreValue
@@ -42,7 +41,7 @@ isMarked marks i = not (eqb (getD marks i 0) 0)
 
 -- Whether each of `size` ids from a start on is marked.
 unfoldable pub windowOf : List (List ℕ) → ℕ → ℕ → ℕ → ℕ → ℕ → Bool
-windowOf ps n since start size width = everyFrom (isMarked (marksOf ps n since start width)) size 0
+windowOf ps n since start size width = allFrom (isMarked (marksOf ps n since start width)) size 0
 
 -- One window where that is enough, else two.
 unfoldable pub coversOf : List (List ℕ) → ℕ → ℕ → ℕ → ℕ → Bool

@@ -2,8 +2,8 @@
 ghost use mathlib.Core.Path.{_≡_};
 ghost use Prim.Native.Nat.{_+_, _*_, _≤_, _<_};
 ghost use lib.ListN.{length};
+ghost use Rattle.laws.specs.Loops.{allFrom};
 ghost use Rattle.flash_blocks.specs.Pages.{pagesOf};
-ghost use Rattle.mount_checkpoint.specs.EveryFrom.{everyFrom};
 ghost use Rattle.mount_checkpoint.specs.Marks.{marked, markPage, markPages, isMarked, Windowed, Covered};
 ghost use Rattle.layout.specs.Layout.{pageBytes};
 use flash_blocks::page::page_part;
@@ -59,7 +59,7 @@ fn mark_pages(pool: &[u8], marks: &mut [u8], pages: usize, since: u32, start: us
 // Whether the first n marks are all set.
 fn all_set(marks: &[u8], n: usize) -> bool
     requires { ⌜ n ≤ length (now marks) ⌝ }
-    ensures { λ r. ⌜ r ≡ everyFrom (isMarked (now (marks .entry))) n 0 ⌝ }
+    ensures { λ r. ⌜ r ≡ allFrom (isMarked (now (marks .entry))) n 0 ⌝ }
 {
     let mut i: usize = 0;
     while i < n {

@@ -2,10 +2,10 @@
 ghost use mathlib.Core.Path.{_≡_};
 ghost use Prim.Native.Nat.{_+_, _*_, _≤_, _<_};
 ghost use lib.ListN.{length};
+ghost use Rattle.laws.specs.Loops.{allFrom};
 ghost use Rattle.layout.specs.Layout.{blockBytes, pagesInBlock};
 ghost use Rattle.flash_rows.specs.Row.{rowsOf, rowBytes};
 ghost use Rattle.flash_blocks.specs.Pages.{pagesOf};
-ghost use Rattle.mount_checkpoint.specs.EveryFrom.{everyFrom};
 ghost use Rattle.mount_checkpoint.specs.Scores.{scoreTaken, takePage, takePages, isBelow};
 use flash_blocks::page::page_part;
 use layout::PAGES_IN_BLOCK;
@@ -71,7 +71,7 @@ fn is_below(table: &[u8], n: usize, limit: u64) -> bool
 // Whether the scores of all nodes are below a limit.
 pub fn scores_below(table: &[u8], nodes: usize, limit: u64) -> bool
     requires { ⌜ rowBytes * nodes ≤ length (now table) ⌝ }
-    ensures { λ r. ⌜ r ≡ everyFrom (isBelow limit (rowsOf (now (table .entry)))) nodes 0 ⌝ }
+    ensures { λ r. ⌜ r ≡ allFrom (isBelow limit (rowsOf (now (table .entry)))) nodes 0 ⌝ }
 {
     let mut n: usize = 0;
     while n < nodes {

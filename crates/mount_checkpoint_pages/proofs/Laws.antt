@@ -11,7 +11,8 @@ use Rattle.laws.specs.Tests.{choose}
 use Rattle.laws.specs.BigEndian.{number}
 use Rattle.wire.specs.Field.{payloadAt}
 use Rattle.page.specs.Decode.{run, found, taken, scoreOk, mostScores}
-use Rattle.page_read.specs.Payload.{found-true, taken-some}
+use Rattle.page.specs.ReadBack.{taken-found}
+use Rattle.page_read.specs.Payload.{found-true}
 use Rattle.mount_checkpoint_pages.specs.CheckpointPage.{numberOf, hasTariff, scoresFrom, scoresOn, countPart, Standing, checkpointPageOf, Read, fitsIn}
 use Rattle.mount_checkpoint_pages.specs.Extent.{extended}
 use Rattle.mount_checkpoint_pages.specs.Totals.{plus, addPage, Added}
@@ -38,7 +39,7 @@ module _ (b : List ℕ) (n : ℕ) where
   scores-first z e l =
       let t = payloadAt b 7 0x13 in
       let f : found t ≡ true = found-true t (omega arith) in
-      let w : 7 + taken t ≡ 42 = omega (arith, taken-some t (omega arith)) in
+      let w : 7 + taken t ≡ 42 = omega (arith, taken-found t (omega arith)) in
       record {
         from = sym w;
         count =

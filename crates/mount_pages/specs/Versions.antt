@@ -10,9 +10,9 @@ use lib.ListN.{getD}
 use borrow.Author.Tests.{eq-eqb, ne-eqb}
 use Rattle.laws.specs.Tests.{choose}
 use Rattle.laws.specs.BigEndian.{numberAt}
+use Rattle.laws.specs.Loops.{allFrom}
 use Rattle.layout.specs.Layout.{mostEntries}
 use Rattle.flash_blocks.specs.Pages.{pageAt}
-use Rattle.mount_blocks.specs.All.{allFrom}
 use Rattle.mount_sequences.specs.Find.{has}
 
 -- None of the entries from a place on, at most so many, has a version with which a test passes: a tag 12, two bytes of length, two

@@ -10,4 +10,3 @@ pub mod PoolPages
 pub mod Given
 pub mod Rows
 pub mod Fill
-pub mod Reads

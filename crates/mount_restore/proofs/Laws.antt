@@ -6,6 +6,7 @@ use Prim.Native.Nat.{ℕ, _*_, _≤_, _<_}
 use native.Mathlib.Omega.{arith}
 use borrow.Author.Tests.{le-leb, lt-leb}
 use lib.ListN.{length, replicate}
+use Rattle.laws.specs.Loops.{allFrom}
 use Rattle.layout.specs.Layout.{nodeLimit, tableBytes, lastSequence}
 use Rattle.account.specs.declared.Tariff.{Tariff}
 use Rattle.account.specs.Tariff.{limit}
@@ -15,7 +16,6 @@ use Rattle.flash_rows.specs.Row.{rowsOf}
 use Rattle.flash_rows.specs.declared.Row.{Row}
 use Rattle.flash_allocate.specs.declared.state.State.{State}
 use Rattle.mount_rows.specs.Fill.{filled, withinThree, Filled}
-use Rattle.mount_checkpoint.specs.EveryFrom.{everyFrom}
 use Rattle.mount_checkpoint.specs.Scores.{takePages, isBelow}
 use Rattle.flash_read.specs.NodeTable.{tableOf}
 use Rattle.mount_restore.specs.Table.{emptyRows, scoredRows, restoredRows, Restored}
@@ -43,14 +43,14 @@ module _ (t : Tariff) (s : State) (pages : List (List ℕ)) (rows : List Row) wh
   out-of-range e = rw e refl
 
   module _ (ranged : inRange t ≡ true) (most : ℕ) (is : most ≡ limit t) where
-    pub score-too-great : everyFrom (isBelow most rows) (s .nodes) 0 ≡ false → false ≡ rowsPass t s pages rows
+    pub score-too-great : allFrom (isBelow most rows) (s .nodes) 0 ≡ false → false ≡ rowsPass t s pages rows
     unfolding rowsPass
-    score-too-great e = rw (ranged, ap (λ (m : ℕ). everyFrom (isBelow m rows) (s .nodes) 0) (sym is) ∙ e) refl
+    score-too-great e = rw (ranged, ap (λ (m : ℕ). allFrom (isBelow m rows) (s .nodes) 0) (sym is) ∙ e) refl
 
-    pub tree-decides : everyFrom (isBelow most rows) (s .nodes) 0 ≡ true →
+    pub tree-decides : allFrom (isBelow most rows) (s .nodes) 0 ≡ true →
         sound (nodeLimit (s .blocks)) (s .nodes) (tableOf pages rows s) ≡ rowsPass t s pages rows
     unfolding rowsPass
-    tree-decides e = rw (ranged, ap (λ (m : ℕ). everyFrom (isBelow m rows) (s .nodes) 0) (sym is) ∙ e) refl
+    tree-decides e = rw (ranged, ap (λ (m : ℕ). allFrom (isBelow m rows) (s .nodes) 0) (sym is) ∙ e) refl
 
 -- Question 7.
 module _ (t : Tariff) (s : State) (since : ℕ) (pages : List (List ℕ)) (after : List Row) where

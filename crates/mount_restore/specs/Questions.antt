@@ -6,6 +6,7 @@ use mathlib.Core.List.{List}
 use Prim.Native.Nat.{ℕ}
 use lib.Dec.{leb}
 use Rattle.laws.specs.Tests.{choose}
+use Rattle.laws.specs.Loops.{allFrom}
 use Rattle.layout.specs.Layout.{nodeLimit, lastSequence}
 use Rattle.account.specs.declared.Tariff.{Tariff}
 use Rattle.account.specs.Tariff.{limit}
@@ -14,7 +15,6 @@ use Rattle.tree.specs.Sound.{sound}
 use Rattle.flash_rows.specs.declared.Row.{Row}
 use Rattle.flash_allocate.specs.declared.state.State.{State}
 use Rattle.mount_rows.specs.Fill.{withinThree}
-use Rattle.mount_checkpoint.specs.EveryFrom.{everyFrom}
 use Rattle.mount_checkpoint.specs.Scores.{isBelow}
 use Rattle.flash_read.specs.NodeTable.{tableOf}
 use Rattle.mount_restore.specs.Table.{restoredRows}
@@ -23,7 +23,7 @@ use Rattle.mount_restore.specs.Table.{restoredRows}
 unfoldable pub rowsPass : Tariff → State → List (List ℕ) → List Row → Bool
 rowsPass t s pages rows =
     inRange t &&
-    (everyFrom (isBelow (limit t) rows) (s .nodes) 0 && sound (nodeLimit (s .blocks)) (s .nodes) (tableOf pages rows s))
+    (allFrom (isBelow (limit t) rows) (s .nodes) 0 && sound (nodeLimit (s .blocks)) (s .nodes) (tableOf pages rows s))
 
 -- The rows that a state's pool restores.
 abbrev pub rowsFor : State → ℕ → List (List ℕ) → List Row

@@ -9,6 +9,8 @@ use native.Mathlib.Omega.{arith}
 use lib.Dec.{ltb}
 use lib.ListN.{length}
 use Rattle.laws.specs.BigEndian.{Bytes}
+use Rattle.laws.specs.Loops.{allFrom}
+use Rattle.laws.specs.Options.{some-same, none-some}
 use Rattle.layout.specs.Layout.{blockBytes, fewestBlocks, tableBytes}
 use Rattle.store.specs.Pool.{block}
 use Rattle.store.specs.Reopen.{Cells, blocksIn, pagesPass}
@@ -20,12 +22,11 @@ use Rattle.mount_sequences.specs.Ascend.{Same}
 use Rattle.mount_sequences.specs.Digits.{greatest}
 use Rattle.mount_sequences.specs.Strict.{is}
 use Rattle.mount_sequences.specs.Find.{has}
-use Rattle.mount_blocks.specs.All.{allFrom}
 use Rattle.mount_blocks.specs.Rules.{blockOf}
 use Rattle.mount_pages.specs.Collect.{sequencesFrom}
 use Rattle.mount_pages.specs.Versions.{apartOn, pageApart, pagesApart}
 use Rattle.mount_survey_refines.specs.Written.{sequencesIn}
-use Rattle.mount_survey_refines.specs.Cells.{sequencesOf, sequences-pool, same-some, never}
+use Rattle.mount_survey_refines.specs.Cells.{sequencesOf, sequences-pool}
 use Rattle.mount_survey_refines.specs.Passes.{allPass, fillIn, all-pass, newest-is, current-is, fill-is}
 use Rattle.mount_survey.specs.declared.answer.Survey.{Survey}
 
@@ -95,15 +96,15 @@ module _ (pool : List ℕ) (bytes : Bytes pool) (blocks : ℕ) (size : length po
     where
       go : (o : Option Cells) → sequencesOf o ≡ none → false ≡ cellsCheck blocks o
       go none q = refl
-      go (some c) q = never (sequencesIn c) (sym q)
+      go (some c) q = absurd (none-some (sym q))
 
   module _ (sequences : List ℕ) (e : sequencesFrom pages (32 * blocks) 0 ≡ some sequences) where
     -- the cells are there, and the numbers are theirs
     numbers-are : (o : Option Cells) → cellsOf pool ≡ o → sequencesOf o ≡ some sequences → allPass blocks pages sequences ≡ cellsCheck blocks o
     unfolding cellsCheck
-    numbers-are none q r = never sequences r
+    numbers-are none q r = absurd (none-some r)
     numbers-are (some c) q r =
-        ap (allPass blocks pages) (sym (same-some (sequencesIn c) sequences r)) ∙ all-pass pool bytes blocks size c q
+        ap (allPass blocks pages) (sym (some-same r)) ∙ all-pass pool bytes blocks size c q
 
     check-is : allPass blocks pages sequences ≡ pagesCheck blocks pool
     unfolding pagesCheck
@@ -126,7 +127,7 @@ module _ (pool : List ℕ) (bytes : Bytes pool) (blocks : ℕ) (size : length po
         }
       where
         own : (c : Cells) → cellsOf pool ≡ some c → sequencesIn c ≡ sequences
-        own c q = same-some (sequencesIn c) sequences (ap sequencesOf (sym q) ∙ sym collected ∙ e)
+        own c q = some-same (ap sequencesOf (sym q) ∙ sym collected ∙ e)
 
         passed : (c : Cells) → cellsOf pool ≡ some c → pagesPass blocks c ≡ true
         passed c q = sym (ap (allPass blocks pages) (sym (own c q)) ∙ all-pass pool bytes blocks size c q) ∙ t

@@ -12,7 +12,7 @@ use lib.Seq.{length-take-le, getD-take, getD-drop, drop-drop}
 use borrow.Author.Tests.{eq-eqb, ne-eqb, lt-ltb, le-ltb}
 use Rattle.laws.specs.Tests.{choose}
 use Rattle.laws.specs.Counts.{bit, count, empty}
-use Rattle.laws.specs.Loops.{firstFrom}
+use Rattle.laws.specs.Loops.{firstFrom, allFrom}
 use Rattle.page.specs.Page.{Page, sequence}
 use Rattle.store.specs.Pool.{block, numbered}
 use Rattle.store.specs.Allocate.{blanks}
@@ -21,7 +21,6 @@ use Rattle.store.specs.Reopen as Model
 use Rattle.store_laws.specs.CellLaws.{length-blocksIn}
 use Rattle.flash_blocks.specs.Blank.{blankBlock, blankBlocks}
 use Rattle.flash_refines.specs.Store.Blank.{blankBlocks-is}
-use Rattle.mount_blocks.specs.All.{firstIn, allFrom}
 use Rattle.mount_blocks.specs.Rules.{sequenceOn, blankAt, writtenAt, numberedAt, firstBlank, fillOf, restBlank, holds, blockPasses, blocksPass, blockOf}
 use Rattle.mount_survey_refines.specs.PageCells.{vacant}
 
@@ -160,7 +159,7 @@ module _ (pages : List (List ℕ)) (c : Cells) (B : ℕ) (size : length c ≡ 32
     own = blockIn (cellsAt c i)
 
     first-is : firstBlank pages i ≡ 32 * i + length own
-    unfolding firstBlank firstIn
+    unfolding firstBlank
     first-is =
         ap (λ (k : ℕ). firstFrom (blankAt pages) k (32 * i)) (omega (arith, length-at i l)) ∙
         blank-first pages (cellsAt c i) (32 * i) (block-stretch i l)
@@ -170,14 +169,14 @@ module _ (pages : List (List ℕ)) (c : Cells) (B : ℕ) (size : length c ≡ 32
     fill-is = omega (arith, first-is)
 
     rest-is : restBlank pages i ≡ filled (cellsAt c i)
-    unfolding restBlank firstIn
+    unfolding restBlank
     rest-is =
         let n : 32 * i + 32 ≡ 32 * i + length (cellsAt c i) = omega (arith, length-at i l) in
         let k : 32 * i + length (cellsAt c i) - (32 * i + length own) ≡ length (cellsAt c i) - length own = omega arith in
         rw (first-is, n, k) (rest-filled pages (cellsAt c i) (32 * i) (block-stretch i l))
 
     pub holds-is : (s : ℕ) → holds pages s i ≡ ltb 0 (count (numbered s) own)
-    unfolding holds firstIn
+    unfolding holds
     holds-is s =
         let k : 32 * i + length own - 32 * i ≡ length own = omega arith in
         rw (first-is, k) (number-held pages s (cellsAt c i) (32 * i) (block-stretch i l))

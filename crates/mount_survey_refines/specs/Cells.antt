@@ -11,6 +11,7 @@ use Rattle.laws.specs.Every.{Every, none, both}
 use Rattle.laws.specs.Lay.{part, length-part}
 use Rattle.laws.specs.BigEndian.{Bytes, bytes-part, bytes-drop}
 use Rattle.laws.specs.Chunks.{chunks, firstChunks, length-firstChunks}
+use Rattle.laws.specs.Options.{some-same, none-some}
 use Rattle.layout.specs.Layout.{pageBytes}
 use Rattle.page.specs.Page.{Page}
 use Rattle.page.specs.Image.{image, blankBytes}
@@ -93,21 +94,14 @@ pub record Whole (b : List ℕ) : Type 0 where
   pub bytes : Bytes b
   pub size : length b ≡ pageBytes
 
--- Cells that are there are one, and are not missing.
-pub same-some : {A : Type 0} (a b : A) → some a ≡ some b → a ≡ b
-same-some a b e = cc
-
-pub never : {A B : Type 0} (a : A) → none ≡ some a → B
-never a e = absurd (let z : _≡_ {A = ℕ} 0 1 = cc in omega arith)
-
 spells-cell : (b : List ℕ) → Whole b → (o : Option Page) → cellFrom (decode b) ≡ some o → Spells b o
 spells-cell b w o e = go (decode b) refl e
   where
     go : (d : Decoded) → decode b ≡ d → cellFrom d ≡ some o → Spells b o
-    go blank q r = subst (Spells b) (same-some none o r) (noPage (blank-decode b (w .size) q))
+    go blank q r = subst (Spells b) (some-same r) (noPage (blank-decode b (w .size) q))
     go (written p) q r =
-        subst (Spells b) (same-some (some p) o r) (onePage (image-decode b (w .bytes) (w .size) p q) (decode-fits b (w .bytes) p q))
-    go bad q r = never o r
+        subst (Spells b) (some-same r) (onePage (image-decode b (w .bytes) (w .size) p q) (decode-fits b (w .bytes) p q))
+    go bad q r = absurd (none-some r)
 
 -- A pool's pages spell cells, place by place.
 pub record Spelled (ps : List (List ℕ)) (c : Cells) : Type 0 where
@@ -116,16 +110,16 @@ pub record Spelled (ps : List (List ℕ)) (c : Cells) : Type 0 where
 
 joined-spelled : (b : List ℕ) (ps : List (List ℕ)) (x : Option (Option Page)) (y : Option Cells) (c : Cells) → joined x y ≡ some c →
     ((o : Option Page) → x ≡ some o → Spells b o) → ((d : Cells) → y ≡ some d → Spelled ps d) → Spelled (b ∷ ps) c
-joined-spelled b ps none y c e f g = never c e
-joined-spelled b ps (some o) none c e f g = never c e
-joined-spelled b ps (some o) (some d) c e f g = subst (Spelled (b ∷ ps)) (same-some (o ∷ d) c e) (record { size = ap suc (g d refl .size); each = each })
+joined-spelled b ps none y c e f g = absurd (none-some e)
+joined-spelled b ps (some o) none c e f g = absurd (none-some e)
+joined-spelled b ps (some o) (some d) c e f g = subst (Spelled (b ∷ ps)) (some-same e) (record { size = ap suc (g d refl .size); each = each })
   where
     each : (q : ℕ) → q < suc (length d) → Spells (getD (b ∷ ps) q blankPage) (getD (o ∷ d) q none)
     each zero l = f o refl
     each (suc q) l = g d refl .each q (le-of-suc-le-suc l)
 
 cells-spelled : (ps : List (List ℕ)) → Every Whole ps → (c : Cells) → cellsSpelled ps ≡ some c → Spelled ps c
-cells-spelled [] none c e = subst (Spelled []) (same-some [] c e) (record { size = refl; each = λ q l. absurd (not-suc-le-zero l) })
+cells-spelled [] none c e = subst (Spelled []) (some-same e) (record { size = refl; each = λ q l. absurd (not-suc-le-zero l) })
 cells-spelled (b ∷ ps) (both w ws) c e =
     joined-spelled b ps (cellFrom (decode b)) (cellsSpelled ps) c e (spells-cell b w) (cells-spelled ps ws)
 

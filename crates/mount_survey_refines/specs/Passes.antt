@@ -15,6 +15,7 @@ use Rattle.laws.specs.Tests.{choose, and-left}
 use Rattle.laws.specs.Order.{le-or}
 use Rattle.laws.specs.Counts.{count, tally}
 use Rattle.laws.specs.BigEndian.{Bytes}
+use Rattle.laws.specs.Loops.{allFrom}
 use Rattle.page.specs.Page.{Page, sequence}
 use Rattle.store.specs.Pool.{Blocks, block, numbered}
 use Rattle.store.specs.Allocate.{blanks}
@@ -27,10 +28,10 @@ use Rattle.flash_blocks.specs.Pages.{pagesOf, pageAt, blankPage}
 use Rattle.mount_sequences.specs.Digits.{greatest}
 use Rattle.mount_sequences.specs.Strict.{is}
 use Rattle.mount_sequences.specs.Differ.{differs}
-use Rattle.mount_blocks.specs.All.{allFrom}
 use Rattle.mount_blocks.specs.Rules.{sequenceOn, blankAt, blocksPass, blockOf, fillOf}
+use Rattle.store_laws.specs.WrittenPages.{pagesIn, pagesOver, pagesIn-blocks, pagesOver-tally}
 use Rattle.mount_pages.specs.Versions.{pageApart, pagesApart}
-use Rattle.mount_survey_refines.specs.Written.{pagesIn, pagesOver, sequencesIn, pagesIn-blocks, tally-pages, every-pages, count-sequences}
+use Rattle.mount_survey_refines.specs.Written.{sequencesIn, every-pages, count-sequences}
 use Rattle.mount_survey_refines.specs.Written.{greatest-pages, differs-pages}
 use Rattle.mount_survey_refines.specs.Cells.{Spells, noPage, onePage, Spelled, length-pool, pool-spelled}
 use Rattle.mount_survey_refines.specs.PageCells.{blank-read, sequence-read, cellPasses, apart-read}
@@ -89,7 +90,7 @@ pages-apart pages c s n e bs w =
     every-pages (pagePasses bs) bs
   where
     same : (v : ℕ) → count (is v) (sequencesIn c) ≡ tally (numbered v) bs
-    same v = count-sequences v (pagesIn c) ∙ ap (count (numbered v)) w ∙ tally-pages (numbered v) bs
+    same v = count-sequences v (pagesIn c) ∙ ap (count (numbered v)) w ∙ pagesOver-tally (numbered v) bs
 
 -- ---- a pool whose pages check one by one
 

@@ -1,6 +1,6 @@
 -- The steps of a walk, one clause for each way that the code takes. Assumes nothing.
 use mathlib.Core.Path.{_≡_, refl}
-use mathlib.Core.Bool.{Bool, true, false, _&&_}
+use mathlib.Core.Bool.{Bool, true, false, _&&_, and-true}
 use mathlib.Core.List.{List, [], _∷_}
 use mathlib.Core.Option.{Option, none, some}
 use Prim.Native.Nat.{ℕ, zero, suc, _≤_, _<_}
@@ -37,10 +37,6 @@ module _ (id low high : ℕ) (ps : List Pair) (marks : List ℕ) where
     pub order-keys : getD marks id 0 ≡ 0 → length ps ≤ mostKeys → inOrder id low high ps marks ≡ ascends low high ps
     unfolding inOrder
     order-keys e l = rw (lt-ltb id (length marks) inside, eq-eqb (getD marks id 0) 0 e, le-leb (length ps) mostKeys l) (and-true (ascends low high ps))
-      where
-        and-true : (b : Bool) → (b && true) ≡ b
-        and-true true = refl
-        and-true false = refl
 
 -- A branch before its children: in order, with a key, and marked.
 unfoldable pub enterBranch : ℕ → ℕ → ℕ → Walk → Node → Option Walk

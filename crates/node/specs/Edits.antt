@@ -10,24 +10,13 @@ use Rattle.pairs.specs.Pairs.{Pair, insert, Within}
 use Rattle.pairs.specs.Bounds.{within-insert, within-delete}
 use Rattle.node.specs.declared.Shape.{Shape}
 use Rattle.node.specs.declared.NodeValue.{NodeValue}
-use Rattle.node.specs.Node.{Node, node, pairsOf, Neat}
-use Rattle.node.specs.Change.{Change, put, remove, link, change}
+use Rattle.node.specs.Node.{Node, node, pairsOf}
+use Rattle.node.specs.Change.{put, remove, link, change}
 use Rattle.node.specs.Splice.{zip, insertAt, removeAt, length-insertAt}
 use Rattle.node.specs.declared.Found.the-variants.{At, Above}
 use Rattle.node.specs.Found.{found, at-present, at-place, above-absent, above-place}
 use Rattle.node.specs.Search.{place, place-le-length, keyAt, insert-present, insert-absent, delete-present, delete-absent}
 use Rattle.node.specs.Value.{pairsIn, nodeOf, Sized, Held, Stands, Becomes, length-pairsIn, keyAt-pairsIn, pairs-insertAt, pairs-removeAt, pairs-set}
-
--- A change whose key is a 32-bit number, and which leaves room, keeps a node neat: both kinds of node at once.
-pub record Fitting (c : Change) (n : Node) : Type 0 where
-  pub key : (k p : ℕ) → c ≡ put k p → k < bound32
-  pub room : length (pairsOf (change c n)) ≤ mostKeys
-
-pub neat-change : (c : Change) (n : Node) → Fitting c n → Neat n → Neat (change c n)
-neat-change (put k p) (node shape ps l) f w =
-    record { keys = within-insert k p 0 bound32 ps (omega arith) (f .key k p refl) (w .keys); size = f .room }
-neat-change (remove k) (node shape ps l) f w = record { keys = within-delete k 0 bound32 ps (w .keys); size = f .room }
-neat-change (link kind′ p) (node shape ps l) f w = record { keys = w .keys; size = w .size }
 
 -- What the arrays of an edited node stand for.
 module _ (v : NodeValue) (s : Sized v) where

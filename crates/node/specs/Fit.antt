@@ -29,7 +29,7 @@ byFit (Full at) fits splits = splits
 unfoldable pub fitOf : ℕ → List Pair → Fitting
 fitOf key ps = fitAs (found key ps) (length ps)
 
-room-full : (i : ℕ) → Room ≡ Full i → ⊥
+pub room-full : (i : ℕ) → Room ≡ Full i → ⊥
 room-full i e = let z : _≡_ {A = ℕ} 0 1 = cc in omega arith
 
 module _ (key : ℕ) (ps : List Pair) where

@@ -31,25 +31,6 @@ module _ {A : Type 0} where
   length-removeAt zero (y ∷ ys) h = refl
   length-removeAt (suc i) (y ∷ ys) h = ap suc (length-removeAt i ys (omega arith))
 
-  -- the same by parts of the list
-  pub insertAt-parts : (i : ℕ) (x : A) (xs : List A) → i ≤ length xs → insertAt i x xs ≡ take i xs ++ (x ∷ drop i xs)
-  insertAt-parts zero x xs h = refl
-  insertAt-parts (suc i) x [] h = absurd (omega arith)
-  insertAt-parts (suc i) x (y ∷ ys) h = ap {B = List A} (y ∷_) (insertAt-parts i x ys (omega arith))
-
-  pub removeAt-parts : (i : ℕ) (xs : List A) → removeAt i xs ≡ take i xs ++ drop (suc i) xs
-  removeAt-parts zero [] = refl
-  removeAt-parts (suc i) [] = refl
-  removeAt-parts zero (y ∷ ys) = refl
-  removeAt-parts (suc i) (y ∷ ys) = ap {B = List A} (y ∷_) (removeAt-parts i ys)
-
-  -- the first elements of a list that an element was put into
-  pub take-insertAt : (n i : ℕ) (x : A) (xs : List A) → i ≤ n → take (suc n) (insertAt i x xs) ≡ insertAt i x (take n xs)
-  take-insertAt n zero x xs h = refl
-  take-insertAt zero (suc i) x xs h = absurd (omega arith)
-  take-insertAt (suc n) (suc i) x [] h = refl
-  take-insertAt (suc n) (suc i) x (y ∷ ys) h = ap {B = List A} (y ∷_) (take-insertAt n i x ys (omega arith))
-
   -- the element at each place of such a list: before, at and behind the place
   module _ (x : A) (d : A) where
     pub getD-insertAt-before : (i j : ℕ) (xs : List A) → j < i → i ≤ length xs → getD (insertAt i x xs) j d ≡ getD xs j d

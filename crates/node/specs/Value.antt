@@ -8,7 +8,7 @@ use lib.Seq.{length-take-le, getD-take, take-set-lt}
 use Rattle.layout.specs.Layout.{mostKeys, bound32}
 use Rattle.pairs.specs.Pairs.{Pair, Within}
 use Rattle.node.specs.declared.NodeValue.{NodeValue}
-use Rattle.node.specs.Node.{Node, node, Neat}
+use Rattle.node.specs.Node.{Node, node}
 use Rattle.node.specs.Splice.{zip, length-zip, getD-zip, insertAt, removeAt, zip-insertAt, zip-removeAt, zip-set}
 use Rattle.node.specs.declared.Found.the-variants.{At, Above}
 use Rattle.node.specs.Search.{place, keyAt, pointerAt, keyAt-getD, pointerAt-getD, place-is, Present, Absent}
@@ -95,10 +95,6 @@ module _ (v : NodeValue) (s : Sized v) where
   pairs-set i k p h =
       ap₂ zip (take-set-lt (v .count) (v .keys) i k h) (take-set-lt (v .count) (v .pointers) i p h) ∙
       zip-set (take (v .count) (v .keys)) (take (v .count) (v .pointers)) i k p
-
-pub neat-held : (v : NodeValue) → Held v → Neat (nodeOf v)
-neat-held v h =
-    record { keys = h .ascending; size = omega (arith, length-pairsIn v (h .sized), h .sized .size) }
 
 -- The place of the first key at or above the wanted one, known by the keys beside it in the array.
 pub place-value :

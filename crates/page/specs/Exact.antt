@@ -84,6 +84,10 @@ module _ {A : Type 0} (b : List ℕ) (bs : Bytes b) (at tag len : ℕ) (of : Lis
           something (x ∷ p) (subst Bytes e (bytes-payload b at tag bs h))
           (ap length (sym e) ∙ only (length payload) (allowed-payload b at tag h))
 
+pub found-given : (p : List ℕ) → found p ≡ given (readIf tariffOf p)
+found-given [] = refl
+found-given (x ∷ p) = refl
+
 -- Behind field 10.
 module _ (s : ℕ) (b : List ℕ) (bs : Bytes b) (h : 1 ≤ s) (l : s < bound32) (no : s ≡ number (payloadAt b 0 0x10)) (ten : part b 0 7 ≡ field 0x10 (bigEndian 4 s)) where
   body-is : (end n : ℕ) (content : List ℕ) → end ≡ 7 + n → part b 7 n ≡ content → take end b ≡ numbered s content
@@ -156,10 +160,6 @@ module _ (s : ℕ) (b : List ℕ) (bs : Bytes b) (h : 1 ≤ s) (l : s < bound32)
   abbrev start : ℕ
   start = 7 + taken tariff
 
-  found-given : (p : List ℕ) → found p ≡ given (readIf tariffOf p)
-  found-given [] = refl
-  found-given (x ∷ p) = refl
-
   module _
       (n : ℕ) (r : Ran scoreOk 0x14 9 (mostScores (found tariff)) b start n)
       (t : (leb 1 n && ((found (payloadAt b (start + 9 * n) 0x15) || eqb n (mostScores (found tariff))) && sealedAt b (start + 9 * n + taken (payloadAt b (start + 9 * n) 0x15)))) ≡ true)
@@ -227,8 +227,8 @@ entry-size s p t = eqb-true (length p) 15 (and-left (eqb (length p) 15) _ t)
 
 -- ---- from the decoder's answer back through its cases
 
-never : {A : Type 0} (x : Decoded) (p : Page) → x ≡ written p → x ≡ bad → A
-never x p e f = absurd (let z : _≡_ {A = ℕ} 0 1 = cc in omega arith)
+pub written-bad : {A : Type 0} (x : Decoded) (p : Page) → x ≡ written p → x ≡ bad → A
+written-bad x p e f = absurd (let z : _≡_ {A = ℕ} 0 1 = cc in omega arith)
 
 module _ (b : List ℕ) (bs : Bytes b) (p : Page) where
   module _ (s : ℕ) (h : 1 ≤ s) (l : s < bound32) (no : s ≡ number (payloadAt b 0 0x10)) (ten : part b 0 7 ≡ field 0x10 (bigEndian 4 s)) where
@@ -286,7 +286,7 @@ module _ (b : List ℕ) (bs : Bytes b) (p : Page) where
           let ten : part b 0 7 ≡ field 0x10 (bigEndian 4 (number ten-payload)) =
           ap (λ (n : ℕ). part b 0 (3 + n)) (sym k) ∙ part-payload b 0 0x10 st bs ∙ ap (field 0x10) four in
           content-case (number ten-payload) h l refl ten (getD b 7 0) (sym (written-from (number ten-payload) b h) ∙ e)
-      go false f = never _ p e (written-zero (number ten-payload) b (leb-false 1 (number ten-payload) f))
+      go false f = written-bad _ p e (written-zero (number ten-payload) b (leb-false 1 (number ten-payload) f))
 
   -- Bytes that check are those of a page within its limits.
   pub decode-exact : decode b ≡ written p → Exact b p

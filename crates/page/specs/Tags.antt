@@ -39,10 +39,6 @@ pub only-10 : (n : ℕ) → allowed (lengthOf 0x10) n ≡ true → n ≡ 4
 unfolding lengthOf find rows
 only-10 n t = eqb-true n 4 t
 
-pub only-12 : (n : ℕ) → allowed (lengthOf 0x12) n ≡ true → n ≡ 15
-unfolding lengthOf find rows
-only-12 n t = eqb-true n 15 t
-
 pub only-13 : (n : ℕ) → allowed (lengthOf 0x13) n ≡ true → n ≡ 32
 unfolding lengthOf find rows
 only-13 n t = eqb-true n 32 t

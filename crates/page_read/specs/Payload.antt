@@ -11,15 +11,12 @@ use borrow.Author.Tests.{eqb-true}
 use Rattle.laws.specs.Tests.{and-left}
 use Rattle.laws.specs.BigEndian.{number, numberAt}
 use Rattle.laws.specs.Lay.{part-whole}
+use Rattle.laws.specs.Lists.{empty-or}
 use Rattle.wire.specs.Tag.{lengthOf, allowed, isNodeBytes}
 use Rattle.wire.specs.Field.{payloadAt}
 use Rattle.wire.specs.FieldLaws.{stands-payload, allowed-payload, stands-within}
-use Rattle.page.specs.Decode.{found, taken}
+use Rattle.page.specs.Decode.{found}
 use Rattle.page.specs.Tags.{allowed-11}
-
-empty-or : (p : List ℕ) → (p ≡ []) ⊎ (1 ≤ length p)
-empty-or [] = inl refl
-empty-or (x ∷ p) = inr (omega arith)
 
 pub found-true : (p : List ℕ) → 1 ≤ length p → found p ≡ true
 found-true [] h = absurd (omega arith)
@@ -29,14 +26,6 @@ pub found-false : (p : List ℕ) → length p < 1 → found p ≡ false
 found-false [] h = refl
 found-false (x ∷ p) h = absurd (omega arith)
 
-pub taken-some : (p : List ℕ) → 1 ≤ length p → taken p ≡ 3 + length p
-taken-some [] h = absurd (omega arith)
-taken-some (x ∷ p) h = refl
-
-pub taken-none : (p : List ℕ) → length p < 1 → taken p ≡ 0
-taken-none [] h = refl
-taken-none (x ∷ p) h = absurd (omega arith)
-
 -- A payload that has not its tag's length is empty.
 module _ (b : List ℕ) (at tag len : ℕ) (only : (n : ℕ) → allowed (lengthOf tag) n ≡ true → n ≡ len) where
   pub payload-empty : (length (payloadAt b at tag) ≡ len → ⊥) → payloadAt b at tag ≡ []
@@ -45,9 +34,6 @@ module _ (b : List ℕ) (at tag len : ℕ) (only : (n : ℕ) → allowed (length
       go : (payloadAt b at tag ≡ []) ⊎ (1 ≤ length (payloadAt b at tag)) → payloadAt b at tag ≡ []
       go (inl e) = e
       go (inr l) = absurd (h (only (length (payloadAt b at tag)) (allowed-payload b at tag (stands-payload b at tag l))))
-
-  pub payload-size : 1 ≤ length (payloadAt b at tag) → length (payloadAt b at tag) ≡ len
-  payload-size l = only (length (payloadAt b at tag)) (allowed-payload b at tag (stands-payload b at tag l))
 
 -- The number that a whole payload spells.
 pub number-whole : (p : List ℕ) (w : ℕ) → length p ≡ w → numberAt w p 0 ≡ number p

@@ -1,7 +1,7 @@
 -- The reader's loops and tests, a step at a time. Assumes nothing.
-use mathlib.Core.Path.{_≡_, refl, sym, ap, _∙_}
+use mathlib.Core.Path.{_≡_, sym, ap, _∙_}
 use mathlib.Core.Bool.{Bool, true, false, _||_}
-use mathlib.Core.List.{List, [], _∷_, map}
+use mathlib.Core.List.{List, _∷_, map}
 use Prim.Native.Nat.{ℕ, suc, _+_, _-_, _*_, _≤_, _<_}
 use native.Mathlib.Nat.{add-zero}
 use native.Mathlib.Numerals.{add-one}
@@ -177,10 +177,6 @@ module _ (s : ℕ) (t : List ℕ) (at n : ℕ) (c b : List ℕ) where
           let k : length (map scoreOf (payloads 0x14 9 n b at)) ≡ n = length-map (payloads 0x14 9 n b at) scoreOf ∙ length-payloads 0x14 9 n b at in
           ap (λ (i : ℕ). Checkpoint s (given (readIf tariffOf t)) i (nodesOf (readIf number c))) (sym k) ∙
           view-page _ (page s (checkpoint (readIf tariffOf t) (map scoreOf (payloads 0x14 9 n b at)) (readIf number c))) (rw (le-leb _ _ h, m, e))
-
-pub given-read : (t : List ℕ) → found t ≡ given (readIf tariffOf t)
-given-read [] = refl
-given-read (x ∷ t) = refl
 
 pub nodes-none : (c : List ℕ) → found c ≡ false → Open ≡ nodesOf (readIf number c)
 nodes-none c f = rw f

@@ -26,12 +26,6 @@ unfolding Within
 within-append low middle high [] qs a b v w = within-weaken middle low high high qs a (omega arith) w
 within-append low middle high (p ∷ ps) qs a b v w = (v .0, omega arith, within-append (suc (p .0)) middle high ps qs (v .1) b (v .2) w)
 
-pub within-append-right : (low high : ℕ) (ps qs : List Pair) → Within low high (ps ++ qs) → Within low high qs
-unfolding Within
-within-append-right low high [] qs w = w
-within-append-right low high (p ∷ ps) qs w =
-    within-append-right low high ps qs (within-weaken (suc (p .0)) low high high (ps ++ qs) (omega arith) (omega arith) (w .2))
-
 pub lookup-below : (k low high : ℕ) (ps : List Pair) → k < low → Within low high ps → lookup k ps ≡ none
 unfolding Within lookup
 lookup-below k low high [] l w = refl

@@ -21,16 +21,6 @@ length-insert k v (p ∷ ps) = go (tri k (p .0)) (length-insert k v ps)
     go (same e) r = rw (insert-same k v p ps e) (omega arith)
     go (more l) r = rw (insert-behind k v p ps l) (omega arith)
 
-pub length-insert-more : (k v : ℕ) (ps : List Pair) → length ps ≤ length (insert k v ps)
-unfolding insert
-length-insert-more k v [] = omega arith
-length-insert-more k v (p ∷ ps) = go (tri k (p .0)) (length-insert-more k v ps)
-  where
-    go : Tri k (p .0) → length ps ≤ length (insert k v ps) → suc (length ps) ≤ length (insert k v (p ∷ ps))
-    go (less l) r = rw (insert-before k v p ps l) (omega arith)
-    go (same e) r = rw (insert-same k v p ps e) (omega arith)
-    go (more l) r = rw (insert-behind k v p ps l) (omega arith)
-
 pub length-insert-absent : (k v : ℕ) (ps : List Pair) → lookup k ps ≡ none → length (insert k v ps) ≡ suc (length ps)
 unfolding insert
 length-insert-absent k v [] e = refl

@@ -5,10 +5,9 @@ use mathlib.Core.Logic.{_⊎_, inl, inr}
 use mathlib.Core.List.{List, [], _∷_, _++_, append-assoc}
 use mathlib.Core.Option.{some}
 use Prim.Native.Nat.{ℕ, zero, suc, _+_, _-_, _*_, _≤_, _<_}
-use native.Mathlib.Nat.{zero-add, suc-add}
 use native.Mathlib.Omega.{arith}
 use borrow.Author.Tests.{le-leb, lt-leb, eq-eqb, ne-eqb}
-use lib.ListN.{length, replicate, length-append, length-replicate}
+use lib.ListN.{length, replicate, length-append, length-replicate, replicate-append-replicate}
 use Rattle.laws.specs.Order.{eq-or, le-or}
 use Rattle.laws.specs.Lay.{lay, lay-replicate, lay-next}
 use Rattle.layout.specs.Blocks.{blocksIf, too-few, too-many, whole-blocks, cut-block}
@@ -99,10 +98,6 @@ erasedBytes n = replicate n 255
 erased-same : (m n : ℕ) → m ≡ n → erasedBytes m ≡ erasedBytes n
 erased-same m n e = ap erasedBytes e
 
-replicate-add : (m n a : ℕ) → replicate m a ++ replicate n a ≡ replicate (m + n) a
-replicate-add zero n a = ap (λ (k : ℕ). replicate k a) (sym (zero-add n))
-replicate-add (suc m) n a = ap (a ∷_) (replicate-add m n a) ∙ ap (λ (k : ℕ). replicate k a) (sym (suc-add m n))
-
 bytes-append : (a b : Cells) → bytesOf (a ++ b) ≡ bytesOf a ++ bytesOf b
 bytes-append [] b = refl
 bytes-append (c ∷ a) b = ap (cellBytes c ++_) (bytes-append a b) ∙ sym (append-assoc (cellBytes c) (bytesOf a) (bytesOf b))
@@ -112,14 +107,15 @@ unfolding cellsIn blankBytes
 bytes-blank zero = refl
 bytes-blank (suc k) =
     ap (replicate pageBytes 255 ++_) (bytes-blank k) ∙
-    replicate-add pageBytes (pageBytes * k) 255 ∙ erased-same (pageBytes + pageBytes * k) (pageBytes * suc k) (omega arith)
+    replicate-append-replicate pageBytes (pageBytes * k) 255 ∙ erased-same (pageBytes + pageBytes * k) (pageBytes * suc k) (omega arith)
 
 bytes-blanks : (k : ℕ) → bytesOf (cells pagesInBlock (replicate k [])) ≡ replicate (blockBytes * k) 255
 bytes-blanks zero = refl
 bytes-blanks (suc k) =
     bytes-append (cellsIn pagesInBlock []) (cells pagesInBlock (replicate k [])) ∙
     ap₂ {B = List ℕ} _++_ (bytes-blank pagesInBlock) (bytes-blanks k) ∙
-    replicate-add (pageBytes * pagesInBlock) (blockBytes * k) 255 ∙ erased-same (pageBytes * pagesInBlock + blockBytes * k) (blockBytes * suc k) (omega arith)
+    replicate-append-replicate (pageBytes * pagesInBlock) (blockBytes * k) 255 ∙
+    erased-same (pageBytes * pagesInBlock + blockBytes * k) (blockBytes * suc k) (omega arith)
 
 module _ (a b : List ℕ) (la : length a ≡ pageBytes) (lb : length b ≡ pageBytes) where
   first-laid : (bytes : ℕ) → 2 * pageBytes ≤ bytes → firstBytes bytes a b ≡ a ++ (b ++ replicate (bytes - 2 * pageBytes) 255)
@@ -145,5 +141,5 @@ prepared-bytes pool h t k l =
         sym
         (bytes-append (cellsIn 30 []) (cells pagesInBlock (replicate (blocksOf pool - 1) [])) ∙
         ap₂ {B = List ℕ} _++_ (bytes-blank 30) (bytes-blanks (blocksOf pool - 1)) ∙
-        replicate-add (pageBytes * 30) (blockBytes * (blocksOf pool - 1)) 255 ∙
+        replicate-append-replicate (pageBytes * 30) (blockBytes * (blocksOf pool - 1)) 255 ∙
         erased-same (pageBytes * 30 + blockBytes * (blocksOf pool - 1)) (length pool - 2 * pageBytes) (omega (arith, h .whole, h .least)))

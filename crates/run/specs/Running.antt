@@ -6,6 +6,7 @@ use Prim.Native.Nat.{ℕ, _+_, _*_, _≤_, _<_}
 use native.Mathlib.Omega.{arith}
 use lib.ListN.{length, length-append}
 use Rattle.laws.specs.Lay.{lay, lay-nil, lay-next}
+use Rattle.laws.specs.Options.{none-some}
 use Rattle.account.specs.declared.Tariff.{Tariff}
 use Rattle.account.specs.Fair.{mostCharge}
 use Rattle.command.specs.declared.Command.{Command}
@@ -19,7 +20,7 @@ use Rattle.flash_allocate.specs.World.{World, world}
 use Rattle.run_split.specs.Growing.{Growing}
 use Rattle.run.specs.declared.Progress.{Progress}
 use Rattle.run.specs.Run.{commandReply, runWorld, runCharge, runReplies, mostRequests, CommandAs, RunAs}
-use Rattle.run.specs.Valid.{listOr, commandsIn, Fits, none-some}
+use Rattle.run.specs.Valid.{listOr, commandsIn, Fits}
 use Rattle.run.specs.Room.{reply-room}
 
 -- Before the command at a place of the batch: the commands left, and the answers laid so far. Each command takes a byte or more, so the place

@@ -11,22 +11,21 @@ use borrow.Author.Tests.{leb-true}
 use lib.Dec.{eqb, leb}
 use lib.ListN.{length, getD}
 use Rattle.laws.specs.Order.{le-or}
-use Rattle.laws.specs.Tests.{choose, and-left, and-right, test-clash}
+use Rattle.laws.specs.Tests.{choose, and-left, and-right}
 use Rattle.laws.specs.Lay.{part}
 use Rattle.laws.specs.BigEndian.{numberAt}
+use Rattle.laws.specs.Options.{none-some}
 use Rattle.layout.specs.Layout.{mostBatchBytes}
 use Rattle.wire.specs.Field.{fieldAt}
 use Rattle.wire.specs.declared.field.Field.{Field}
 use Rattle.wire.specs.declared.field.Field.the-variants.{Payload, Missing, Foreign, Overlong}
 use Rattle.command.specs.declared.Command.{Command}
 use Rattle.command.specs.declared.Command.the-variants.{Get, Put, Delete, Scan}
-use Rattle.command.specs.declared.Asked.{Asked}
-use Rattle.command.specs.declared.Asked.the-variants.{Bytes}
 use Rattle.command.specs.declared.Asked.the-variants as invalid
 use Rattle.command.specs.declared.Step.{Step}
 use Rattle.command.specs.declared.Step.the-variants.{Next, Invalid}
 use Rattle.command.specs.Command.{mostPairs, inRange, commandOf, stepAs, fieldStep, commandAt}
-use Rattle.command.specs.Batch.{commandsFrom, commandsOf, roomForAll, askedAs, askedOf}
+use Rattle.command.specs.Batch.{commandsFrom, commandsOf, roomForAll}
 use Rattle.command.specs.BatchLaws.{commandsOf-long, commandsOf-short}
 use Rattle.run.specs.Run.{InRange}
 
@@ -43,13 +42,6 @@ pub record Fits (batch : List ℕ) (bytes : ℕ) : Type 0 where
   pub short : length batch ≤ mostBatchBytes
   pub valid : commandsFrom batch 0 ≡ some (commandsIn batch)
   pub room : roomForAll (commandsIn batch) ≤ bytes
-
-abbrev isSome : Option (List Command) → Bool
-isSome none = false
-isSome (some cs) = true
-
-pub none-some : {cs : List Command} → none ≡ some cs → ⊥
-none-some e = test-clash true refl (sym (ap isSome e))
 
 module _ (batch : List ℕ) where
   -- by question 3: commands that are valid are those here
@@ -72,23 +64,6 @@ module _ (batch : List ℕ) where
           valid = sym (commandsOf-short batch short) ∙ e ∙ ap some (sym commandsIn-is);
           room = omega (arith, r, ap roomForAll commandsIn-is);
         }
-
-  -- by question 4: the bytes asked for are there
-  pub asked-fits : (n bytes : ℕ) → askedOf batch ≡ Bytes n → n ≤ bytes → Fits batch bytes
-  unfolding askedOf
-  asked-fits n bytes e l = go (commandsOf batch) refl
-    where
-      sizeOr : Asked → ℕ
-      sizeOr (Bytes m) = m
-      sizeOr invalid.Invalid = 0
-
-      isBytes : Asked → Bool
-      isBytes (Bytes m) = true
-      isBytes invalid.Invalid = false
-
-      go : (o : Option (List Command)) → commandsOf batch ≡ o → Fits batch bytes
-      go none f = absurd (test-clash true refl (sym (ap isBytes (sym (ap askedAs f) ∙ e))))
-      go (some cs) f = valid-fits cs f bytes (omega (arith, l, ap sizeOr (sym (ap askedAs f) ∙ e)))
 
 -- A step's command has its numbers in range.
 abbrev StepInRange : Step → Type 0

@@ -2,20 +2,22 @@
 use mathlib.Core.Path.{_≡_, refl, sym, ap, _∙_, subst}
 use mathlib.Core.Bool.{Bool, true, false}
 use mathlib.Core.List.{List, [], _∷_, _++_, append-assoc}
-use Prim.Native.Nat.{ℕ, zero, suc, _+_, _-_, _≤_, _<_}
+use Prim.Native.Nat.{ℕ, suc, _+_, _-_, _≤_, _<_}
 use native.Mathlib.Numerals.{add-one}
 use native.Mathlib.Omega.{arith}
 use borrow.Author.Tests.{ltb-true, ltb-false}
 use lib.Dec.{ltb}
 use lib.ListN.{length, take, set, length-set}
 use lib.Seq.{getD-set-same, take-suc-set}
+use mathlib.Core.Option.{none}
 use Rattle.pairs.specs.Pairs.{Pair}
 use Rattle.node.specs.declared.Shape.the-variants.{Leaf, Branch}
 use Rattle.node.specs.declared.NodeValue.{NodeValue}
 use Rattle.node.specs.Node.{node}
 use Rattle.node.specs.Search.{place, childPlace, pointerAt, place-first, place-below}
 use Rattle.node.specs.Value.{Becomes}
-use Rattle.tree.specs.Table.{Table, slot, path, leafFor}
+use Rattle.tree.specs.Table.{Table, slot, path, leafFor, childFor}
+use Rattle.tree_laws.specs.LeafOfKey.{path-leaf, leafFor-leaf}
 use Rattle.run_path.specs.Path.{mostSteps, PathTo}
 
 -- The place that a key leads to is that of the first key above it, as the code searches it.
@@ -29,18 +31,6 @@ slot-place k (p ∷ ks) = go (ltb k (p .0)) refl (slot-place k ks)
     go false e r = rw (e, slot) (ap suc r ∙ sym (place-below (suc k) p ks (omega (arith, ltb-false k (p .0) e))))
 
 module _ (table : Table) (k id : ℕ) where
-  -- at a leaf
-  module _ (ps : List Pair) (next : ℕ) (e : table id ≡ node Leaf ps next) where
-    pub path-leaf : (fuel : ℕ) → path fuel table k id ≡ id ∷ []
-    unfolding path
-    path-leaf zero = refl
-    path-leaf (suc fuel) = rw (e, path) refl
-
-    pub leaf-here : (fuel : ℕ) → leafFor fuel table k id ≡ id
-    unfolding leafFor
-    leaf-here zero = refl
-    leaf-here (suc fuel) = rw (e, leafFor) refl
-
   -- at a branch
   module _ (ks : List Pair) (last : ℕ) (e : table id ≡ node Branch ks last) where
     abbrev next : ℕ
@@ -102,7 +92,9 @@ module _ {table : Table} {k : ℕ} {ids : List ℕ} {id i : ℕ} (d : Down table
 
   pub down-leaf : (ps : List Pair) (next : ℕ) → table id ≡ node Leaf ps next → (v : NodeValue) → Becomes v (table id) →
       PathTo table k (record { ids = set ids i id; length = i + 1; leaf = v })
-  down-leaf ps next e v b = down-end (path-leaf table k id ps next e (mostSteps - i)) (leaf-here table k id ps next e (mostSteps - i)) v b
+  down-leaf ps next e v b =
+      let ends : childFor k (table id) ≡ none = ap (childFor k) e in
+      down-end (path-leaf table k (mostSteps - i) id ends) (leafFor-leaf table k (mostSteps - i) id ends) v b
 
   pub down-last : mostSteps ≤ i → (v : NodeValue) → Becomes v (table id) → PathTo table k (record { ids = set ids 8 id; length = 9; leaf = v })
   unfolding path leafFor

@@ -13,13 +13,9 @@ use Rattle.account.specs.declared.Account.{Account}
 use Rattle.account.specs.declared.Served.{Served}
 use Rattle.account.specs.Serve.{serveOf}
 use Rattle.account.specs.Fair.{Fair}
-use Rattle.node.specs.declared.DraftState.{DraftState}
-use Rattle.node.specs.declared.DraftValue.{DraftValue}
 use Rattle.node.specs.declared.NodeValue.{NodeValue}
 use Rattle.node.specs.Node.{Node}
 use Rattle.node.specs.Value.{Becomes}
-use Rattle.node.specs.Drafts.{draftAs, draftOf}
-use Rattle.store.specs.Store.{nodeIn}
 use Rattle.store.specs.Serve.{Work}
 use Rattle.flash_rows.specs.Row.{noRow}
 use Rattle.flash_rows.specs.declared.Row.{Row}
@@ -40,10 +36,6 @@ becomes-is b e = record { is = b .is ∙ e; held = b .held }
 pub kept-mode : {P T : ℕ} {s : State} {made : World} (by : Mode → World) {m m′ : Mode} → m ≡ m′ → Kept P T s made
     (by m′) → Kept P T s made (by m)
 kept-mode by e k = kept-is k (ap by (sym e))
-
--- The node of a draft, by the state that it is in.
-pub node-as : (d : DraftValue) (s : DraftState) → d .state ≡ s → nodeIn (draftAs s (d .node)) ≡ nodeIn (draftOf d)
-node-as d s e = ap (λ (z : DraftState). nodeIn (draftAs z (d .node))) (sym e)
 
 -- A switch: none between equal modes, else the content that the node has.
 module _ {P T : ℕ} (from to : Mode) (n : ℕ) (w : World) where

@@ -223,14 +223,6 @@ module _ {width B : ℕ} {bs : Blocks} {current last : ℕ} (r : BlockRules widt
   pub rules-newest : r .newest ≡ newest bs
   rules-newest = omega (arith, newest-le (r .newest) bs (r .noneNewer), le-newest (r .newest) bs newest-has)
 
-  -- it is above 0
-  pub rules-positive : 0 < newest bs
-  rules-positive = omega (arith, rules-newest, go (eq-or (r .newest) 0))
-    where
-      go : (r .newest ≡ 0) ⊎ (r .newest ≡ 0 → ⊥) → 0 < r .newest
-      go (inl q) = absurd (omega (arith, newest-has, ap (λ z. tally (numbered z) bs) q, r .fromOne))
-      go (inr q) = omega arith
-
   -- the block of a number that the current block has is the current one
   blockOf-current : (s : ℕ) → 0 < count (numbered s) (block bs current) → blockOf s bs ≡ current
   blockOf-current s h = go (eq-or (blockOf s bs) current)

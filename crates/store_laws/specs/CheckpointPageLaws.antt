@@ -24,7 +24,7 @@ pub length-laterCheckpointPages : (n : ℕ) (xs : List (List Score)) → length 
 length-laterCheckpointPages n [] = refl
 length-laterCheckpointPages n (x ∷ xs) = ap suc (length-laterCheckpointPages n xs)
 
-parts-nil : (most width : ℕ) → parts most width [] ≡ []
+pub parts-nil : (most width : ℕ) → parts most width [] ≡ []
 parts-nil zero width = refl
 parts-nil (suc most) width = refl
 
@@ -115,7 +115,7 @@ count-once i (suc k) f n a b = go (eq-or n i) (λ h. count-once (suc i) k f n h 
     go (inl e) r = omega (arith, ap bit (eq-eqb n i e), count-below (suc i) k f n (omega arith))
     go (inr e) r = omega (arith, ap bit (ne-eqb n i e), r (omega arith))
 
-onceBelow-true : (n : ℕ) (scores : List Score) → ((i : ℕ) → i < n → count (scoreOf i) scores ≡ 1) → onceBelow n scores ≡ true
+pub onceBelow-true : (n : ℕ) (scores : List Score) → ((i : ℕ) → i < n → count (scoreOf i) scores ≡ 1) → onceBelow n scores ≡ true
 onceBelow-true zero scores h = refl
 onceBelow-true (suc n) scores h =
     and-both (eqb (count (scoreOf n) scores) 1) (onceBelow n scores) (eq-eqb _ 1 (h n (omega arith))) (onceBelow-true n scores (λ i l. h i (omega arith)))

@@ -34,7 +34,7 @@ use Rattle.store.specs.Checkpoint.{
   writeCheckpointPages,
   close,
 }
-use Rattle.store_laws.specs.CheckpointPageLaws.{checkpoint-pages-few, length-scoresFrom}
+use Rattle.store_laws.specs.CheckpointPageLaws.{checkpoint-pages-few, length-scoresFrom, parts-nil}
 use Rattle.store_laws.specs.Numbers.{last, write-last}
 use Rattle.store_laws.specs.StoreFits.{RunFits, later-entries, write-fits}
 use Rattle.store_laws.specs.WriteFits.{flushRun-fits}
@@ -53,14 +53,10 @@ scoresFrom-fit i (suc k) score l h =
     both {x = record { id = i; score = score i }} (record { id = omega arith; score = h i (omega arith) })
     (scoresFrom-fit (suc i) k score (omega arith) (λ n b. h n (omega arith)))
 
--- What is taken of scores fills a page, where more are left behind it; else the page has the count.
-parts-nil : (most width : ℕ) → parts most width [] ≡ []
-parts-nil zero width = refl
-parts-nil (suc most) width = refl
-
 nil-cons : {A : Type 0} (x : A) (xs : List A) → [] ≡ x ∷ xs → ⊥
 nil-cons x xs e = let z : _≡_ {A = ℕ} 0 1 = cc in omega arith
 
+-- What is taken of scores fills a page, where more are left behind it; else the page has the count.
 module _ (width most width′ n : ℕ) (few : n < bound16) where
   filled : (xs : List Score) → Filled width (length (take width xs)) (countIfLast n (parts most width′ (drop width xs)))
   filled xs = go (parts most width′ (drop width xs)) refl (le-or (length xs) width)

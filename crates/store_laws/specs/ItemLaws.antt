@@ -3,7 +3,7 @@
 use mathlib.Core.Path.{_≡_, refl, ap, _∙_}
 use mathlib.Core.Bool.{Bool, true, false, _&&_}
 use mathlib.Core.Logic.{_⊎_, inl, inr}
-use mathlib.Core.List.{List, [], _∷_, _++_, map}
+use mathlib.Core.List.{List, [], _∷_, _++_, map, map-append}
 use Prim.Native.Nat.{ℕ, suc, _+_, _≤_, _<_, max}
 use native.Mathlib.Omega.{arith}
 use borrow.Author.Tests.{eqb-true, eqb-false, eq-eqb, ne-eqb}
@@ -15,10 +15,6 @@ use Rattle.node.specs.Change.{Change}
 use Rattle.node.specs.Replay.{Piece, step}
 use Rattle.page.specs.Page.{Entry}
 use Rattle.store.specs.Item.{Item, item, entryItem, piecesIn, greatestIn, group, entries}
-
-pub map-append : {A B : Type 0} (f : A → B) (xs ys : List A) → map f (xs ++ ys) ≡ map f xs ++ map f ys
-map-append f [] ys = refl
-map-append {B = B} f (x ∷ xs) ys = ap {B = List B} (λ r. f x ∷ r) (map-append f xs ys)
 
 consIf-append : {A : Type 0} (b : Bool) (x : A) (r t : List A) → consIf b x (r ++ t) ≡ consIf b x r ++ t
 consIf-append true x r t = refl

@@ -14,6 +14,7 @@ pub mod Good
 pub mod Keeps
 pub mod Numbers
 pub mod CellLaws
+pub mod WrittenPages
 pub mod BlockTests
 pub mod PageTests
 pub mod Opening

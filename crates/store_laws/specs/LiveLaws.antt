@@ -1,13 +1,13 @@
 -- How many pages can be live: a page counts for each number at most once, so a node's live pages are no more than it lies on.
 -- What is dead has nothing of any node's greatest version, so a compaction prunes. Assumes nothing.
-use mathlib.Core.Path.{_≡_, refl, sym, ap, _∙_}
+use mathlib.Core.Path.{_≡_, refl, ap, _∙_}
 use mathlib.Core.Bool.{Bool, true, false, not, _&&_, _||_, or-true}
 use mathlib.Core.Logic.{_⊎_, inl, inr}
 use mathlib.Core.Option.{Option, none, some}
 use mathlib.Core.List.{List, [], _∷_}
 use Prim.Native.Nat.{ℕ, zero, suc, _+_, _*_, _≤_, _<_}
 use native.Mathlib.Omega.{arith}
-use borrow.Author.Tests.{eq-eqb, leb-true, le-leb, lt-ltb}
+use borrow.Author.Tests.{eq-eqb, leb-true, le-leb, lt-ltb, not-false}
 use lib.Dec.{leb}
 use Rattle.laws.specs.Tests.{choose, and-right, or-left, or-right}
 use Rattle.laws.specs.Order.{eq-or, le-or, le-suc-or}
@@ -24,10 +24,6 @@ use Rattle.store_laws.specs.ViewLaws.{sumTo-ext}
 use Rattle.store_laws.specs.Steps.{Pruned, Fate}
 use Rattle.store_laws.specs.Steps as Steps
 use Rattle.store_laws.specs.PoolLaws.{pageIn-none, Moves, Found, stays, goes, find-compact}
-
-not-false : (b : Bool) → not b ≡ false → b ≡ true
-not-false true e = refl
-not-false false e = sym e
 
 -- a dead page has nothing of a greatest version
 live-dead : (w : View) (closing : Page → Bool) (N : ℕ) (p : Page) → live w closing N p ≡ false → (n : ℕ) → n < N →

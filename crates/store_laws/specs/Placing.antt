@@ -11,6 +11,7 @@ use borrow.Author.Tests.{eq-eqb, ne-eqb}
 use lib.ListN.{length}
 use Rattle.laws.specs.Tests.{test-clash}
 use Rattle.laws.specs.Counts.{bit, bit-le-one, count, count-append, tally, tally-at}
+use Rattle.laws.specs.Options.{some-same}
 use Rattle.layout.specs.Layout.{pagesInBlock, nodeLimit, mostLogPages, fewestBlocks}
 use Rattle.node.specs.Node.{Node}
 use Rattle.node.specs.Change.{Change}
@@ -159,13 +160,10 @@ module _ {B N : ℕ} {closing : Page → Bool} {st : Store} (v : Invariant B N c
       find s (found closing N st .blocks) ≡ some q
   found-live s q e l = go found-how
     where
-      same-page : {a b : Page} → some a ≡ some b → a ≡ b
-      same-page x = cc
-
       kept : {after : Option Page} → Found (live (view st) closing N) (find s (st .blocks)) after → after ≡ some q
       kept (PoolLaws.stays x) = x ∙ e
       kept (PoolLaws.goes p x y z) =
-          absurd (test-clash (live (view st) closing N q) l (ap (live (view st) closing N) (same-page (sym e ∙ y)) ∙ z))
+          absurd (test-clash (live (view st) closing N q) l (ap (live (view st) closing N) (some-same (sym e ∙ y)) ∙ z))
 
       go : {bs′ : Blocks} → How (live (view st) closing N) (st .blocks) bs′ → find s bs′ ≡ some q
       go BlockRules.stays = e

@@ -25,10 +25,6 @@ pub sumTo-zero : (f : ℕ → ℕ) (k : ℕ) → ((s : ℕ) → 0 < s → s ≤ 
 sumTo-zero f zero e = refl
 sumTo-zero f (suc k) e = omega (arith, sumTo-zero f k (λ s p l. e s p (omega arith)), e (suc k) (omega arith) (omega arith))
 
-pub sumTo-le : (f : ℕ → ℕ) (k : ℕ) → ((s : ℕ) → f s ≤ 1) → sumTo f k ≤ k
-sumTo-le f zero h = omega arith
-sumTo-le f (suc k) h = omega (arith, sumTo-le f k h, h (suc k))
-
 pub greatestTo-ext : (f g : ℕ → ℕ) (k : ℕ) → ((s : ℕ) → s ≤ k → f s ≡ g s) → greatestTo f k ≡ greatestTo g k
 greatestTo-ext f g zero e = refl
 greatestTo-ext f g (suc k) e = ap₂ max (greatestTo-ext f g k (λ s l. e s (omega arith))) (e (suc k) (omega arith))

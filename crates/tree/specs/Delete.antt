@@ -15,7 +15,3 @@ deletionFor (some old) leaf k = edit leaf (remove k) ∷ []
 -- All reads first, then the edit.
 unfoldable pub deleteRequests : ℕ → Table → ℕ → List NodeRequest
 deleteRequests count table k = readsTo count table k ++ deletionFor (getAnswer count table k) (leafFor count table k 0) k
-
--- The value removed.
-abbrev pub deleteAnswer : ℕ → Table → ℕ → Option ℕ
-deleteAnswer = getAnswer

@@ -14,6 +14,13 @@ pub data NodeRequest : Type 0 where
   rewrite : ℕ → Node → NodeRequest
   create : ℕ → Node → NodeRequest
 
+-- The node of a request.
+abbrev pub idOf : NodeRequest → ℕ
+idOf (read id) = id
+idOf (edit id c) = id
+idOf (rewrite id n) = id
+idOf (create id n) = id
+
 -- The table after a request: a read leaves it, every other changes one node.
 abbrev pub apply : NodeRequest → Table → Table
 apply (read id) table = table

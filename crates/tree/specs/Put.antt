@@ -99,7 +99,3 @@ putRefused limit count table k = refusedFor (getAnswer count table k) (count + i
 unfoldable pub putRequests : ℕ → ℕ → Table → ℕ → ℕ → List NodeRequest
 putRequests limit count table k v =
     elim (putRefused limit count table k) [ true ↦ [] | false ↦ writeRequests count table k (put k v) ]
-
--- The old value where there was one.
-abbrev pub putAnswer : ℕ → Table → ℕ → Option ℕ
-putAnswer = getAnswer

@@ -6,6 +6,7 @@ use mathlib.Core.List.{List}
 use mathlib.Core.Logic.{_⊎_, inl, inr}
 use Prim.Native.Nat.{ℕ, _<_}
 use native.Mathlib.Omega.{arith}
+use Rattle.laws.specs.Tests.{test-same}
 use Rattle.layout.specs.Layout.{noLeaf, bound32}
 use Rattle.pairs.specs.Pairs.{Pair}
 use Rattle.tree.specs.Table.{Table}
@@ -13,7 +14,7 @@ use Rattle.tree.specs.Spells.{Spells, mapOf}
 use Rattle.tree.specs.Sound.{sound}
 use Rattle.tree_laws.specs.Ids.{used-below}
 use Rattle.tree_laws.specs.Standing.{Proper, stands-keep}
-use Rattle.tree_laws.specs.SoundLaws.{same-test, sound-limit, sound-spells, spells-sound}
+use Rattle.tree_laws.specs.SoundLaws.{sound-limit, sound-spells, spells-sound}
 use Rattle.tree_laws.specs.GetLaws.{node-proper}
 
 -- Two tables have the same nodes below a count.
@@ -60,7 +61,4 @@ agree-back count table table′ e i l = go (e i l)
 
 pub sound-proper : (limit count : ℕ) (table table′ : Table) → AgreeProper count table table′ → sound limit count table ≡ sound limit count table′
 sound-proper limit count table table′ e =
-    same-test _ _ (sound-over limit count table table′ e) (sound-over limit count table′ table (agree-back count table table′ e))
-
-pub sound-agree : (limit count : ℕ) (table table′ : Table) → Agree count table table′ → sound limit count table ≡ sound limit count table′
-sound-agree limit count table table′ e = sound-proper limit count table table′ (λ i l. inl (e i l))
+    test-same _ _ (sound-over limit count table table′ e) (sound-over limit count table′ table (agree-back count table table′ e))

@@ -86,10 +86,6 @@ module _ {X : Type 0} where
   sumOf-childAt f (x ∷ xs) last zero = omega arith
   sumOf-childAt f (x ∷ xs) last (suc j) = omega (arith, sumOf-childAt f xs last j)
 
-  pub sumOf-least : (f : X → ℕ) (n : ℕ) (xs : List (X × ℕ)) (last : X) → n ≤ f last → n ≤ sumOf f xs last
-  sumOf-least f n [] last l = l
-  sumOf-least f n (x ∷ xs) last l = omega (arith, sumOf-least f n xs last l)
-
   -- The bounds of the child that a key leads to hold the key.
   pub record Leads (k : ℕ) (xs : List (X × ℕ)) (low high j : ℕ) : Type 0 where
     pub above : low ≤ lowAt xs low j

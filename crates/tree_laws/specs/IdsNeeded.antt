@@ -11,7 +11,6 @@ use native.Mathlib.Omega.{arith}
 use borrow.Author.Tests.{leb-true, leb-false, le-leb, lt-leb, eq-eqb, ne-eqb}
 use lib.Dec.{leb}
 use lib.ListN.{length}
-use Rattle.laws.specs.Order.{eq-or, le-or}
 use Rattle.layout.specs.Layout.{mostKeys, noLeaf, bound32}
 use Rattle.pairs.specs.Pairs.{Pair}
 use Rattle.pairs.specs.LocalEdit.{LocalEdit}
@@ -50,69 +49,6 @@ module _ (table : Table) (id : ℕ) (ids : List ℕ) where
       go : (b : Bool) → leb mostKeys (sizeAt table id) ≡ b → fullRun table (id ∷ ids) ≡ fullRun table ids
       go true e = rw (e, ne-eqb (fullRun table ids) (length ids) (omega arith), fullRun)
       go false e = rw (e, fullRun)
-
--- The same on the way down, as a walk counts it: each full node adds one, and a node with room starts the count again.
-unfoldable pub runDown : Table → ℕ → List ℕ → ℕ
-runDown table run [] = run
-runDown table run (id ∷ ids) = runDown table (elim (leb mostKeys (sizeAt table id)) [ true ↦ suc run | false ↦ 0 ]) ids
-
--- one more node on the path
-module _ (table : Table) (run id : ℕ) (ids : List ℕ) where
-  runDown-full : mostKeys ≤ sizeAt table id → runDown table run (id ∷ ids) ≡ runDown table (suc run) ids
-  unfolding runDown
-  runDown-full l = rw (le-leb mostKeys (sizeAt table id) l)
-
-  runDown-room : sizeAt table id < mostKeys → runDown table run (id ∷ ids) ≡ runDown table 0 ids
-  unfolding runDown
-  runDown-room l = rw (lt-leb mostKeys (sizeAt table id) l)
-
-record Down (table : Table) (run : ℕ) (ids : List ℕ) : Type 0 where
-  most : fullRun table ids ≤ length ids
-  all : fullRun table ids ≡ length ids → runDown table run ids ≡ run + length ids
-  gap : fullRun table ids < length ids → runDown table run ids ≡ fullRun table ids
-
-down-start : (table : Table) (ids : List ℕ) → Down table 0 ids → runDown table 0 ids ≡ fullRun table ids
-down-start table ids d = go (eq-or (fullRun table ids) (length ids))
-  where
-    go : (fullRun table ids ≡ length ids) ⊎ (fullRun table ids ≡ length ids → ⊥) → runDown table 0 ids ≡ fullRun table ids
-    go (inl e) = omega (arith, d .all e)
-    go (inr e) = d .gap (omega (arith, d .most))
-
-down : (table : Table) (run : ℕ) (ids : List ℕ) → Down table run ids
-unfolding runDown fullRun
-down table run [] = record { most = omega arith; all = λ e. omega arith; gap = λ l. absurd (omega arith) }
-down table run (id ∷ ids) = go (le-or mostKeys (sizeAt table id)) (down table (suc run) ids) (down table 0 ids)
-  where
-    split : Down table (suc run) ids → mostKeys ≤ sizeAt table id → (fullRun table ids ≡ length ids) ⊎ (fullRun table ids ≡ length ids → ⊥) →
-        Down table run (id ∷ ids)
-    split r l (inl e) =
-        let f = fullRun-full table id ids l e in
-        record {
-          most = omega (arith, f);
-          all = λ _. runDown-full table run id ids l ∙ omega (arith, r .all e);
-          gap = λ g. absurd (omega (arith, f));
-        }
-    split r l (inr e) =
-        let less : fullRun table ids < length ids = omega (arith, r .most) in
-        let f = fullRun-gap table id ids less in
-        record {
-          most = omega (arith, f);
-          all = λ g. absurd (omega (arith, f));
-          gap = λ _. runDown-full table run id ids l ∙ (r .gap less ∙ sym f);
-        }
-
-    go : (mostKeys ≤ sizeAt table id) ⊎ (sizeAt table id < mostKeys) → Down table (suc run) ids → Down table 0 ids → Down table run (id ∷ ids)
-    go (inl l) r z = split r l (eq-or (fullRun table ids) (length ids))
-    go (inr l) r z =
-        let f = fullRun-room table id ids l in
-        record {
-          most = omega (arith, f, z .most);
-          all = λ g. absurd (omega (arith, f, z .most));
-          gap = λ _. runDown-room table run id ids l ∙ (down-start table ids z ∙ sym f);
-        }
-
-pub fullRun-down : (table : Table) (ids : List ℕ) → runDown table 0 ids ≡ fullRun table ids
-fullRun-down table ids = down-start table ids (down table 0 ids)
 
 -- What the work along a path has taken: finished, it met a node with room; pending, all below the node were full.
 abbrev Taken : Table → ℕ → ℕ → List ℕ → Work → Type 0

@@ -11,7 +11,7 @@ use borrow.Author.Tests.{le-leb}
 use lib.Dec.{leb}
 use lib.ListN.{length}
 use Rattle.laws.specs.Order.{le-or}
-use Rattle.laws.specs.Tests.{and-right, and-both}
+use Rattle.laws.specs.Tests.{and-right, and-both, test-same}
 use Rattle.layout.specs.Layout.{mostKeys, noLeaf, bound32, mostNodes}
 use Rattle.pairs.specs.Pairs.{Pair}
 use Rattle.tree.specs.Table.{Table, slot, path, leafFor}
@@ -21,7 +21,7 @@ use Rattle.tree.specs.Sound.{Leftmost, leftmost, complete, walkFrom, sound}
 use Rattle.tree_laws.specs.Children.{each-childAt}
 use Rattle.tree_laws.specs.LeafOfKey.{childOf, childFor-branch, path-leaf, path-step, leafFor-leaf, leafFor-step}
 use Rattle.tree_laws.specs.Size.{size, size-count, depth-count}
-use Rattle.tree_laws.specs.SoundLaws.{leftmost-is, same-test, walk-spells, sound-limit, sound-spells, spells-sound}
+use Rattle.tree_laws.specs.SoundLaws.{leftmost-is, walk-spells, sound-limit, sound-spells, spells-sound}
 
 -- The greatest depth of a leaf, and the node limit of the largest pool.
 abbrev pub mostDepth : ℕ
@@ -53,7 +53,7 @@ module _ {X : Type 0} (first : X → ℕ) (S : X → ℕ → ℕ → ℕ → Typ
   two-children (x ∷ xs) last low high next l e =
       omega (arith, child (x .0) low (x .1) (firstOf first xs last) (e .0), one-child xs last (x .1) high next (e .1))
 
-stands-fewest : (d : ℕ) (table : Table) (t : Tree d) (low high next : ℕ) → Stands d table t low high next → fewestNodes d ≤ size d t
+pub stands-fewest : (d : ℕ) (table : Table) (t : Tree d) (low high next : ℕ) → Stands d table t low high next → fewestNodes d ≤ size d t
 unfolding Holds size
 stands-fewest zero table t low high next h = omega arith
 stands-fewest (suc d) table t low high next h =
@@ -172,7 +172,7 @@ soundBy count table l = leb (l .depth) mostDepth && complete (walkFrom count tab
 module _ (limit count : ℕ) (table : Table) (keeps : count ≤ limit) (few : limit ≤ mostNodes) where
   pub sound-shallow : sound limit count table ≡ soundBy count table (leftmost (suc mostDepth) table 0 0)
   unfolding soundBy sound
-  sound-shallow = same-test _ _ to from
+  sound-shallow = test-same _ _ to from
     where
       to : sound limit count table ≡ true → soundBy count table (leftmost (suc mostDepth) table 0 0) ≡ true
       to s =

@@ -5,7 +5,6 @@ pub mod Standing
 pub mod Size
 pub mod LeafOfKey
 pub mod LeafChain
-pub mod Pointers
 pub mod SoundLaws
 pub mod Levels
 -- A change at one key, leaf upwards.

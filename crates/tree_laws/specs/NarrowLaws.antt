@@ -3,15 +3,12 @@
 use mathlib.Core.Path.{_≡_, refl}
 use mathlib.Core.Bool.{Bool, true, false}
 use mathlib.Core.List.{List, [], _∷_, map}
-use mathlib.Core.Logic.{_⊎_, inl, inr}
 use mathlib.Core.Option.{Option, none, some}
 use Prim.Native.Nat.{ℕ, zero, suc, _+_, _≤_, _<_}
 use native.Mathlib.Omega.{arith}
 use lib.Dec.{ltb}
 use lib.ListN.{length, take, drop}
 use Rattle.laws.specs.Every.{Every, none, both, every-append, every-weaken, every-map}
-use Rattle.laws.specs.Order.{eq-or}
-use Rattle.laws.specs.Update.{update, update-same, update-other}
 use Rattle.layout.specs.Layout.{keptKeys, bound32}
 use Rattle.pairs.specs.Pairs.{Pair}
 use Rattle.pairs.specs.Members.{every-insert, every-delete}
@@ -21,11 +18,10 @@ use Rattle.node.specs.Change.{Change, put, remove, link, change}
 use Rattle.node.specs.Halves.{lowerHalf, middleKey, upperHalf}
 use Rattle.node.specs.Search.{keyAt, pointerAt}
 use Rattle.tree.specs.Table.{Table, slot, path, leafFor}
-use Rattle.tree.specs.NodeRequest.{NodeRequest, read, edit, rewrite, create, apply, applyAll, countAfter, changeAll}
+use Rattle.tree.specs.NodeRequest.{read, edit, rewrite, changeAll}
 use Rattle.tree.specs.Get.{getAnswer}
 use Rattle.tree.specs.Put.{renamed, fitsNode, Work, finished, pending, settle, work, finish, putRefused, putRequests}
 use Rattle.tree.specs.Delete.{deletionFor, deleteRequests}
-use Rattle.tree.specs.Fit.{Fit, Fits}
 use Rattle.tree.specs.Spells.{Spells}
 use Rattle.tree_laws.specs.Size.{depth-count}
 use Rattle.tree_laws.specs.GetLaws.{path-found}
@@ -148,7 +144,8 @@ module _ (table : Table) (k : ℕ) where
           {x = rewrite 0 (node Branch ((middleKey whole, next) ∷ []) (suc next))}
           (record { pairs = both (middleKey-narrow whole narrow, omega arith) none; last = omega arith }) none))))
 
-reads-narrow : (ids : List ℕ) → Every NarrowRequest (map read ids)
+-- A read brings no number.
+pub reads-narrow : (ids : List ℕ) → Every NarrowRequest (map read ids)
 reads-narrow [] = none
 reads-narrow (i ∷ ids) = both tt (reads-narrow ids)
 
@@ -181,29 +178,3 @@ module _ (table : Table) (count : ℕ) (pairs : List Pair) (s : Spells table cou
       go : (o : Option ℕ) → Every NarrowRequest (deletionFor o (leafFor count table k 0) k)
       go none = none
       go (some old) = both small none
-
--- Requests that fit and are narrow leave a narrow table.
-apply-narrow : (limit : ℕ) (r : NodeRequest) (table : Table) (count : ℕ) → Fit limit r table count → NarrowRequest r →
-    ((i : ℕ) → i < count → Narrow (table i)) → (i : ℕ) → i < countAfter r count → Narrow (apply r table i)
-apply-narrow limit (read id) table count f n h i l = h i l
-apply-narrow limit (edit id c) table count f n h i l = go (eq-or i id)
-  where
-    go : (i ≡ id) ⊎ (i ≡ id → ⊥) → Narrow (update table id (change c (table id)) i)
-    go (inl e) = rw (update-same table id (change c (table id)) i e) (change-narrow c (table id) n (h id (f .0)))
-    go (inr e) = rw (update-other table id (change c (table id)) i e) (h i l)
-apply-narrow limit (rewrite id x) table count f n h i l = go (eq-or i id)
-  where
-    go : (i ≡ id) ⊎ (i ≡ id → ⊥) → Narrow (update table id x i)
-    go (inl e) = rw (update-same table id x i e) n
-    go (inr e) = rw (update-other table id x i e) (h i l)
-apply-narrow limit (create id x) table count f n h i l = go (eq-or i id)
-  where
-    go : (i ≡ id) ⊎ (i ≡ id → ⊥) → Narrow (update table id x i)
-    go (inl e) = rw (update-same table id x i e) n
-    go (inr e) = rw (update-other table id x i e) (h i (omega (arith, f .0)))
-
-pub applyAll-narrow : (limit : ℕ) (rs : List NodeRequest) (table : Table) (count final : ℕ) → Fits limit rs table count final →
-    Every NarrowRequest rs → ((i : ℕ) → i < count → Narrow (table i)) → (i : ℕ) → i < final → Narrow (applyAll rs table i)
-applyAll-narrow limit [] table count final f none h i l = h i (omega (arith, f))
-applyAll-narrow limit (r ∷ rs) table count final f (both n e) h i l =
-    applyAll-narrow limit rs (apply r table) (countAfter r count) final (f .1) e (apply-narrow limit r table count (f .0) n h) i l

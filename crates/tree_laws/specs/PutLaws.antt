@@ -71,13 +71,6 @@ module _ (table : Table) (count : ℕ) (pairs : List Pair) (s : Spells table cou
         go none f = omega (arith, put-adds f, ltb-false limit _ (rw (get-answer table count pairs s k small, f) at e))
         go (some old) f = omega (arith, put-replaces old f .1)
 
-    pub refused-absent : putRefused limit count table k ≡ true → lookup k pairs ≡ none
-    refused-absent e = go (lookup k pairs) refl
-      where
-        go : (o : Option ℕ) → lookup k pairs ≡ o → lookup k pairs ≡ none
-        go none f = f
-        go (some old) f = absurd (omega (arith, put-replaces old f .1, refused-past e))
-
     -- a refused put asks for nothing
     pub put-refused : putRefused limit count table k ≡ true → putRequests limit count table k v ≡ []
     unfolding putRequests

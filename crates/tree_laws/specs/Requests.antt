@@ -8,33 +8,21 @@ use Rattle.laws.specs.Update.{update-same, update-other}
 use Rattle.node.specs.Node.{Node, Neat}
 use Rattle.node.specs.Change.{Change, Suits, change}
 use Rattle.tree.specs.Table.{Table}
-use Rattle.tree.specs.NodeRequest.{
-  NodeRequest,
-  read,
-  edit,
-  rewrite,
-  create,
-  apply,
-  applyAll,
-  countAfter,
-  countAfterAll,
-  changeAll,
-}
+use Rattle.tree.specs.NodeRequest.{NodeRequest, read, edit, rewrite, create, apply, applyAll, countAfter, countAfterAll, changeAll, idOf}
 use Rattle.tree.specs.Fit.{Fits}
 
--- The node of a request.
-abbrev pub nodeOf : NodeRequest → ℕ
-nodeOf (read id) = id
-nodeOf (edit id c) = id
-nodeOf (rewrite id n) = id
-nodeOf (create id n) = id
-
--- Each request changes one node: every other is as it was.
-pub apply-other : (r : NodeRequest) (table : Table) (i : ℕ) → (i ≡ nodeOf r → ⊥) → apply r table i ≡ table i
+-- Each request changes one node: every other is as it was. None lessens the count.
+pub apply-other : (r : NodeRequest) (table : Table) (i : ℕ) → (i ≡ idOf r → ⊥) → apply r table i ≡ table i
 apply-other (read id) table i e = refl
 apply-other (edit id c) table i e = update-other table id (change c (table id)) i e
 apply-other (rewrite id n) table i e = update-other table id n i e
 apply-other (create id n) table i e = update-other table id n i e
+
+pub countAfter-le : (r : NodeRequest) (count : ℕ) → count ≤ countAfter r count
+countAfter-le (read id) count = omega arith
+countAfter-le (edit id c) count = omega arith
+countAfter-le (rewrite id n) count = omega arith
+countAfter-le (create id n) count = omega arith
 
 pub applyAll-append : (rs ss : List NodeRequest) (table : Table) → applyAll (rs ++ ss) table ≡ applyAll ss (applyAll rs table)
 applyAll-append [] ss table = refl
@@ -59,17 +47,6 @@ module _ (limit : ℕ) where
   fits-append [] ss table count middle final f g = rw f g
   fits-append (r ∷ rs) ss table count middle final f g =
       (f .0, fits-append rs ss (apply r table) (countAfter r count) middle final (f .1) g)
-
-  countAfter-le : (r : NodeRequest) (count : ℕ) → count ≤ countAfter r count
-  countAfter-le (read id) count = omega arith
-  countAfter-le (edit id c) count = omega arith
-  countAfter-le (rewrite id n) count = omega arith
-  countAfter-le (create id n) count = omega arith
-
-  pub fits-le : (rs : List NodeRequest) (table : Table) (count final : ℕ) → Fits limit rs table count final → count ≤ final
-  fits-le [] table count final f = omega (arith, f)
-  fits-le (r ∷ rs) table count final f =
-      omega (arith, countAfter-le r count, fits-le rs (apply r table) (countAfter r count) final (f .1))
 
   -- the final count is that of the creates
   pub fits-count : (rs : List NodeRequest) (table : Table) (count final : ℕ) → Fits limit rs table count final → countAfterAll rs count ≡ final

@@ -7,17 +7,13 @@ use native.Mathlib.Omega.{arith}
 use lib.Dec.{eqb, ltb}
 use Rattle.laws.specs.Counts.{bit}
 use Rattle.laws.specs.Order.{Tri, less, same, more, tri}
-use Rattle.laws.specs.Update.{sumBelow}
+use Rattle.laws.specs.Update.{sumBelow, sumBelow-add}
 use Rattle.pairs.specs.Pairs.{Pair}
 use Rattle.tree.specs.Table.{Table}
 use Rattle.tree.specs.Tree.{sumOf, Tree, rootOf, reached}
 use Rattle.tree.specs.Spells.{Spells}
 use Rattle.tree_laws.specs.Ids.{id-same, id-other, used-le}
 use Rattle.tree_laws.specs.Standing.{Once, root-used}
-
-sumBelow-add : (n : ℕ) (f g : ℕ → ℕ) → sumBelow n (λ i. f i + g i) ≡ sumBelow n f + sumBelow n g
-sumBelow-add zero f g = omega arith
-sumBelow-add (suc n) f g = omega (arith, sumBelow-add n f g)
 
 sumBelow-ones : (n : ℕ) (f : ℕ → ℕ) → ((i : ℕ) → f i ≤ 1) → sumBelow n f ≤ n
 sumBelow-ones zero f h = omega arith

@@ -15,6 +15,7 @@ use Rattle.laws.specs.Counts.{bit}
 use Rattle.laws.specs.Order.{eq-or, le-or}
 use Rattle.laws.specs.Tests.{and-left, and-right, and-both}
 use mathlib.Core.Logic.{_⊎_, inl, inr}
+use Rattle.laws.specs.Options.{none-some}
 use Rattle.layout.specs.Layout.{mostKeys, noLeaf, bound32}
 use Rattle.pairs.specs.Pairs.{Pair, Within}
 use Rattle.node.specs.declared.Shape.the-variants.{Leaf, Branch}
@@ -67,9 +68,6 @@ mark-adds marks id i l e = go (eq-or i id)
     go (inl h) = rw h (omega (arith, id-self id, e, getD-set-same marks id 1 0 l))
     go (inr h) = omega (arith, id-other i id h, getD-set-other marks id i 1 0 h)
 
-none-some : {A : Type 0} {w : Walk} → _≡_ {A = Option Walk} none (some w) → A
-none-some e = let z : _≡_ {A = ℕ} 0 1 = cc in absurd (omega arith)
-
 -- What a walk that passes has seen: of a node, and of a branch's children.
 record Seen (d : ℕ) (table : Table) (id low high : ℕ) (w w′ : Walk) : Type 0 where
   tree : Tree d
@@ -91,7 +89,7 @@ record SeenChildren (d : ℕ) (table : Table) (ps : List Pair) (p low high : ℕ
 
 seen-leaf : (table : Table) (id low high : ℕ) (w w′ : Walk) (n : Node) → table id ≡ n → visitLeaf id low high w n ≡ some w′ → Seen 0 table id low high w w′
 unfolding visitLeaf Holds rootOf firstLeaf reached
-seen-leaf table id low high w w′ (node Branch ks last) t e = none-some e
+seen-leaf table id low high w w′ (node Branch ks last) t e = absurd (none-some e)
 seen-leaf table id low high w w′ (node Leaf ps next) t e = go (inOrder id low high ps (w .marks) && eqb (w .awaited) id) refl
   where
     go : (b : Bool) → inOrder id low high ps (w .marks) && eqb (w .awaited) id ≡ b → Seen 0 table id low high w w′
@@ -108,7 +106,7 @@ seen-leaf table id low high w w′ (node Leaf ps next) t e = go (inOrder id low 
           marks = λ i. mark-adds (w .marks) id i (o .used) (o .fresh);
           size = length-set (w .marks) id 1;
         }
-    go false f = none-some (rw (f, visitLeaf) at e)
+    go false f = absurd (none-some (rw (f, visitLeaf) at e))
 
 module _ (d : ℕ) (table : Table) (child : (id low high : ℕ) (w w′ : Walk) → visit d table id low high w ≡ some w′ → Seen d table id low high w w′) where
   seen-children : (ps : List Pair) (p low high : ℕ) (w w′ : Walk) → visitChildren (visit d table) ps p low high w ≡ some w′ →
@@ -131,7 +129,7 @@ module _ (d : ℕ) (table : Table) (child : (id low high : ℕ) (w w′ : Walk) 
       go : (o : Option Walk) → visit d table (x .1) low (x .0) w ≡ o →
           ((w w′ : Walk) → visitChildren (visit d table) ps p (x .0) high w ≡ some w′ → SeenChildren d table ps p (x .0) high w w′) →
           SeenChildren d table (x ∷ ps) p low high w w′
-      go none f r = none-some (rw (f, visitChildren) at e)
+      go none f r = absurd (none-some (rw (f, visitChildren) at e))
       go (some v) f r =
           let s = child (x .1) low (x .0) w v f in
           let rest = r v w′ (rw (f, visitChildren) at e) in
@@ -149,7 +147,7 @@ module _ (d : ℕ) (table : Table) (child : (id low high : ℕ) (w w′ : Walk) 
   seen-branch : (id low high : ℕ) (w w′ : Walk) (n : Node) → table id ≡ n → visitBranch (visit d table) id low high w n ≡ some w′ →
       Seen (suc d) table id low high w w′
   unfolding visitBranch Holds rootOf firstLeaf reached
-  seen-branch id low high w w′ (node Leaf ps next) t e = none-some e
+  seen-branch id low high w w′ (node Leaf ps next) t e = absurd (none-some e)
   seen-branch id low high w w′ (node Branch ks last) t e = go (inOrder id low high ks (w .marks) && leb 1 (length ks)) refl
     where
       go : (b : Bool) → inOrder id low high ks (w .marks) && leb 1 (length ks) ≡ b → Seen (suc d) table id low high w w′
@@ -172,7 +170,7 @@ module _ (d : ℕ) (table : Table) (child : (id low high : ℕ) (w w′ : Walk) 
             marks = λ i. omega (arith, s .marks i, mark-adds (w .marks) id i (o .used) (o .fresh));
             size = s .size ∙ length-set (w .marks) id 1;
           }
-      go false f = none-some (rw (f, visitBranch) at e)
+      go false f = absurd (none-some (rw (f, visitBranch) at e))
 
 visit-seen : (d : ℕ) (table : Table) (id low high : ℕ) (w w′ : Walk) → visit d table id low high w ≡ some w′ → Seen d table id low high w w′
 unfolding visit
@@ -348,12 +346,6 @@ pairsBelow-is (suc d) (suc fuel) table t low high next l h =
 pub map-unique : (table : Table) (count : ℕ) (pairs : List Pair) → Spells table count pairs → mapOf count table ≡ pairs
 map-unique table count pairs s =
     rw (s .root) at (pairsBelow-is (s .depth) count table (s .tree) 0 bound32 noLeaf (depth-count table count pairs s) (s .stands)) ∙ s .spelled
-
--- Two tests of which each passes where the other does.
-pub same-test : (a b : Bool) → (a ≡ true → b ≡ true) → (b ≡ true → a ≡ true) → a ≡ b
-same-test true b to from = sym (to refl)
-same-test false true to from = from refl
-same-test false false to from = refl
 
 -- The test passes: the limit is kept, and the table spells its map.
 module _ (limit count : ℕ) (table : Table) where

@@ -147,7 +147,3 @@ stands-proper (suc d) table t low high next b h i l = go (eq-or i (t .0)) (stand
     go (inr e) r =
         each-reached (rootOf d) (firstLeaf d) (reached d) (Stands d table) (λ i. Proper (table i)) r (t .1) (t .2) low high next b (h .1) (h .4) i
         (omega (arith, id-other i (t .0) e))
-
-pub stands-neat : (d : ℕ) (table : Table) (t : Tree d) (low high next : ℕ) → high ≤ bound32 → Stands d table t low high next →
-    (i : ℕ) → 1 ≤ reached d t i → Neat (table i)
-stands-neat d table t low high next b h i l = stands-proper d table t low high next b h i l .neat

@@ -1,10 +1,10 @@
 // The wall book as C firmware calls it: prepare and batch, on lent buffers that do not overlap. Neither asks anything of its caller.
+ghost use Rattle.account.specs.Tariff.{tariffOf};
 ghost use Rattle.model.specs.Call.{batchOf, prepareOf};
 ghost use Rattle.prepare.specs.Prepared as Prepare;
 ghost use Rattle.batch.specs.Left.{Leaves};
-ghost use Rattle.wall_book.specs.Entry.{tariffOf, outcome};
-use account::Costs;
-use account::Tariff;
+ghost use Rattle.wall_book.specs.Entry.{outcome};
+use account::tariff_of;
 use batch::batch;
 use prepare::prepare;
 
@@ -26,19 +26,17 @@ pub extern "C" fn wall_book_prepare(
         (tariffOf «log_read» «log_edit» «log_rewrite» «disk_read» «disk_edit» «disk_rewrite» «to_disk»
         «to_log»)) r (now (pool .exit)) ⌝ }
 {
-    let log = Costs {
-        read: log_read,
-        edit: log_edit,
-        rewrite: log_rewrite,
-        enter: to_log,
-    };
-    let disk = Costs {
-        read: disk_read,
-        edit: disk_edit,
-        rewrite: disk_rewrite,
-        enter: to_disk,
-    };
-    prepare(pool, Tariff { log, disk })
+    let tariff = tariff_of(
+        log_read,
+        log_edit,
+        log_rewrite,
+        disk_read,
+        disk_edit,
+        disk_rewrite,
+        to_disk,
+        to_log,
+    );
+    prepare(pool, tariff)
 }
 
 // Runs a batch. The answer is 0, or the number of the refusal: then pool and answers are as they were, and length and charge are 0.

@@ -9,9 +9,11 @@ use lib.Dec.{eqb, leb}
 use lib.ListN.{length, getD, length-append}
 use lib.Seq.{take-at, getD-append-add}
 use borrow.Author.Tests.{eqb-true, leb-true, eq-eqb, ne-eqb, le-leb}
+use mathlib.Core.Logic.{_⊎_, inl, inr}
 use Rattle.laws.specs.Tests.{and-left, and-right}
 use Rattle.laws.specs.Lay.{lay, part, lay-lay, length-part, part-add, part-cons, part-append}
 use Rattle.laws.specs.BigEndian.{bigEndian, number, numberAt, number-bigEndian, Bytes, bigEndian-numberAt, bytes-part}
+use Rattle.laws.specs.Lists.{empty-or}
 use Rattle.wire.specs.Tag.{lengthOf, allowed}
 use Rattle.wire.specs.Field.{head, field, lengthAt, fieldAt, payloadOf, payloadAt, isPayload, standsAt}
 use Rattle.wire.specs.declared.field.Field.{Field}
@@ -135,6 +137,14 @@ stands-payload s at tag h = go (standsAt s at tag) refl
     go : (b : Bool) → standsAt s at tag ≡ b → Stands s at tag
     go true t = stands-is s at tag t
     go false t = absurd (omega (arith, ap length (payloadAt-none s at tag t)))
+
+-- No field of a tag stands where another byte does.
+pub payloadAt-absent : (s : List ℕ) (at tag : ℕ) → (getD s at 0 ≡ tag → ⊥) → payloadAt s at tag ≡ []
+payloadAt-absent s at tag h = go (empty-or (payloadAt s at tag))
+  where
+    go : (payloadAt s at tag ≡ []) ⊎ (1 ≤ length (payloadAt s at tag)) → payloadAt s at tag ≡ []
+    go (inl e) = e
+    go (inr l) = absurd (h (stands-payload s at tag l .tag-is))
 
 -- The length that stands there is the payload's.
 module _ (s : List ℕ) (at tag : ℕ) (h : Stands s at tag) where

@@ -3,7 +3,7 @@ ghost use mathlib.Core.Path.{_≡_};
 ghost use Prim.Native.Nat.{_+_, _≤_, _<_};
 ghost use lib.ListN.{length};
 ghost use Rattle.laws.specs.Lay.{lay};
-ghost use Rattle.wire.specs.Field.{head, field, Found, payloadAt, standsAt};
+ghost use Rattle.wire.specs.Field.{head, field, Found, payloadAt};
 use super::bytes::lay_bytes;
 use super::number::read16;
 use super::number::write16;
@@ -58,18 +58,6 @@ pub fn payload<'a>(s: &'a [u8], at: usize, tag: u8) -> &'a [u8]
         Field::Missing => &s[..0],
         Field::Foreign => &s[..0],
         Field::Overlong => &s[..0],
-    }
-}
-
-// Whether a field of a tag stands at a place.
-pub fn stands(s: &[u8], at: usize, tag: u8) -> bool
-    ensures { λ r. ⌜ r ≡ standsAt (now (s .entry)) at tag ⌝ }
-{
-    match field_at(s, at, tag) {
-        Field::Payload { start: _, end: _ } => true,
-        Field::Missing => false,
-        Field::Foreign => false,
-        Field::Overlong => false,
     }
 }
 

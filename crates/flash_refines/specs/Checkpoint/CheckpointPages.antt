@@ -12,6 +12,7 @@ use borrow.Author.Tests.{eqb-true, eq-eqb, ne-eqb, le-leb, lt-leb}
 use lib.Dec.{eqb}
 use lib.ListN.{take, drop}
 use Rattle.laws.specs.Order.{le-or}
+use Rattle.laws.specs.Tests.{test-same}
 use Rattle.layout.specs.Layout.{firstScores, otherScores}
 use Rattle.account.specs.declared.Tariff.{Tariff}
 use Rattle.page.specs.Page.{Score}
@@ -22,7 +23,6 @@ use Rattle.page_checkpoint.specs.Checkpoint.{onlyIf}
 use Rattle.flash_checkpoint.specs.Scores.{scoresOf}
 use Rattle.flash_checkpoint.specs.CheckpointPages.{scoresBefore, scoresOfPage, pageCount}
 use Rattle.flash_refines.specs.Store.Mirror.{rowAt}
-use Rattle.flash_refines.specs.Store.Live.{same-test}
 
 -- The scores that the rows hold are the given ones.
 pub scoresOf-is : (rows : List Row) (score : ℕ → ℕ) (nodes : ℕ) → ((n : ℕ) → n < nodes → rowAt rows n .score ≡ score n) → (i k : ℕ) → i + k ≤ nodes →
@@ -89,7 +89,7 @@ module _ (score : ℕ → ℕ) where
   count-last nodes (suc most) width i (suc m) l = ap (λ (b : Bool). onlyIf b nodes) (sym (ne-eqb (suc m) 0 (λ e. omega arith)))
 
 same-eqb : (a b c d : ℕ) → (a ≡ b → c ≡ d) → (c ≡ d → a ≡ b) → eqb a b ≡ eqb c d
-same-eqb a b c d f g = same-test (eqb a b) (eqb c d) (λ e. eq-eqb c d (f (eqb-true a b e))) (λ e. eq-eqb a b (g (eqb-true c d e)))
+same-eqb a b c d f g = test-same (eqb a b) (eqb c d) (λ e. eq-eqb c d (f (eqb-true a b e))) (λ e. eq-eqb a b (g (eqb-true c d e)))
 
 module _ (t : Tariff) (score : ℕ → ℕ) (nodes : ℕ) where
   abbrev scores : List Score

@@ -10,6 +10,7 @@ use borrow.Author.Tests.{eqb-true}
 use lib.ListN.{length, getElem?}
 use Rattle.laws.specs.Tests.{choose}
 use Rattle.laws.specs.Every.{Every, none, both, every-in}
+use Rattle.laws.specs.Options.{some-same}
 use Rattle.page.specs.Page.{Page, sequence}
 use Rattle.page.specs.Limits.{PageFits}
 use Rattle.store.specs.Pool.{Blocks, block, numbered, pageIn, orElse, find}
@@ -27,16 +28,13 @@ pub record In (b : List Page) (s : ℕ) (p : Page) : Type 0 where
 one-behind : {b : List Page} {s : ℕ} {p : Page} (x : Page) → In b s p → In (x ∷ b) s p
 one-behind x h = record { place = suc (h .place); inside = suc-le-suc (h .inside); here = h .here; stamp = h .stamp }
 
-pub same-page : {a b : Page} → some a ≡ some b → a ≡ b
-same-page e = cc
-
 pageIn-in : (s : ℕ) (b : List Page) (p : Page) → pageIn s b ≡ some p → In b s p
 pageIn-in s [] p e = absurd (let z : _≡_ {A = ℕ} 0 1 = cc in omega arith)
 pageIn-in s (x ∷ b) p e = go (numbered s x) refl e (λ q. pageIn-in s b p q)
   where
     go : (t : Bool) → numbered s x ≡ t → choose t (some x) (pageIn s b) ≡ some p → (pageIn s b ≡ some p → In b s p) → In (x ∷ b) s p
     go true q h r =
-        let same = same-page h in
+        let same = some-same h in
         record { place = 0; inside = omega arith; here = h; stamp = ap sequence (sym same) ∙ eqb-true (sequence x) s q }
     go false q h r = one-behind x (r h)
 
@@ -56,7 +54,7 @@ find-lies s (b ∷ bs) p e = go (pageIn s b) refl e (λ q. find-lies s bs p q)
 
 every-here : {P : Page → Type 0} {b : List Page} → Every P b → (q : ℕ) (p : Page) → getElem? b q ≡ some p → P p
 every-here none q p e = absurd (let z : _≡_ {A = ℕ} 0 1 = cc in omega arith)
-every-here (both h hs) zero p e = rw (same-page e) at h
+every-here (both h hs) zero p e = rw (some-same e) at h
 every-here (both h hs) (suc q) p e = every-here hs q p e
 
 module _ {bs : Blocks} {s : ℕ} {p : Page} (h : Lies bs s p) where

@@ -52,7 +52,7 @@ pieces-whole n v m s x e = rw e (go (eqb m n))
     go true = refl
     go false = refl
 
-pieces-entries : (n v : ℕ) (es : List Entry) → count (versionIs v) es ≡ 0 → piecesIn n v (map entryItem es) ≡ []
+pub pieces-entries : (n v : ℕ) (es : List Entry) → count (versionIs v) es ≡ 0 → piecesIn n v (map entryItem es) ≡ []
 pieces-entries n v [] e = refl
 pieces-entries n v (x ∷ es) e = go (eqb (x .id) n) (eqb (x .version) v) refl (pieces-entries n v es (omega arith))
   where

@@ -2,7 +2,7 @@
 -- appended. Assumes nothing.
 use mathlib.Core.Path.{_≡_, refl, sym, ap, ap₂, _∙_, subst}
 use mathlib.Core.Bool.{Bool, true, false}
-use mathlib.Core.List.{List, [], _∷_, _++_, map, append-nil, append-assoc}
+use mathlib.Core.List.{List, [], _∷_, _++_, map, append-nil, append-assoc, map-append}
 use mathlib.Core.Option.{some}
 use Prim.Native.Nat.{ℕ, zero, suc, _+_, _*_, _≤_, _<_}
 use native.Mathlib.Nat.{zero-add, add-zero}
@@ -24,7 +24,6 @@ use Rattle.page.specs.Spelled.{length-entryBytes, entryOf-bytes}
 use Rattle.page_write.specs.Chunks.{chunks}
 use Rattle.page_write.specs.Pages.{logBody, logImage}
 use Rattle.store.specs.Item.{entries}
-use Rattle.store_laws.specs.ItemLaws.{map-append}
 use Rattle.flash_allocate.specs.declared.state.State.{State}
 use Rattle.flash_log.specs.Entry.{entryOf, entered, append, appendAll}
 use Rattle.flash_log.specs.Claim.{idAt, versionAt}

@@ -3,7 +3,7 @@
 use mathlib.Core.Path.{_≡_, refl, sym, ap, _∙_}
 use mathlib.Core.Option.{none}
 use mathlib.Core.List.{List, [], _∷_, _++_, map}
-use Prim.Native.Nat.{ℕ, zero, suc, _+_, _*_, _/_, _%_, _≤_, _<_}
+use Prim.Native.Nat.{ℕ, zero, suc, _+_, _*_, _/_, _%_, _<_}
 use native.Mathlib.Nat.{not-suc-le-zero, le-of-suc-le-suc}
 use native.Mathlib.Omega.{arith}
 use lib.ListN.{length, getD, getElem?, length-map, List·getD-map, List·getD-append}
@@ -41,18 +41,7 @@ module _ (image : Page → List ℕ) (bs : Blocks) where
   image-at : (n : ℕ) → getD (map (imageAt image) (cells 32 bs)) n blankPage ≡ imageAt image (getD (cells 32 bs) n none)
   image-at n = List·getD-map (imageAt image) (cells 32 bs) n none
 
-  -- the cells' images are pages that stand for the blocks
-  pub images-are : ((i : ℕ) → length (block bs i) ≤ 32) → PagesAre (length bs) image (map (imageAt image) (cells 32 bs)) bs
-  unfolding pageAt
-  images-are most =
-      record {
-        size = refl;
-        long = length-map (cells 32 bs) (imageAt image) ∙ omega (arith, length-cells 32 bs);
-        most = most;
-        each = λ i q li lq. image-at (32 * i + q) ∙ ap (imageAt image) (cell-at bs i q li lq);
-      }
-
-  -- and such pages are the cells' images
+  -- pages that stand for the blocks are the cells' images
   pub are-images : {B : ℕ} {ps : List (List ℕ)} → PagesAre B image ps bs → ps ≡ map (imageAt image) (cells 32 bs)
   unfolding pageAt
   are-images {B} {ps} r =

@@ -1,18 +1,19 @@
 -- The copies of a block's live pages: page by page the pages stay images of the model's, and the places noted are where the copies are: the
 -- page at place q goes behind as many as are live before it. Assumes nothing.
 use mathlib.Core.Path.{_≡_, refl, sym, ap, _∙_, subst}
-use mathlib.Core.Bool.{Bool, true, false, not}
+use mathlib.Core.Bool.{Bool, true, false}
 use mathlib.Core.Logic.{_⊎_, inl, inr}
 use mathlib.Core.Option.{Option, none, some}
 use mathlib.Core.List.{List, [], _∷_, _++_, append-nil}
 use Prim.Native.Nat.{ℕ, zero, suc, _+_, _*_, _≤_, _<_}
-use native.Mathlib.Numerals.{add-one}
+use native.Mathlib.Numerals.{add-one, lt-of-le-of-ne}
 use native.Mathlib.Omega.{arith}
 use lib.Dec.{eqb}
 use lib.ListN.{length, getD, set, take, getElem?, replicate, length-set, length-take, length-replicate}
 use lib.Seq.{getD-set-same, getD-set-other, set-set, set-getD, take-all}
+use borrow.Author.Tests.{not-true, not-false}
 use Rattle.laws.specs.Tests.{choose, test-clash}
-use Rattle.laws.specs.Order.{eq-or, le-or}
+use Rattle.laws.specs.Order.{eq-or}
 use Rattle.laws.specs.Counts.{bit, count, count-append, count-le-length, consIf, filter, length-filter}
 use Rattle.laws.specs.Loops.{steps-keep}
 use Rattle.page.specs.Page.{Page}
@@ -86,18 +87,10 @@ module _ (f : Page → Bool) where
       go (x ∷ b) (suc q) h = ap (λ (l : List Page). x ∷ l) (go b q h)
 
 unmarked : (x : ℕ) → marked x ≡ false → eqb x 0 ≡ true
-unmarked x e = go (eqb x 0) e
-  where
-    go : (t : Bool) → not t ≡ false → t ≡ true
-    go true h = refl
-    go false h = cc
+unmarked x e = not-false (eqb x 0) e
 
 is-marked : (x : ℕ) → marked x ≡ true → eqb x 0 ≡ false
-is-marked x e = go (eqb x 0) e
-  where
-    go : (t : Bool) → not t ≡ true → t ≡ false
-    go true h = cc
-    go false h = refl
+is-marked x e = not-true (eqb x 0) e
 
 module _ {B : ℕ} {image : Page → List ℕ} (live : Page → Bool) {ps : List (List ℕ)} {bs : Blocks} {i j : ℕ} (v : Moves bs i j) (r : PagesAre B image ps bs)
     (m : List ℕ) (mark : (q : ℕ) → q < 32 → marked (getD m (32 * i + q) 0) ≡ test live (getElem? (block bs i) q)) where
@@ -128,11 +121,7 @@ module _ {B : ℕ} {image : Page → List ℕ} (live : Page → Bool) {ps : List
       go : (q : ℕ) → q < k + 1 → (p : Page) → getElem? (block bs i) q ≡ some p → live p ≡ true → (q ≡ k) ⊎ (q ≡ k → ⊥) → getD (w .places) q 0 ≡ 32 *
           j + rank live q (block bs i)
       go q l p e t (inl d) = absurd (dead p (rw d at e) t)
-      go q l p e t (inr d) = h .places q (below (le-or k q)) p e t
-        where
-          below : (k ≤ q) ⊎ (q < k) → q < k
-          below (inl g) = absurd (d (omega arith))
-          below (inr g) = g
+      go q l p e t (inr d) = h .places q (lt-of-le-of-ne (omega arith) d) p e t
 
   -- a live page
   copied-moves : (k : ℕ) (w : Copying) → k < 32 → (p : Page) → getElem? (block bs i) k ≡ some p → live p ≡ true → Copied k w → Copied (k + 1)
@@ -174,11 +163,7 @@ module _ {B : ℕ} {image : Page → List ℕ} (live : Page → Bool) {ps : List
           getD (set (w .places) k (32 * j + w .fill)) q 0 ≡ 32 * j + rank live q (block bs i)
       place q g p′ e′ t′ (inl d) =
           rw d (getD-set-same (w .places) k (32 * j + w .fill) 0 (omega (arith, h .long)) ∙ omega (arith, h .fill))
-      place q g p′ e′ t′ (inr d) = getD-set-other (w .places) k q (32 * j + w .fill) 0 d ∙ h .places q (below (le-or k q)) p′ e′ t′
-        where
-          below : (k ≤ q) ⊎ (q < k) → q < k
-          below (inl x) = absurd (d (omega arith))
-          below (inr x) = x
+      place q g p′ e′ t′ (inr d) = getD-set-other (w .places) k q (32 * j + w .fill) 0 d ∙ h .places q (lt-of-le-of-ne (omega arith) d) p′ e′ t′
 
   copied-more : (k : ℕ) (w : Copying) → k < 32 → Copied k w → Copied (k + 1) (copyLive m (32 * i) (32 * j) k w)
   unfolding copyLive

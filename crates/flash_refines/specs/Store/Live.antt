@@ -12,7 +12,7 @@ use borrow.Author.Tests.{eq-eqb, ne-eqb, ltb-false}
 use lib.Dec.{eqb, ltb}
 use lib.ListN.{length, getD, set, getElem?, replicate, length-set, length-replicate, getD-replicate}
 use lib.Seq.{getD-set-same, getD-set-other}
-use Rattle.laws.specs.Tests.{choose}
+use Rattle.laws.specs.Tests.{choose, test-same}
 use Rattle.laws.specs.Order.{eq-or}
 use Rattle.laws.specs.Counts.{bit, count}
 use Rattle.laws.specs.Loops.{steps-keep, sumFrom}
@@ -22,12 +22,6 @@ use Rattle.flash_rows.specs.Step.{holds, names}
 use Rattle.flash_rows.specs.declared.Row.{Row}
 use Rattle.flash_live.specs.Live.{markSlot, markRow, markNth, liveMap, marked, liveBit, liveIn}
 use Rattle.flash_refines.specs.Store.Mirror.{rowAt, test, RowsName}
-
--- Two tests that pass together are one.
-pub same-test : (a b : Bool) → (a ≡ true → b ≡ true) → (b ≡ true → a ≡ true) → a ≡ b
-same-test true b f g = sym (f refl)
-same-test false true f g = g refl
-same-test false false f g = refl
 
 -- One of the first k rows names the page.
 abbrev pub anyNames : ℕ → ℕ → List Row → Bool
@@ -136,7 +130,7 @@ module _ {B rowsUsed : ℕ} {own : ℕ → Page → Bool} {rows : List Row} {bs 
     (small : B ≤ 64) (named : RowsName B rowsUsed own rows bs) (o : Owned live own rowsUsed bs) where
   -- the map says of a place what the model says of the page there
   pub mark-live : (i q : ℕ) → i < B → q < 32 → marked (getD (liveMap rowsUsed rows) (32 * i + q) 0) ≡ test live (getElem? (block bs i) q)
-  mark-live i q li lq = map-names rowsUsed rows (32 * i + q) (omega arith) ∙ same-test (anyNames rowsUsed (32 * i + q) rows)
+  mark-live i q li lq = map-names rowsUsed rows (32 * i + q) (omega arith) ∙ test-same (anyNames rowsUsed (32 * i + q) rows)
       (test live (getElem? (block bs i) q)) to (from (getElem? (block bs i) q) refl)
     where
       raise : (n : ℕ) → n < rowsUsed → (c : Option Page) → test (own n) c ≡ true → test live c ≡ true

@@ -9,7 +9,8 @@ use Prim.Native.Nat.{ℕ, zero, suc, _+_, _-_, _*_, _≤_, _<_}
 use native.Mathlib.Omega.{arith}
 use borrow.Author.Tests.{lt-ltb, le-ltb}
 use lib.ListN.{length, getD, set, take, getElem?, replicate, length-take}
-use Rattle.laws.specs.Tests.{test-clash}
+use native.Mathlib.Numerals.{lt-of-le-of-ne}
+use Rattle.laws.specs.Tests.{test-clash, test-same}
 use Rattle.laws.specs.Order.{eq-or, le-or}
 use Rattle.laws.specs.Counts.{count, count-le-length, filter, length-filter}
 use Rattle.page.specs.Page.{Page}
@@ -23,7 +24,7 @@ use Rattle.flash_allocate.specs.Compact.{Copying, copying, copyBlock, renameRow
 use Rattle.flash_refines.specs.Store.Mirror.{rowAt, test, PagesAre, RowsName}
 use Rattle.flash_refines.specs.Store.Pages.{place-apart, pages-erased}
 use Rattle.flash_refines.specs.Store.Names.{mapped, names-mapped, names-unmapped, length-renameRows, rowAt-renameRows}
-use Rattle.flash_refines.specs.Store.Live.{same-test, Owned}
+use Rattle.flash_refines.specs.Store.Live.{Owned}
 use Rattle.flash_refines.specs.Store.Copies.{rank, filter-rank, rank-filter, Copied, copied-all, take-block}
 
 -- Places inside and outside of the block that moved.
@@ -133,11 +134,7 @@ module _ {B rowsUsed : ℕ} {own : ℕ → Page → Bool} {rows : List Row} {bs 
           where
             side : (i ≤ a) ⊎ (a < i) → (32 * a + r < 32 * i) ⊎ (32 * i + 32 ≤ 32 * a + r)
             side (inr h) = inl (omega arith)
-            side (inl h) = inr (above (le-or a i))
-              where
-                above : (a ≤ i) ⊎ (i < a) → 32 * i + 32 ≤ 32 * a + r
-                above (inl g) = absurd (ai (omega arith))
-                above (inr g) = omega arith
+            side (inl h) = inr (omega (arith, lt-of-le-of-ne h (λ z. ai (sym z))))
 
   pub rows-compacted : RowsName B rowsUsed own (renameRows rowsUsed (32 * i) places rows) (Model.compact live bs i j)
   rows-compacted =
@@ -145,7 +142,7 @@ module _ {B rowsUsed : ℕ} {own : ℕ → Page → Bool} {rows : List Row} {bs 
         long = rw (length-renameRows (32 * i) places rows rowsUsed) (named .long);
         each = λ n a r ln la lr.
             ap (names (32 * a + r)) (rowAt-renameRows (32 * i) places rows rowsUsed n ln (named .long)) ∙
-            same-test _ _ (names-own n a r ln la lr) (own-named n a r ln la lr);
+            test-same _ _ (names-own n a r ln la lr) (own-named n a r ln la lr);
       }
 
 -- The whole compaction.

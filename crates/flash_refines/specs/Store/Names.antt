@@ -9,8 +9,9 @@ use borrow.Author.Tests.{eqb-true, eq-eqb}
 use lib.Dec.{eqb, ltb}
 use lib.ListN.{length, set, length-set}
 use lib.Seq.{getD-set-same, getD-set-other}
+use native.Mathlib.Numerals.{lt-of-le-of-ne}
 use Rattle.laws.specs.Tests.{and-left, and-right, and-both}
-use Rattle.laws.specs.Order.{eq-or, le-or}
+use Rattle.laws.specs.Order.{eq-or}
 use Rattle.laws.specs.Loops.{steps-keep}
 use Rattle.flash_rows.specs.Row.{noRow}
 use Rattle.flash_rows.specs.Step.{holds, names, newPlace, moved}
@@ -142,11 +143,7 @@ module _ (base : ℕ) (places : List ℕ) (rows : List Row) where
 
       done : (n : ℕ) → n < k + 1 → n < length rows → (n ≡ k) ⊎ (n ≡ k → ⊥) → rowAt (set now k new) n ≡ moved base places (rowAt rows n)
       done n l m (inl e) = rw e (getD-set-same now k new noRow (omega (arith, h .long)) ∙ ap (moved base places) (h .left k (omega arith)))
-      done n l m (inr e) = getD-set-other now k n new noRow e ∙ h .done n (below (le-or k n)) m
-        where
-          below : (k ≤ n) ⊎ (n < k) → n < k
-          below (inl g) = absurd (e (omega arith))
-          below (inr g) = g
+      done n l m (inr e) = getD-set-other now k n new noRow e ∙ h .done n (lt-of-le-of-ne (omega arith) e) m
 
   all-renamed : (used : ℕ) → Renamed base places rows used (renameRows used base places rows)
   unfolding renameRows

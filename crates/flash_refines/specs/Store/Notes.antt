@@ -6,7 +6,7 @@ use native.Mathlib.Omega.{arith}
 use lib.Dec.{eqb}
 use Rattle.laws.specs.Tests.{choose}
 use Rattle.account.specs.declared.Mode.{Mode}
-use Rattle.flash_rows.specs.Step.{holds, names, noted, fresh, scored}
+use Rattle.flash_rows.specs.Step.{holds, names, noted, fresh}
 use Rattle.flash_rows.specs.declared.Row.{Row}
 use Rattle.flash_rows.specs.declared.Claim.{Claim}
 use Rattle.flash_rows.specs.declared.Claim.the-variants.{Same, Noted}
@@ -56,11 +56,6 @@ module _ (r : Row) where
   pub names-fresh : (version : ℕ) (mode : Mode) (x : ℕ) → names x (fresh version mode r) ≡ false
   unfolding names fresh holds
   names-fresh version mode x = refl
-
-  -- the same pages
-  pub names-scored : (score x : ℕ) → names x (scored score r) ≡ names x r
-  unfolding names scored
-  names-scored score x = refl
 
 -- The row after a claim.
 abbrev pub after : Claim → Row → Row

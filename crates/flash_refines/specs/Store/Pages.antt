@@ -9,6 +9,7 @@ use native.Mathlib.Nat.{add-zero}
 use native.Mathlib.Omega.{arith}
 use lib.ListN.{length, getD, set, getElem?, length-set, length-append}
 use lib.Seq.{getD-set-same, getD-set-other}
+use native.Mathlib.Numerals.{lt-of-le-of-ne}
 use Rattle.laws.specs.Order.{eq-or, le-or}
 use Rattle.laws.specs.Counts.{empty}
 use Rattle.laws.specs.Chunks.{length-setRun, get-setRun-inside, get-setRun-outside}
@@ -106,11 +107,7 @@ module _ {B : ℕ} {image : Page → List ℕ} {ps : List (List ℕ)} {bs : Bloc
 
         side : (i q : ℕ) → q < 32 → (i ≡ j → ⊥) → (i ≤ j) ⊎ (j < i) → (32 * i + q < 32 * j) ⊎ (32 * j + 32 ≤ 32 * i + q)
         side i q lq e (inr h) = inr (omega arith)
-        side i q lq e (inl h) = inl (below (le-or j i))
-          where
-            below : (j ≤ i) ⊎ (i < j) → 32 * i + q < 32 * j
-            below (inl g) = absurd (e (omega arith))
-            below (inr g) = omega arith
+        side i q lq e (inl h) = inl (omega (arith, lt-of-le-of-ne h e))
 
         each : (i q : ℕ) → i < B → q < 32 → (i ≡ j) ⊎ (i ≡ j → ⊥) → getD (erased j ps) (32 * i + q) blankPage ≡ imageAt image
             (getElem? (block (set bs j []) i) q)

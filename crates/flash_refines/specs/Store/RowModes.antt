@@ -17,18 +17,14 @@ use Rattle.store_laws.specs.PoolLaws.{find-none}
 use Rattle.store_laws.specs.BlockRules.{how-tally}
 use Rattle.store_laws.specs.Placing.{Invariant, found-how, found-same, place-tally}
 use Rattle.store_laws.specs.Compaction.{found-unmoved}
-use Rattle.store_laws.specs.Versions.{InMode, mode-is, place-mode, same-mode}
+use Rattle.store_laws.specs.Versions.{mode-is, place-mode, same-mode}
 use Rattle.flash_refines.specs.Store.Mirror.{RowMode}
 
--- The store says the row's mode; and a node that is in a mode has a row of that mode.
+-- The store says the row's mode.
 pub rowMode-is : (m : Mode) (st : Store) (n : ℕ) → RowMode m st n → modeOf st n ≡ m
 unfolding modeOf
 rowMode-is Log st n h = ap modeAt (find-none (greatest (view st) n) (st .blocks) h)
 rowMode-is Disk st n h = mode-is Disk st n h
-
-pub inMode-row : (m : Mode) (st : Store) (n : ℕ) → InMode m st n → RowMode m st n
-inMode-row Log st n h = h .none
-inMode-row Disk st n h = h
 
 -- Version and blocks stay: so does the mode.
 pub same-rowMode : (m : Mode) (a b : Store) (n : ℕ) → greatest (view b) n ≡ greatest (view a) n → b .blocks ≡ a .blocks → RowMode m a n → RowMode m b n

@@ -5,7 +5,7 @@ use mathlib.Core.Bool.{Bool, true, false, not, _&&_, _||_, or-true, or-false}
 use mathlib.Core.Logic.{_⊎_, inl, inr}
 use mathlib.Core.Option.{some}
 use mathlib.Core.List.{List, [], _∷_, map}
-use Prim.Native.Nat.{ℕ, suc, _+_, _≤_, _<_}
+use Prim.Native.Nat.{ℕ, suc, _+_, _<_}
 use native.Mathlib.Nat.{zero-add, add-zero}
 use native.Mathlib.Omega.{arith}
 use borrow.Author.Tests.{lt-ltb, ltb-true, eqb-true, eqb-false, eq-eqb, ne-eqb}
@@ -133,11 +133,6 @@ module _ (nodes page : ℕ) where
   length-all [] rows = refl
   length-all (e ∷ es) rows = length-all es (claimOne nodes page e rows) ∙ length-one e rows
 
-  -- a row behind those of the nodes
-  all-beyond : (es : List Entry) (rows : List Row) (m : ℕ) → nodes ≤ m → rowAt (claimAll nodes page es rows) m ≡ rowAt rows m
-  all-beyond [] rows m l = refl
-  all-beyond (e ∷ es) rows m l = all-beyond es (claimOne nodes page e rows) m l ∙ one-other e rows m (λ h z. omega arith)
-
   module _ (m : ℕ) (there : m < nodes) where
     one-own : (e : Entry) (rows : List Row) → e .id ≡ m → m < length rows →
         rowAt (claimOne nodes page e rows) m ≡ after (claim (e .version) page (rowAt rows m)) (rowAt rows m)
@@ -218,12 +213,9 @@ module _ {s : State} {es : List Entry} (b : BufferIs s es) {n : ℕ} (l : n < bo
           behind : (k : ℕ) → i + 1 + k ≡ i + suc k
           behind k = omega arith
 
-  -- As many rows, and those behind the nodes' rows are as they were.
+  -- As many rows.
   pub length-claimed : length (claimEntries (s .buffer) nodes page (s .entries) rows) ≡ length rows
   length-claimed = ap length entries-claim ∙ length-all nodes page es rows
-
-  pub claimed-beyond : (m : ℕ) → nodes ≤ m → rowAt (claimEntries (s .buffer) nodes page (s .entries) rows) m ≡ rowAt rows m
-  claimed-beyond m h = ap (λ (t : List Row). rowAt t m) entries-claim ∙ all-beyond nodes page es rows m h
 
   -- THE ROW OF A NODE that does not name the page yet, and has a slot for it where entries concern it
   pub claimed-row : (m : ℕ) → m < nodes → m < length rows → names page (rowAt rows m) ≡ false →

@@ -2,11 +2,11 @@
 use mathlib.Core.Path.{_≡_, refl, sym, ap, _∙_, subst}
 use mathlib.Core.Bool.{Bool, true, false, not, and-true, and-false, or-false}
 use mathlib.Core.Logic.{_⊎_, inl, inr}
-use mathlib.Core.List.{List, [], _∷_, map}
+use mathlib.Core.List.{List, [], map}
 use Prim.Native.Nat.{ℕ, suc, _+_, _*_, _≤_, _<_}
 use native.Mathlib.Omega.{arith}
 use borrow.Author.Tests.{le-leb, lt-leb, le-ltb, lt-ltb, eq-eqb, ne-eqb}
-use lib.Dec.{eqb, leb, ltb}
+use lib.Dec.{leb, ltb}
 use lib.ListN.{length, getElem?, set}
 use Rattle.laws.specs.Tests.{choose}
 use Rattle.laws.specs.Order.{eq-or, le-or}
@@ -15,7 +15,7 @@ use Rattle.layout.specs.Layout.{bound32, mostEntries}
 use Rattle.account.specs.declared.Mode.{Mode}
 use Rattle.account.specs.declared.Mode.the-variants.{Log, Disk}
 use Rattle.node.specs.Replay.{Piece}
-use Rattle.page.specs.Page.{Entry, Page, log}
+use Rattle.page.specs.Page.{Page, log}
 use Rattle.page.specs.Image.{image}
 use Rattle.store.specs.Item.{entryItem, piecesIn}
 use Rattle.store.specs.View.{greatest, pieces, buffered, some?}
@@ -50,20 +50,12 @@ use Rattle.flash_refines.specs.Store.Placed.{nextNumber-is, place-found,
 use Rattle.flash_refines.specs.Store.Buffer.{buffer-same, image-log}
 use Rattle.flash_refines.specs.Write.Claims.{concern, Claimed, length-claimed, claimed-row}
 use Rattle.flash_allocate.specs.State.{nextSequence, advanced, withoutEntries}
-
--- No entry of a version: nothing of any node under it.
-unsaid-pieces : (n version : ℕ) (es : List Entry) → count (versionIs version) es ≡ 0 → piecesIn n version (map entryItem es) ≡ []
-unsaid-pieces n version [] e = refl
-unsaid-pieces n version (x ∷ es) e = go (eqb (x .version) version) refl (unsaid-pieces n version es (omega arith))
-  where
-    go : (t : Bool) → eqb (x .version) version ≡ t → piecesIn n version (map entryItem es) ≡ [] → piecesIn n version (map entryItem (x ∷ es)) ≡ []
-    go true d rest = absurd (omega (arith, ap bit d))
-    go false d rest = rw (d, and-false (eqb (x .id) n)) rest
+use Rattle.flash_refines.specs.Read.NodePieces.{pieces-entries}
 
 -- A node in disk mode has nothing of its version in the buffer: its version is a page's number.
 pub disk-waits : {st : Store} → VersionRules st → (n : ℕ) → OnPage st n → buffered (view st) n ≡ []
 unfolding buffered said
-disk-waits {st} rules n h = unsaid-pieces n (greatest (view st) n) (st .buffer) (none-said (eq-or (count (versionIs (greatest (view st) n)) (st .buffer)) 0))
+disk-waits {st} rules n h = pieces-entries n (greatest (view st) n) (st .buffer) (none-said (eq-or (count (versionIs (greatest (view st) n)) (st .buffer)) 0))
   where
     said-count : ℕ
     said-count = count (versionIs (greatest (view st) n)) (st .buffer)

@@ -10,8 +10,9 @@ use native.Mathlib.Nat.{add-zero, add-suc}
 use native.Mathlib.Omega.{arith}
 use lib.Dec.{eqb, ltb}
 use borrow.Author.Tests.{lt-ltb, le-ltb, ne-eqb}
+use native.Mathlib.Numerals.{lt-of-le-of-ne}
 use Rattle.laws.specs.Tests.{choose}
-use Rattle.laws.specs.Order.{eq-or, le-or}
+use Rattle.laws.specs.Order.{eq-or}
 use Rattle.laws.specs.Counts.{bit}
 use Rattle.laws.specs.Update.{sumBelow}
 use Rattle.page.specs.Page.{Page, page, log, whole, checkpoint}
@@ -129,11 +130,7 @@ module _ (at : ℕ → Option Page) where
           ((j : ℕ) → suc (r .below) < j → j ≤ suc (r .below + r .length) → t (at j) ≡ false) →
           (j : ℕ) → suc (r .below) < j → j ≤ suc s → (j ≡ suc s) ⊎ (j ≡ suc s → ⊥) → t (at j) ≡ false
       either t g h j a c (inl z) = rw z g
-      either t g h j a c (inr z) = h j a (below (le-or j s))
-        where
-          below : (j ≤ s) ⊎ (s < j) → j ≤ suc (r .below + r .length)
-          below (inl l) = omega (arith, r .end)
-          below (inr l) = absurd (z (omega arith))
+      either t g h j a c (inr z) = h j a (omega (arith, lt-of-le-of-ne c z, r .end))
 
   pub collected : (n : ℕ) (later : List CheckpointPage) → (collect at n later ≡ []) ⊎ Reached n
   unfolding collect

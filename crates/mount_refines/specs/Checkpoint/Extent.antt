@@ -10,21 +10,23 @@ use native.Mathlib.Omega.{arith}
 use lib.Dec.{ltb}
 use lib.ListN.{getD}
 use borrow.Author.Tests.{ltb-true, ltb-false}
+use native.Mathlib.Numerals.{lt-of-le-of-ne}
 use Rattle.laws.specs.Tests.{choose, and-left, and-right, test-clash}
 use Rattle.laws.specs.Order.{eq-or, le-or}
 use Rattle.laws.specs.Loops.{steps-keep}
 use Rattle.page.specs.Page.{Page, sequence}
 use Rattle.wire.specs.Field.{payloadAt}
 use Rattle.page.specs.Limits.{given}
-use Rattle.page_read.specs.Steps.{given-read}
 use Rattle.store.specs.Pool.{pageIn}
 use Rattle.store.specs.Reopen.{Cells, greatestOf}
 use Rattle.flash_blocks.specs.Pages.{pagesOf, pageAt}
+use Rattle.page.specs.Exact.{found-given}
+use Rattle.store_laws.specs.WrittenPages.{pagesIn}
 use Rattle.mount_checkpoint_pages.specs.CheckpointPage.{hasTariff}
 use Rattle.mount_checkpoint_pages.specs.Extent.{extended, noExtent, extentOf}
 use Rattle.mount_checkpoint_pages.specs.declared.extent.Extent.{Extent}
 use Rattle.mount_refines.specs.Checkpoint.Header.{numberIn, Header}
-use Rattle.mount_refines.specs.Checkpoint.Written.{pagesIn, numberIn-le, greatestOf-le, pageIn-number, pageIn-place, place-pageIn}
+use Rattle.mount_refines.specs.Checkpoint.Written.{numberIn-le, greatestOf-le, pageIn-number, pageIn-place, place-pageIn}
 use Rattle.mount_refines.specs.Checkpoint.Collect.{opens}
 use Rattle.mount_refines.specs.Checkpoint.Pool.{Judged, length-cells, headers, once}
 
@@ -38,7 +40,7 @@ extended-is : (q : ℕ) (b : List ℕ) (x : Option Page) (e : Extent) → Header
 unfolding extended hasTariff
 extended-is q b x e h =
     ap (λ (n : ℕ). later (hasTariff b && ltb (e .since) n) q n e) (h .seq) ∙
-    ap (λ (t : Bool). later (t && ltb (e .since) (numberIn x)) q (numberIn x) e) (given-read (payloadAt b 7 0x13) ∙ ap given (h .tariff))
+    ap (λ (t : Bool). later (t && ltb (e .since) (numberIn x)) q (numberIn x) e) (found-given (payloadAt b 7 0x13) ∙ ap given (h .tariff))
 
 module _ (c : Cells) where
   -- What was seen of the first i cells.
@@ -57,11 +59,7 @@ module _ (c : Cells) where
     x = getD c i none
 
     below : (q : ℕ) → q < i + 1 → (q ≡ i → ⊥) → q < i
-    below q l d = go (le-or i q)
-      where
-        go : (i ≤ q) ⊎ (q < i) → q < i
-        go (inl g) = absurd (d (omega arith))
-        go (inr g) = g
+    below q l d = lt-of-le-of-ne (omega arith) d
 
     top-next : (q : ℕ) → q < i + 1 → (q ≡ i) ⊎ (q ≡ i → ⊥) → numberIn (getD c q none) ≤ max (e .newest) (numberIn x)
     top-next q l (inl z) = rw z (omega arith)

@@ -37,6 +37,7 @@ use Rattle.store.specs.Checkpoint.{
 }
 use Rattle.store.specs.Reopen.{Cells, greatestOf, reopened}
 use Rattle.flash_blocks.specs.Pages.{pagesOf, pageAt}
+use Rattle.store_laws.specs.WrittenPages.{pagesIn}
 use Rattle.mount_checkpoint_pages.specs.CheckpointPage.{numberOf, scoresFrom, scoresOn}
 use Rattle.mount_checkpoint_pages.specs.Extent.{extentOf}
 use Rattle.mount_checkpoint_pages.specs.Totals.{totalsOf}
@@ -47,7 +48,7 @@ use Rattle.mount_checkpoint.specs.Find.{tariffAt, addsUp, foundBy, totalsIn, ch
 use Rattle.mount_checkpoint.specs.declared.find.Checkpoint.{Checkpoint}
 use Rattle.mount_checkpoint.specs.declared.find.Checkpoint.the-variants.{Complete, Incomplete}
 use Rattle.mount_refines.specs.Checkpoint.Header.{numberIn, checkpointPageIn}
-use Rattle.mount_refines.specs.Checkpoint.Written.{pagesIn, numberIn-le}
+use Rattle.mount_refines.specs.Checkpoint.Written.{numberIn-le}
 use Rattle.mount_refines.specs.Checkpoint.Collect.{opens, Reach, gathered, collect-gathered, tariff-gathered, Reached, collected}
 use Rattle.mount_refines.specs.Checkpoint.Pool.{Judged, length-cells, headers, last-is, find-is, own-number}
 use Rattle.mount_refines.specs.Checkpoint.Extent.{newest-is, first-place, first-opens, opens-below}

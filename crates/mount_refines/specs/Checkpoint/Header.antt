@@ -12,9 +12,10 @@ use lib.ListN.{length, getD}
 use borrow.Author.Tests.{eqb-true, eqb-false, eq-eqb, ne-eqb, leb-true, leb-false}
 use Rattle.laws.specs.Tests.{choose, and-left, and-right, test-clash}
 use Rattle.laws.specs.BigEndian.{number}
+use Rattle.laws.specs.Options.{some-same}
 use Rattle.layout.specs.Layout.{pageBytes}
 use Rattle.wire.specs.Field.{payloadAt}
-use Rattle.wire.specs.FieldLaws.{stands-payload}
+use Rattle.wire.specs.FieldLaws.{payloadAt-absent}
 use Rattle.page.specs.Page.{Score, Page, page, log, whole, checkpoint, sequence}
 use Rattle.page.specs.Decode.{
   Decoded,
@@ -54,6 +55,7 @@ use Rattle.page.specs.Cases.{
   when-passed,
 }
 use Rattle.page.specs.Runs.{run-stops}
+use Rattle.page.specs.Exact.{written-bad}
 use Rattle.store.specs.Checkpoint.{CheckpointPage, checkpointPage}
 use Rattle.model.specs.Bytes.{cellFrom}
 use Rattle.mount_checkpoint_pages.specs.CheckpointPage.{numberOf, scoresFrom, scoresOn, countPart}
@@ -93,19 +95,6 @@ pub record Header (b : List ℕ) (x : Option Page) : Type 0 where
   pub count : readIf number (countPart b) ≡ checkpointPageIn x .count
   pub kind : foreignTag b ≡ foreign x
 
--- ---- no field where another tag stands
-
-payload-some : (p : List ℕ) → (p ≡ []) ⊎ (1 ≤ length p)
-payload-some [] = inl refl
-payload-some (x ∷ p) = inr (omega arith)
-
-not-there : (b : List ℕ) (at tag : ℕ) → (getD b at 0 ≡ tag → ⊥) → payloadAt b at tag ≡ []
-not-there b at tag h = go (payload-some (payloadAt b at tag))
-  where
-    go : (payloadAt b at tag ≡ []) ⊎ (1 ≤ length (payloadAt b at tag)) → payloadAt b at tag ≡ []
-    go (inl e) = e
-    go (inr l) = absurd (h (stands-payload b at tag l .tag-is))
-
 -- a byte of blank bytes, or none
 blank-byte : (b : List ℕ) → allBlank b ≡ true → (i : ℕ) → (getD b i 0 ≡ 255) ⊎ (getD b i 0 ≡ 0)
 unfolding allBlank
@@ -123,7 +112,7 @@ blank-not b e i tag l h q = go (blank-byte b e i)
 -- Nothing of a checkpoint stands on a page whose content has another tag.
 module _ (b : List ℕ) (no13 : getD b 7 0 ≡ 0x13 → ⊥) (no14 : getD b 7 0 ≡ 0x14 → ⊥) (no15 : getD b 7 0 ≡ 0x15 → ⊥) where
   no-tariff : payloadAt b 7 0x13 ≡ []
-  no-tariff = not-there b 7 0x13 no13
+  no-tariff = payloadAt-absent b 7 0x13 no13
 
   from-seven : scoresFrom b ≡ 7
   unfolding scoresFrom
@@ -134,13 +123,13 @@ module _ (b : List ℕ) (no13 : getD b 7 0 ≡ 0x13 → ⊥) (no14 : getD b 7 0 
   no-scores =
       ap (λ (k : ℕ). run scoreOk 0x14 9 (mostScores (found (payloadAt b 7 0x13))) b k) from-seven ∙
       ap (λ (p : List ℕ). run scoreOk 0x14 9 (mostScores (found p)) b 7) no-tariff ∙
-      run-stops scoreOk 0x14 9 53 b 7 (ap scoreOk (not-there b 7 0x14 no14))
+      run-stops scoreOk 0x14 9 53 b 7 (ap scoreOk (payloadAt-absent b 7 0x14 no14))
 
   no-count : countPart b ≡ []
   unfolding countPart
   no-count =
       let e : scoresFrom b + 9 * scoresOn b ≡ 7 = omega (arith, from-seven, no-scores) in
-      ap (λ (k : ℕ). payloadAt b k 0x15) e ∙ not-there b 7 0x15 no15
+      ap (λ (k : ℕ). payloadAt b k 0x15) e ∙ payloadAt-absent b 7 0x15 no15
 
   read-nothing : scoresRead b ≡ []
   unfolding scoresRead payloads
@@ -160,9 +149,6 @@ module _ (b : List ℕ) (no13 : getD b 7 0 ≡ 0x13 → ⊥) (no14 : getD b 7 0 
 
 page-parts : (p q : Page) (b : List ℕ) → p ≡ q → Header b (some p) → Header b (some q)
 page-parts p q b e h = subst (λ (x : Page). Header b (some x)) e h
-
-never : {A : Type 0} (x : Decoded) (p : Page) → x ≡ written p → x ≡ bad → A
-never x p e f = absurd (let z : _≡_ {A = ℕ} 0 1 = cc in omega arith)
 
 module _ (b : List ℕ) (p : Page) where
   log-header : getD b 7 0 ≡ 0x12 → (n : ℕ) → decodeLog (numberOf b) n b ≡ written p → Header b (some p)
@@ -200,13 +186,13 @@ module _ (b : List ℕ) (p : Page) where
       go true f =
           kinds (eqb (getD b 7 0) 0x12) (eqb (getD b 7 0) 0x11) refl refl
           (sym (written-from (numberOf b) b (leb-true 1 (numberOf b) f)) ∙ e)
-      go false f = never _ p e (written-zero (numberOf b) b (leb-false 1 (numberOf b) f))
+      go false f = written-bad _ p e (written-zero (numberOf b) b (leb-false 1 (numberOf b) f))
 
 blank-header : (b : List ℕ) → allBlank b ≡ true → Header b none
 blank-header b e =
     bare b (blank-not b e 7 0x13 (omega arith) (omega arith)) (blank-not b e 7 0x14 (omega arith) (omega arith))
     (blank-not b e 7 0x15 (omega arith) (omega arith)) none
-    (ap number (not-there b 0 0x10 (blank-not b e 0 0x10 (omega arith) (omega arith)))) refl
+    (ap number (payloadAt-absent b 0 0x10 (blank-not b e 0 0x10 (omega arith) (omega arith)))) refl
     (rw (
       ne-eqb (getD b 7 0) 0x12 (blank-not b e 7 0x12 (omega arith) (omega arith)),
       ne-eqb (getD b 7 0) 0x11 (blank-not b e 7 0x11 (omega arith) (omega arith)),
@@ -216,18 +202,15 @@ all-blank : allBlank blankBytes ≡ true
 unfolding blankBytes
 all-blank = allBlank-replicate pageBytes
 
-same-cell : {A : Type 0} (a b : A) → some a ≡ some b → a ≡ b
-same-cell a b e = cc
-
 -- THE HEADERS of a page that checks are its cell's.
 pub header : (b : List ℕ) → length b ≡ pageBytes → (x : Option Page) → cellFrom (decode b) ≡ some x → Header b x
 header b l x e = go (allBlank b) refl
   where
     other : (d : Decoded) → decode b ≡ d → cellFrom d ≡ some x → allBlank b ≡ false → Header b x
     other blank q r f = absurd (test-clash (allBlank b) (ap allBlank (blank-decode b l q) ∙ all-blank) f)
-    other (written p) q r f = subst (Header b) (same-cell (some p) x r) (written-header b p (sym (decode-other b f) ∙ q))
+    other (written p) q r f = subst (Header b) (some-same r) (written-header b p (sym (decode-other b f) ∙ q))
     other bad q r f = absurd (let z : _≡_ {A = ℕ} 0 1 = cc in omega arith)
 
     go : (t : Bool) → allBlank b ≡ t → Header b x
-    go true f = subst (Header b) (same-cell none x (ap cellFrom (sym (decode-blank b f)) ∙ e)) (blank-header b f)
+    go true f = subst (Header b) (some-same (ap cellFrom (sym (decode-blank b f)) ∙ e)) (blank-header b f)
     go false f = other (decode b) refl e f

@@ -8,13 +8,15 @@ use native.Mathlib.Omega.{arith}
 use lib.Dec.{eqb, leb, ltb}
 use lib.ListN.{length}
 use borrow.Author.Tests.{eqb-true, eq-eqb, ne-eqb, le-leb, lt-leb, lt-ltb, le-ltb}
-use Rattle.laws.specs.Tests.{choose, and-left, and-right, and-both}
+use native.Mathlib.Numerals.{lt-of-le-of-ne}
+use Rattle.laws.specs.Tests.{choose, and-left, and-right}
 use Rattle.laws.specs.Order.{eq-or, le-or}
 use Rattle.laws.specs.Counts.{bit, bit-le-one, count}
-use Rattle.laws.specs.Update.{sumBelow, sumBelow-ext}
+use Rattle.laws.specs.Update.{sumBelow, sumBelow-ext, sumBelow-add}
 use Rattle.page.specs.Page.{Score}
 use Rattle.store.specs.Checkpoint.{scoreIn, scoreOf, onceBelow}
 use Rattle.model.specs.Mount.{scoresBelow}
+use Rattle.store_laws.specs.CheckpointPageLaws.{onceBelow-true}
 
 -- A sum over scores, and over those of one id.
 abbrev pub sumScores : (Score → ℕ) → List Score → ℕ
@@ -65,13 +67,9 @@ shares g x (suc n) = go (eq-or n (x .id)) (le-or n (x .id)) (shares g x n)
         omega (
           arith,
           ap (λ (t : Bool). choose t (g x) 0) (ne-eqb n (x .id) e),
-          ap (λ (t : Bool). choose t (g x) 0) (le-leb (suc n) (x .id) (above (le-or (suc n) (x .id)))),
+          ap (λ (t : Bool). choose t (g x) 0) (le-leb (suc n) (x .id) (lt-of-le-of-ne l e)),
           ap (λ (t : Bool). choose t (g x) 0) (le-leb n (x .id) l),
         )
-      where
-        above : (suc n ≤ x .id) ⊎ (x .id < suc n) → suc n ≤ x .id
-        above (inl h) = h
-        above (inr h) = absurd (e (omega arith))
     go (inr e) (inr l) r =
         omega (
           arith,
@@ -79,10 +77,6 @@ shares g x (suc n) = go (eq-or n (x .id)) (le-or n (x .id)) (shares g x n)
           ap (λ (t : Bool). choose t (g x) 0) (lt-leb (suc n) (x .id) (omega arith)),
           ap (λ (t : Bool). choose t (g x) 0) (lt-leb n (x .id) l),
         )
-
-sumBelow-add : (n : ℕ) (f g : ℕ → ℕ) → sumBelow n (λ i. f i + g i) ≡ sumBelow n f + sumBelow n g
-sumBelow-add zero f g = refl
-sumBelow-add (suc n) f g = omega (arith, sumBelow-add n f g)
 
 sumBelow-zeros : (n : ℕ) → sumBelow n (λ i. 0) ≡ 0
 sumBelow-zeros zero = refl
@@ -100,11 +94,7 @@ sumBelow-at (suc n) f i l = go (eq-or i n) (λ h. sumBelow-at n f i h)
   where
     go : (i ≡ n) ⊎ (i ≡ n → ⊥) → (i < n → f i ≤ sumBelow n f) → f i ≤ sumBelow n f + f n
     go (inl e) r = omega (arith, ap f e)
-    go (inr e) r = omega (arith, r (below (le-or n i)))
-      where
-        below : (n ≤ i) ⊎ (i < n) → i < n
-        below (inl h) = absurd (e (omega arith))
-        below (inr h) = h
+    go (inr e) r = omega (arith, r (lt-of-le-of-ne (omega arith) e))
 
 sumBelow-ones : (n : ℕ) (f : ℕ → ℕ) → ((i : ℕ) → i < n → 1 ≤ f i) → n ≤ sumBelow n f
 sumBelow-ones zero f h = omega arith
@@ -117,11 +107,7 @@ sumBelow-more (suc n) f h k l = go (eq-or k n) (λ m. sumBelow-more n f (λ i q.
   where
     go : (k ≡ n) ⊎ (k ≡ n → ⊥) → (k < n → n + f k ≤ sumBelow n f + 1) → suc n + f k ≤ sumBelow n f + f n + 1
     go (inl e) r = omega (arith, ap f e, sumBelow-ones n f (λ i q. h i (omega arith)))
-    go (inr e) r = omega (arith, r (below (le-or n k)), h n (omega arith))
-      where
-        below : (n ≤ k) ⊎ (k < n) → k < n
-        below (inl q) = absurd (e (omega arith))
-        below (inr q) = q
+    go (inr e) r = omega (arith, r (lt-of-le-of-ne (omega arith) e), h n (omega arith))
 
 pub once-at : (n : ℕ) (xs : List Score) → onceBelow n xs ≡ true → (i : ℕ) → i < n → count (scoreOf i) xs ≡ 1
 once-at zero xs e i l = absurd (omega arith)
@@ -129,16 +115,7 @@ once-at (suc n) xs e i l = go (eq-or i n) (λ h. once-at n xs (and-right (eqb (c
   where
     go : (i ≡ n) ⊎ (i ≡ n → ⊥) → (i < n → count (scoreOf i) xs ≡ 1) → count (scoreOf i) xs ≡ 1
     go (inl q) r = rw q (eqb-true (count (scoreOf n) xs) 1 (and-left (eqb (count (scoreOf n) xs) 1) (onceBelow n xs) e))
-    go (inr q) r = r (below (le-or n i))
-      where
-        below : (n ≤ i) ⊎ (i < n) → i < n
-        below (inl h) = absurd (q (omega arith))
-        below (inr h) = h
-
-once-all : (n : ℕ) (xs : List Score) → ((i : ℕ) → i < n → count (scoreOf i) xs ≡ 1) → onceBelow n xs ≡ true
-once-all zero xs h = refl
-once-all (suc n) xs h =
-    and-both (eqb (count (scoreOf n) xs) 1) (onceBelow n xs) (eq-eqb _ 1 (h n (omega arith))) (once-all n xs (λ i l. h i (omega arith)))
+    go (inr q) r = r (lt-of-le-of-ne (omega arith) q)
 
 module _ (n : ℕ) (xs : List Score) (size : length xs ≡ n) where
   shared : sumBelow n (λ m. sumScores (ofId m one) xs) + sumScores (beyond n one) xs ≡ n
@@ -146,7 +123,7 @@ module _ (n : ℕ) (xs : List Score) (size : length xs ≡ n) where
 
   -- AS MANY SCORES AS IDS, each id at least once: each exactly once
   pub once-enough : ((i : ℕ) → i < n → 1 ≤ count (scoreOf i) xs) → onceBelow n xs ≡ true
-  once-enough h = once-all n xs each
+  once-enough h = onceBelow-true n xs each
     where
       some : (i : ℕ) → i < n → 1 ≤ sumScores (ofId i one) xs
       some i l = omega (arith, h i l, count-ofId i xs)

@@ -14,7 +14,7 @@ use borrow.Author.Tests.{eq-eqb, ne-eqb, lt-ltb, le-ltb, ltb-true, le-leb, lt-le
 use Rattle.laws.specs.Tests.{choose, and-left, and-right, and-both}
 use Rattle.laws.specs.Order.{eq-or, le-or}
 use Rattle.laws.specs.Counts.{bit, count, count-append}
-use Rattle.laws.specs.Loops.{steps, sumFrom}
+use Rattle.laws.specs.Loops.{steps, sumFrom, all-at, all-true}
 use Rattle.wire.specs.Field.{payloadAt}
 use Rattle.page.specs.Page.{Score}
 use Rattle.page.specs.Decode as Decode
@@ -24,11 +24,10 @@ use Rattle.store.specs.Pool.{pageIn}
 use Rattle.store.specs.Checkpoint.{CheckpointPage, scoresIn, scoreOf, onceBelow}
 use Rattle.store.specs.Reopen.{Cells, greatestOf}
 use Rattle.flash_blocks.specs.Pages.{pagesOf, pageAt}
+use Rattle.store_laws.specs.WrittenPages.{pagesIn}
 use Rattle.mount_checkpoint_pages.specs.CheckpointPage.{numberOf, scoresFrom, scoresOn}
-use Rattle.mount_checkpoint.specs.EveryFrom.{every-at, every-all}
 use Rattle.mount_checkpoint.specs.Marks.{scoreAt, marked, markScores, markPage, markPages, marksOf, isMarked, windowOf, coversOf}
 use Rattle.mount_refines.specs.Checkpoint.Header.{scoresRead}
-use Rattle.mount_refines.specs.Checkpoint.Written.{pagesIn}
 use Rattle.mount_refines.specs.Checkpoint.Collect.{Reach, gathered, sumCheckpointPages}
 use Rattle.mount_refines.specs.Checkpoint.Pool.{Judged, headers}
 use Rattle.mount_refines.specs.Checkpoint.Totals.{fromBytes, by-checkpoint-pages}
@@ -175,12 +174,12 @@ module _ {pool : List ℕ} {blocks : ℕ} {c : Cells} (j : Judged pool blocks c)
     unfolding windowOf
     window-has e i l =
         ltb-true 0 (count (scoreOf (start + i)) scores)
-        (sym (marked-is width i start (omega arith)) ∙ every-at (isMarked (marks start width)) size 0 e i (omega arith) (omega arith))
+        (sym (marked-is width i start (omega arith)) ∙ all-at (isMarked (marks start width)) size 0 e i (omega arith) (omega arith))
 
     has-window : ((i : ℕ) → i < size → 1 ≤ count (scoreOf (start + i)) scores) → window start size width ≡ true
     unfolding windowOf
     has-window h =
-        every-all (isMarked (marks start width)) size 0
+        all-true (isMarked (marks start width)) size 0
         (λ i a b. marked-is width i start (omega arith) ∙ lt-ltb 0 (count (scoreOf (start + i)) scores) (h i (omega arith)))
 
   -- one window, or two

@@ -20,9 +20,10 @@ use Rattle.store.specs.Reopen.{Cells, blocksIn, greatestOf, reopened, everyPage
 use Rattle.store_laws.specs.BlockTests.{Passing, passing, differ-once}
 use Rattle.model.specs.Bytes.{cellFrom, joined, cellsFrom, cellsOf}
 use Rattle.flash_blocks.specs.Pages.{pagesOf, pageAt, blankPage}
+use Rattle.store_laws.specs.WrittenPages.{pagesIn}
 use Rattle.flash_blocks.proofs.Laws.{length-page}
 use Rattle.mount_refines.specs.Checkpoint.Header.{numberIn, Header, header}
-use Rattle.mount_refines.specs.Checkpoint.Written.{pagesIn, find-pages, tally-pages, newest-pages, pageIn-number}
+use Rattle.mount_refines.specs.Checkpoint.Written.{find-pages, tally-pages, newest-pages, pageIn-number}
 
 pub record Judged (pool : List ℕ) (blocks : ℕ) (c : Cells) : Type 0 where
   pub size : length pool ≡ blockBytes * blocks

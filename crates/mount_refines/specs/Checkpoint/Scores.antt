@@ -14,7 +14,7 @@ use borrow.Author.Tests.{eqb-true, eq-eqb, ne-eqb, lt-ltb, le-ltb, ltb-true, le-
 use Rattle.laws.specs.Tests.{choose, and-left, and-right}
 use Rattle.laws.specs.Order.{eq-or, le-or}
 use Rattle.laws.specs.Counts.{bit}
-use Rattle.laws.specs.Loops.{steps, sumFrom, steps-keep}
+use Rattle.laws.specs.Loops.{steps, sumFrom, steps-keep, allFrom, all-at, all-true}
 use Rattle.laws.specs.Update.{sumBelow}
 use Rattle.layout.specs.Layout.{tableBytes}
 use Rattle.account.specs.declared.Tariff.{Tariff}
@@ -27,13 +27,12 @@ use Rattle.store.specs.Checkpoint.{CheckpointPage, checkpointOf, scoresIn, coun
 use Rattle.store.specs.Reopen.{Cells, reopened}
 use Rattle.model.specs.Mount.{scoresBelow}
 use Rattle.flash_blocks.specs.Pages.{pagesOf, pageAt}
+use Rattle.store_laws.specs.WrittenPages.{pagesIn}
 use Rattle.mount_checkpoint_pages.specs.CheckpointPage.{numberOf, scoresOn}
-use Rattle.mount_checkpoint.specs.EveryFrom.{everyFrom, every-at, every-all}
 use Rattle.mount_checkpoint.specs.Marks.{scoreAt}
 use Rattle.mount_checkpoint.specs.Find.{checkpointIn}
 use Rattle.mount_checkpoint.specs.Scores.{scoreTaken, takeScores, takePage, takePages, isBelow}
 use Rattle.mount_checkpoint.specs.declared.find.Checkpoint.the-variants.{Complete}
-use Rattle.mount_refines.specs.Checkpoint.Written.{pagesIn}
 use Rattle.mount_refines.specs.Checkpoint.Collect.{gathered, sumCheckpointPages}
 use Rattle.mount_refines.specs.Checkpoint.Pool.{Judged, headers}
 use Rattle.mount_refines.specs.Checkpoint.Totals.{fromBytes, by-checkpoint-pages}
@@ -244,9 +243,9 @@ module _ {pool : List ℕ} {blocks : ℕ} {c : Cells} (j : Judged pool blocks c)
 
   -- ALL BELOW THE LIMIT in rows that have these scores exactly where the store's are.
   pub scores-below : (limit : ℕ) (rows : List Row) → ((m : ℕ) → m < nodes → getD rows m noRow .score ≡ scoreIn scores m) →
-      everyFrom (isBelow limit rows) nodes 0 ≡ scoresBelow limit scores
+      allFrom (isBelow limit rows) nodes 0 ≡ scoresBelow limit scores
   unfolding isBelow
-  scores-below limit rows h = go (everyFrom (isBelow limit rows) nodes 0) refl (scoresBelow limit scores) refl
+  scores-below limit rows h = go (allFrom (isBelow limit rows) nodes 0) refl (scoresBelow limit scores) refl
     where
       total : scoresBelow limit scores ≡ eqb (sumBelow nodes (λ m. bit (leb limit (scoreIn scores m)))) 0
       total = scoresBelow-ids limit nodes scores score-each score-once
@@ -255,7 +254,7 @@ module _ {pool : List ℕ} {blocks : ℕ} {c : Cells} (j : Judged pool blocks c)
       zeros zero f z = refl
       zeros (suc n) f z = omega (arith, zeros n f (λ i l. z i (omega arith)), z n (omega arith))
 
-      go : (a : Bool) → everyFrom (isBelow limit rows) nodes 0 ≡ a → (b : Bool) → scoresBelow limit scores ≡ b → a ≡ b
+      go : (a : Bool) → allFrom (isBelow limit rows) nodes 0 ≡ a → (b : Bool) → scoresBelow limit scores ≡ b → a ≡ b
       go true e true f = refl
       go false e false f = refl
       go true e false f =
@@ -267,13 +266,13 @@ module _ {pool : List ℕ} {blocks : ℕ} {c : Cells} (j : Judged pool blocks c)
           (omega (
             arith,
             h m l,
-            ltb-true (getD rows m noRow .score) limit (every-at (isBelow limit rows) nodes 0 e m (omega arith)
+            ltb-true (getD rows m noRow .score) limit (all-at (isBelow limit rows) nodes 0 e m (omega arith)
                 (omega arith)),
           )))))) ∙
           f
       go false e true f =
           sym e ∙
-          every-all (isBelow limit rows) nodes 0
+          all-true (isBelow limit rows) nodes 0
           (λ m a l. lt-ltb (getD rows m noRow .score) limit (below m (omega arith) (le-or limit (scoreIn scores m))))
         where
           below : (m : ℕ) → m < nodes → (limit ≤ scoreIn scores m) ⊎ (scoreIn scores m < limit) → getD rows m noRow .score < limit
@@ -286,10 +285,3 @@ module _ {pool : List ℕ} {blocks : ℕ} {c : Cells} (j : Judged pool blocks c)
                 ap bit (le-leb limit (scoreIn scores m) q),
                 eqb-true (sumBelow nodes (λ i. bit (leb limit (scoreIn scores i)))) 0 (sym total ∙ f),
               ))
-
-  -- So it is after the scores were taken, whatever the rows had before.
-  pub taken-below : (limit : ℕ) (rows : List Row) → nodes ≤ length rows →
-      everyFrom (isBelow limit (takePages ps (32 * blocks) since nodes rows)) nodes 0 ≡ scoresBelow limit scores
-  unfolding scored
-  taken-below limit rows h = scores-below limit (takePages ps (32 * blocks) since nodes rows)
-      (λ m l. ap (λ (r : Row). r .score) (scores-taken rows h .own m l))

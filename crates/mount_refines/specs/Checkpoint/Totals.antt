@@ -11,6 +11,7 @@ use native.Mathlib.Omega.{arith}
 use lib.Dec.{eqb, ltb}
 use lib.ListN.{length, getD, length-map, length-append}
 use borrow.Author.Tests.{eq-eqb, ne-eqb, lt-ltb, le-ltb}
+use native.Mathlib.Numerals.{lt-of-le-of-ne}
 use Rattle.laws.specs.Tests.{choose, test-clash}
 use Rattle.laws.specs.Order.{eq-or, le-or}
 use Rattle.laws.specs.Counts.{bit}
@@ -24,11 +25,12 @@ use Rattle.store.specs.Pool.{pageIn}
 use Rattle.store.specs.Checkpoint.{CheckpointPage, scoresIn, countOr, countIn, hasCount, noCount, countLast}
 use Rattle.store.specs.Reopen.{Cells, greatestOf}
 use Rattle.flash_blocks.specs.Pages.{pagesOf, pageAt}
+use Rattle.store_laws.specs.WrittenPages.{pagesIn}
 use Rattle.mount_checkpoint_pages.specs.CheckpointPage.{numberOf, scoresFrom, scoresOn, countPart, checkpointPageOf, countFits, fitsIn}
 use Rattle.mount_checkpoint_pages.specs.Totals.{plus, addPage, nothing, totalsOf}
 use Rattle.mount_checkpoint_pages.specs.declared.totals.Totals.{Totals}
 use Rattle.mount_refines.specs.Checkpoint.Header.{numberIn, noCheckpointPage, checkpointPageIn, foreign, foreignTag, scoresRead, Header}
-use Rattle.mount_refines.specs.Checkpoint.Written.{pagesIn, sum-by-number}
+use Rattle.mount_refines.specs.Checkpoint.Written.{sum-by-number}
 use Rattle.mount_refines.specs.Checkpoint.Collect.{
   opens,
   Reach,
@@ -131,12 +133,6 @@ module _ (since : ℕ) (b : List ℕ) (x : Option Page) (h : Header b x) where
       (g (checkpointPageIn x))
   adds f g e = ap₂ (λ (n m : ℕ). choose (ltb n since) 0 m) (h .seq) e
 
-  adds-scores : fromBytes since scoresOn b ≡ choose (ltb (numberIn x) since) 0 (scoreCount (checkpointPageIn x))
-  adds-scores = adds scoresOn scoreCount (sym (scoresOn-read b) ∙ ap length (h .scores))
-
-  adds-nodes : fromBytes since (λ p. number (countPart p)) b ≡ choose (ltb (numberIn x) since) 0 (countOn (checkpointPageIn x))
-  adds-nodes = adds (λ p. number (countPart p)) countOn (number-read (countPart b) ∙ ap (λ (o : Option ℕ). countOr o 0) (h .count))
-
   adds-misfit : (newest : ℕ) → fromBytes since (misfitOn newest) b ≡ misfit since newest x
   adds-misfit newest =
       let counted : found (countPart b) ≡ hasCount (checkpointPageIn x .count) = found-read (countPart b) ∙ ap hasCount (h .count) in
@@ -230,11 +226,7 @@ module _ {pool : List ℕ} {blocks : ℕ} {c : Cells} (j : Judged pool blocks c)
         opened (some (page n (log es))) o = absurd (test-clash false o refl)
         opened (some (page n (whole m y))) o = absurd (test-clash false o refl)
         opened (some (page n (checkpoint t ss cc))) o = refl
-    kind-set i a b (inr z) = r .kind i (above (le-or i (suc s))) (omega arith)
-      where
-        above : (i ≤ suc s) ⊎ (suc s < i) → suc s < i
-        above (inl l) = absurd (z (omega arith))
-        above (inr l) = l
+    kind-set i a b (inr z) = r .kind i (lt-of-le-of-ne (omega arith) (λ e. z (sym e))) (omega arith)
 
     -- below the newest page a misfit has the node count; the newest is one without it
     misfit-below : (i : ℕ) → i < last → misfit (suc s) last (at i) ≡ choose (ltb (numberIn (at i)) (suc s)) 0 (countBit (checkpointPageIn (at i)))

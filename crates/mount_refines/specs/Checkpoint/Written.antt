@@ -1,68 +1,27 @@
 -- The written pages of a pool, as they lie: each is found by its number, and a sum over places is the sum over numbers, since each number
 -- has one page at most. Assumes nothing.
-use mathlib.Core.Path.{_≡_, refl, sym, ap, ap₂, _∙_}
+use mathlib.Core.Path.{_≡_, refl, sym, ap, _∙_}
 use mathlib.Core.Bool.{Bool, true, false}
 use mathlib.Core.List.{List, [], _∷_, _++_}
 use mathlib.Core.Option.{Option, none, some}
-use Prim.Native.Nat.{ℕ, zero, suc, _+_, _*_, _≤_, _<_, max}
+use Prim.Native.Nat.{ℕ, zero, suc, _+_, _*_, _≤_, _<_}
 use native.Mathlib.Nat.{add-zero}
 use native.Mathlib.Omega.{arith}
-use lib.ListN.{length, getD, take, drop, length-drop, take-append-drop}
+use lib.ListN.{length, getD}
 use borrow.Author.Tests.{eqb-true, eq-eqb, ne-eqb}
-use Rattle.laws.specs.Tests.{choose, and-left, and-right}
-use Rattle.laws.specs.Counts.{bit, count, tally, count-append}
+use Rattle.laws.specs.Tests.{choose}
+use Rattle.laws.specs.Counts.{bit, count, tally}
 use Rattle.laws.specs.Loops.{sumFrom}
 use Rattle.laws.specs.Update.{sumBelow, sumBelow-change}
+use Rattle.laws.specs.Options.{some-same}
 use Rattle.page.specs.Page.{Page, sequence}
 use Rattle.store.specs.Pool.{Blocks, numbered, pageIn, orElse, find}
-use Rattle.store.specs.Reopen.{Cells, blockIn, blocksIn, blank, filled, allFilled, greatestOf, newest}
+use Rattle.store.specs.Reopen.{Cells, blocksIn, allFilled, greatestOf, newest}
 use Rattle.store_laws.specs.PoolLaws.{pageIn-none}
+use Rattle.store_laws.specs.WrittenPages.{pagesIn, pagesOver, pagesIn-blocks, pagesOver-tally, pagesOver-newest}
 use Rattle.mount_refines.specs.Checkpoint.Header.{numberIn}
 
--- The written pages of cells, in order; those of blocks.
-unfoldable pub pagesIn : Cells → List Page
-pagesIn [] = []
-pagesIn (none ∷ c) = pagesIn c
-pagesIn (some p ∷ c) = p ∷ pagesIn c
-
-abbrev flat : Blocks → List Page
-flat [] = []
-flat (b ∷ bs) = b ++ flat bs
-
 -- ---- blocks are cells in rows
-
-pagesIn-append : (c d : Cells) → pagesIn (c ++ d) ≡ pagesIn c ++ pagesIn d
-unfolding pagesIn
-pagesIn-append [] d = refl
-pagesIn-append (none ∷ c) d = pagesIn-append c d
-pagesIn-append (some p ∷ c) d = ap {B = List Page} (λ z. p ∷ z) (pagesIn-append c d)
-
-pagesIn-blank : (c : Cells) → blank c ≡ true → pagesIn c ≡ []
-unfolding pagesIn
-pagesIn-blank [] e = refl
-pagesIn-blank (none ∷ c) e = pagesIn-blank c e
-pagesIn-blank (some p ∷ c) e = cc
-
-pagesIn-filled : (c : Cells) → filled c ≡ true → blockIn c ≡ pagesIn c
-unfolding pagesIn
-pagesIn-filled [] e = refl
-pagesIn-filled (none ∷ c) e = sym (pagesIn-blank c e)
-pagesIn-filled (some p ∷ c) e = ap {B = List Page} (λ z. p ∷ z) (pagesIn-filled c e)
-
-pagesIn-nil : (c : Cells) → length c ≡ 0 → [] ≡ pagesIn c
-unfolding pagesIn
-pagesIn-nil [] e = refl
-pagesIn-nil (x ∷ c) e = absurd (omega arith)
-
-flat-blocks : (width k : ℕ) (c : Cells) → length c ≡ width * k → allFilled width k c ≡ true → flat (blocksIn width k c) ≡ pagesIn c
-flat-blocks width zero c l e = pagesIn-nil c (omega arith)
-flat-blocks width (suc k) c l e =
-    ap₂ {B = List Page} _++_
-    (pagesIn-filled (take width c) (and-left (filled (take width c)) (allFilled width k (drop width c)) e))
-    (flat-blocks width k (drop width c) (omega (arith, length-drop width c))
-    (and-right (filled (take width c)) (allFilled width k (drop width c)) e)) ∙
-    sym (pagesIn-append (take width c) (drop width c)) ∙
-    ap pagesIn (take-append-drop width c)
 
 pageIn-append : (s : ℕ) (a b : List Page) → pageIn s (a ++ b) ≡ orElse (pageIn s a) (pageIn s b)
 pageIn-append s [] b = refl
@@ -73,36 +32,23 @@ pageIn-append s (p ∷ a) b = go (numbered s p) refl (pageIn-append s a b)
     go true e r = rw e refl
     go false e r = rw e r
 
-find-flat : (s : ℕ) (bs : Blocks) → find s bs ≡ pageIn s (flat bs)
-find-flat s [] = refl
-find-flat s (b ∷ bs) = ap (orElse (pageIn s b)) (find-flat s bs) ∙ sym (pageIn-append s b (flat bs))
-
-tally-flat : (f : Page → Bool) (bs : Blocks) → tally f bs ≡ count f (flat bs)
-tally-flat f [] = refl
-tally-flat f (b ∷ bs) = omega (arith, tally-flat f bs, count-append f b (flat bs))
-
-greatestOf-append : (a b : List Page) → greatestOf (a ++ b) ≡ max (greatestOf a) (greatestOf b)
-greatestOf-append [] b = omega arith
-greatestOf-append (p ∷ a) b = omega (arith, greatestOf-append a b)
-
-newest-flat : (bs : Blocks) → newest bs ≡ greatestOf (flat bs)
-newest-flat [] = refl
-newest-flat (b ∷ bs) = omega (arith, newest-flat bs, greatestOf-append b (flat bs))
+find-over : (s : ℕ) (bs : Blocks) → find s bs ≡ pageIn s (pagesOver bs)
+find-over s [] = refl
+find-over s (b ∷ bs) = ap (orElse (pageIn s b)) (find-over s bs) ∙ sym (pageIn-append s b (pagesOver bs))
 
 module _ (width k : ℕ) (c : Cells) (l : length c ≡ width * k) (e : allFilled width k c ≡ true) where
   pub find-pages : (s : ℕ) → find s (blocksIn width k c) ≡ pageIn s (pagesIn c)
-  find-pages s = find-flat s (blocksIn width k c) ∙ ap (pageIn s) (flat-blocks width k c l e)
+  find-pages s = find-over s (blocksIn width k c) ∙ ap (pageIn s) (sym (pagesIn-blocks width k c l e))
 
   pub tally-pages : (f : Page → Bool) → tally f (blocksIn width k c) ≡ count f (pagesIn c)
-  tally-pages f = tally-flat f (blocksIn width k c) ∙ ap (count f) (flat-blocks width k c l e)
+  tally-pages f = sym (ap (count f) (pagesIn-blocks width k c l e) ∙ pagesOver-tally f (blocksIn width k c))
 
   pub newest-pages : newest (blocksIn width k c) ≡ greatestOf (pagesIn c)
-  newest-pages = newest-flat (blocksIn width k c) ∙ ap greatestOf (flat-blocks width k c l e)
+  newest-pages = sym (ap greatestOf (pagesIn-blocks width k c l e) ∙ pagesOver-newest (blocksIn width k c))
 
 -- ---- a page by its place and by its number
 
 pub numberIn-le : (c : Cells) (q : ℕ) → numberIn (getD c q none) ≤ greatestOf (pagesIn c)
-unfolding pagesIn
 numberIn-le [] q = omega arith
 numberIn-le (none ∷ c) zero = omega arith
 numberIn-le (none ∷ c) (suc q) = numberIn-le c q
@@ -110,7 +56,6 @@ numberIn-le (some p ∷ c) zero = omega arith
 numberIn-le (some p ∷ c) (suc q) = omega (arith, numberIn-le c q)
 
 pub greatestOf-le : (k : ℕ) (c : Cells) → ((q : ℕ) → q < length c → numberIn (getD c q none) ≤ k) → greatestOf (pagesIn c) ≤ k
-unfolding pagesIn
 greatestOf-le k [] h = omega arith
 greatestOf-le k (none ∷ c) h = greatestOf-le k c (λ q l. h (suc q) (omega arith))
 greatestOf-le k (some p ∷ c) h = omega (arith, h 0 (omega arith), greatestOf-le k c (λ q l. h (suc q) (omega arith)))
@@ -119,11 +64,8 @@ pub pageIn-number : (s : ℕ) (ps : List Page) (p : Page) → pageIn s ps ≡ so
 pageIn-number s [] p e = absurd (let z : _≡_ {A = ℕ} 0 1 = cc in omega arith)
 pageIn-number s (x ∷ ps) p e = go (numbered s x) refl (λ r. pageIn-number s ps p r)
   where
-    same : some x ≡ some p → x ≡ p
-    same f = cc
-
     go : (t : Bool) → numbered s x ≡ t → (pageIn s ps ≡ some p → sequence p ≡ s) → sequence p ≡ s
-    go true f r = ap sequence (sym (same (rw f at e))) ∙ eqb-true (sequence x) s f
+    go true f r = ap sequence (sym (some-same (rw f at e))) ∙ eqb-true (sequence x) s f
     go false f r = r (rw f at e)
 
 -- a page that is found lies somewhere
@@ -136,7 +78,6 @@ place-next : (x : Option Page) (c : Cells) (p : Page) → Place c p → Place (x
 place-next x c p r = record { at = suc (r .at); inside = omega (arith, r .inside); is = r .is }
 
 pub pageIn-place : (s : ℕ) (c : Cells) (p : Page) → pageIn s (pagesIn c) ≡ some p → Place c p
-unfolding pagesIn
 pageIn-place s [] p e = absurd (let z : _≡_ {A = ℕ} 0 1 = cc in omega arith)
 pageIn-place s (none ∷ c) p e = place-next none c p (pageIn-place s c p e)
 pageIn-place s (some x ∷ c) p e = go (numbered s x) refl (λ r. pageIn-place s c p r)
@@ -147,26 +88,18 @@ pageIn-place s (some x ∷ c) p e = go (numbered s x) refl (λ r. pageIn-place s
 
 -- a page that lies somewhere is counted, and found where its number is counted once
 placed-count : (c : Cells) (q : ℕ) (p : Page) → getD c q none ≡ some p → 1 ≤ count (numbered (sequence p)) (pagesIn c)
-unfolding pagesIn
 placed-count [] q p e = absurd (let z : _≡_ {A = ℕ} 0 1 = cc in omega arith)
 placed-count (none ∷ c) zero p e = absurd (let z : _≡_ {A = ℕ} 0 1 = cc in omega arith)
 placed-count (none ∷ c) (suc q) p e = placed-count c q p e
-placed-count (some x ∷ c) zero p e = omega (arith, ap bit (eq-eqb (sequence x) (sequence p) (ap sequence (same e))))
-  where
-    same : some x ≡ some p → x ≡ p
-    same f = cc
+placed-count (some x ∷ c) zero p e = omega (arith, ap bit (eq-eqb (sequence x) (sequence p) (ap sequence (some-same e))))
 placed-count (some x ∷ c) (suc q) p e = omega (arith, placed-count c q p e)
 
 pub place-pageIn : (c : Cells) (q : ℕ) (p : Page) → count (numbered (sequence p)) (pagesIn c) ≤ 1 → getD c q none ≡ some p →
     pageIn (sequence p) (pagesIn c) ≡ some p
-unfolding pagesIn
 place-pageIn [] q p o e = absurd (let z : _≡_ {A = ℕ} 0 1 = cc in omega arith)
 place-pageIn (none ∷ c) zero p o e = absurd (let z : _≡_ {A = ℕ} 0 1 = cc in omega arith)
 place-pageIn (none ∷ c) (suc q) p o e = place-pageIn c q p o e
-place-pageIn (some x ∷ c) zero p o e = rw (eq-eqb (sequence x) (sequence p) (ap sequence (same e))) e
-  where
-    same : some x ≡ some p → x ≡ p
-    same f = cc
+place-pageIn (some x ∷ c) zero p o e = rw (eq-eqb (sequence x) (sequence p) (ap sequence (some-same e))) e
 place-pageIn (some x ∷ c) (suc q) p o e = go (numbered (sequence p) x) refl (λ l. place-pageIn c q p l e)
   where
     go : (t : Bool) → numbered (sequence p) x ≡ t → (count (numbered (sequence p)) (pagesIn c) ≤ 1 → pageIn (sequence p) (pagesIn c) ≡ some p) →
@@ -183,7 +116,7 @@ module _ (f : Option Page → ℕ) (nothing : f none ≡ 0) where
 
   sum-places : (c : Cells) (g : ℕ → ℕ) (i : ℕ) → ((q : ℕ) → q < length c → g (i + q) ≡ f (getD c q none)) →
       sumFrom g (length c) i ≡ sumPages (pagesIn c)
-  unfolding sumFrom pagesIn
+  unfolding sumFrom
   sum-places [] g i h = refl
   sum-places (x ∷ c) g i h = go x (h 0 (omega arith)) (sum-places c g (i + 1) (λ q l. shift q ∙ h (suc q) (omega arith)))
     where

@@ -10,7 +10,7 @@ use Rattle.layout.specs.Layout.{nodeLimit, tableBytes}
 use Rattle.account.specs.declared.Tariff.{Tariff}
 use Rattle.store.specs.Reopen.{Cells}
 use Rattle.flash_rows.specs.Row.{modeFrom, decode}
-use Rattle.flash_rows.specs.Step.{scored}
+use Rattle.flash_rows.specs.Step.{scored, score-scored}
 use Rattle.flash_rows.specs.declared.Row.{Row}
 use Rattle.flash_rows.proofs.Laws.{length-rows, get-rows}
 use Rattle.flash_blocks.specs.Pages.{pagesOf}
@@ -44,10 +44,6 @@ unmet-zeros = record { version = refl; mode = refl; pages = refl }
 unmet-scored : (score : ℕ) (r : Row) → Unmet r → Unmet (scored score r)
 unfolding scored
 unmet-scored score r u = record { version = u .version; mode = u .mode; pages = u .pages }
-
-score-scored : (score : ℕ) (r : Row) → scored score r .score ≡ score
-unfolding scored
-score-scored score r = refl
 
 -- ---- the scores taken into it
 

@@ -8,6 +8,7 @@ use native.Mathlib.Omega.{arith}
 use borrow.Author.Tests.{le-leb, lt-leb}
 use lib.ListN.{replicate}
 use Rattle.laws.specs.Order.{le-or}
+use Rattle.laws.specs.Loops.{allFrom}
 use Rattle.layout.specs.Layout.{nodeLimit, tableBytes, pagesInBlock}
 use Rattle.account.specs.declared.Tariff.{Tariff}
 use Rattle.account.specs.Tariff.{limit}
@@ -29,7 +30,6 @@ use Rattle.mount_tree.specs.Verdict.{past-limit}
 use Rattle.mount_tree.specs.Unsound.{SameNeat, sound-neat}
 use Rattle.mount_rows.specs.Fill.{withinThree}
 use Rattle.flash_refines.specs.Store.Follows.{Follows, Writable}
-use Rattle.mount_checkpoint.specs.EveryFrom.{everyFrom}
 use Rattle.mount_checkpoint.specs.Scores.{isBelow}
 use Rattle.mount_refines.specs.Checkpoint.Pool.{last-is}
 use Rattle.mount_refines.specs.Checkpoint.Found.{found-set}
@@ -105,7 +105,7 @@ module _ {pool : List ℕ} {blocks : ℕ} {c : Cells} {t : Tariff} {nodes since 
       tree-same : sound (nodeLimit blocks) nodes (tableOf pages rows s) ≡ sound (nodeLimit blocks) nodes (bookOf (stateOf st) .table)
       tree-same = sym (sound-neat (nodeLimit blocks) nodes (bookOf (stateOf st) .table) (tableOf pages rows s) same-nodes)
 
-      below-same : everyFrom (isBelow (limit t) rows) nodes 0 ≡ scoresBelow (limit t) (scoresIn (checkpointOf st))
+      below-same : allFrom (isBelow (limit t) rows) nodes 0 ≡ scoresBelow (limit t) (scoresIn (checkpointOf st))
       below-same = scores-below (k .judged) (tableBytes blocks) (omega arith) t nodes since (k .told) (limit t) rows (follows .scores)
 
   -- QUESTION 7, whatever the count.

@@ -24,6 +24,7 @@ use Rattle.account.specs.declared.Mode.{Mode}
 use Rattle.account.specs.declared.Mode.the-variants.{Log, Disk}
 use Rattle.node.specs.Node.{Node, node}
 use Rattle.wire.specs.Field.{field, payloadAt}
+use Rattle.wire.specs.FieldLaws.{payloadAt-absent}
 use Rattle.page.specs.Page.{Entry, Score, Page, page, log, whole, checkpoint}
 use Rattle.page.specs.Image.{entryBytes, wholeBytes, contentBytes, fields, numbered, sealed, image}
 use Rattle.page.specs.Decode.{run, payloads, entryOf}
@@ -36,7 +37,7 @@ use Rattle.demands.specs.PoolBytes.{CellFits}
 use Rattle.flash_rows.specs.Row.{noRow}
 use Rattle.flash_rows.specs.declared.Row.{Row}
 use Rattle.flash_blocks.specs.Pages.{blankPage, pageAt}
-use Rattle.flash_read.proofs.Laws.{payload-none, payload-blank}
+use Rattle.flash_read.proofs.Laws.{payload-blank}
 use Rattle.flash_refines.specs.Store.Mirror.{rowAt, imageAt}
 use Rattle.flash_refines.specs.Read.EntriesRead.{isEntry, entry-back}
 use Rattle.flash_refines.specs.Read.PageRead.{behind, image-split, sequence-read, run-read, payloads-read, payload-read}
@@ -198,13 +199,13 @@ module _ (nodes q : ℕ) where
       log-items nodes q s es h rows
     where
       none-here : payloadAt (image (page s (log es))) 7 0x11 ≡ []
-      none-here = payload-none (image (page s (log es))) 7 0x11 (λ z. omega (arith, tag-log s es (h .content .some)))
+      none-here = payloadAt-absent (image (page s (log es))) 7 0x11 (λ z. omega (arith, tag-log s es (h .content .some)))
   page-items (page s (whole id x)) h rows =
       ap (seenNode nodes q (image (page s (whole id x)))) (no-run nodes q (image (page s (whole id x))) none-here rows) ∙
       node-item nodes q s id x h rows
     where
       none-here : payloadAt (image (page s (whole id x))) 7 0x12 ≡ []
-      none-here = payload-none (image (page s (whole id x))) 7 0x12 (λ z. omega (arith, tag-whole s id x))
+      none-here = payloadAt-absent (image (page s (whole id x))) 7 0x12 (λ z. omega (arith, tag-whole s id x))
   page-items (page s (checkpoint t ss k)) h rows = nothing (image (page s (checkpoint t ss k)))
       (none-of 0x12 (omega arith) (tag-checkpoint s t ss k (h .content .some)))
       (none-of 0x11 (omega arith) (tag-checkpoint s t ss k (h .content .some))) rows
@@ -214,8 +215,8 @@ module _ (nodes q : ℕ) where
 
       none-of : (tag : ℕ) → tag < 0x13 → (getD (image (page s (checkpoint t ss k))) 7 0 ≡ 0x13) ⊎ (getD (image (page s (checkpoint t ss k))) 7 0 ≡ 0x14) →
           payloadAt (image (page s (checkpoint t ss k))) 7 tag ≡ []
-      none-of tag l (inl e) = payload-none (image (page s (checkpoint t ss k))) 7 tag (λ z. omega arith)
-      none-of tag l (inr e) = payload-none (image (page s (checkpoint t ss k))) 7 tag (λ z. omega arith)
+      none-of tag l (inl e) = payloadAt-absent (image (page s (checkpoint t ss k))) 7 tag (λ z. omega arith)
+      none-of tag l (inr e) = payloadAt-absent (image (page s (checkpoint t ss k))) 7 tag (λ z. omega arith)
 
   blank-items : (rows : List Row) → seenBytes blankPage rows ≡ rows
   blank-items rows =

@@ -11,11 +11,11 @@ use lib.ListN.{length, getElem?}
 use Rattle.laws.specs.Tests.{choose}
 use Rattle.laws.specs.Counts.{bit, count, tally, tally-at}
 use Rattle.laws.specs.Every.{Every, none, both, every-append}
+use Rattle.laws.specs.Options.{some-same, none-some}
 use Rattle.page.specs.Page.{Page, sequence}
 use Rattle.store.specs.Pool.{Blocks, block, numbered, pageIn, find}
 use Rattle.store.specs.Reopen.{cellsIn, cells}
 use Rattle.store_laws.specs.PoolLaws.{find-block}
-use Rattle.flash_refines.specs.Read.Lies.{same-page}
 
 -- The blocks of a pool that passes: at most 32 pages each, and sequence numbers from 1, each on one page.
 pub record Orderly (bs : Blocks) : Type 0 where
@@ -23,13 +23,10 @@ pub record Orderly (bs : Blocks) : Type 0 where
   pub fromOne : tally (numbered 0) bs ≡ 0
   pub once : (s : ℕ) → tally (numbered s) bs ≤ 1
 
-no-page : {A : Type 0} {p : Page} → none ≡ some p → A
-no-page e = absurd (let z : _≡_ {A = ℕ} 0 1 = cc in omega arith)
-
 -- A page that passes a test is counted.
 count-here : (f : Page → Bool) (b : List Page) (q : ℕ) (p : Page) → getElem? b q ≡ some p → f p ≡ true → 1 ≤ count f b
-count-here f [] q p e t = no-page e
-count-here f (x ∷ b) zero p e t = omega (arith, ap bit (ap f (same-page e) ∙ t))
+count-here f [] q p e t = absurd (none-some e)
+count-here f (x ∷ b) zero p e t = omega (arith, ap bit (ap f (some-same e) ∙ t))
 count-here f (x ∷ b) (suc q) p e t = omega (arith, count-here f b q p e t)
 
 pub tally-here : (f : Page → Bool) (bs : Blocks) (i q : ℕ) (p : Page) → getElem? (block bs i) q ≡ some p → f p ≡ true → 1 ≤ tally f bs
@@ -40,7 +37,7 @@ own-number p = eq-eqb (sequence p) (sequence p) refl
 
 pageIn-here : (b : List Page) (q : ℕ) (p : Page) → getElem? b q ≡ some p → count (numbered (sequence p)) b ≤ 1 → pageIn (sequence p) b ≡ some p
 pageIn-here [] q p e l = e
-pageIn-here (x ∷ b) zero p e l = rw (same-page e, own-number p) refl
+pageIn-here (x ∷ b) zero p e l = rw (some-same e, own-number p) refl
 pageIn-here (x ∷ b) (suc q) p e l = go (numbered (sequence p) x) refl (λ h. pageIn-here b q p e h)
   where
     go : (t : Bool) → numbered (sequence p) x ≡ t → (count (numbered (sequence p)) b ≤ 1 → pageIn (sequence p) b ≡ some p) →

@@ -7,10 +7,10 @@ use lib.ListN.{length}
 use Rattle.laws.specs.Every.{Every, none, both}
 use Rattle.layout.specs.Layout.{mostBlocks, nodeLimit, bound32}
 use Rattle.account.specs.declared.Tariff.{Tariff}
-use Rattle.tree.specs.NodeRequest.{NodeRequest}
+use Rattle.tree.specs.NodeRequest.{NodeRequest, idOf}
 use Rattle.tree.specs.Narrow.{NarrowRequest}
 use Rattle.tree.specs.Fit.{Fit, Fits}
-use Rattle.book.specs.Book.{Book, idOf}
+use Rattle.book.specs.Book.{Book}
 use Rattle.book.specs.Book as Book
 use Rattle.store_laws.specs.Numbers.{last}
 use Rattle.store_laws.specs.StoreFits.{RunFits}

@@ -1,17 +1,15 @@
 -- GET, DELETE AND SCAN by the code agree with the model's: what is left, the charge, the answer. Assumes nothing.
-use mathlib.Core.Path.{_≡_, refl, sym, ap, ap₂, _∙_, subst}
+use mathlib.Core.Path.{_≡_, refl, sym, ap, ap₂, _∙_}
 use mathlib.Core.Bool.{Bool, true, false}
 use mathlib.Core.List.{List, [], _++_, map}
 use mathlib.Core.Option.{Option, none, some}
-use Prim.Native.Nat.{ℕ, _+_, _*_, _≤_}
-use lib.ListN.{length}
+use Prim.Native.Nat.{ℕ, _+_}
 use native.Mathlib.Omega.{arith}
 use lib.Dec.{ltb}
 use Rattle.layout.specs.Layout.{nodeLimit}
 use Rattle.pairs.specs.Pairs.{Pair, lookup}
 use Rattle.account.specs.declared.Tariff.{Tariff}
 use Rattle.command.specs.declared.Answer.the-variants.{Got, Deleted}
-use Rattle.command.specs.declared.Command.{Command}
 use Rattle.command.specs.declared.Command.the-variants.{Get, Delete, Scan}
 use Rattle.command.specs.Answer.{valueOr}
 use Rattle.node.specs.Node.{pairsOf}
@@ -21,38 +19,18 @@ use Rattle.tree.specs.Get.{getAnswer}
 use Rattle.tree.specs.Delete.{deletionFor, deleteRequests}
 use Rattle.tree.specs.Scan.{leavesAfter, pairsFrom, scanRequests, scanAnswer}
 use Rattle.book.specs.Command.{short, listed, requests, answer}
-use Rattle.store_laws.specs.Numbers.{last}
-use Rattle.model.specs.State.{State, bookOf, charges}
-use Rattle.model.specs.Batch.{done}
+use Rattle.model.specs.State.{State, bookOf}
 use Rattle.demands.specs.Says.{bookOf-count}
 use Rattle.demands.specs.Run.{Holds}
-use Rattle.demands.specs.BatchFits.{mostNumbers}
 use Rattle.flash_allocate.specs.World.{World}
 use Rattle.run_path.specs.Path.{tableIn, pathTo, leafAt}
 use Rattle.run_path.specs.Reads.{readAll, readCharges}
 use Rattle.run_lookup.specs.Value.{valueIn}
 use Rattle.run_lookup.specs.Delete.{deletion, deletionCharge, delete, deleteCharge}
 use Rattle.run_scan.specs.Scan.{scanReads, scanPairs}
-use Rattle.run_refines.specs.Commands.Lists.{servedAll, chargedAll, servedAll-append, chargedAll-append, Runs, Ran}
+use Rattle.run_refines.specs.Commands.Lists.{servedAll, chargedAll, servedAll-append, chargedAll-append, Runs}
 use Rattle.run_refines.specs.Commands.Tables.{table-agrees}
 use Rattle.run_refines.specs.Commands.Commands.{reads-served, reads-charged, path-is, leaf-is}
-
--- What a command leaves agrees: the run goes on, and the charge is the model's.
-pub record Agreed (blocks : ℕ) (t : Tariff) (c : Command) (s : State) (w′ : World) (paid : ℕ) : Type 0 where
-  pub runs : Runs blocks w′ (done (nodeLimit blocks) t c s)
-  pub charge : paid ≡ charges t (requests (nodeLimit blocks) c (bookOf s)) s
-  pub number : last (done (nodeLimit blocks) t c s .run) ≤ mostNumbers + last (s .run)
-
--- The world and the charge of the command's requests served in order.
-pub agreed : {blocks : ℕ} {t : Tariff} {c : Command} {w : World} {s : State} (ran : Ran blocks t (requests (nodeLimit blocks) c (bookOf s)) w s) →
-    4 * length (requests (nodeLimit blocks) c (bookOf s)) ≤ mostNumbers → (w′ : World) (paid : ℕ) →
-    w′ ≡ servedAll t (requests (nodeLimit blocks) c (bookOf s)) w → paid ≡ chargedAll t (requests (nodeLimit blocks) c (bookOf s)) w → Agreed blocks t c s w′ paid
-agreed {blocks} {t} {c} {w} {s} ran few w′ paid e f =
-    record {
-      runs = subst (λ (z : World). Runs blocks z (done (nodeLimit blocks) t c s)) (sym e) (ran .runs);
-      charge = f ∙ ran .charge;
-      number = omega (arith, ran .number, few);
-    }
 
 module _ {blocks : ℕ} {w : World} {s : State} (k : Runs blocks w s) (ps : List Pair) (h : Holds (nodeLimit blocks) (bookOf s) ps) where
   abbrev limit : ℕ

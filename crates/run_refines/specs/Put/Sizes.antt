@@ -2,12 +2,13 @@
 use mathlib.Core.Path.{_≡_, refl, sym, ap, _∙_, subst}
 use mathlib.Core.Logic.{_⊎_, inl, inr}
 use mathlib.Core.List.{List, [], _∷_}
-use mathlib.Core.Option.{none, some}
+use mathlib.Core.Option.{some}
 use Prim.Native.Nat.{ℕ, _≤_, _<_}
 use native.Mathlib.Omega.{arith}
 use borrow.Author.Tests.{lt-ltb, le-ltb}
 use lib.ListN.{length, length-set}
 use Rattle.laws.specs.Order.{Tri, less, same, more, tri, eq-or, le-or}
+use Rattle.laws.specs.Options.{none-some}
 use Rattle.layout.specs.Layout.{mostKeys, bound32}
 use Rattle.pairs.specs.Pairs.{Pair, lookup, insert, Within}
 use Rattle.pairs.specs.Clauses.{lookup-same, lookup-other, insert-before, insert-same, insert-behind}
@@ -22,10 +23,7 @@ use Rattle.node.specs.Found.{found-present, found-absent, above-absent}
 use Rattle.node.specs.Repoint.{repoint, place-keyAt}
 use Rattle.node.specs.BothEdits.{repoint-put}
 use Rattle.node.specs.declared.fit.Fitting.the-variants.{Room, Full}
-use Rattle.node.specs.Fit.{fitOf, fit-at, fit-full, full-above}
-
-room-not-full : (i : ℕ) → Room ≡ Full i → ⊥
-room-not-full i e = let z : _≡_ {A = ℕ} 0 1 = cc in omega arith
+use Rattle.node.specs.Fit.{fitOf, fit-at, fit-full, full-above, room-full}
 
 -- A pair that fits, and one that does not.
 module _ (key value : ℕ) (ps : List Pair) where
@@ -46,7 +44,7 @@ module _ (key value : ℕ) (ps : List Pair) where
   room-size l e = go (present-or key ps)
     where
       below : Absent key ps → (mostKeys ≤ length ps) ⊎ (length ps < mostKeys) → length (insert key value ps) ≤ mostKeys
-      below a (inl m) = absurd (room-not-full (place key ps) (sym e ∙ fit-full key ps (place key ps) (found-absent key ps a) m))
+      below a (inl m) = absurd (room-full (place key ps) (sym e ∙ fit-full key ps (place key ps) (found-absent key ps a) m))
       below a (inr m) = omega (arith, length-insert key value ps)
 
       go : Present key ps ⊎ Absent key ps → length (insert key value ps) ≤ mostKeys
@@ -68,12 +66,9 @@ module _ (key value : ℕ) (ps : List Pair) (low high : ℕ) (w : Within low hig
   put-present : Present key (insert key value ps)
   put-present = go (present-or key (insert key value ps))
     where
-      clash : none ≡ some value → ⊥
-      clash z = let y : _≡_ {A = ℕ} 0 1 = cc in omega arith
-
       go : Present key (insert key value ps) ⊎ Absent key (insert key value ps) → Present key (insert key value ps)
       go (inl p) = p
-      go (inr a) = absurd (clash (sym (lookup-absent key low high (insert key value ps) w a) ∙ lookup-insert key value ps))
+      go (inr a) = absurd (none-some (sym (lookup-absent key low high (insert key value ps) w a) ∙ lookup-insert key value ps))
 
   put-room : fitOf key (insert key value ps) ≡ Room
   put-room = fit-at key (insert key value ps) (place key (insert key value ps)) (found-present key (insert key value ps) put-present)
@@ -160,4 +155,4 @@ module _ (at middle left right : ℕ) (ps : List Pair) (last : ℕ) (w : Within 
         e,
         omega (arith, ap (λ (n : Node). length (pairsOf n)) e, ap length (pairs-put middle left renamed), full-size middle left (pairsOf renamed) i f),
       )
-      go (inr p) = absurd (room-not-full i (sym (p .0) ∙ f))
+      go (inr p) = absurd (room-full i (sym (p .0) ∙ f))

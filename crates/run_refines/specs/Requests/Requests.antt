@@ -2,7 +2,6 @@
 use mathlib.Core.Path.{_≡_, refl, sym, ap, _∙_, subst}
 use Prim.Native.Nat.{ℕ, _+_, _≤_, _<_}
 use native.Mathlib.Omega.{arith}
-use borrow.Author.Tests.{lt-ltb}
 use Rattle.laws.specs.Update.{update}
 use Rattle.layout.specs.Layout.{mostBlocks, nodeLimit, bound32}
 use Rattle.account.specs.declared.Mode.{Mode}
@@ -11,20 +10,19 @@ use Rattle.account.specs.declared.Account.{Account}
 use Rattle.account.specs.Serve.{serveOf}
 use Rattle.node.specs.Narrow.{Narrow}
 use Rattle.tree.specs.Table.{Table}
-use Rattle.tree.specs.NodeRequest.{NodeRequest, read, edit, rewrite, create}
+use Rattle.tree.specs.NodeRequest.{NodeRequest, read, edit, rewrite, create, idOf}
 use Rattle.tree.specs.Fit.{Fit}
-use Rattle.store.specs.Store.{modeOf}
 use Rattle.store.specs.Run.{Run}
 use Rattle.store.specs.Serve.{Work}
 use Rattle.store.specs.Serve as Store
 use Rattle.store_laws.specs.Contents.{neat-fits}
 use Rattle.store_laws.specs.StoreFits.{StoreFits}
 use Rattle.store_laws.specs.Keeps.{Keeps, Fits}
-use Rattle.book.specs.Book.{idOf}
 use Rattle.book.specs.Book as Book
 use Rattle.model.specs.State.{State, bookOf}
 use Rattle.model.specs.State as Model
 use Rattle.flash_allocate.specs.World.{World}
+use Rattle.demands.specs.Says.{bookOf-account}
 use Rattle.flash_write.specs.Group as Code
 use Rattle.flash_refines.specs.Store.Follows.{Follows, Writable}
 use Rattle.flash_refines.specs.Write.Requests.{create-follows}
@@ -64,12 +62,8 @@ module _ {B count : ℕ} {table : Table} {modes : ℕ → Mode} {r : NodeRequest
 
 -- A request of Account.
 module _ (t : Tariff) (s : State) (w : World) (a : Agrees w s) (n : ℕ) (there : n < s .run .nodes) (work : Work) where
-  account-said : bookOf s .account n ≡ record { mode = modeOf (s .run .now) n; score = s .score n }
-  unfolding bookOf
-  account-said = rw (lt-ltb n (s .run .nodes) there)
-
   charge-said : {B : ℕ} → Writable B (s .run) → charge t n work w ≡ serveOf t (bookOf s .account n) (requestOf work) .charge
-  charge-said b = charge-follows b a n there t work ∙ ap (λ (z : Account). serveOf t z (requestOf work) .charge) (sym account-said)
+  charge-said b = charge-follows b a n there t work ∙ ap (λ (z : Account). serveOf t z (requestOf work) .charge) (sym (bookOf-account s n there))
 
   serve-said : {B count : ℕ} {table : Table} {modes : ℕ → Mode} → Writable B (s .run) → Keeps B count table modes (s .run) → Narrow (table n) → Fits
       work (table n) →
@@ -82,7 +76,7 @@ module _ (t : Tariff) (s : State) (w : World) (a : Agrees w s) (n : ℕ) (there 
       (λ (z : Account).
       let after = serveOf t z (requestOf work) .account in
       Follows (update (s .score) n (after .score)) (serve t n work w) (Store.serve (after .mode) n work (s .run)))
-      (sym account-said)
+      (sym (bookOf-account s n there))
       (serve-follows b a n there (table n) (v .holds n there′ .content) (v .neat n there′) narrow work fits number t)
 
 module _ {B count : ℕ} {table : Table} {modes : ℕ → Mode} (t : Tariff) (s : State) (w : World) (a : Agrees w s) where

@@ -11,7 +11,7 @@ use Rattle.laws.specs.Update.{update, update-same, update-other}
 use Rattle.account.specs.declared.Mode.{Mode}
 use Rattle.store.specs.Run.{Run}
 use Rattle.flash_rows.specs.Row.{noRow}
-use Rattle.flash_rows.specs.Step.{names, scored}
+use Rattle.flash_rows.specs.Step.{names, scored, score-scored}
 use Rattle.flash_rows.specs.declared.Row.{Row}
 use Rattle.flash_allocate.specs.World.{World, world}
 use Rattle.flash_refines.specs.Store.Mirror.{rowAt, RowMode}
@@ -55,10 +55,6 @@ mode-scored score r = refl
 pages-scored : (score : ℕ) (r : Row) → scored score r .pages ≡ r .pages
 unfolding scored
 pages-scored score r = refl
-
-score-scored : (score : ℕ) (r : Row) → scored score r .score ≡ score
-unfolding scored
-score-scored score r = refl
 
 module _ {score : ℕ → ℕ} {w : World} {run : Run} (f : Follows score w run) (n : ℕ) (there : n < run .nodes) (new : ℕ) where
   abbrev rows′ : List Row

@@ -1,10 +1,10 @@
 -- `block::holds` meets its contract: the search is the definition's. Assumes nothing.
 use mathlib.Core.Path.{ap, ap₂, _∙_}
-use Prim.Native.Nat.{ℕ, _*_}
+use Prim.Native.Nat.{ℕ, _*_, _-_}
 use lib.Dec.{ltb}
 use borrow.Author.Needs.{needs}
+use Rattle.laws.specs.Loops.{firstFrom}
 use Rattle.flash_blocks.specs.Pages.{pagesOf}
-use Rattle.mount_blocks.specs.All.{firstIn}
 use Rattle.mount_blocks.specs.Rules.{numberedAt, firstBlank, holds}
 use Rattle.mount_blocks.proofs.block.holds.Statement.{statement}
 use Rattle.mount_blocks.proofs.block.holds.Tie as tie
@@ -25,7 +25,8 @@ returns : tie.Need-returns
 unfolding holds firstBlank
 returns c = let a = c .before .before .before .args in
     let e = c .before .first-blank .ensures .0 in
-    ap₂ ltb (c .first-numbered .ensures ∙ ap (λ (k : ℕ). firstIn (numberedAt (pagesOf (a .pool .now)) (a .number)) (32 * a .block) k) e) e
+    let from = 32 * a .block in
+    ap₂ ltb (c .first-numbered .ensures ∙ ap (λ (k : ℕ). firstFrom (numberedAt (pagesOf (a .pool .now)) (a .number)) (k - from) from) e) e
 
 pub holds-spec : {M : Type 1} → statement M
 holds-spec =

@@ -4,8 +4,8 @@ use mathlib.Core.Bool.{true, false}
 use Prim.Native.Nat.{_-_, _≤_}
 use native.Mathlib.Omega.{arith}
 use borrow.Author.Needs.{needs}
+use Rattle.laws.specs.Loops.{firstFrom, first-more, first-found, first-done}
 use Rattle.flash_blocks.specs.Pages.{pagesOf}
-use Rattle.mount_blocks.specs.All.{firstIn, in-more, in-found, in-done}
 use Rattle.mount_blocks.specs.Rules.{blankAt}
 use Rattle.mount_blocks.proofs.Laws.{blank-at}
 use Rattle.mount_blocks.proofs.page.first_blank.Statement.{statement}
@@ -13,7 +13,7 @@ use Rattle.mount_blocks.proofs.page.first_blank.Tie as tie
 
 abbrev Inv-loop : tie.InvT-loop
 Inv-loop pool from to page₀ page = ((from ≤ page) × (page ≤ to)) ×
-    (firstIn (blankAt (pagesOf pool)) page to ≡ firstIn (blankAt (pagesOf pool)) from to)
+    (firstFrom (blankAt (pagesOf pool)) (to - page) page ≡ firstFrom (blankAt (pagesOf pool)) (to - from) from)
 
 abbrev μ-loop : tie.MeasureT-loop
 μ-loop pool from to page₀ page = to - page
@@ -28,7 +28,7 @@ returns : tie.Need-returns Inv-loop μ-loop
 returns c = let a = c .before .before .before .before .before .args in
     let l = c .before .before .before .loop in
     let ps = pagesOf (a .pool .now) in (
-      in-found (blankAt ps) (a .to) (l .page) (c .before .before .loop-test .taken)
+      first-found (blankAt ps) (a .to) (l .page) (c .before .before .loop-test .taken)
           (blank-at ps (l .page) true (sym (c .before .is-blank .ensures) ∙ c .if1 .taken)) ∙ l .inv .1,
       omega arith,
       omega arith,
@@ -45,14 +45,14 @@ loop-again c = let a = c .before .before .before .before .before .args in
     let l = c .before .before .before .loop in
     let ps = pagesOf (a .pool .now) in (
       omega arith,
-      in-more (blankAt ps) (a .to) (l .page) (c .before .before .loop-test .taken)
+      first-more (blankAt ps) (a .to) (l .page) (c .before .before .loop-test .taken)
           (blank-at ps (l .page) false (sym (c .before .is-blank .ensures) ∙ c .if1 .left)) ∙ l .inv .1,
     )
 
 returns-2 : tie.Need-returns-2 Inv-loop μ-loop
 returns-2 c = let a = c .before .before .before .args in
     let l = c .before .loop in
-    (in-done (blankAt (pagesOf (a .pool .now))) (a .to) (l .page) (c .loop-test .left) ∙ l .inv .1, omega arith, omega arith)
+    (first-done (blankAt (pagesOf (a .pool .now))) (a .to) (l .page) (c .loop-test .left) ∙ l .inv .1, omega arith, omega arith)
 
 pub first-blank-spec : {M : Type 1} → statement M
 first-blank-spec =

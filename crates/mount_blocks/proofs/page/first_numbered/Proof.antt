@@ -3,8 +3,8 @@ use mathlib.Core.Path.{_≡_, refl, _∙_}
 use Prim.Native.Nat.{_-_, _≤_}
 use native.Mathlib.Omega.{arith}
 use borrow.Author.Needs.{needs}
+use Rattle.laws.specs.Loops.{firstFrom, first-more, first-found, first-done}
 use Rattle.flash_blocks.specs.Pages.{pagesOf}
-use Rattle.mount_blocks.specs.All.{firstIn, in-more, in-found, in-done}
 use Rattle.mount_blocks.specs.Rules.{numberedAt}
 use Rattle.mount_blocks.proofs.Laws.{numbered-at, other-at}
 use Rattle.mount_blocks.proofs.page.first_numbered.Statement.{statement}
@@ -12,7 +12,7 @@ use Rattle.mount_blocks.proofs.page.first_numbered.Tie as tie
 
 abbrev Inv-loop : tie.InvT-loop
 Inv-loop pool from to number page₀ page = ((from ≤ page) × (page ≤ to)) ×
-    (firstIn (numberedAt (pagesOf pool) number) page to ≡ firstIn (numberedAt (pagesOf pool) number) from to)
+    (firstFrom (numberedAt (pagesOf pool) number) (to - page) page ≡ firstFrom (numberedAt (pagesOf pool) number) (to - from) from)
 
 abbrev μ-loop : tie.MeasureT-loop
 μ-loop pool from to number page₀ page = to - page
@@ -33,7 +33,7 @@ returns c =
     let l = c3 .loop in
     let s = c1 .sequence-on in
     let ps = pagesOf (a .pool .now) in
-    in-found (numberedAt ps (a .number)) (a .to) (l .page) (c2 .loop-test .taken)
+    first-found (numberedAt ps (a .number)) (a .to) (l .page) (c2 .loop-test .taken)
     (numbered-at ps (l .page) (a .number) (s .result) (s .ensures) (c .if1 .taken)) ∙ l .inv .1
 
 add-page : tie.Need-add-page Inv-loop μ-loop
@@ -48,14 +48,14 @@ loop-again c = let a = c .before .before .before .before .before .args in
     let s = c .before .sequence-on in
     let ps = pagesOf (a .pool .now) in (
       omega arith,
-      in-more (numberedAt ps (a .number)) (a .to) (l .page) (c .before .before .loop-test .taken)
+      first-more (numberedAt ps (a .number)) (a .to) (l .page) (c .before .before .loop-test .taken)
           (other-at ps (l .page) (a .number) (s .result) (s .ensures) (c .if1 .left)) ∙ l .inv .1,
     )
 
 returns-2 : tie.Need-returns-2 Inv-loop μ-loop
 returns-2 c = let a = c .before .before .before .args in
     let l = c .before .loop in
-    in-done (numberedAt (pagesOf (a .pool .now)) (a .number)) (a .to) (l .page) (c .loop-test .left) ∙ l .inv .1
+    first-done (numberedAt (pagesOf (a .pool .now)) (a .number)) (a .to) (l .page) (c .loop-test .left) ∙ l .inv .1
 
 pub first-numbered-spec : {M : Type 1} → statement M
 first-numbered-spec =

@@ -4,8 +4,8 @@ use mathlib.Core.Bool.{true, false}
 use Prim.Native.Nat.{_-_, _≤_}
 use native.Mathlib.Omega.{arith}
 use borrow.Author.Needs.{needs}
+use Rattle.laws.specs.Loops.{firstFrom, first-more, first-found, first-done}
 use Rattle.flash_blocks.specs.Pages.{pagesOf}
-use Rattle.mount_blocks.specs.All.{firstIn, in-more, in-found, in-done}
 use Rattle.mount_blocks.specs.Rules.{writtenAt}
 use Rattle.mount_blocks.proofs.Laws.{written-at}
 use Rattle.mount_blocks.proofs.page.first_written.Statement.{statement}
@@ -13,7 +13,7 @@ use Rattle.mount_blocks.proofs.page.first_written.Tie as tie
 
 abbrev Inv-loop : tie.InvT-loop
 Inv-loop pool from to page₀ page = ((from ≤ page) × (page ≤ to)) ×
-    (firstIn (writtenAt (pagesOf pool)) page to ≡ firstIn (writtenAt (pagesOf pool)) from to)
+    (firstFrom (writtenAt (pagesOf pool)) (to - page) page ≡ firstFrom (writtenAt (pagesOf pool)) (to - from) from)
 
 abbrev μ-loop : tie.MeasureT-loop
 μ-loop pool from to page₀ page = to - page
@@ -35,7 +35,7 @@ loop-again c = let a = c .before .before .before .before .before .args in
     let l = c .before .before .before .loop in
     let ps = pagesOf (a .pool .now) in (
       omega arith,
-      in-more (writtenAt ps) (a .to) (l .page) (c .before .before .loop-test .taken)
+      first-more (writtenAt ps) (a .to) (l .page) (c .before .before .loop-test .taken)
           (written-at ps (l .page) true (sym (c .before .is-blank .ensures) ∙ c .if1 .taken)) ∙ l .inv .1,
     )
 
@@ -48,13 +48,13 @@ returns c =
     let a = c5 .args in
     let l = c3 .loop in
     let ps = pagesOf (a .pool .now) in
-    in-found (writtenAt ps) (a .to) (l .page) (c2 .loop-test .taken)
+    first-found (writtenAt ps) (a .to) (l .page) (c2 .loop-test .taken)
     (written-at ps (l .page) false (sym (c1 .is-blank .ensures) ∙ c .if1 .left)) ∙ l .inv .1
 
 returns-2 : tie.Need-returns-2 Inv-loop μ-loop
 returns-2 c = let a = c .before .before .before .args in
     let l = c .before .loop in
-    in-done (writtenAt (pagesOf (a .pool .now))) (a .to) (l .page) (c .loop-test .left) ∙ l .inv .1
+    first-done (writtenAt (pagesOf (a .pool .now))) (a .to) (l .page) (c .loop-test .left) ∙ l .inv .1
 
 pub first-written-spec : {M : Type 1} → statement M
 first-written-spec =

@@ -3,8 +3,8 @@ use mathlib.Core.Path.{_≡_, sym, _∙_}
 use Prim.Native.Nat.{_-_, _≤_}
 use native.Mathlib.Omega.{arith}
 use borrow.Author.Needs.{needs}
+use Rattle.laws.specs.Loops.{allFrom, all-begin, all-more, all-stop, all-done}
 use Rattle.flash_blocks.specs.Pages.{pagesOf}
-use Rattle.mount_blocks.specs.All.{allFrom, all-begin, all-more, all-stop, all-done}
 use Rattle.mount_blocks.specs.Rules.{blockPasses}
 use Rattle.mount_blocks.proofs.rules.each_passes.Statement.{statement}
 use Rattle.mount_blocks.proofs.rules.each_passes.Tie as tie

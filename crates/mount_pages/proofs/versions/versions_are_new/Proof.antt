@@ -3,8 +3,8 @@ use mathlib.Core.Path.{_≡_, sym, _∙_}
 use Prim.Native.Nat.{_-_, _≤_}
 use native.Mathlib.Omega.{arith}
 use borrow.Author.Needs.{needs}
+use Rattle.laws.specs.Loops.{allFrom, all-begin, all-more, all-stop, all-done}
 use Rattle.flash_blocks.specs.Pages.{pagesOf}
-use Rattle.mount_blocks.specs.All.{allFrom, all-begin, all-more, all-stop, all-done}
 use Rattle.mount_sequences.specs.Row.{row}
 use Rattle.mount_pages.specs.Versions.{pageApart, pagesApart}
 use Rattle.mount_pages.proofs.versions.versions_are_new.Statement.{statement}

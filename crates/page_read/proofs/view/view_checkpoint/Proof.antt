@@ -10,7 +10,8 @@ use borrow.Author.Needs.{needs}
 use Rattle.wire.specs.Field.{payloadAt}
 use Rattle.page.specs.Decode.{found, taken, mostScores}
 use Rattle.page.specs.Tags.{only-13}
-use Rattle.page_read.specs.Payload.{payload-empty, found-true, taken-some}
+use Rattle.page.specs.ReadBack.{taken-found}
+use Rattle.page_read.specs.Payload.{payload-empty, found-true}
 use Rattle.page_read.specs.Steps.{checkpoint-is}
 use Rattle.page_read.proofs.view.view_checkpoint.Statement.{statement}
 use Rattle.page_read.proofs.view.view_checkpoint.Tie as tie
@@ -68,7 +69,7 @@ returns-2 c = let b = c .before .before .before .before .before .args .page .now
     let f : found t ≡ true = found-true t (omega arith) in
     c .view-scores2 .ensures ∙
     checkpoint-is (c .before .before .before .before .before .args .sequence) t b 42 50
-    (c .before .count-scores2 .result) (omega (arith, taken-some t (omega arith))) (sym (ap mostScores f))
+    (c .before .count-scores2 .result) (omega (arith, taken-found t (omega arith))) (sym (ap mostScores f))
     (c .before .count-scores2 .ensures .0)
 
 pub view-checkpoint-spec : {M : Type 1} → statement M

@@ -11,8 +11,9 @@ use borrow.Author.Needs.{needs}
 use Rattle.laws.specs.BigEndian.{numberAt}
 use Rattle.wire.specs.Field.{payloadAt}
 use Rattle.page.specs.Decode.{sealedAt, taken, shapeOfNumber, pairsIn}
+use Rattle.page.specs.ReadBack.{taken-found}
 use Rattle.page_read.specs.declared.view.PageView.the-variants.{NodePage}
-use Rattle.page_read.specs.Payload.{found-true, found-false, taken-some, node-short}
+use Rattle.page_read.specs.Payload.{found-true, found-false, node-short}
 use Rattle.page_read.specs.Steps.{node-none, node-other, node-unsealed, node-sealed}
 use Rattle.page_read.proofs.view.view_node.Statement.{statement}
 use Rattle.page_read.proofs.view.view_node.Tie as tie
@@ -71,7 +72,7 @@ returns-3 c =
     let q = c8 .payload .ensures in
     let p = payloadAt b 7 0x11 in
     let l : 1 ≤ length p = omega (arith, ap length q) in
-    let e : 7 + taken p ≡ 10 + length (c8 .payload .result .now) = omega (arith, taken-some p l, ap length q) in
+    let e : 7 + taken p ≡ 10 + length (c8 .payload .result .now) = omega (arith, taken-found p l, ap length q) in
     rw (c1 .read16 .ensures .is, c .shape-of .ensures)
     (ap (λ (x : List ℕ). NodePage s (numberAt 2 x 0) (shapeOfNumber (getD x 2 0)) (pairsIn x)) q ∙
     node-sealed s p b (found-true p l) (ap is-a-shape (sym q) ∙ sym (c5 .is-shape .ensures) ∙ c4 .if2 .taken)
@@ -88,7 +89,7 @@ returns-4 c =
     let q = c6 .payload .ensures in
     let p = payloadAt b 7 0x11 in
     let l : 1 ≤ length p = omega (arith, ap length q) in
-    let e : 7 + taken p ≡ 10 + length (c6 .payload .result .now) = omega (arith, taken-some p l, ap length q) in
+    let e : 7 + taken p ≡ 10 + length (c6 .payload .result .now) = omega (arith, taken-found p l, ap length q) in
     node-unsealed (c8 .args .sequence) p b (found-true p l) (ap is-a-shape (sym q) ∙ sym (c3 .is-shape .ensures) ∙ c2 .if2 .taken)
     (ap (sealedAt b) e ∙ sym (c1 .is-sealed .ensures) ∙ c .if3 .left)
 

@@ -12,11 +12,13 @@ use Rattle.laws.specs.BigEndian.{number}
 use Rattle.wire.specs.Field.{payloadAt}
 use Rattle.page.specs.Decode.{sealedAt, taken, found, mostScores, decodeCounted}
 use Rattle.page.specs.Tags.{only-15}
+use Rattle.page.specs.ReadBack.{taken-found}
+use Rattle.page.specs.Exact.{found-given}
 use Rattle.page_read.specs.declared.view.Nodes.{Nodes}
 use Rattle.page_read.specs.declared.view.Nodes.the-variants.{Count}
 use Rattle.page_read.specs.declared.view.PageView.the-variants.{Checkpoint}
-use Rattle.page_read.specs.Payload.{payload-empty, found-true, taken-some, number-whole}
-use Rattle.page_read.specs.Steps.{scores-none, scores-unfilled, scores-unsealed, scores-sealed, given-read, nodes-none, nodes-some}
+use Rattle.page_read.specs.Payload.{payload-empty, found-true, number-whole}
+use Rattle.page_read.specs.Steps.{scores-none, scores-unfilled, scores-unsealed, scores-sealed, nodes-none, nodes-some}
 use Rattle.page_read.proofs.view.view_scores.Statement.{statement}
 use Rattle.page_read.proofs.view.view_scores.Tie as tie
 
@@ -68,7 +70,7 @@ returns-3 c =
     let m : (found count || eqb (a .n) (mostScores (found t))) ≡ true =
     ap (λ (x : Bool). x || eqb (a .n) (mostScores (found t))) f ∙ eq-eqb (a .n) (mostScores (found t)) (c2 .if3 .left ∙ c7 .pre .limit) in
     let e : a .at + 9 * a .n ≡ a .at + 9 * a .n + taken count = omega (arith, ap taken z) in
-    ap₂ (λ (x : Bool) (y : Nodes). Checkpoint (a .sequence) x (a .n) y) (c7 .pre .tariff ∙ given-read t) (nodes-none count f) ∙
+    ap₂ (λ (x : Bool) (y : Nodes). Checkpoint (a .sequence) x (a .n) y) (c7 .pre .tariff ∙ found-given t) (nodes-none count f) ∙
     scores-sealed (a .sequence) t (a .at) (a .n) count b (c5 .if1 .left) m (ap (sealedAt b) (sym e) ∙ sym (c1 .is-sealed .ensures) ∙ c .if4 .taken)
 
 returns-4 : tie.Need-returns-4
@@ -111,12 +113,12 @@ returns-5 c = let a = c .before .before .before .before .before .before .before 
     let l : 1 ≤ length count = omega arith in
     let f : found count ≡ true = found-true count l in
     let m : (found count || eqb (a .n) (mostScores (found t))) ≡ true = ap (λ (x : Bool). x || eqb (a .n) (mostScores (found t))) f in
-    let e : a .at + 9 * a .n + 5 ≡ a .at + 9 * a .n + taken count = omega (arith, taken-some count l) in
+    let e : a .at + 9 * a .n + 5 ≡ a .at + 9 * a .n + taken count = omega (arith, taken-found count l) in
     let v : c .read16 .result ≡ number count = c .read16 .ensures .is ∙ number-whole
     (c .before .before .before .before .payload .result .now) 2 (c .before .before .before .if2 .left) ∙ ap number
     q in
     ap₂ (λ (x : Bool) (y : Nodes). Checkpoint (a .sequence) x (a .n) y)
-    (c .before .before .before .before .before .before .before .pre .tariff ∙ given-read t)
+    (c .before .before .before .before .before .before .before .pre .tariff ∙ found-given t)
     (ap Count v ∙ nodes-some count f) ∙
     scores-sealed (a .sequence) t (a .at) (a .n) count b (c .before .before .before .before .before .if1 .left) m
     (ap (sealedAt b) (sym e) ∙ sym (c .before .before .is-sealed2 .ensures) ∙ c .before .if5 .taken)
@@ -131,7 +133,7 @@ returns-6 c = let a = c .before .before .before .before .before .before .args in
     let two : length count ≡ 2 = ap length (sym q) ∙ c .before .before .if2 .left in
     let l : 1 ≤ length count = omega arith in
     let m : (found count || eqb (a .n) (mostScores (found t))) ≡ true = ap (λ (x : Bool). x || eqb (a .n) (mostScores (found t))) (found-true count l) in
-    let e : a .at + 9 * a .n + 5 ≡ a .at + 9 * a .n + taken count = omega (arith, taken-some count l) in
+    let e : a .at + 9 * a .n + 5 ≡ a .at + 9 * a .n + taken count = omega (arith, taken-found count l) in
     scores-unsealed (a .sequence) t (a .at) (a .n) count b (c .before .before .before .before .if1 .left) m
     (ap (sealedAt b) (sym e) ∙ sym (c .before .is-sealed2 .ensures) ∙ c .if5 .left)
 
