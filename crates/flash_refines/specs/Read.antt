@@ -1,6 +1,6 @@
 pub mod EntriesRead
 pub mod PageRead
-pub mod Stamps
+pub mod Sequences
 pub mod Lies
 pub mod SlotOrder
 pub mod NodePieces

@@ -62,6 +62,13 @@ firstScores = 50
 abbrev pub otherScores : ℕ
 otherScores = 54
 
+-- Fields begin behind the 7 bytes of the sequence number; the first page's scores behind the 35 of the tariff.
+abbrev pub fieldsAt : ℕ
+fieldsAt = 7
+
+abbrev pub firstScoresAt : ℕ
+firstScoresAt = fieldsAt + 35
+
 abbrev pub scoresLess : ℕ
 scoresLess = otherScores - firstScores
 

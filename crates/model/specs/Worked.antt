@@ -215,14 +215,14 @@ unfolding traced leftOf lawsUpdate.update lawsBigEndian.numberAt lawsLay.lay law
     modelMount.stateOf modelMount.threePages modelMount.scoresBelow modelMount.treeSound modelMount.mountCells modelPrepare.prepared
 first-trace = refl
 
--- THE SECOND TRACE: "tariff 0 0 0, 0 0 0, 1 1", keys 0 to 24: the stamps of the pages, how the nodes are filled, and page 0.
+-- THE SECOND TRACE: "tariff 0 0 0, 0 0 0, 1 1", keys 0 to 24: the sequences of the pages, how the nodes are filled, and page 0.
 pub record Second : Type 0 where
-  pub stamps : List ℕ
+  pub sequences : List ℕ
   pub sizes : List ℕ
   pub first : List ℕ
 
 unfoldable pub second : Left → Second
-second l = record { stamps = map sequence (l .pages); sizes = l .sizes; first = firstOf (l .pages) }
+second l = record { sequences = map sequence (l .pages); sizes = l .sizes; first = firstOf (l .pages) }
   where
     firstOf : List Page → List ℕ
     firstOf [] = []
@@ -230,7 +230,7 @@ second l = record { stamps = map sequence (l .pages); sizes = l .sizes; first = 
 
 pub second-trace :
     second (leftOf (tariffOf 0 0 0 0 0 0 1 1) (puts 25)) ≡
-    record { stamps = 2 ∷ 3 ∷ 4 ∷ 7 ∷ 9 ∷ 10 ∷ []; sizes = 1 ∷ 12 ∷ 13 ∷ []; first = 0x10 ∷ 0x00 ∷ 0x04 ∷ 0x00 ∷ 0x00 ∷ 0x00 ∷ 0x02 ∷ 0x12 ∷ 0x00 ∷ 0x0F ∷ 0x00 ∷ 0x00 ∷ 0x00 ∷ 0x00 ∷ 0x00 ∷ 0x01 ∷ 0x03 ∷ 0x00 ∷ 0x00 ∷ 0x00 ∷ 0x00 ∷ 0xFF ∷ 0xFF ∷ 0xFF ∷ 0xFF ∷ 0x1F ∷ 0x00 ∷ 0x04 ∷ 0x0E ∷ 0x7A ∷ 0x04 ∷ 0x38 ∷ [] }
+    record { sequences = 2 ∷ 3 ∷ 4 ∷ 7 ∷ 9 ∷ 10 ∷ []; sizes = 1 ∷ 12 ∷ 13 ∷ []; first = 0x10 ∷ 0x00 ∷ 0x04 ∷ 0x00 ∷ 0x00 ∷ 0x00 ∷ 0x02 ∷ 0x12 ∷ 0x00 ∷ 0x0F ∷ 0x00 ∷ 0x00 ∷ 0x00 ∷ 0x00 ∷ 0x00 ∷ 0x01 ∷ 0x03 ∷ 0x00 ∷ 0x00 ∷ 0x00 ∷ 0x00 ∷ 0xFF ∷ 0xFF ∷ 0xFF ∷ 0xFF ∷ 0x1F ∷ 0x00 ∷ 0x04 ∷ 0x0E ∷ 0x7A ∷ 0x04 ∷ 0x38 ∷ [] }
 unfolding second leftOf lawsUpdate.update lawsBigEndian.numberAt lawsLay.lay lawsLay.part pairsPairs.lookup pairsPairs.insert pairsPairs.delete
     pairsPairs.range pairsPairs.hasAbove pairsPairs.Within nodeReplay.redo nodeReplay.redoPiece nodeReplay.replayFrom nodeReplay.replay
     nodeHalves.lowerHalf nodeHalves.upperHalf nodeHalves.middleKey nodeAscends.ascends nodeSearch.place accountServe.serveOf accountRange.withinRange

@@ -1,6 +1,5 @@
 -- The scores of the checkpoint taken into the rows of their nodes (document 01: the work table "holds, while a batch runs, the mode, the
 -- score and the pages of each node"), and "scores below the limit". Assumes nothing.
-use mathlib.Core.Bool.{Bool}
 use mathlib.Core.List.{List}
 use Prim.Native.Nat.{ℕ}
 use lib.Dec.{ltb}
@@ -27,7 +26,3 @@ takePage since nodes b rows = choose (ltb (numberOf b) since) rows (takeScores n
 
 unfoldable pub takePages : List (List ℕ) → ℕ → ℕ → ℕ → List Row → List Row
 takePages ps n since nodes rows = steps (λ q. takePage since nodes (pageAt ps q)) n 0 rows
-
--- Whether a node's score is below a limit.
-unfoldable pub isBelow : ℕ → List Row → ℕ → Bool
-isBelow limit rows n = ltb (getD rows n noRow .score) limit

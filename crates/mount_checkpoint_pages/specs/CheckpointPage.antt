@@ -12,6 +12,7 @@ use Rattle.wire.specs.Field.{payloadAt}
 use Rattle.page.specs.Decode.{run, found, taken, scoreOk, mostScores}
 use Rattle.mount_checkpoint_pages.specs.declared.checkpoint_page.Scores.{Scores}
 use Rattle.mount_checkpoint_pages.specs.declared.checkpoint_page.CheckpointPage.{CheckpointPage}
+use Rattle.layout.specs.Layout.{firstScoresAt}
 
 -- The sequence number of a page; 0 of a blank one.
 abbrev pub numberOf : List ℕ → ℕ
@@ -34,7 +35,7 @@ countPart b = payloadAt b (scoresFrom b + 9 * scoresOn b) 0x15
 pub record Standing (b : List ℕ) (r : Scores) : Type 0 where
   pub from : r .from ≡ scoresFrom b
   pub count : r .count ≡ scoresOn b
-  pub near : r .from ≤ 42
+  pub near : r .from ≤ firstScoresAt
   pub few : r .count ≤ 54
 
 -- The page as a checkpoint page of the checkpoint; a page without a node count adds none.

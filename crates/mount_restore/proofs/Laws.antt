@@ -16,10 +16,11 @@ use Rattle.flash_rows.specs.Row.{rowsOf}
 use Rattle.flash_rows.specs.declared.Row.{Row}
 use Rattle.flash_allocate.specs.declared.state.State.{State}
 use Rattle.mount_rows.specs.Fill.{filled, withinThree, Filled}
-use Rattle.mount_checkpoint.specs.Scores.{takePages, isBelow}
+use Rattle.mount_checkpoint.specs.Scores.{takePages}
 use Rattle.flash_read.specs.NodeTable.{tableOf}
 use Rattle.mount_restore.specs.Table.{emptyRows, scoredRows, restoredRows, Restored}
 use Rattle.mount_restore.specs.Questions.{rowsPass, rowsFor, treePasses, refusalOf, Judged, Asked}
+use Rattle.mount_restore.specs.Scores.{isBelow}
 
 -- The rows: an empty table, the scores, the pages.
 pub rows-restored : (blocks nodes since : ℕ) (pages : List (List ℕ)) (table zeros scored : List ℕ) (after : List Row) (answer : Bool) →

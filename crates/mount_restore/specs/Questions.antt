@@ -15,9 +15,9 @@ use Rattle.tree.specs.Sound.{sound}
 use Rattle.flash_rows.specs.declared.Row.{Row}
 use Rattle.flash_allocate.specs.declared.state.State.{State}
 use Rattle.mount_rows.specs.Fill.{withinThree}
-use Rattle.mount_checkpoint.specs.Scores.{isBelow}
 use Rattle.flash_read.specs.NodeTable.{tableOf}
 use Rattle.mount_restore.specs.Table.{restoredRows}
+use Rattle.mount_restore.specs.Scores.{isBelow}
 
 -- What is asked once the rows are restored: tariff, scores, tree.
 unfoldable pub rowsPass : Tariff → State → List (List ℕ) → List Row → Bool

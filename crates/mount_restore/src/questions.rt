@@ -6,12 +6,12 @@ ghost use Rattle.layout.specs.Layout.{blockBytes, fewestBlocks, mostBlocks, nod
 ghost use Rattle.flash_rows.specs.Row.{rowsOf};
 ghost use Rattle.flash_blocks.specs.Pages.{pagesOf};
 ghost use Rattle.mount_restore.specs.Questions.{rowsPass, Judged, Asked};
+use super::scores::scores_below;
 use super::table::restore_rows;
 use account::Tariff;
 use flash_allocate::state::State;
 use layout::LAST_SEQUENCE;
 use layout::node_limit;
-use mount_checkpoint::scores::scores_below;
 use mount_tree::is_sound;
 
 // Whether restored rows pass: the tariff in range, the scores below its limit, the tree sound.

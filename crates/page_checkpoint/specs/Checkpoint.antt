@@ -19,6 +19,7 @@ use Rattle.page.specs.ReadBack.{map-back}
 use Rattle.page_write.specs.Chunks.{chunks, every-chunk, length-chunk-fields}
 use Rattle.page_write.specs.Laid.{numbered-laid}
 use Rattle.page_write.specs.Pages.{bodyOf}
+use Rattle.layout.specs.Layout.{firstScoresAt}
 
 -- The score of a node.
 abbrev pub scored : ℕ → ℕ → Score
@@ -119,7 +120,7 @@ length-checkpointBody s first t n records last count at end b h ea ee =
 -- The tariff, the scores and the count one behind another, behind field 10.
 pub checkpoint-laid :
     (p : List ℕ) (s : ℕ) (first : Bool) (t : Tariff) (n : ℕ) (records : List ℕ) (last : Bool) (count at end : ℕ) →
-    Bytes records → 6 * n ≤ length records → 42 ≤ length p →
+    Bytes records → 6 * n ≤ length records → firstScoresAt ≤ length p →
     at ≡ 7 + length (fieldIf 0x13 tariffBytes (onlyIf first t)) → end ≡ at + 9 * n → end ≤ length p →
     lay (lay (lay (lay p 0 (field 0x10 (bigEndian 4 s))) 7 (fieldIf 0x13 tariffBytes (onlyIf first t))) at (fields 0x14 (chunks 6 n records 0))) end (fieldIf 0x15 countBytes (onlyIf last count)) ≡
     lay p 0 (bodyOf (recordsPage s first t n records last count))

@@ -2,7 +2,7 @@
 ghost use mathlib.Core.Path.{_≡_};
 ghost use Prim.Native.Nat.{_+_, _*_, _≤_, _<_};
 ghost use lib.ListN.{length};
-ghost use Rattle.layout.specs.Layout.{otherScores};
+ghost use Rattle.layout.specs.Layout.{otherScores, firstScoresAt};
 ghost use Rattle.wire.specs.Field.{payloadAt};
 ghost use Rattle.page.specs.Decode.{tariffOf};
 ghost use Rattle.page_read.specs.Value.{scoreValue, costsAt};
@@ -20,7 +20,7 @@ pub struct ScoreValue {
 
 // The score at an index of a checkpoint page whose scores begin at a place; zeros where there is none.
 pub fn score_at(page: &[u8], from: usize, i: usize) -> ScoreValue
-    requires { ⌜ (from ≤ 42) × (i < otherScores) ⌝ }
+    requires { ⌜ (from ≤ firstScoresAt) × (i < otherScores) ⌝ }
     ensures { λ r. ⌜ r ≡ scoreValue (payloadAt (now (page .entry)) (from + 9 * i) 0x14) ⌝ }
 {
     let p = payload(page, from + 9 * i, 0x14);

@@ -1,4 +1,4 @@
--- A number is in range where both tests pass: the second is asked where the first passed. Assumes nothing.
+-- `within` meets its contract. A number is in range where both tests pass: the second is asked where the first passed. Assumes nothing.
 use borrow.Author.Tests.{le-leb, lt-leb}
 use Rattle.account.specs.Range.{withinRange}
 use Rattle.account.proofs.within.Statement.{statement}

@@ -37,7 +37,7 @@ use Rattle.flash_refines.specs.Store.Mirror.{rowAt, test, RowMode}
 use Rattle.flash_refines.specs.Store.Follows.{Follows, Writable}
 use Rattle.flash_refines.specs.Read.EntriesRead.{buffer-redone}
 use Rattle.flash_refines.specs.Read.PageRead.{sequence-read, node-read}
-use Rattle.flash_refines.specs.Read.Stamps.{stampsTo, joined, length-stamps, gather-stamps, stamps-falling, stamps-one}
+use Rattle.flash_refines.specs.Read.Sequences.{sequencesTo, joined, length-sequences, gather-sequences, sequences-falling, sequences-one}
 use Rattle.flash_refines.specs.Read.Lies.{Lies, find-lies, placeOf, page-fits, block-below, place-below, image-here}
 use Rattle.flash_refines.specs.Read.SlotsInUse.{in-one}
 use Rattle.flash_refines.specs.Read.RowRedone.{replayFrom-append, Named, row-redone}
@@ -79,25 +79,25 @@ module _ {B : ℕ} {score : ℕ → ℕ} {w : World} {run : Run} (known : Writab
           }
 
   -- As many sequence numbers have pieces as the row has pages.
-  stamps : List ℕ
-  stamps = stampsTo (piecesOf (run .now) n) (run .now .last)
+  sequences : List ℕ
+  sequences = sequencesTo (piecesOf (run .now) n) (run .now .last)
 
-  pages-stamps : rowAt (w .rows) n .pages ≡ length stamps
-  unfolding stamps pages
-  pages-stamps = h .mirrors .rows .pages n inside ∙ sym (length-stamps (piecesOf (run .now) n) (run .now .last))
+  pages-sequences : rowAt (w .rows) n .pages ≡ length sequences
+  unfolding sequences pages
+  pages-sequences = h .mirrors .rows .pages n inside ∙ sym (length-sequences (piecesOf (run .now) n) (run .now .last))
 
-  stamps-few : length stamps ≤ 3
-  unfolding stamps pages
-  stamps-few = omega (arith, known .good .invariant .lean .each n l, length-stamps (piecesOf (run .now) n) (run .now .last))
+  sequences-few : length sequences ≤ 3
+  unfolding sequences pages
+  sequences-few = omega (arith, known .good .invariant .lean .each n l, length-sequences (piecesOf (run .now) n) (run .now .last))
 
   -- What the store says, by these numbers.
-  draft-stamps : draftOf (run .now) n ≡
-      replayFrom (replayFrom (unlinked []) (joined (piecesOf (run .now) n) stamps)) (piecesIn n (greatest (view (run .now)) n) (map entryItem (run .now .buffer)))
-  unfolding draftOf replay pieces stamps
-  draft-stamps =
+  draft-sequences : draftOf (run .now) n ≡
+      replayFrom (replayFrom (unlinked []) (joined (piecesOf (run .now) n) sequences)) (piecesIn n (greatest (view (run .now)) n) (map entryItem (run .now .buffer)))
+  unfolding draftOf replay pieces sequences
+  draft-sequences =
       let behind : List Piece = piecesIn n (greatest (view (run .now)) n) (map entryItem (run .now .buffer)) in
-      ap (λ (xs : List Piece). replayFrom (unlinked []) (xs ++ behind)) (gather-stamps (piecesOf (run .now) n) (run .now .last)) ∙
-      replayFrom-append (unlinked []) (joined (piecesOf (run .now) n) stamps) behind
+      ap (λ (xs : List Piece). replayFrom (unlinked []) (xs ++ behind)) (gather-sequences (piecesOf (run .now) n) (run .now .last)) ∙
+      replayFrom-append (unlinked []) (joined (piecesOf (run .now) n) sequences) behind
 
   -- LOG MODE: the pages, then the buffer
   module _ (inLog : RowMode Log (run .now) n) where
@@ -114,7 +114,7 @@ module _ {B : ℕ} {score : ℕ → ℕ} {w : World} {run : Run} (known : Writab
           named = c .named;
           tells =
               record {
-                number = ap (λ (b : List ℕ). number (payloadAt b 0 0x10)) here ∙ sequence-read (c .own) fits ∙ c .lies .at .stamp;
+                number = ap (λ (b : List ℕ). number (payloadAt b 0 0x10)) here ∙ sequence-read (c .own) fits ∙ c .lies .at .sequenced;
                 redo =
                     λ d.
                     ap (λ (u : ℕ). redoRun n u mostEntries (pageAt (w .pages) (placeOf (c .lies))) 7 d) (h .mirrors .rows .version n inside) ∙
@@ -125,7 +125,7 @@ module _ {B : ℕ} {score : ℕ → ℕ} {w : World} {run : Run} (known : Writab
         }
 
     pub log-content : logContent (w .pages) (w .state) (rowAt (w .rows) n) n ≡ draftOf (run .now) n
-    unfolding logContent stamps
+    unfolding logContent sequences
     log-content =
         let row = rowAt (w .rows) n in
         let f = piecesOf (run .now) n in
@@ -133,8 +133,8 @@ module _ {B : ℕ} {score : ℕ → ℕ} {w : World} {run : Run} (known : Writab
         ap (λ (u : ℕ). redoBuffer n u (w .state .buffer) (w .state .entries) done) (h .mirrors .rows .version n inside) ∙
         buffer-redone n (greatest (view (run .now)) n) (run .now .last) (h .buffer) (known .fits .last) (known .fits .entries) done ∙
         ap (λ (d : Draft). replayFrom d (piecesIn n (greatest (view (run .now)) n) (map entryItem (run .now .buffer))))
-        (row-redone (w .pages) row n f told stamps (stamps-falling f (run .now .last)) pages-stamps stamps-few (unlinked [])) ∙
-        sym draft-stamps
+        (row-redone (w .pages) row n f told sequences (sequences-falling f (run .now .last)) pages-sequences sequences-few (unlinked [])) ∙
+        sym draft-sequences
 
   -- DISK MODE: the node page alone
   module _ (onPage : OnPage (run .now) n) where
@@ -147,17 +147,17 @@ module _ {B : ℕ} {score : ℕ → ℕ} {w : World} {run : Run} (known : Writab
     pub own-page : PageFits (page version (whole n (onPage .node)))
     own-page = page-fits (find-lies version (run .now .blocks) (page version (whole n (onPage .node))) (onPage .page)) (known .fits .pages)
 
-    one-stamp : stamps ≡ version ∷ []
-    unfolding stamps
-    one-stamp =
-        stamps-one (piecesOf (run .now) n) version (run .now .last) (own-page .from) (known .good .invariant .fit .versions n) has-piece
+    one-sequence : sequences ≡ version ∷ []
+    unfolding sequences
+    one-sequence =
+        sequences-one (piecesOf (run .now) n) version (run .now .last) (own-page .from) (known .good .invariant .fit .versions n) has-piece
         (disk-other (known .good .versions) onPage)
 
     pub disk-draft : draftOf (run .now) n ≡ made (onPage .node)
     unfolding replayFrom redoPiece
     disk-draft =
-        draft-stamps ∙
-        rw (one-stamp, disk-own (known .good .versions) onPage, disk-buffer (known .good .versions) onPage)
+        draft-sequences ∙
+        rw (one-sequence, disk-own (known .good .versions) onPage, disk-buffer (known .good .versions) onPage)
 
     -- the page that its row names is the node page, whatever node stands there
     pub disk-page : nodePageAt (w .pages) (rowAt (w .rows) n .first) ≡ nodeOfPayload (payloadAt (image (page version (whole n (onPage .node)))) 7 0x11)
@@ -169,7 +169,7 @@ module _ {B : ℕ} {score : ℕ → ℕ} {w : World} {run : Run} (known : Writab
         let same : c .own ≡ page version (whole n (onPage .node)) = cc in
         in-one (λ x. nodeOfPayload (payloadAt (pageAt (w .pages) x) 7 0x11) ≡ nodeOfPayload (payloadAt (image (page version (whole n (onPage .node)))) 7 0x11))
         (ap (λ (b : List ℕ). nodeOfPayload (payloadAt b 7 0x11)) (image-here (h .mirrors .pages) (c .lies) ∙ ap image same))
-        (rowAt (w .rows) n) (c .named) (omega (arith, pages-stamps, ap length one-stamp))
+        (rowAt (w .rows) n) (c .named) (omega (arith, pages-sequences, ap length one-sequence))
 
     pub disk-content : Neat (onPage .node) → nodePageAt (w .pages) (rowAt (w .rows) n .first) ≡ made (onPage .node)
     disk-content neat = disk-page ∙ node-read version n (onPage .node) own-page neat

@@ -23,10 +23,10 @@ pub record In (b : List Page) (s : ℕ) (p : Page) : Type 0 where
   pub place : ℕ
   pub inside : place < length b
   pub here : getElem? b place ≡ some p
-  pub stamp : sequence p ≡ s
+  pub sequenced : sequence p ≡ s
 
 one-behind : {b : List Page} {s : ℕ} {p : Page} (x : Page) → In b s p → In (x ∷ b) s p
-one-behind x h = record { place = suc (h .place); inside = suc-le-suc (h .inside); here = h .here; stamp = h .stamp }
+one-behind x h = record { place = suc (h .place); inside = suc-le-suc (h .inside); here = h .here; sequenced = h .sequenced }
 
 pageIn-in : (s : ℕ) (b : List Page) (p : Page) → pageIn s b ≡ some p → In b s p
 pageIn-in s [] p e = absurd (let z : _≡_ {A = ℕ} 0 1 = cc in omega arith)
@@ -35,7 +35,7 @@ pageIn-in s (x ∷ b) p e = go (numbered s x) refl e (λ q. pageIn-in s b p q)
     go : (t : Bool) → numbered s x ≡ t → choose t (some x) (pageIn s b) ≡ some p → (pageIn s b ≡ some p → In b s p) → In (x ∷ b) s p
     go true q h r =
         let same = some-same h in
-        record { place = 0; inside = omega arith; here = h; stamp = ap sequence (sym same) ∙ eqb-true (sequence x) s q }
+        record { place = 0; inside = omega arith; here = h; sequenced = ap sequence (sym same) ∙ eqb-true (sequence x) s q }
     go false q h r = one-behind x (r h)
 
 -- The same in a pool: the number of its block, and its place there.

@@ -109,4 +109,4 @@ module _ {st : Store} {n : ℕ} (rules : VersionRules st) (o : OnPage st n) wher
       go (some p) e =
           let lies = find-lies s (st .blocks) p e in
           pieces-unsaid n (greatest (view st) n) p (none-lies (says (greatest (view st) n)) (omega (arith, unsaid)) lies)
-          (λ z. apart (sym (lies .at .stamp) ∙ z))
+          (λ z. apart (sym (lies .at .sequenced) ∙ z))

@@ -14,7 +14,7 @@ use Rattle.flash_rows.specs.Step.{names}
 use Rattle.flash_rows.specs.declared.Row.{Row}
 use Rattle.flash_read.specs.Slots.{slotAt, redoAt, redoTwo, redoThree}
 use Rattle.flash_read.specs.Content.{redoPages}
-use Rattle.flash_refines.specs.Read.Stamps.{joined, Falling, end, next}
+use Rattle.flash_refines.specs.Read.Sequences.{joined, Falling, end, next}
 use Rattle.flash_refines.specs.Read.SlotOrder.{Tells, two-redone, three-redone}
 use Rattle.flash_refines.specs.Read.SlotsInUse.{in-one, in-two, in-three}
 
@@ -45,20 +45,20 @@ module _ (pages : List (List ℕ)) (row : Row) (n : ℕ) (f : ℕ → List Piece
     abbrev Told : ℕ → ℕ → Type 0
     Told s x = Tells pages n (row .version) f s (slotAt pages x)
 
-    stamps-redone : {high : ℕ} (ss : List ℕ) → Falling f high ss → row .pages ≡ length ss → length ss ≤ 3 → (d : Draft) →
+    sequences-redone : {high : ℕ} (ss : List ℕ) → Falling f high ss → row .pages ≡ length ss → length ss ≤ 3 → (d : Draft) →
         redoBy (length ss) d ≡ replayFrom d (joined f ss)
     unfolding redoBy slotAt replayFrom
-    stamps-redone [] end e l d = refl
-    stamps-redone (s ∷ []) (next b has end) e l d =
+    sequences-redone [] end e l d = refl
+    sequences-redone (s ∷ []) (next b has end) e l d =
         let x = all s has in
         in-one (Told s) (x .tells) row (x .named) (omega arith) .redo d
-    stamps-redone (t ∷ s ∷ []) (next b₁ has₁ (next b₂ has₂ end)) e l d =
+    sequences-redone (t ∷ s ∷ []) (next b₁ has₁ (next b₂ has₂ end)) e l d =
         let x = all s has₂ in
         let y = all t has₁ in
         two-redone pages n (row .version) f s t b₂ (slotAt pages (row .first)) (slotAt pages (row .second))
         (in-two (Told s) (x .tells) row (x .named) (omega arith)) (in-two (Told t) (y .tells) row (y .named) (omega arith)) d ∙
         sym (replayFrom-append d (f s) (f t))
-    stamps-redone (u ∷ t ∷ s ∷ []) (next b₁ has₁ (next b₂ has₂ (next b₃ has₃ end))) e l d =
+    sequences-redone (u ∷ t ∷ s ∷ []) (next b₁ has₁ (next b₂ has₂ (next b₃ has₃ end))) e l d =
         let x = all s has₃ in
         let y = all t has₂ in
         let z = all u has₁ in
@@ -66,10 +66,10 @@ module _ (pages : List (List ℕ)) (row : Row) (n : ℕ) (f : ℕ → List Piece
         (in-three (Told s) (x .tells) row (x .named)) (in-three (Told t) (y .tells) row (y .named)) (in-three (Told u) (z .tells) row (z .named)) d ∙
         ap (λ (c : Draft). replayFrom c (f u)) (sym (replayFrom-append d (f s) (f t))) ∙
         sym (replayFrom-append d (f s ++ f t) (f u))
-    stamps-redone (u ∷ t ∷ s ∷ r ∷ ss) h e l d = absurd (omega arith)
+    sequences-redone (u ∷ t ∷ s ∷ r ∷ ss) h e l d = absurd (omega arith)
 
     -- THE PAGES OF A ROW
     pub row-redone : {high : ℕ} (ss : List ℕ) → Falling f high ss → row .pages ≡ length ss → length ss ≤ 3 → (d : Draft) →
         redoPages pages row n d ≡ replayFrom d (joined f ss)
     unfolding redoPages redoBy
-    row-redone ss h e l d = ap (λ (k : ℕ). redoBy k d) e ∙ stamps-redone ss h e l d
+    row-redone ss h e l d = ap (λ (k : ℕ). redoBy k d) e ∙ sequences-redone ss h e l d

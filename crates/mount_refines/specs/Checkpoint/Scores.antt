@@ -31,7 +31,7 @@ use Rattle.store_laws.specs.WrittenPages.{pagesIn}
 use Rattle.mount_checkpoint_pages.specs.CheckpointPage.{numberOf, scoresOn}
 use Rattle.mount_checkpoint.specs.Marks.{scoreAt}
 use Rattle.mount_checkpoint.specs.Find.{checkpointIn}
-use Rattle.mount_checkpoint.specs.Scores.{scoreTaken, takeScores, takePage, takePages, isBelow}
+use Rattle.mount_checkpoint.specs.Scores.{scoreTaken, takeScores, takePage, takePages}
 use Rattle.mount_checkpoint.specs.declared.find.Checkpoint.the-variants.{Complete}
 use Rattle.mount_refines.specs.Checkpoint.Collect.{gathered, sumCheckpointPages}
 use Rattle.mount_refines.specs.Checkpoint.Pool.{Judged, headers}
@@ -49,6 +49,7 @@ use Rattle.mount_refines.specs.Checkpoint.Ids.{
 }
 use Rattle.mount_refines.specs.Checkpoint.Marks.{scoreOn, scores-read}
 use Rattle.mount_refines.specs.Checkpoint.Found.{Spans, Completes, found-set, found-values, checkpoint-spans}
+use Rattle.mount_restore.specs.Scores.{isBelow}
 
 -- ---- what becomes of one row
 

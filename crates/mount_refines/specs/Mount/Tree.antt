@@ -30,7 +30,6 @@ use Rattle.mount_tree.specs.Verdict.{past-limit}
 use Rattle.mount_tree.specs.Unsound.{SameNeat, sound-neat}
 use Rattle.mount_rows.specs.Fill.{withinThree}
 use Rattle.flash_refines.specs.Store.Follows.{Follows, Writable}
-use Rattle.mount_checkpoint.specs.Scores.{isBelow}
 use Rattle.mount_refines.specs.Checkpoint.Pool.{last-is}
 use Rattle.mount_refines.specs.Checkpoint.Found.{found-set}
 use Rattle.mount_refines.specs.Checkpoint.Scores.{scores-below}
@@ -40,6 +39,7 @@ use Rattle.mount_restore.specs.Questions.{rowsPass, treePasses}
 use Rattle.mount_refines.specs.Mount.Known.{scoreFrom, Known, completes}
 use Rattle.mount_refines.specs.Mount.Rows.{rows-given}
 use Rattle.mount_refines.specs.Mount.AnyNode.{read-as}
+use Rattle.mount_restore.specs.Scores.{isBelow}
 
 -- The state that a batch begins with, its buffer all zeros.
 abbrev pub begun : ℕ → ℕ → Store → State

@@ -1,4 +1,4 @@
--- Here and there are the request's costs in the two modes, and the difference has its floor at 0. Assumes nothing.
+-- `Account::scored` meets its contract. Here and there are the request's costs in the two modes, and the difference has its floor at 0. Assumes nothing.
 use borrow.Author.Needs.{needs}
 use Rattle.account.proofs.Account.scored.Statement.{statement}
 use Rattle.account.proofs.Account.scored.Tie as tie

@@ -1,4 +1,4 @@
--- The score is compared with the limit T as the definition compares it; a score below the limit fits 32 bits. Assumes nothing.
+-- `Account::serve` meets its contract. The score is compared with T as the definition compares it; one below T fits 32 bits. Assumes nothing.
 use mathlib.Core.Path.{sym, _∙_}
 use borrow.Author.Needs.{needs}
 use Rattle.account.specs.Fair.{serve-switched, serve-stayed, serve-fair}

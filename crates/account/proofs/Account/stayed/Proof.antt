@@ -1,4 +1,4 @@
--- The charge is the request's cost in the account's own mode. Assumes nothing.
+-- `Account::stayed` meets its contract. The charge is the request's cost in the account's own mode. Assumes nothing.
 use borrow.Author.Needs.{needs}
 use Rattle.account.proofs.Account.stayed.Statement.{statement}
 use Rattle.account.proofs.Account.stayed.Tie as tie

@@ -1,4 +1,4 @@
--- Mode and charge are those of the other mode; a sum of two 32-bit numbers fits 64 bits. Assumes nothing.
+-- `Account::switched` meets its contract. Mode and charge are those of the other mode; a sum of two 32-bit numbers fits 64 bits. Assumes nothing.
 use borrow.Author.Needs.{needs}
 use Rattle.account.proofs.Account.switched.Statement.{statement}
 use Rattle.account.proofs.Account.switched.Tie as tie

@@ -1,4 +1,4 @@
--- The four numbers are asked in the definition's order; the first that is out of range answers. Assumes nothing.
+-- `Costs::in_range` meets its contract. The four numbers are asked in the definition's order; the first that is out of range answers. Assumes nothing.
 use borrow.Author.Needs.{needs}
 use Rattle.account.specs.Range.{costsInRange}
 use Rattle.account.proofs.Costs.in_range.Statement.{statement}

@@ -1,4 +1,4 @@
--- The log mode's costs are asked first, the disk mode's where those are in range. Assumes nothing.
+-- `Tariff::in_range` meets its contract. The log mode's costs are asked first, the disk mode's where those are in range. Assumes nothing.
 use borrow.Author.Needs.{needs}
 use Rattle.account.specs.Range.{inRange}
 use Rattle.account.proofs.Tariff.in_range.Statement.{statement}

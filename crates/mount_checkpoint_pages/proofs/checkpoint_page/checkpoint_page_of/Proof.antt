@@ -1,4 +1,4 @@
--- `checkpoint page::checkpoint_page_of` meets its contract: field 15 behind the scores has 2 bytes, or there is none. Assumes nothing.
+-- `checkpoint_page::checkpoint_page_of` meets its contract: field 15 behind the scores has 2 bytes, or there is none. Assumes nothing.
 use mathlib.Core.Path.{ap, _∙_}
 use Prim.Native.Nat.{_+_, _*_}
 use lib.ListN.{length}

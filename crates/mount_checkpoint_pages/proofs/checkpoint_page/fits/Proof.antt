@@ -1,4 +1,4 @@
--- `checkpoint page::fits` meets its contract: each test is the definition's. Assumes nothing.
+-- `checkpoint_page::fits` meets its contract: each test is the definition's. Assumes nothing.
 use borrow.Author.Needs.{needs}
 use Rattle.mount_checkpoint_pages.proofs.Laws.{fits-log, fits-node, fits-newest, fits-early, fits-inner}
 use Rattle.mount_checkpoint_pages.proofs.checkpoint_page.fits.Statement.{statement}

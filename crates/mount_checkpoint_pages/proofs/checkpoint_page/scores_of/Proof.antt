@@ -1,4 +1,4 @@
--- `checkpoint page::scores_of` meets its contract: field 13 has 32 bytes, or there is none and the scores begin in its place. Assumes nothing.
+-- `checkpoint_page::scores_of` meets its contract: field 13 has 32 bytes, or there is none and the scores begin in its place. Assumes nothing.
 use mathlib.Core.Path.{sym, ap, _∙_}
 use lib.ListN.{length}
 use borrow.Author.Needs.{needs}

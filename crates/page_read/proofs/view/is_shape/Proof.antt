@@ -1,4 +1,4 @@
--- `page_read::view::is_kind` meets its contract. The two tests are the definition's. Assumes nothing.
+-- `view::is_shape` meets its contract. The two tests are the definition's. Assumes nothing.
 use borrow.Author.Tests.{eq-eqb, ne-eqb}
 use Rattle.page_read.proofs.view.is_shape.Statement.{statement}
 use Rattle.page_read.proofs.view.is_shape.Tie as tie

@@ -1,4 +1,4 @@
--- `climb::split_upwards` meets its contract: the nodes done so far are those behind a place of the path. Assumes nothing.
+-- `split_upwards::split_upwards` meets its contract: the nodes done so far are those behind a place of the path. Assumes nothing.
 use mathlib.Core.Path.{_≡_, refl, sym, _∙_}
 use mathlib.Core.List.{List}
 use Prim.Native.Nat.{ℕ, _-_, _≤_}

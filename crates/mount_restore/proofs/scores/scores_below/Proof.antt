@@ -4,9 +4,9 @@ use Prim.Native.Nat.{_-_, _≤_}
 use native.Mathlib.Omega.{arith}
 use Rattle.laws.specs.Loops.{allFrom, all-begin, all-more, all-stop, all-done}
 use Rattle.flash_rows.specs.Row.{rowsOf}
-use Rattle.mount_checkpoint.specs.Scores.{isBelow}
-use Rattle.mount_checkpoint.proofs.scores.scores_below.Statement.{statement}
-use Rattle.mount_checkpoint.proofs.scores.scores_below.Tie as tie
+use Rattle.mount_restore.proofs.scores.scores_below.Statement.{statement}
+use Rattle.mount_restore.proofs.scores.scores_below.Tie as tie
+use Rattle.mount_restore.specs.Scores.{isBelow}
 
 abbrev Inv-loop : tie.InvT-loop
 Inv-loop table nodes limit n₀ n = (n ≤ nodes) × (allFrom (isBelow limit (rowsOf table))

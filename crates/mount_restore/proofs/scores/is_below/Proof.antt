@@ -1,9 +1,9 @@
 -- `scores::is_below` meets its contract: the row loaded is the node's. Assumes nothing.
 use mathlib.Core.Path.{refl}
 use borrow.Author.Needs.{needs}
-use Rattle.mount_checkpoint.specs.Scores.{isBelow}
-use Rattle.mount_checkpoint.proofs.scores.is_below.Statement.{statement}
-use Rattle.mount_checkpoint.proofs.scores.is_below.Tie as tie
+use Rattle.mount_restore.proofs.scores.is_below.Statement.{statement}
+use Rattle.mount_restore.proofs.scores.is_below.Tie as tie
+use Rattle.mount_restore.specs.Scores.{isBelow}
 
 read-row-requires : tie.Need-read-row-requires
 read-row-requires c κs = search needs
