@@ -1,5 +1,5 @@
 -- Every size and limit of document 01, named once. Assumes nothing.
-use Prim.Native.Nat.{ℕ, _-_, _*_}
+use Prim.Native.Nat.{ℕ, _+_, _-_, _*_}
 
 -- Pool: B blocks of 16,384 bytes, B from 4 to 64; a page has 512 bytes.
 abbrev pub pageBytes : ℕ
