@@ -65,7 +65,7 @@ module _ (f : Page → Bool) (bs : Blocks) where
       here p e false t = omega arith
       here p e true t =
           let at = find-lies s bs p e in
-          tally-here (λ p. f p && numbered s p) bs (at .number) (at .at .place) p (at .at .here) (rw (t, eq-eqb (sequence p) s (at .at .stamp)) refl)
+          tally-here (λ p. f p && numbered s p) bs (at .number) (at .at .place) p (at .at .here) (rw (t, eq-eqb (sequence p) s (at .at .sequenced)) refl)
 
       go : (o : Option Page) → find s bs ≡ o → bit (test f o) ≤ tally (λ p. f p && numbered s p) bs
       go none e = omega arith
