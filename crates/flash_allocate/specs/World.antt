@@ -48,3 +48,36 @@ pub record Made (poolLength tableLength : ℕ) (made right : World) : Type 0 whe
 -- The same of a pool and a table, as bytes.
 abbrev pub MadeIn : List ℕ → List ℕ → State → World → Type 0
 MadeIn pool table r right = Made (length pool) (length table) (worldIn pool table r) right
+
+-- How a step leaves a pool and a table of these lengths: the state before it, the world that it made, the world asked for.
+abbrev pub Leaves : Type 1
+Leaves = ℕ → ℕ → State → World → World → Type 0
+
+-- The same of a pool and a table, as bytes, and a state.
+abbrev pub LeftIn : Leaves → List ℕ → List ℕ → State → State → World → Type 0
+LeftIn step pool table before r right = step (length pool) (length table) before (worldIn pool table r) right
+
+-- How a number goes on from before a step to behind it: it stays, it is one more, it is one more at most, or nothing is said.
+abbrev pub Stays : ℕ → ℕ → Type 0
+Stays before behind = behind ≡ before
+
+abbrev pub OneMore : ℕ → ℕ → Type 0
+OneMore before behind = behind ≡ before + 1
+
+abbrev pub OneMoreAtMost : ℕ → ℕ → Type 0
+OneMoreAtMost before behind = behind ≤ before + 1
+
+abbrev pub Unsaid : ℕ → ℕ → Type 0
+Unsaid before behind = Unit {0}
+
+-- A step's result beside the world asked for: still good, with the same blocks, and how its nodes and its checkpoint pages go on.
+pub record Left (nodesGo pagesGo : ℕ → ℕ → Type 0) (poolLength tableLength : ℕ) (before : State) (made right : World) : Type 0 where
+  pub is : made ≡ right
+  pub good : Good poolLength tableLength (made .state)
+  pub blocks : made .state .blocks ≡ before .blocks
+  pub nodes : nodesGo (before .nodes) (made .state .nodes)
+  pub checkpoint : pagesGo (before .checkpoint) (made .state .checkpoint)
+
+-- A step that makes no node and no checkpoint page.
+abbrev pub Kept : Leaves
+Kept = Left Stays Stays

@@ -24,10 +24,10 @@ use Rattle.page.specs.Spelled.{scoreBytes-of, length-scoreBytes}
 use Rattle.page.specs.ReadBack.{map-back}
 use Rattle.page_write.specs.Chunks.{chunks}
 use Rattle.page_checkpoint.specs.Checkpoint.{onlyIf, scored, scoresIn, recordsPage}
-use Rattle.flash_allocate.specs.World.{World, world, spot, used, Good, Made}
+use Rattle.flash_allocate.specs.World.{World, world, spot, used, Good, Made, Kept}
 use Rattle.flash_allocate.specs.Allocate.{allocate}
 use Rattle.flash_allocate.specs.declared.state.State.{State}
-use Rattle.flash_log.specs.Flush.{ifRoom, flush, Kept}
+use Rattle.flash_log.specs.Flush.{ifRoom, flush}
 use Rattle.flash_log.proofs.Laws.{Beside, room-yes, room-no, allocated}
 use Rattle.flash_checkpoint.specs.Scores.{scoresOf, scoresBytes}
 use Rattle.flash_checkpoint.specs.CheckpointPages.{scoresBefore, scoresOfPage, ScoresOfPage, pageCount, checkpointImage, checkpointRow}
@@ -277,4 +277,5 @@ checkpoint-made t w w₁ w₂ d m =
       good = m .good;
       blocks = m .blocks ∙ d .blocks;
       nodes = m .nodes ∙ d .nodes;
+      checkpoint = tt;
     }

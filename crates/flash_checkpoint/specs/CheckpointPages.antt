@@ -4,7 +4,7 @@ use mathlib.Core.Path.{_≡_}
 use mathlib.Core.List.{List}
 use Prim.Native.Nat.{ℕ, _+_, _-_, _*_, _/_, _≤_, _<_}
 use lib.Dec.{eqb, leb}
-use lib.ListN.{set, length}
+use lib.ListN.{set}
 use Rattle.laws.specs.Tests.{choose}
 use Rattle.laws.specs.Loops.{steps}
 use Rattle.layout.specs.Layout.{firstScores, otherScores, scoresLess, nodeLimit}
@@ -18,7 +18,7 @@ use Rattle.page.specs.Page as p
 use Rattle.page.specs.Image.{image}
 use Rattle.page.specs.Decode.{mostScores}
 use Rattle.page_checkpoint.specs.Checkpoint.{onlyIf}
-use Rattle.flash_allocate.specs.World.{World, world, spot, used, Good, worldIn}
+use Rattle.flash_allocate.specs.World.{World, world, spot, used, Leaves, Left, Stays, Unsaid, OneMoreAtMost}
 use Rattle.flash_allocate.specs.Allocate.{allocate}
 use Rattle.flash_allocate.specs.declared.state.State.{State}
 use Rattle.flash_log.specs.Flush.{ifRoom, flush}
@@ -87,24 +87,9 @@ pub record Closing (k : ℕ) (s : State) : Type 0 where
   pub before : s .checkpoint ≤ k
 
 -- A checkpoint's result: the world asked for, still good, with the same blocks and nodes.
-pub record Ended (poolLength tableLength : ℕ) (before : State) (made right : World) : Type 0 where
-  pub is : made ≡ right
-  pub good : Good poolLength tableLength (made .state)
-  pub blocks : made .state .blocks ≡ before .blocks
-  pub nodes : made .state .nodes ≡ before .nodes
-
--- The same of a pool and a table, as bytes.
-abbrev pub EndedIn : List ℕ → List ℕ → State → State → World → Type 0
-EndedIn pool table before r right = Ended (length pool) (length table) before (worldIn pool table r) right
+abbrev pub Ended : Leaves
+Ended = Left Stays Unsaid
 
 -- A checkpoint page's result: the world asked for, still good, with one checkpoint page more at most.
-pub record CheckpointPageWritten (poolLength tableLength : ℕ) (before : State) (made right : World) : Type 0 where
-  pub is : made ≡ right
-  pub good : Good poolLength tableLength (made .state)
-  pub blocks : made .state .blocks ≡ before .blocks
-  pub nodes : made .state .nodes ≡ before .nodes
-  pub checkpoint : made .state .checkpoint ≤ before .checkpoint + 1
-
--- The same of a pool and a table, as bytes.
-abbrev pub CheckpointPageIn : List ℕ → List ℕ → State → State → World → Type 0
-CheckpointPageIn pool table before r right = CheckpointPageWritten (length pool) (length table) before (worldIn pool table r) right
+abbrev pub CheckpointPageWritten : Leaves
+CheckpointPageWritten = Left Stays OneMoreAtMost

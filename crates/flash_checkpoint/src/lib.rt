@@ -6,12 +6,11 @@ ghost use Rattle.laws.specs.Lay.{lay};
 ghost use Rattle.layout.specs.Layout.{nodeLimit, pageBytes, pagesInBlock};
 ghost use Rattle.flash_rows.specs.Row.{rowsOf, rowBytes};
 ghost use Rattle.flash_blocks.specs.Pages.{pagesOf};
-ghost use Rattle.flash_allocate.specs.World.{Good, worldIn};
-ghost use Rattle.flash_log.specs.Flush.{KeptIn};
+ghost use Rattle.flash_allocate.specs.World.{Good, worldIn, Kept, LeftIn};
 ghost use Rattle.flash_checkpoint.specs.Scores.{scoresOf, scoresBytes};
 ghost use Rattle.flash_checkpoint.specs.CheckpointPages as def;
 ghost use Rattle.flash_checkpoint.specs.CheckpointPages.{scoresBefore, ScoresOfPage, pageCount, checkpointImage, checkpointRow};
-ghost use Rattle.flash_checkpoint.specs.CheckpointPages.{writeCheckpointPage, CheckpointPageIn, Closing, EndedIn};
+ghost use Rattle.flash_checkpoint.specs.CheckpointPages.{writeCheckpointPage, Closing, CheckpointPageWritten, Ended};
 use account::Mode;
 use account::Tariff;
 use flash_allocate::allocate::allocate;
@@ -118,7 +117,7 @@ fn write_checkpoint_page(
     k: usize,
 ) -> State
     requires { ⌜ (Good (length (now pool)) (length (now table)) state) × (Closing k state) × (state .fill < pagesInBlock) ⌝ }
-    ensures { λ r. ⌜ CheckpointPageIn (now (pool .exit)) (now (table .exit)) state r
+    ensures { λ r. ⌜ LeftIn CheckpointPageWritten (now (pool .exit)) (now (table .exit)) state r
         (writeCheckpointPage tariff k (worldIn (now (pool .entry)) (now (table .entry)) state)) ⌝ }
 {
     let page = PAGES_IN_BLOCK * state.current + state.fill;
@@ -137,7 +136,7 @@ fn checkpoint_page(
     k: usize,
 ) -> State
     requires { ⌜ (Good (length (now pool)) (length (now table)) state) × (Closing k state) ⌝ }
-    ensures { λ r. ⌜ CheckpointPageIn (now (pool .exit)) (now (table .exit)) state r
+    ensures { λ r. ⌜ LeftIn CheckpointPageWritten (now (pool .exit)) (now (table .exit)) state r
         (def.checkpointPage tariff k (worldIn (now (pool .entry)) (now (table .entry)) state)) ⌝ }
 {
     let s = allocate(pool, table, state);
@@ -150,7 +149,7 @@ fn checkpoint_page(
 // The buffer written out where it is not empty.
 fn drain(pool: &mut [u8], table: &mut [u8], state: State) -> State
     requires { ⌜ Good (length (now pool)) (length (now table)) state ⌝ }
-    ensures { λ r. ⌜ KeptIn (now (pool .exit)) (now (table .exit)) state r
+    ensures { λ r. ⌜ LeftIn Kept (now (pool .exit)) (now (table .exit)) state r
         (def.drain (worldIn (now (pool .entry)) (now (table .entry)) state)) ⌝ }
 {
     if state.entries == 0 {
@@ -163,7 +162,7 @@ fn drain(pool: &mut [u8], table: &mut [u8], state: State) -> State
 fn checkpoint_pages(pool: &mut [u8], table: &mut [u8], state: State, tariff: Tariff) -> State
     requires { ⌜ (Good (length (now pool)) (length (now table)) state)
         × (state .nodes ≤ nodeLimit (state .blocks)) × (state .checkpoint ≡ 0) ⌝ }
-    ensures { λ r. ⌜ EndedIn (now (pool .exit)) (now (table .exit)) state r
+    ensures { λ r. ⌜ LeftIn Ended (now (pool .exit)) (now (table .exit)) state r
         (def.checkpointPages tariff (worldIn (now (pool .entry)) (now (table .entry)) state)) ⌝ }
 {
     let count = page_count(state.nodes);
@@ -180,7 +179,7 @@ fn checkpoint_pages(pool: &mut [u8], table: &mut [u8], state: State, tariff: Tar
 pub fn checkpoint(pool: &mut [u8], table: &mut [u8], state: State, tariff: Tariff) -> State
     requires { ⌜ (Good (length (now pool)) (length (now table)) state)
         × (state .nodes ≤ nodeLimit (state .blocks)) × (state .checkpoint ≡ 0) ⌝ }
-    ensures { λ r. ⌜ EndedIn (now (pool .exit)) (now (table .exit)) state r
+    ensures { λ r. ⌜ LeftIn Ended (now (pool .exit)) (now (table .exit)) state r
         (def.checkpoint tariff (worldIn (now (pool .entry)) (now (table .entry)) state)) ⌝ }
 {
     let s = drain(pool, table, state);

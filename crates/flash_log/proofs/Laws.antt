@@ -16,14 +16,14 @@ use Rattle.flash_rows.specs.declared.Claim.{Claim}
 use Rattle.flash_blocks.specs.Blank.{blankBlocks, nextBlank}
 use Rattle.node.specs.Change.{Change}
 use Rattle.page.specs.Image.{changeNumber, changeKey, changePointer, entryBytes}
-use Rattle.flash_allocate.specs.World.{World, world, spot, used, Good, Made}
+use Rattle.flash_allocate.specs.World.{World, world, spot, used, Good, Made, Kept}
 use Rattle.flash_allocate.specs.Compact.{compact}
 use Rattle.flash_allocate.specs.Allocate.{behind, nextBlock, allocate}
 use Rattle.flash_allocate.specs.declared.state.State.{State}
 use Rattle.page_write.specs.Pages.{entryRecord, entryRecord-bytes, logImage}
 use Rattle.flash_log.specs.Entry.{entryOf, entered, append}
 use Rattle.flash_log.specs.Claim.{idAt, versionAt, claimRow, claimEntry, claimEntries}
-use Rattle.flash_log.specs.Flush.{writeBuffer, ifRoom, flush, room, Kept}
+use Rattle.flash_log.specs.Flush.{writeBuffer, ifRoom, flush, room}
 use Rattle.flash_allocate.specs.State.{inBlock, withEntries, nextSequence, advanced, withoutEntries}
 
 -- The bytes of an entry from its numbers, the id cut to two bytes.

@@ -1,16 +1,13 @@
 -- The buffer "written as one page when the next group does not fit" (document 01, "Nodes and tree").
-use mathlib.Core.Path.{_≡_}
 use Prim.Native.Nat.{ℕ, _+_}
 use lib.Dec.{ltb}
-use lib.ListN.{set, length}
+use lib.ListN.{set}
 use Rattle.laws.specs.Tests.{choose}
 use Rattle.layout.specs.Layout.{pagesInBlock, mostEntries}
-use Rattle.flash_allocate.specs.World.{World, world, spot, Good, worldIn}
+use Rattle.flash_allocate.specs.World.{World, world, spot}
 use Rattle.flash_allocate.specs.Allocate.{allocate}
-use Rattle.flash_allocate.specs.declared.state.State.{State}
 use Rattle.page_write.specs.Pages.{logImage}
 use Rattle.flash_log.specs.Claim.{claimEntries}
-use mathlib.Core.List.{List}
 use Rattle.flash_allocate.specs.State.{nextSequence, advanced, withoutEntries}
 
 -- The buffer as the page written next, and its rows' claims on it.
@@ -32,15 +29,3 @@ flush w = ifRoom writeBuffer (allocate w)
 -- Room for k entries: the buffer is written out where they do not fit.
 unfoldable pub room : ℕ → World → World
 room k w = choose (ltb mostEntries (k + w .state .entries)) (flush w) w
-
--- What a step's result is, beside the world asked for: still good, with the same blocks, nodes and checkpoint pages.
-pub record Kept (poolLength tableLength : ℕ) (before : State) (made right : World) : Type 0 where
-  pub is : made ≡ right
-  pub good : Good poolLength tableLength (made .state)
-  pub blocks : made .state .blocks ≡ before .blocks
-  pub nodes : made .state .nodes ≡ before .nodes
-  pub checkpoint : made .state .checkpoint ≡ before .checkpoint
-
--- The same of a pool and a table, as bytes.
-abbrev pub KeptIn : List ℕ → List ℕ → State → State → World → Type 0
-KeptIn pool table before r right = Kept (length pool) (length table) before (worldIn pool table r) right

@@ -3,10 +3,10 @@ ghost use mathlib.Core.Path.{_≡_};
 ghost use Prim.Native.Nat.{_+_, _*_, _≤_, _<_};
 ghost use lib.ListN.{length, set};
 ghost use Rattle.flash_blocks.specs.Pages.{pagesOf};
-ghost use Rattle.flash_allocate.specs.World.{Good, worldIn};
+ghost use Rattle.flash_allocate.specs.World.{Good, worldIn, Kept, LeftIn};
 ghost use Rattle.page_write.specs.Pages.{logImage};
 ghost use Rattle.flash_log.specs.Flush as def;
-ghost use Rattle.flash_log.specs.Flush.{KeptIn, writeBuffer};
+ghost use Rattle.flash_log.specs.Flush.{writeBuffer};
 ghost use Rattle.layout.specs.Layout.{mostEntries, pageBytes, pagesInBlock};
 use super::claim::claim_entries;
 use flash_allocate::allocate::allocate;
@@ -33,7 +33,7 @@ fn put_log(pool: &mut [u8], page: usize, number: u32, buffer: &[u8; BUFFER_BYTES
 // The buffer as the next page, in a block that has room.
 fn write_buffer(pool: &mut [u8], table: &mut [u8], state: State) -> State
     requires { ⌜ (Good (length (now pool)) (length (now table)) state) × (state .fill < pagesInBlock) ⌝ }
-    ensures { λ r. ⌜ KeptIn (now (pool .exit)) (now (table .exit)) state r
+    ensures { λ r. ⌜ LeftIn Kept (now (pool .exit)) (now (table .exit)) state r
         (writeBuffer (worldIn (now (pool .entry)) (now (table .entry)) state)) ⌝ }
 {
     let page = PAGES_IN_BLOCK * state.current + state.fill;
@@ -47,7 +47,7 @@ fn write_buffer(pool: &mut [u8], table: &mut [u8], state: State) -> State
 // A place, then the buffer as a page there.
 pub fn flush(pool: &mut [u8], table: &mut [u8], state: State) -> State
     requires { ⌜ Good (length (now pool)) (length (now table)) state ⌝ }
-    ensures { λ r. ⌜ KeptIn (now (pool .exit)) (now (table .exit)) state r
+    ensures { λ r. ⌜ LeftIn Kept (now (pool .exit)) (now (table .exit)) state r
         (def.flush (worldIn (now (pool .entry)) (now (table .entry)) state)) ⌝ }
 {
     let s = allocate(pool, table, state);
@@ -60,7 +60,7 @@ pub fn flush(pool: &mut [u8], table: &mut [u8], state: State) -> State
 // Room for k entries in the buffer.
 pub fn make_room(pool: &mut [u8], table: &mut [u8], state: State, k: usize) -> State
     requires { ⌜ (Good (length (now pool)) (length (now table)) state) × (k ≤ mostEntries) ⌝ }
-    ensures { λ r. ⌜ KeptIn (now (pool .exit)) (now (table .exit)) state r
+    ensures { λ r. ⌜ LeftIn Kept (now (pool .exit)) (now (table .exit)) state r
         (def.room k (worldIn (now (pool .entry)) (now (table .entry)) state)) ⌝ }
 {
     if MOST_ENTRIES < k + state.entries {

@@ -19,10 +19,10 @@ use Rattle.node.specs.Value.{pairsIn, Sized}
 use Rattle.page.specs.Page.{page, whole}
 use Rattle.page.specs.Image.{image}
 use Rattle.page_write.specs.Pages.{firstPairs}
-use Rattle.flash_allocate.specs.World.{World, world, spot, Good}
+use Rattle.flash_allocate.specs.World.{World, world, spot, Good, Kept}
 use Rattle.flash_allocate.specs.declared.state.State.{State}
 use Rattle.flash_log.specs.Entry.{append, appendAll}
-use Rattle.flash_log.specs.Flush.{room, Kept}
+use Rattle.flash_log.specs.Flush.{room}
 use Rattle.flash_log.proofs.Laws.{Beside, beside-append, good-append, good-advanced}
 use Rattle.flash_write.specs.Group.{startState, start, Started, roomFor, restart, group, startNext, create, Grown}
 use Rattle.flash_write.specs.NodePage.{diskRow, writeNode}

@@ -10,7 +10,7 @@ use Rattle.flash_rows.specs.Step.{fresh}
 use Rattle.flash_rows.specs.declared.Row.{Row}
 use Rattle.node.specs.Node.{Node, pairsOf}
 use Rattle.node.specs.Change.{changesOf}
-use Rattle.flash_allocate.specs.World.{World, world, Good, worldIn}
+use Rattle.flash_allocate.specs.World.{World, world, Leaves, Left, OneMore, Stays}
 use Rattle.flash_allocate.specs.declared.state.State.{State}
 use Rattle.flash_log.specs.Entry.{appendAll}
 use Rattle.flash_log.specs.Flush.{room}
@@ -57,13 +57,5 @@ unfoldable pub create : Node → World → World
 create x w = startNext x (roomFor x w)
 
 -- A create's result: the world asked for, still good, with one node more.
-pub record Grown (poolLength tableLength : ℕ) (before : State) (made right : World) : Type 0 where
-  pub is : made ≡ right
-  pub good : Good poolLength tableLength (made .state)
-  pub blocks : made .state .blocks ≡ before .blocks
-  pub nodes : made .state .nodes ≡ before .nodes + 1
-  pub checkpoint : made .state .checkpoint ≡ before .checkpoint
-
--- The same of a pool and a table, as bytes.
-abbrev pub GrownIn : List ℕ → List ℕ → State → State → World → Type 0
-GrownIn pool table before r right = Grown (length pool) (length table) before (worldIn pool table r) right
+abbrev pub Grown : Leaves
+Grown = Left OneMore Stays

@@ -3,8 +3,7 @@ ghost use Prim.Native.Nat.{_<_};
 ghost use lib.ListN.{length};
 ghost use Rattle.node.specs.Value.{nodeOf, Sized};
 ghost use Rattle.node.specs.Drafts.{changeOf};
-ghost use Rattle.flash_allocate.specs.World.{Good, worldIn};
-ghost use Rattle.flash_log.specs.Flush.{KeptIn};
+ghost use Rattle.flash_allocate.specs.World.{Good, worldIn, Kept, LeftIn};
 ghost use Rattle.flash_write.specs.Edit as def;
 use super::group::group;
 use flash_allocate::state::State;
@@ -23,7 +22,7 @@ pub fn edit(
     edited: NodeValue,
 ) -> State
     requires { ⌜ (Good (length (now pool)) (length (now table)) state) × (id < state .nodes) × (Sized edited) ⌝ }
-    ensures { λ r. ⌜ KeptIn (now (pool .exit)) (now (table .exit)) state r
+    ensures { λ r. ⌜ LeftIn Kept (now (pool .exit)) (now (table .exit)) state r
         (def.edit id (changeOf change) (nodeOf edited) (worldIn (now (pool .entry)) (now (table .entry)) state))
         ⌝ }
 {

@@ -5,11 +5,10 @@ ghost use lib.ListN.{length};
 ghost use Rattle.flash_rows.specs.Row.{rowsOf, rowBytes};
 ghost use Rattle.node.specs.Change.{puts, changesOf};
 ghost use Rattle.node.specs.Value.{pairsIn, nodeOf, Sized};
-ghost use Rattle.flash_allocate.specs.World.{Good, worldIn};
+ghost use Rattle.flash_allocate.specs.World.{Good, worldIn, Kept, LeftIn};
 ghost use Rattle.flash_log.specs.Entry.{appendAll};
-ghost use Rattle.flash_log.specs.Flush.{KeptIn};
 ghost use Rattle.flash_write.specs.Group as def;
-ghost use Rattle.flash_write.specs.Group.{Started, GrownIn};
+ghost use Rattle.flash_write.specs.Group.{Started, Grown};
 use account::Mode;
 use flash_allocate::state::State;
 use flash_allocate::state::next_sequence;
@@ -69,7 +68,7 @@ fn start(table: &mut [u8], state: State, id: usize, row: Row, version: u32, v: N
 // The whole content of a node under a new version. A page that it forces out takes its sequence number before.
 pub fn group(pool: &mut [u8], table: &mut [u8], state: State, id: usize, v: NodeValue) -> State
     requires { ⌜ (Good (length (now pool)) (length (now table)) state) × (id < state .nodes) × (Sized v) ⌝ }
-    ensures { λ r. ⌜ KeptIn (now (pool .exit)) (now (table .exit)) state r
+    ensures { λ r. ⌜ LeftIn Kept (now (pool .exit)) (now (table .exit)) state r
         (def.group id (nodeOf v) (worldIn (now (pool .entry)) (now (table .entry)) state)) ⌝ }
 {
     let s = make_room(pool, table, state, v.count + 1);
@@ -82,7 +81,7 @@ pub fn group(pool: &mut [u8], table: &mut [u8], state: State, id: usize, v: Node
 pub fn create(pool: &mut [u8], table: &mut [u8], state: State, v: NodeValue) -> State
     requires { ⌜ (Good (length (now pool)) (length (now table)) state)
         × (state .nodes + state .checkpoint < 64 * state .blocks) × (Sized v) ⌝ }
-    ensures { λ r. ⌜ GrownIn (now (pool .exit)) (now (table .exit)) state r
+    ensures { λ r. ⌜ LeftIn Grown (now (pool .exit)) (now (table .exit)) state r
         (def.create (nodeOf v) (worldIn (now (pool .entry)) (now (table .entry)) state)) ⌝ }
 {
     let s = make_room(pool, table, state, v.count + 1);

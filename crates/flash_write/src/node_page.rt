@@ -7,8 +7,7 @@ ghost use Rattle.flash_blocks.specs.Pages.{pagesOf};
 ghost use Rattle.node.specs.Value.{nodeOf, Sized};
 ghost use Rattle.page.specs.Page as p;
 ghost use Rattle.page.specs.Image.{image};
-ghost use Rattle.flash_allocate.specs.World.{Good, worldIn};
-ghost use Rattle.flash_log.specs.Flush.{KeptIn};
+ghost use Rattle.flash_allocate.specs.World.{Good, worldIn, Kept, LeftIn};
 ghost use Rattle.flash_write.specs.NodePage as def;
 ghost use Rattle.flash_write.specs.NodePage.{diskRow, writeNode};
 ghost use Rattle.layout.specs.Layout.{pageBytes, pagesInBlock};
@@ -48,7 +47,7 @@ fn node_page_row(table: &mut [u8], id: usize, number: u32, page: u16)
 fn write_node(pool: &mut [u8], table: &mut [u8], state: State, id: usize, v: NodeValue) -> State
     requires { ⌜ (Good (length (now pool)) (length (now table)) state) × (state .fill < pagesInBlock) × (id < state .nodes)
         × (Sized v) ⌝ }
-    ensures { λ r. ⌜ KeptIn (now (pool .exit)) (now (table .exit)) state r
+    ensures { λ r. ⌜ LeftIn Kept (now (pool .exit)) (now (table .exit)) state r
         (writeNode id (nodeOf v) (worldIn (now (pool .entry)) (now (table .entry)) state)) ⌝ }
 {
     let page = PAGES_IN_BLOCK * state.current + state.fill;
@@ -61,7 +60,7 @@ fn write_node(pool: &mut [u8], table: &mut [u8], state: State, id: usize, v: Nod
 // A place, then the node page there.
 pub fn node_page(pool: &mut [u8], table: &mut [u8], state: State, id: usize, v: NodeValue) -> State
     requires { ⌜ (Good (length (now pool)) (length (now table)) state) × (id < state .nodes) × (Sized v) ⌝ }
-    ensures { λ r. ⌜ KeptIn (now (pool .exit)) (now (table .exit)) state r
+    ensures { λ r. ⌜ LeftIn Kept (now (pool .exit)) (now (table .exit)) state r
         (def.nodePage id (nodeOf v) (worldIn (now (pool .entry)) (now (table .entry)) state)) ⌝ }
 {
     let s = allocate(pool, table, state);

@@ -8,8 +8,7 @@ use Rattle.store.specs.Serve.{edit}
 use Rattle.command.specs.declared.Answer.the-variants.{Deleted}
 use Rattle.command.specs.Answer.{valueOr}
 use Rattle.flash_rows.specs.declared.Row.{Row}
-use Rattle.flash_allocate.specs.World.{World}
-use Rattle.flash_log.specs.Flush.{Kept}
+use Rattle.flash_allocate.specs.World.{World, Kept}
 use Rattle.run_serve.specs.Step.{AnsweredAs}
 use Rattle.run_serve.specs.declared.charged.Answered.{Answered}
 use Rattle.run_serve.specs.Serve.{serve, charge}

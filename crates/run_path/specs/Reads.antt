@@ -4,8 +4,7 @@ use Prim.Native.Nat.{ℕ, _+_}
 use Rattle.account.specs.declared.Tariff.{Tariff}
 use Rattle.flash_rows.specs.declared.Row.{Row}
 use Rattle.store.specs.Serve.{read}
-use Rattle.flash_allocate.specs.World.{World}
-use Rattle.flash_log.specs.Flush.{Kept}
+use Rattle.flash_allocate.specs.World.{World, Kept}
 use Rattle.run_serve.specs.Serve.{serve, charge}
 use Rattle.run_serve.specs.Step.{ChargedAs}
 use Rattle.run_serve.specs.declared.charged.Charged.{Charged}

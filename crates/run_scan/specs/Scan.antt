@@ -12,8 +12,7 @@ use Rattle.layout.specs.Layout.{nodeLimit, mostBlocks}
 use Rattle.pairs.specs.Pairs.{Pair}
 use Rattle.tree.specs.Scan.{pairsFrom, leavesAfter}
 use Rattle.flash_rows.specs.declared.Row.{Row}
-use Rattle.flash_allocate.specs.World.{World, world, Good}
-use Rattle.flash_log.specs.Flush.{Kept}
+use Rattle.flash_allocate.specs.World.{World, world, Good, Kept}
 use Rattle.run_serve.specs.Step.{ChargedAs, kept-same, charged-none, charged-is, both}
 use Rattle.run_serve.specs.declared.charged.Charged.{Charged}
 use Rattle.run_path.specs.declared.path.Path.{Path}

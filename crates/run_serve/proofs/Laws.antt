@@ -20,8 +20,7 @@ use Rattle.store.specs.Serve.{Work}
 use Rattle.flash_rows.specs.Row.{noRow}
 use Rattle.flash_rows.specs.declared.Row.{Row}
 use Rattle.flash_allocate.specs.declared.state.State.{State}
-use Rattle.flash_allocate.specs.World.{World, world, Good}
-use Rattle.flash_log.specs.Flush.{Kept}
+use Rattle.flash_allocate.specs.World.{World, world, Good, Kept}
 use Rattle.run_serve.specs.declared.settle.Settled.{Settled}
 use Rattle.run_serve.specs.Step.{kept-is, kept-same, kept-then, charged-none, charged-is}
 use Rattle.run_serve.specs.Content.{contentOf, contentAfter}

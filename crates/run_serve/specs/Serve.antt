@@ -8,8 +8,7 @@ use Rattle.account.specs.declared.Request.the-variants.{Read, Edit, Rewrite}
 use Rattle.account.specs.declared.Tariff.{Tariff}
 use Rattle.flash_rows.specs.declared.Row.{Row}
 use Rattle.store.specs.Serve.{Work, read, edit, rewrite}
-use Rattle.flash_allocate.specs.World.{World}
-use Rattle.flash_log.specs.Flush.{Kept}
+use Rattle.flash_allocate.specs.World.{World, Kept}
 use Rattle.run_serve.specs.declared.charged.Charged.{Charged}
 use Rattle.run_serve.specs.Step.{ChargedAs}
 use Rattle.run_serve.specs.Content.{contentAfter}

@@ -15,8 +15,7 @@ use Rattle.account.specs.Serve.{serveOf}
 use Rattle.flash_rows.specs.Row.{noRow}
 use Rattle.flash_rows.specs.Step.{scored}
 use Rattle.flash_rows.specs.declared.Row.{Row}
-use Rattle.flash_allocate.specs.World.{World, world}
-use Rattle.flash_log.specs.Flush.{Kept}
+use Rattle.flash_allocate.specs.World.{World, world, Kept}
 use Rattle.run_serve.specs.declared.settle.Settled.{Settled}
 use Rattle.run_serve.specs.Step.{ChargedAs}
 use Rattle.run_serve.specs.Content.{contentOf}

@@ -11,14 +11,9 @@ use Rattle.flash_blocks.specs.Pages.{pagesOf}
 use Rattle.flash_rows.specs.Row.{rowsOf}
 use Rattle.flash_rows.specs.declared.Row.{Row}
 use Rattle.flash_allocate.specs.declared.state.State.{State}
-use Rattle.flash_allocate.specs.World.{World, world, Good}
-use Rattle.flash_log.specs.Flush.{Kept}
+use Rattle.flash_allocate.specs.World.{World, world, Good, Kept, Leaves}
 use Rattle.run_serve.specs.declared.charged.Charged.{Charged}
 use Rattle.run_serve.specs.declared.charged.Answered.{Answered}
-
--- How a step leaves a pool and a table of these lengths: the state before it, the world that it made, the world asked for. `Kept` is one.
-abbrev pub Leaves : Type 1
-Leaves = ℕ → ℕ → State → World → World → Type 0
 
 -- What is said of the pages and the rows of a pool and a table, said of their bytes.
 abbrev pub InBytes : {A : Type 1} → (ℕ → ℕ → List (List ℕ) → List Row → A) → List ℕ → List ℕ → A

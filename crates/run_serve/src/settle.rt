@@ -4,8 +4,7 @@ ghost use Prim.Native.Nat.{_+_, _*_, _≤_, _<_};
 ghost use lib.ListN.{length};
 ghost use Rattle.account.specs.Range.{Ranged};
 ghost use Rattle.flash_rows.specs.Row.{rowsOf, rowBytes};
-ghost use Rattle.flash_allocate.specs.World.{Good, worldIn};
-ghost use Rattle.flash_log.specs.Flush.{KeptIn};
+ghost use Rattle.flash_allocate.specs.World.{Good, worldIn, Kept, LeftIn};
 ghost use Rattle.run_serve.specs.Step.{InBytes};
 ghost use Rattle.run_serve.specs.Settle as def;
 ghost use Rattle.run_serve.specs.Settle.{accountIn, sameMode, rescored, SettledAs};
@@ -64,7 +63,7 @@ fn rescore(table: &mut [u8], id: usize, score: u32)
 // A switch where the modes differ: the content that the node has, whole in the other mode.
 fn switch(pool: &mut [u8], table: &mut [u8], state: State, id: usize, from: Mode, to: Mode) -> State
     requires { ⌜ (Good (length (now pool)) (length (now table)) state) × (id < state .nodes) ⌝ }
-    ensures { λ r. ⌜ KeptIn (now (pool .exit)) (now (table .exit)) state r
+    ensures { λ r. ⌜ LeftIn Kept (now (pool .exit)) (now (table .exit)) state r
         (def.switch from to id (worldIn (now (pool .entry)) (now (table .entry)) state)) ⌝ }
 {
     if same_mode(from, to) {

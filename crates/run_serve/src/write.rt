@@ -3,8 +3,7 @@ ghost use Prim.Native.Nat.{_<_};
 ghost use lib.ListN.{length};
 ghost use Rattle.node.specs.Value.{nodeOf, Sized};
 ghost use Rattle.node.specs.Drafts.{changeOf};
-ghost use Rattle.flash_allocate.specs.World.{Good, worldIn};
-ghost use Rattle.flash_log.specs.Flush.{KeptIn};
+ghost use Rattle.flash_allocate.specs.World.{Good, worldIn, Kept, LeftIn};
 ghost use Rattle.run_serve.specs.Write.{writeWhole, writeEdit};
 use account::Mode;
 use flash_allocate::state::State;
@@ -24,7 +23,7 @@ pub fn write_whole(
     v: NodeValue,
 ) -> State
     requires { ⌜ (Good (length (now pool)) (length (now table)) state) × (id < state .nodes) × (Sized v) ⌝ }
-    ensures { λ r. ⌜ KeptIn (now (pool .exit)) (now (table .exit)) state r
+    ensures { λ r. ⌜ LeftIn Kept (now (pool .exit)) (now (table .exit)) state r
         (writeWhole mode id (nodeOf v) (worldIn (now (pool .entry)) (now (table .entry)) state)) ⌝ }
 {
     match mode {
@@ -48,7 +47,7 @@ pub fn write_edit(
     edited: NodeValue,
 ) -> State
     requires { ⌜ (Good (length (now pool)) (length (now table)) state) × (id < state .nodes) × (Sized edited) ⌝ }
-    ensures { λ r. ⌜ KeptIn (now (pool .exit)) (now (table .exit)) state r
+    ensures { λ r. ⌜ LeftIn Kept (now (pool .exit)) (now (table .exit)) state r
         (writeEdit mode id (changeOf change) (nodeOf edited)
         (worldIn (now (pool .entry)) (now (table .entry)) state)) ⌝ }
 {

@@ -7,8 +7,7 @@ use lib.ListN.{length}
 use Rattle.layout.specs.Layout.{nodeLimit}
 use Rattle.flash_rows.specs.declared.Row.{Row}
 use Rattle.flash_allocate.specs.declared.state.State.{State}
-use Rattle.flash_allocate.specs.World.{World, Good, worldIn}
-use Rattle.flash_log.specs.Flush.{Kept}
+use Rattle.flash_allocate.specs.World.{World, Good, Kept}
 use Rattle.flash_read.specs.NodeTable.{Readable}
 use Rattle.run_serve.specs.declared.charged.Charged.{Charged}
 use Rattle.run_serve.specs.Step.{ChargedAs}
@@ -24,10 +23,6 @@ pub record Grew (poolLength tableLength : ℕ) (before : State) (made right : Wo
   pub is : made ≡ right
   pub growing : Growing poolLength tableLength (made .state)
   pub blocks : made .state .blocks ≡ before .blocks
-
--- The same of a pool and a table, as bytes.
-abbrev pub GrewIn : List ℕ → List ℕ → State → State → World → Type 0
-GrewIn pool table before r right = Grew (length pool) (length table) before (worldIn pool table r) right
 
 -- Nothing done; requests of nodes that are there keep it.
 pub grew-same : {P T : ℕ} (w : World) → Growing P T (w .state) → Grew P T (w .state) w w

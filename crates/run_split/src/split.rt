@@ -8,9 +8,9 @@ ghost use Rattle.node.specs.Node.{node};
 ghost use Rattle.node.specs.Change.{change, put};
 ghost use Rattle.node.specs.Value.{nodeOf, Sized, Becomes};
 ghost use Rattle.node_split.specs.Split.{Splits};
-ghost use Rattle.flash_allocate.specs.World.{worldIn};
+ghost use Rattle.flash_allocate.specs.World.{worldIn, LeftIn};
 ghost use Rattle.run_serve.specs.Step.{InBytes};
-ghost use Rattle.run_split.specs.Growing.{Growing, GrewIn};
+ghost use Rattle.run_split.specs.Growing.{Growing, Grew};
 ghost use Rattle.run_split.specs.Absorbing.{AbsorbedAs};
 ghost use Rattle.run_split.specs.Split as def;
 use super::Absorbed;
@@ -32,7 +32,7 @@ use run_serve::request::serve_rewrite;
 // A node more, where the limit leaves an id for it.
 fn grow(pool: &mut [u8], table: &mut [u8], state: State, v: NodeValue) -> State
     requires { ⌜ (Growing (length (now pool)) (length (now table)) state) × (Sized v) ⌝ }
-    ensures { λ r. ⌜ GrewIn (now (pool .exit)) (now (table .exit)) state r
+    ensures { λ r. ⌜ LeftIn Grew (now (pool .exit)) (now (table .exit)) state r
         (def.grow (nodeOf v) (worldIn (now (pool .entry)) (now (table .entry)) state)) ⌝ }
 {
     if state.nodes < node_limit(state.blocks) {

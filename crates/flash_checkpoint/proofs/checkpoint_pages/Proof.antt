@@ -91,6 +91,7 @@ returns c = let a = c .before .before .before .before .before .args in
       good = l .inv .0 .good;
       blocks = l .inv .0 .blocks;
       nodes = l .inv .0 .nodes;
+      checkpoint = tt;
     }
 
 pub checkpoint-pages-spec : {M : Type 1} → statement M
