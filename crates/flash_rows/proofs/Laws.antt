@@ -41,8 +41,8 @@ unfolding modeFrom
 mode-back Log = refl
 mode-back Disk = refl
 
-row-same : {v v′ s s′ n n′ a a′ b b′ c c′ : ℕ} {m m′ : Mode} → v ≡ v′ → s ≡ s′ → m ≡ m′ → n ≡ n′ → a ≡ a′ → b ≡ b′ →
-    c ≡ c′ →
+row-same : {v v′ s s′ n n′ a a′ b b′ c c′ : ℕ} {m m′ : Mode} → v ≡ v′ → s ≡ s′ → m ≡ m′ → n ≡ n′ →
+    a ≡ a′ → b ≡ b′ → c ≡ c′ →
     _≡_ {A = Row}
     (record { version = v; score = s; mode = m; pages = n; first = a; second = b; third = c })
     (record { version = v′; score = s′; mode = m′; pages = n′; first = a′; second = b′; third = c′ })

@@ -2,15 +2,21 @@
 ghost use mathlib.Core.Path.{_≡_};
 ghost use Prim.Native.Nat.{_+_, _≤_, _<_};
 ghost use lib.ListN.{length, getD, take, drop};
-ghost use Rattle.layout.specs.Layout.{mostKeys};
+ghost use Rattle.layout.specs.Layout.{mostKeys, keptKeys};
 ghost use Rattle.node.specs.Change.{change, put};
 ghost use Rattle.node.specs.Splice.{insertAt};
 ghost use Rattle.node.specs.Value.{nodeOf, Becomes};
 ghost use Rattle.node.specs.Halves.{lowerHalf, upperHalf, middleKey, lowerLink, upperFrom};
 ghost use Rattle.node_split.specs.Split.{Splits};
+use layout::KEPT_KEYS;
 use layout::MOST_KEYS;
 use node::NodeValue;
 use node::Shape;
+
+// The pairs that are split, and the first of them past the middle one, which a branch hands upwards.
+const SPLIT_KEYS: usize = MOST_KEYS + 1;
+
+const PAST_MIDDLE: usize = KEPT_KEYS + 1;
 
 // The value at an index of the array with one more at a place.
 fn value_at(a: [u32; MOST_KEYS], at: usize, x: u32, i: usize) -> u32
@@ -53,11 +59,11 @@ fn lower_link(shape: Shape, upper: u32, rising: u32) -> u32
 
 // How many pairs stand before the upper half.
 fn upper_from(shape: Shape) -> usize
-    ensures { λ r. ⌜ (r ≡ upperFrom shape) × (12 ≤ r) × (r ≤ 13) ⌝ }
+    ensures { λ r. ⌜ (r ≡ upperFrom shape) × (keptKeys ≤ r) × (r ≤ keptKeys + 1) ⌝ }
 {
     match shape {
-        Shape::Leaf => 12,
-        Shape::Branch => 13,
+        Shape::Leaf => KEPT_KEYS,
+        Shape::Branch => PAST_MIDDLE,
     }
 }
 
@@ -69,13 +75,13 @@ pub fn lower(v: NodeValue, at: usize, key: u32, pointer: u32, upper: u32) -> Nod
     let shape = v.shape;
     let old_keys = v.keys;
     let old_pointers = v.pointers;
-    let keys = values_from(old_keys, at, key, 0, 12);
-    let pointers = values_from(old_pointers, at, pointer, 0, 12);
-    let rising = value_at(old_pointers, at, pointer, 12);
+    let keys = values_from(old_keys, at, key, 0, KEPT_KEYS);
+    let pointers = values_from(old_pointers, at, pointer, 0, KEPT_KEYS);
+    let rising = value_at(old_pointers, at, pointer, KEPT_KEYS);
     let link = lower_link(shape, upper, rising);
     NodeValue {
         shape,
-        count: 12,
+        count: KEPT_KEYS,
         keys,
         pointers,
         link,
@@ -91,7 +97,7 @@ pub fn upper(v: NodeValue, at: usize, key: u32, pointer: u32) -> NodeValue
     let old_keys = v.keys;
     let old_pointers = v.pointers;
     let from = upper_from(shape);
-    let count = 25 - from;
+    let count = SPLIT_KEYS - from;
     let keys = values_from(old_keys, at, key, from, count);
     let pointers = values_from(old_pointers, at, pointer, from, count);
     NodeValue {
@@ -109,5 +115,5 @@ pub fn middle(v: NodeValue, at: usize, key: u32, pointer: u32) -> u32
     ensures { λ r. ⌜ r ≡ middleKey (change (put key pointer) (nodeOf v)) ⌝ }
 {
     let old_keys = v.keys;
-    value_at(old_keys, at, key, 12)
+    value_at(old_keys, at, key, KEPT_KEYS)
 }

@@ -38,7 +38,8 @@ loop-again : tie.Need-loop-again Inv-loop μ-loop
 loop-again c = let l = c .before .before .before .loop in
     let a = c .before .before .before .before .before .args in
     let ps = pagesOf (a .pool .now) in
-    let e : c .extended .result ≡ extended (l .page) (pageAt ps (l .page)) (l .e) = c .extended .ensures ∙ ap (λ (b : List ℕ). extended (l .page) b (l .e))
+    let e : c .extended .result ≡ extended (l .page) (pageAt ps (l .page)) (l .e) =
+    c .extended .ensures ∙ ap (λ (b : List ℕ). extended (l .page) b (l .e))
     (c .before .page-part .ensures .0) in (
       (omega arith, rw e (extended-place (l .page) (a .pages) (pageAt ps (l .page)) (l .e) (omega arith) (l .inv .0 .1))),
       rw e (steps-more (λ i. extended i (pageAt ps i)) (a .pages) (l .page) (l .e) (omega arith) ∙ l .inv .1),
