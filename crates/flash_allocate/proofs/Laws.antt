@@ -2,9 +2,11 @@
 use mathlib.Core.Path.{_≡_, refl, ap, _∙_}
 use mathlib.Core.List.{List}
 use Prim.Native.Nat.{ℕ, _*_, _≤_, _<_}
+use native.Mathlib.Omega.{arith}
 use lib.ListN.{replicate}
 use borrow.Author.Tests.{lt-ltb, le-ltb, le-leb, lt-leb}
 use Rattle.flash_rows.specs.declared.Row.{Row}
+use Rattle.flash_rows.specs.Work.{Work, withRows}
 use Rattle.flash_blocks.specs.Pages.{erased}
 use Rattle.flash_blocks.specs.Blank.{blankBlocks, nextBlank}
 use Rattle.flash_live.specs.Live.{liveMap}
@@ -32,17 +34,18 @@ unfolding allocate
 allocate-room w h = rw (lt-ltb (w .state .fill) 32 h) refl
 
 -- None: two blank blocks or more, or a compaction.
-module _ (pages : List (List ℕ)) (rows : List Row) (s : State) (to blank : ℕ) (h : 32 ≤ s .fill)
-    (t : to ≡ nextBlank (s .blocks) (s .current) pages) (b : blank ≡ blankBlocks (s .blocks) pages) where
-  pub allocate-next : 2 ≤ blank → (s′ : State) → s′ ≡ inBlock to 0 s → world pages rows s′ ≡ allocate (world pages rows s)
+module _ (pages : List (List ℕ)) (t : Work) (s : State) (to blank : ℕ) (h : 32 ≤ s .fill)
+    (next : to ≡ nextBlank (s .blocks) (s .current) pages) (b : blank ≡ blankBlocks (s .blocks) pages) where
+  pub allocate-next : 2 ≤ blank → (s′ : State) → s′ ≡ inBlock to 0 s → world pages t s′ ≡ allocate (world pages t s)
   unfolding allocate nextBlock
-  allocate-next k s′ e = rw (le-ltb (s .fill) 32 h, ← t, ← b, le-leb 2 blank k, e) refl
+  allocate-next k s′ e = rw (le-ltb (s .fill) 32 h, ← next, ← b, le-leb 2 blank k, e) refl
 
   pub allocate-compact : blank < 2 → (pages′ : List (List ℕ)) (rows′ : List Row) (fill : ℕ) →
-      compacted pages′ rows′ fill ≡ compact (used s) (s .blocks) to pages rows → (s′ : State) → s′ ≡ inBlock to fill s →
-      world pages′ rows′ s′ ≡ allocate (world pages rows s)
+      compacted pages′ rows′ fill ≡ compact (used s) (s .blocks) to pages (t .rows) → (t′ : Work) → t′ ≡ withRows rows′ t →
+      (s′ : State) → s′ ≡ inBlock to fill s → world pages′ t′ s′ ≡ allocate (world pages t s)
   unfolding allocate nextBlock
-  allocate-compact k pages′ rows′ fill c s′ e = rw (le-ltb (s .fill) 32 h, ← t, ← b, lt-leb 2 blank k, e) (ap (behind to s) c)
+  allocate-compact k pages′ rows′ fill c t′ w s′ e =
+      rw (le-ltb (s .fill) 32 h, ← next, ← b, lt-leb 2 blank k, e, w) (ap (behind to t s) c)
 
 -- A good state with another current block is good.
 pub good-in-block : {P T P′ T′ to fill : ℕ} {s s′ : State} → Good P T s → P′ ≡ P → T′ ≡ T → to < s .blocks → fill ≤
@@ -54,7 +57,7 @@ good-in-block g p t i f e =
       few = g .few;
       most = g .most;
       pool = p ∙ g .pool;
-      table = t ∙ g .table;
+      table = omega (arith, t, g .table);
       inside = i;
       full = f;
       used = g .used;

@@ -1,25 +1,24 @@
--- What the code of a batch works on, one level above the bytes: the pages, the rows, and the state that goes by value.
+-- What the code of a batch works on, one level above the bytes: the pages, what the work table holds, and the state that goes by value.
 use mathlib.Core.Path.{_≡_}
 use mathlib.Core.List.{List}
 use Prim.Native.Nat.{ℕ, _+_, _*_, _≤_, _<_}
 use Rattle.layout.specs.Layout.{fewestBlocks, mostBlocks, blockBytes, tableBytes, pagesInBlock, mostEntries}
-use Rattle.flash_rows.specs.declared.Row.{Row}
 use Rattle.flash_allocate.specs.declared.state.State.{State}
 use Rattle.flash_blocks.specs.Pages.{pagesOf}
-use Rattle.flash_rows.specs.Row.{rowsOf}
+use Rattle.flash_rows.specs.Work.{Work, workOf, rowsFor}
 use lib.ListN.{length}
 
 pub record World : Type 0 where
   pub pages : List (List ℕ)
-  pub rows : List Row
+  pub work : Work
   pub state : State
 
-abbrev pub world : List (List ℕ) → List Row → State → World
-world pages rows state = record { pages = pages; rows = rows; state = state }
+abbrev pub world : List (List ℕ) → Work → State → World
+world pages work state = record { pages = pages; work = work; state = state }
 
 -- The world of a pool and a table, as bytes, and a state.
 abbrev pub worldIn : List ℕ → List ℕ → State → World
-worldIn pool table state = world (pagesOf pool) (rowsOf table) state
+worldIn pool table state = world (pagesOf pool) (workOf table) state
 
 -- The rows in use: one a node, then one for each checkpoint page being written.
 abbrev pub used : State → ℕ
@@ -34,10 +33,10 @@ pub record Good (poolLength tableLength : ℕ) (s : State) : Type 0 where
   pub few : fewestBlocks ≤ s .blocks
   pub most : s .blocks ≤ mostBlocks
   pub pool : poolLength ≡ blockBytes * s .blocks
-  pub table : tableLength ≡ tableBytes (s .blocks)
+  pub table : tableBytes (s .blocks) ≤ tableLength
   pub inside : s .current < s .blocks
   pub full : s .fill ≤ pagesInBlock
-  pub used : s .nodes + s .checkpoint ≤ 64 * s .blocks
+  pub used : s .nodes + s .checkpoint ≤ rowsFor (s .blocks)
   pub entries : s .entries ≤ mostEntries
 
 -- A step's result: the world asked for, still good.

@@ -6,6 +6,7 @@ use super::compact::compact;
 use super::state::State;
 use flash_blocks::blank::count_blank;
 use flash_blocks::blank::next_blank;
+use flash_rows::table::ROWS_AT;
 use layout::PAGES_IN_BLOCK;
 
 // The current block, or the next one, with room for a page.
@@ -23,7 +24,7 @@ pub fn allocate(pool: &mut [u8], table: &mut [u8], state: State) -> State
     }
     let fill = compact(
         pool,
-        table,
+        &mut table[ROWS_AT..],
         state.nodes + state.checkpoint,
         state.blocks,
         to,

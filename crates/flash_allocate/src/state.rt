@@ -2,12 +2,11 @@
 ghost use mathlib.Core.Path.{_≡_};
 ghost use Prim.Native.Nat.{_<_};
 ghost use Rattle.layout.specs.Layout.{pagesInBlock};
-ghost use Rattle.flash_allocate.specs.State.{inBlock, nextSequence, withSequence, withNodes, withoutEntries, advanced, pageCounted};
-use layout::BUFFER_BYTES;
+ghost use Rattle.flash_allocate.specs.State.{inBlock, nextSequence, withSequence, withNodes, withEntries, withoutEntries, advanced, pageCounted};
 use layout::MOST_SEQUENCE;
 
-// What a batch knows of the pool beside the rows: the current block and its fill, the number of nodes and of checkpoint pages being written,
-// the last sequence number, and the log buffer with its entries of 15 bytes.
+// What a batch knows beside the work table: the current block and its fill, the number of nodes and of checkpoint pages being written,
+// the last sequence number, and how many entries the log buffer has.
 pub struct State {
     pub blocks: usize,
     pub current: usize,
@@ -16,7 +15,6 @@ pub struct State {
     pub checkpoint: usize,
     pub last: u32,
     pub entries: usize,
-    pub buffer: [u8; BUFFER_BYTES],
 }
 
 impl State {
@@ -49,6 +47,15 @@ pub fn advance(state: State, number: u32) -> State
     let mut s = state;
     s.fill = state.fill + 1;
     s.last = number;
+    s
+}
+
+// The state with so many entries in the buffer.
+pub fn with_entries(state: State, entries: usize) -> State
+    ensures { λ r. ⌜ r ≡ withEntries entries state ⌝ }
+{
+    let mut s = state;
+    s.entries = entries;
     s
 }
 

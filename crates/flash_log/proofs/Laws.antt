@@ -1,15 +1,16 @@
 -- The cases of a claim, of room in a block and of room in the buffer, and what each step of a flush keeps. Assumes nothing.
-use mathlib.Core.Path.{_≡_, refl, ap, _∙_}
+use mathlib.Core.Path.{_≡_, refl, sym, ap, _∙_}
 use mathlib.Core.Bool.{Bool, true, false}
 use mathlib.Core.List.{List}
-use Prim.Native.Nat.{ℕ, _+_, _*_, _/_, _%_, _≤_, _<_}
+use Prim.Native.Nat.{ℕ, _+_, _-_, _/_, _%_, _≤_, _<_}
 use native.Mathlib.Omega.{arith}
 use lib.Dec.{ltb, leb}
 use lib.ListN.{getD, set}
 use borrow.Author.Tests.{lt-ltb, le-ltb, ltb-true}
 use Rattle.laws.specs.Tests.{choose}
-use Rattle.laws.specs.Lay.{lay}
+use Rattle.laws.specs.Loops.{steps, steps-begin, steps-more, steps-done}
 use Rattle.flash_rows.specs.Row.{noRow}
+use Rattle.flash_rows.specs.Work.{Work, work}
 use Rattle.flash_rows.specs.Step.{claim, settled}
 use Rattle.flash_rows.specs.declared.Row.{Row}
 use Rattle.flash_rows.specs.declared.Claim.{Claim}
@@ -21,8 +22,8 @@ use Rattle.flash_allocate.specs.Compact.{compact}
 use Rattle.flash_allocate.specs.Allocate.{behind, nextBlock, allocate}
 use Rattle.flash_allocate.specs.declared.state.State.{State}
 use Rattle.page_write.specs.Pages.{entryRecord, entryRecord-bytes, logImage}
-use Rattle.flash_log.specs.Entry.{entryOf, entered, append}
-use Rattle.flash_log.specs.Claim.{idAt, versionAt, claimRow, claimEntry, claimEntries}
+use Rattle.flash_log.specs.Entry.{entryOf, Log, log, laidAt, entered, append}
+use Rattle.flash_log.specs.Claim.{idAt, versionAt, claimRow, claimEntry, claimEntries, claimOne, claimed}
 use Rattle.flash_log.specs.Flush.{writeBuffer, ifRoom, flush, room}
 use Rattle.flash_allocate.specs.State.{inBlock, withEntries, nextSequence, advanced, withoutEntries}
 
@@ -37,14 +38,14 @@ record-entry id version c kind key pointer k y p =
     rw (k, y, p, high, low) (entryRecord-bytes id version c)
 
 -- An entry more, where the buffer has room.
-pub append-in : (id version : ℕ) (c : Change) (s : State) (buffer : List ℕ) → s .entries < 27 →
-    buffer ≡ lay (s .buffer) (15 * s .entries) (entryBytes (entryOf id version c)) → withEntries (s .entries + 1) buffer s ≡ append id version c s
+pub append-in : (id version : ℕ) (c : Change) (t t′ : Work) (s s′ : State) → s .entries < 27 →
+    t′ ≡ laidAt (s .entries) (entryBytes (entryOf id version c)) t → s′ ≡ withEntries (s .entries + 1) s → log t′ s′ ≡ append id version c (log t s)
 unfolding append entered
-append-in id version c s buffer h e = rw (lt-ltb (s .entries) 27 h, e) refl
+append-in id version c t t′ s s′ h e f = rw (lt-ltb (s .entries) 27 h, e, f) refl
 
-pub append-full : (id version : ℕ) (c : Change) (s : State) → 27 ≤ s .entries → s ≡ append id version c s
+pub append-full : (id version : ℕ) (c : Change) (t : Work) (s : State) → 27 ≤ s .entries → log t s ≡ append id version c (log t s)
 unfolding append
-append-full id version c s h = rw (le-ltb (s .entries) 27 h) refl
+append-full id version c t s h = rw (le-ltb (s .entries) 27 h) refl
 
 -- The claim of an entry whose node exists, and of one whose node does not.
 pub claim-in : (buffer : List ℕ) (nodes page k : ℕ) (rows rows′ : List Row) (id version : ℕ) (r : Row) (x : Claim) →
@@ -59,13 +60,42 @@ pub claim-out : (buffer : List ℕ) (nodes page k : ℕ) (rows : List Row) (id :
 unfolding claimEntry
 claim-out buffer nodes page k rows id i h = rw (← i, le-ltb id nodes h) refl
 
+-- The claims of the first n entries, once those of the first k are made: the buffer is the same, and those left give all.
+pub record Claiming (nodes page n k : ℕ) (before now : Work) : Type 0 where
+  pub buffer : now .buffer ≡ before .buffer
+  pub rows : steps (claimEntry (before .buffer) nodes page) (n - k) k (now .rows) ≡ claimEntries (before .buffer) nodes page n (before .rows)
+
+module _ (nodes page n : ℕ) where
+  pub claiming-begin : (t : Work) → Claiming nodes page n 0 t t
+  unfolding claimEntries
+  claiming-begin t = record { buffer = refl; rows = steps-begin (claimEntry (t .buffer) nodes page) n (t .rows) }
+
+  module _ (k : ℕ) where
+    pub claiming-more : k < n → (t u v : Work) → Claiming nodes page n k t u → v ≡ claimOne nodes page k u → Claiming nodes page n (k + 1) t v
+    claiming-more l t u v i e =
+        rw e
+        (record {
+          buffer = i .buffer;
+          rows =
+              ap (λ (b : List ℕ). steps (claimEntry (t .buffer) nodes page) (n - (k + 1)) (k + 1) (claimEntry b nodes page k (u .rows))) (i .buffer) ∙
+              steps-more (claimEntry (t .buffer) nodes page) n k (u .rows) l ∙
+              i .rows;
+        })
+
+    pub claiming-done : n ≤ k → (t u : Work) → Claiming nodes page n k t u → u ≡ claimed nodes page n t
+    claiming-done l t u i =
+        let rows = sym (steps-done (claimEntry (t .buffer) nodes page) n k (u .rows) l) ∙ i .rows in
+        ap (λ (b : List ℕ). work b (u .rows)) (i .buffer) ∙ ap (work (t .buffer)) rows
+
 -- A state good for other buffers: what an entry more leaves.
-pub good-append : {P T : ℕ} (id version : ℕ) (c : Change) (s : State) → Good P T s → Good P T (append id version c s)
-unfolding append entered
-good-append {P} {T} id version c s g = go (ltb (s .entries) 27) refl
+pub good-append : {P T : ℕ} (id version : ℕ) (c : Change) (l : Log) → Good P T (l .state) → Good P T (append id version c l .state)
+unfolding append entered withEntries
+good-append {P} {T} id version c l g = go (ltb (s .entries) 27) refl
   where
-    go : (b : Bool) → ltb (s .entries) 27 ≡ b → Good P T
-        (choose b (withEntries (s .entries + 1) (lay (s .buffer) (15 * s .entries) (entryBytes (entryOf id version c))) s) s)
+    s : State
+    s = l .state
+
+    go : (b : Bool) → ltb (s .entries) 27 ≡ b → Good P T (choose b (entered (entryBytes (entryOf id version c)) l) l .state)
     go true e =
         record {
           few = g .few;
@@ -85,11 +115,11 @@ pub record Beside (s s′ : State) : Type 0 where
   pub nodes : s′ .nodes ≡ s .nodes
   pub checkpoint : s′ .checkpoint ≡ s .checkpoint
 
-pub beside-append : (id version : ℕ) (c : Change) (s : State) → Beside s (append id version c s)
-unfolding append entered
-beside-append id version c s = go (ltb (s .entries) 27)
+pub beside-append : (id version : ℕ) (c : Change) (l : Log) → Beside (l .state) (append id version c l .state)
+unfolding append entered withEntries
+beside-append id version c l = go (ltb (l .state .entries) 27)
   where
-    go : (b : Bool) → Beside s (choose b (withEntries (s .entries + 1) (lay (s .buffer) (15 * s .entries) (entryBytes (entryOf id version c))) s) s)
+    go : (b : Bool) → Beside (l .state) (choose b (entered (entryBytes (entryOf id version c)) l) l .state)
     go true = record { blocks = refl; nodes = refl; checkpoint = refl }
     go false = record { blocks = refl; nodes = refl; checkpoint = refl }
 
@@ -104,8 +134,8 @@ beside-allocate w = go (ltb (w .state .fill) 32) (leb 2 (blankBlocks (w .state .
         Beside (w .state)
         (choose a w
         (choose b
-        (world (w .pages) (w .rows) (inBlock to 0 (w .state)))
-        (behind to (w .state) (compact (used (w .state)) (w .state .blocks) to (w .pages) (w .rows)))) .state)
+        (world (w .pages) (w .work) (inBlock to 0 (w .state)))
+        (behind to (w .work) (w .state) (compact (used (w .state)) (w .state .blocks) to (w .pages) (w .work .rows)))) .state)
     go true b = record { blocks = refl; nodes = refl; checkpoint = refl }
     go false true = record { blocks = refl; nodes = refl; checkpoint = refl }
     go false false = record { blocks = refl; nodes = refl; checkpoint = refl }
@@ -164,7 +194,7 @@ good-advanced number s g p t h =
       few = g .few;
       most = g .most;
       pool = p ∙ g .pool;
-      table = t ∙ g .table;
+      table = omega (arith, t, g .table);
       inside = g .inside;
       full = omega arith;
       used = g .used;
@@ -172,13 +202,12 @@ good-advanced number s g p t h =
     }
 
 -- The page, the claims and the state of a flush put together.
-pub buffer-written : {P T P′ T′ : ℕ} (pages pages′ : List (List ℕ)) (rows rows′ : List Row) (s s₁ s₂ : State) (number : ℕ) →
+pub buffer-written : {P T P′ T′ : ℕ} (pages pages′ : List (List ℕ)) (w w′ : Work) (s s₁ s₂ : State) (number : ℕ) →
     Good P T s → P′ ≡ P → T′ ≡ T → s .fill < 32 → number ≡ nextSequence (s .last) →
-    pages′ ≡ set pages (spot s) (logImage number (s .entries) (s .buffer)) → rows′ ≡ claimEntries (s .buffer)
-    (s .nodes) (spot s) (s .entries) rows →
-    s₁ ≡ advanced number s → s₂ ≡ withoutEntries s₁ → Kept P′ T′ s (world pages′ rows′ s₂) (writeBuffer (world pages rows s))
-unfolding writeBuffer advanced withoutEntries
-buffer-written pages pages′ rows rows′ s s₁ s₂ number g p t h n e f a b =
+    pages′ ≡ set pages (spot s) (logImage number (s .entries) (w .buffer)) → w′ ≡ claimed (s .nodes) (spot s) (s .entries) w →
+    s₁ ≡ advanced number s → s₂ ≡ withoutEntries s₁ → Kept P′ T′ s (world pages′ w′ s₂) (writeBuffer (world pages w s))
+unfolding writeBuffer advanced withoutEntries withEntries
+buffer-written pages pages′ w w′ s s₁ s₂ number g p t h n e f a b =
     rw (b, a, e, f, n)
     (record {
       is = refl;
@@ -187,7 +216,7 @@ buffer-written pages pages′ rows rows′ s s₁ s₂ number g p t h n e f a b 
             few = g .few;
             most = g .most;
             pool = p ∙ g .pool;
-            table = t ∙ g .table;
+            table = omega (arith, t, g .table);
             inside = g .inside;
             full = omega arith;
             used = g .used;

@@ -10,6 +10,7 @@ use Rattle.laws.specs.BigEndian.{numberAt}
 use Rattle.flash_rows.specs.Row.{noRow}
 use Rattle.flash_rows.specs.Step.{claim, settled}
 use Rattle.flash_rows.specs.declared.Row.{Row}
+use Rattle.flash_rows.specs.Work.{Work, withRows}
 
 -- The node and the version of entry k of a buffer.
 abbrev pub idAt : List ℕ → ℕ → ℕ
@@ -30,3 +31,10 @@ claimEntry buffer nodes page k rows =
 -- The first n entries, in order.
 unfoldable pub claimEntries : List ℕ → ℕ → ℕ → ℕ → List Row → List Row
 claimEntries buffer nodes page n rows = steps (claimEntry buffer nodes page) n 0 rows
+
+-- The work table after one of its buffer's entries, and after the first n.
+abbrev pub claimOne : ℕ → ℕ → ℕ → Work → Work
+claimOne nodes page k t = withRows (claimEntry (t .buffer) nodes page k (t .rows)) t
+
+abbrev pub claimed : ℕ → ℕ → ℕ → Work → Work
+claimed nodes page n t = withRows (claimEntries (t .buffer) nodes page n (t .rows)) t

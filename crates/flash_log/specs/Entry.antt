@@ -8,22 +8,40 @@ use Rattle.layout.specs.Layout.{mostEntries}
 use Rattle.node.specs.Change.{Change}
 use Rattle.page.specs.Page.{Entry}
 use Rattle.page.specs.Image.{entryBytes}
+use Rattle.flash_rows.specs.Work.{Work, withBuffer}
 use Rattle.flash_allocate.specs.declared.state.State.{State}
 use Rattle.flash_allocate.specs.State.{withEntries}
+use Rattle.flash_allocate.specs.World.{World, world}
 
 -- The entry that says a change of a node under a version.
 abbrev pub entryOf : ℕ → ℕ → Change → Entry
 entryOf id version change = record { id = id; version = version; change = change }
 
--- The state with the bytes of an entry behind those in the buffer.
-unfoldable pub entered : List ℕ → State → State
-entered bytes s = withEntries (s .entries + 1) (lay (s .buffer) (15 * s .entries) bytes) s
+-- What an entry changes: the work table, which has the buffer, and the state, which counts its entries.
+pub record Log : Type 0 where
+  pub work : Work
+  pub state : State
+
+abbrev pub log : Work → State → Log
+log work state = record { work = work; state = state }
+
+-- The world with these pages.
+abbrev pub besides : List (List ℕ) → Log → World
+besides pages l = world pages (l .work) (l .state)
+
+-- The bytes of an entry behind the first n of the buffer.
+abbrev pub laidAt : ℕ → List ℕ → Work → Work
+laidAt n bytes t = withBuffer (lay (t .buffer) (15 * n) bytes) t
+
+-- The same behind those that it has.
+unfoldable pub entered : List ℕ → Log → Log
+entered bytes l = log (laidAt (l .state .entries) bytes (l .work)) (withEntries (l .state .entries + 1) (l .state))
 
 -- One entry more, where the buffer has room.
-unfoldable pub append : ℕ → ℕ → Change → State → State
-append id version change s = choose (ltb (s .entries) mostEntries) (entered (entryBytes (entryOf id version change)) s) s
+unfoldable pub append : ℕ → ℕ → Change → Log → Log
+append id version change l = choose (ltb (l .state .entries) mostEntries) (entered (entryBytes (entryOf id version change)) l) l
 
 -- Entries of one node and one version, one after another.
-unfoldable pub appendAll : ℕ → ℕ → List Change → State → State
-appendAll id version [] s = s
-appendAll id version (c ∷ cs) s = appendAll id version cs (append id version c s)
+unfoldable pub appendAll : ℕ → ℕ → List Change → Log → Log
+appendAll id version [] l = l
+appendAll id version (c ∷ cs) l = appendAll id version cs (append id version c l)

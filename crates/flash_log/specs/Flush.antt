@@ -7,15 +7,15 @@ use Rattle.layout.specs.Layout.{pagesInBlock, mostEntries}
 use Rattle.flash_allocate.specs.World.{World, world, spot}
 use Rattle.flash_allocate.specs.Allocate.{allocate}
 use Rattle.page_write.specs.Pages.{logImage}
-use Rattle.flash_log.specs.Claim.{claimEntries}
+use Rattle.flash_log.specs.Claim.{claimed}
 use Rattle.flash_allocate.specs.State.{nextSequence, advanced, withoutEntries}
 
 -- The buffer as the page written next, and its rows' claims on it.
 unfoldable pub writeBuffer : World → World
 writeBuffer w =
     world
-    (set (w .pages) (spot (w .state)) (logImage (nextSequence (w .state .last)) (w .state .entries) (w .state .buffer)))
-    (claimEntries (w .state .buffer) (w .state .nodes) (spot (w .state)) (w .state .entries) (w .rows))
+    (set (w .pages) (spot (w .state)) (logImage (nextSequence (w .state .last)) (w .state .entries) (w .work .buffer)))
+    (claimed (w .state .nodes) (spot (w .state)) (w .state .entries) (w .work))
     (withoutEntries (advanced (nextSequence (w .state .last)) (w .state)))
 
 -- A step where the current block has room, as it has after an allocation.

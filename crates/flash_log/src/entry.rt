@@ -1,14 +1,15 @@
 // One log entry, and the buffer with one entry more.
 ghost use mathlib.Core.Path.{_≡_};
-ghost use Prim.Native.Nat.{_*_, _<_};
-ghost use Rattle.laws.specs.Lay.{lay};
+ghost use Prim.Native.Nat.{_≤_, _<_};
+ghost use lib.ListN.{length};
 ghost use Rattle.node.specs.Drafts.{changeOf};
 ghost use Rattle.page.specs.Image.{changeNumber, changeKey, changePointer, entryBytes};
 ghost use Rattle.flash_log.specs.Entry as def;
-ghost use Rattle.flash_log.specs.Entry.{entryOf};
-ghost use Rattle.layout.specs.Layout.{entrySize, mostEntries};
+ghost use Rattle.flash_log.specs.Entry.{entryOf, log, laidAt};
+ghost use Rattle.flash_rows.specs.Work.{rowsAt, workOf};
+ghost use Rattle.layout.specs.Layout.{mostEntries};
 use flash_allocate::state::State;
-use layout::BUFFER_BYTES;
+use flash_allocate::state::with_entries;
 use layout::ENTRY_BYTES;
 use layout::MOST_ENTRIES;
 use node::ChangeValue;
@@ -49,22 +50,16 @@ fn change_pointer(change: ChangeValue) -> u32
 }
 
 // Lays an entry behind the first n of the buffer; an id has two bytes.
-fn lay_change(
-    buffer: &mut [u8; BUFFER_BYTES],
-    n: usize,
-    id: usize,
-    version: u32,
-    change: ChangeValue,
-)
-    requires { ⌜ n < mostEntries ⌝ }
-    ensures { λ _. ⌜ now (buffer .exit) ≡ lay (now (buffer .entry)) (entrySize * n)
-        (entryBytes (entryOf id version (changeOf change))) ⌝ }
+fn lay_change(table: &mut [u8], n: usize, id: usize, version: u32, change: ChangeValue)
+    requires { ⌜ (n < mostEntries) × (rowsAt ≤ length (now table)) ⌝ }
+    ensures { λ _. ⌜ workOf (now (table .exit))
+        ≡ laidAt n (entryBytes (entryOf id version (changeOf change))) (workOf (now (table .entry))) ⌝ }
 {
     let kind = change_number(change);
     let key = change_key(change);
     let pointer = change_pointer(change);
     lay_entry(
-        buffer,
+        table,
         ENTRY_BYTES * n,
         (id % 65536) as u32,
         version,
@@ -74,15 +69,15 @@ fn lay_change(
     );
 }
 
-// The state with one entry more in the buffer, where it has room.
-pub fn append(state: State, id: usize, version: u32, change: ChangeValue) -> State
-    ensures { λ r. ⌜ r ≡ def.append id version (changeOf change) state ⌝ }
+// One entry more in the buffer, where it has room.
+pub fn append(table: &mut [u8], state: State, id: usize, version: u32, change: ChangeValue) -> State
+    requires { ⌜ rowsAt ≤ length (now table) ⌝ }
+    ensures { λ r. ⌜ log (workOf (now (table .exit))) r
+        ≡ def.append id version (changeOf change) (log (workOf (now (table .entry))) state) ⌝ }
 {
     if state.entries < MOST_ENTRIES {
-        let mut s = state;
-        lay_change(&mut s.buffer, state.entries, id, version, change);
-        s.entries = state.entries + 1;
-        return s;
+        lay_change(table, state.entries, id, version, change);
+        return with_entries(state, state.entries + 1);
     }
     state
 }

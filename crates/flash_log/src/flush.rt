@@ -2,6 +2,7 @@
 ghost use mathlib.Core.Path.{_≡_};
 ghost use Prim.Native.Nat.{_+_, _*_, _≤_, _<_};
 ghost use lib.ListN.{length, set};
+ghost use Rattle.flash_rows.specs.Work.{bufferBytes};
 ghost use Rattle.flash_blocks.specs.Pages.{pagesOf};
 ghost use Rattle.flash_allocate.specs.World.{Good, worldIn, Kept, LeftIn};
 ghost use Rattle.page_write.specs.Pages.{logImage};
@@ -15,14 +16,15 @@ use flash_allocate::state::advance;
 use flash_allocate::state::next_sequence;
 use flash_allocate::state::without_entries;
 use flash_blocks::page::put_page;
-use layout::BUFFER_BYTES;
+use flash_rows::table::buffer_part;
 use layout::MOST_ENTRIES;
 use layout::PAGES_IN_BLOCK;
 use page_write::log_page::log_image;
 
 // The first n entries of the buffer written as a log page.
-fn put_log(pool: &mut [u8], page: usize, number: u32, buffer: &[u8; BUFFER_BYTES], n: usize)
-    requires { ⌜ (pageBytes * page + pageBytes ≤ length (now pool)) × (n ≤ mostEntries) ⌝ }
+fn put_log(pool: &mut [u8], page: usize, number: u32, buffer: &[u8], n: usize)
+    requires { ⌜ (pageBytes * page + pageBytes ≤ length (now pool)) × (n ≤ mostEntries)
+        × (length (now buffer) ≡ bufferBytes) ⌝ }
     ensures { λ _. ⌜ pagesOf (now (pool .exit)) ≡ set (pagesOf (now (pool .entry))) page
         (logImage number n (now (buffer .entry))) ⌝ }
 {
@@ -38,9 +40,8 @@ fn write_buffer(pool: &mut [u8], table: &mut [u8], state: State) -> State
 {
     let page = PAGES_IN_BLOCK * state.current + state.fill;
     let number = next_sequence(state.last);
-    let buffer = state.buffer;
-    put_log(pool, page, number, &buffer, state.entries);
-    claim_entries(table, &buffer, state.entries, state.nodes, page as u16);
+    put_log(pool, page, number, buffer_part(table), state.entries);
+    claim_entries(table, state.entries, state.nodes, page as u16);
     without_entries(advance(state, number))
 }
 

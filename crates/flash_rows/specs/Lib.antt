@@ -1,2 +1,4 @@
 pub mod Row
 pub mod Step
+pub mod Work
+pub mod WorkLaws

@@ -6,6 +6,9 @@ ghost use Rattle.laws.specs.BigEndian.{numberAt};
 ghost use Rattle.flash_rows.specs.Row as def;
 ghost use Rattle.flash_rows.specs.Row.{modeByte, modeFrom, rowsOf, noRow, rowBytes};
 ghost use Rattle.flash_rows.specs.Step as step;
+
+pub mod table;
+
 use account::Mode;
 use layout::PAGES_IN_BLOCK;
 use layout::ROW_BYTES;

@@ -10,8 +10,8 @@ enum-told c = search needs
 enum-known-claim : tie.Need-enum-known-claim
 enum-known-claim c = search needs
 
-write-row-requires : tie.Need-write-row-requires
-write-row-requires c κs = search needs
+put-row-requires : tie.Need-put-row-requires
+put-row-requires c κs = search needs
 
 returns : tie.Need-returns
 returns c = rw (c .enum-told .given .1) refl
@@ -20,8 +20,8 @@ same-length : tie.Need-same-length
 same-length c = search needs
 
 returns-2 : tie.Need-returns-2
-returns-2 c = rw (c .before .before .before .before .before .claim .given .1) (c .before .before .write-row .ensures)
+returns-2 c = rw (c .before .before .before .before .before .claim .given .1) (c .before .before .put-row .ensures)
 
 pub store-claim-spec : {M : Type 1} → statement M
 store-claim-spec =
-    tie.close (tie.spec enum-told enum-known-claim write-row-requires returns same-length returns-2)
+    tie.close (tie.spec enum-told enum-known-claim put-row-requires returns same-length returns-2)

@@ -1,8 +1,14 @@
 -- `entry::lay_change` meets its contract: the numbers of the change laid as an entry. Assumes nothing.
 use mathlib.Core.Path.{ap, _∙_}
 use Prim.Native.Nat.{_*_}
+use native.Mathlib.Omega.{arith}
 use Rattle.laws.specs.Lay.{lay}
 use Rattle.node.specs.Drafts.{changeOf}
+use Rattle.page.specs.Image.{entryBytes}
+use Rattle.page.specs.Spelled.{length-entryBytes}
+use Rattle.flash_rows.specs.Work.{workOf}
+use Rattle.flash_rows.specs.WorkLaws.{laid-buffer}
+use Rattle.flash_log.specs.Entry.{entryOf}
 use Rattle.flash_log.proofs.Laws.{record-entry}
 use borrow.Author.Needs.{needs}
 use Rattle.flash_log.proofs.entry.lay_change.Statement.{statement}
@@ -26,16 +32,23 @@ cast-lay-entry c = search needs
 lay-entry-requires : tie.Need-lay-entry-requires
 lay-entry-requires c κs = search needs
 
+same-length : tie.Need-same-length
+same-length c = search needs
+
 returns : tie.Need-returns
 returns c =
     let c2 = c .before .before in
-    let c3 = c2 .before in
-    let c4 = c3 .before in
-    let a = c4 .before .args in
-    c .lay-entry .ensures ∙
-    ap (lay (a .buffer .now) (15 * a .n))
-    (record-entry (a .id) (a .version) (changeOf (a .change)) (c4 .change-number .result) (c3 .change-key .result) (c2 .change-pointer .result)
-    (c4 .change-number .ensures) (c3 .change-key .ensures) (c2 .change-pointer .ensures))
+    let c4 = c2 .before .before in
+    let c5 = c4 .before in
+    let c6 = c5 .before in
+    let a = c6 .before .before .args in
+    let long = c6 .before .before .pre .1 in
+    let bytes = entryBytes (entryOf (a .id) (a .version) (changeOf (a .change))) in
+    ap workOf (c2 .lay-entry .ensures ∙
+    ap (lay (a .table .now) (15 * a .n))
+    (record-entry (a .id) (a .version) (changeOf (a .change)) (c6 .change-number .result) (c5 .change-key .result) (c4 .change-pointer .result)
+    (c6 .change-number .ensures) (c5 .change-key .ensures) (c4 .change-pointer .ensures))) ∙
+    laid-buffer (a .table .now) long (15 * a .n) bytes (omega (arith, length-entryBytes (entryOf (a .id) (a .version) (changeOf (a .change)))))
 
 pub lay-change-spec : {M : Type 1} → statement M
 lay-change-spec =
@@ -47,4 +60,5 @@ lay-change-spec =
     mul-lay-entry
     cast-lay-entry
     lay-entry-requires
+    same-length
     returns)

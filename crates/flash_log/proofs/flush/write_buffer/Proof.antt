@@ -1,5 +1,11 @@
 -- `flush::write_buffer` meets its contract: the page, the claims on it, the state behind it. Assumes nothing.
-use Rattle.flash_rows.specs.Row.{rowsOf}
+use mathlib.Core.Path.{ap, _∙_}
+use mathlib.Core.List.{List}
+use Prim.Native.Nat.{ℕ}
+use lib.ListN.{set}
+use Rattle.flash_rows.specs.Work.{workOf}
+use Rattle.flash_allocate.specs.World.{spot}
+use Rattle.page_write.specs.Pages.{logImage}
 use Rattle.flash_blocks.specs.Pages.{pagesOf}
 use Rattle.flash_log.proofs.Laws.{buffer-written}
 use borrow.Author.Needs.{needs}
@@ -14,6 +20,9 @@ add-page c = search needs
 
 next-sequence-requires : tie.Need-next-sequence-requires
 next-sequence-requires c κs = search needs
+
+buffer-part-requires : tie.Need-buffer-part-requires
+buffer-part-requires c κs = search needs
 
 put-log-requires : tie.Need-put-log-requires
 put-log-requires c κs = search needs
@@ -40,17 +49,19 @@ returns : tie.Need-returns
 returns c =
     let c1 = c .before in
     let c4 = c1 .before .before .before in
-    let c9 = c4 .before .before .before .before .before in
-    let c13 = c9 .before .before .before .before in
-    let c18 = c13 .before .before .before .before .before in
-    let a = c18 .args in
-    let p = c18 .pre in
-    let n = c13 .next-sequence in
-    let w = c9 .put-log in
+    let c8 = c4 .before .before .before .before in
+    let c9 = c8 .before in
+    let c12 = c9 .before .before .before in
+    let c17 = c12 .before .before .before .before .before in
+    let a = c17 .args in
+    let p = c17 .pre in
+    let n = c12 .next-sequence in
+    let w = c8 .put-log in
     let k = c4 .claim-entries in
-    buffer-written (pagesOf (a .pool .now)) (pagesOf (w .last .0)) (rowsOf (a .table .now)) (rowsOf (k .last .0))
+    let page = ap (λ (b : List ℕ). set (pagesOf (a .pool .now)) (spot (a .state)) (logImage (n .result) (a .state .entries) b)) (c9 .buffer-part .ensures .0) in
+    buffer-written (pagesOf (a .pool .now)) (pagesOf (w .last .0)) (workOf (a .table .now)) (workOf (k .last .0))
     (a .state) (c1 .advance .result) (c .without-entries .result) (n .result) (p .0) (w .kept .0) (k .kept .0) (p .1)
-    (n .ensures) (w .ensures) (k .ensures) (c1 .advance .ensures) (c .without-entries .ensures)
+    (n .ensures) (w .ensures ∙ page) (k .ensures) (c1 .advance .ensures) (c .without-entries .ensures)
 
 pub write-buffer-spec : {M : Type 1} → statement M
 write-buffer-spec =
@@ -59,6 +70,7 @@ write-buffer-spec =
     mul-page
     add-page
     next-sequence-requires
+    buffer-part-requires
     put-log-requires
     cast-claim-entries
     claim-entries-requires

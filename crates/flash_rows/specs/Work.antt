@@ -1,0 +1,63 @@
+-- THE PLAN OF THE WORK TABLE while a batch runs (document 01, "Pool and buffers": "at least 1,024 × B bytes"), the one place where it is written down:
+--
+--   from 0         the log buffer: 27 entries of 15 bytes, filled up to whole rows
+--   from 416       the rows: one a node, then one for each checkpoint page being written, eleven a block at most
+--   behind them    free: the tree check has its marks and its stack there
+--
+-- The buffer stands first, so that its place is a number and not a product with B.
+use mathlib.Core.Path.{_≡_}
+use mathlib.Core.List.{List}
+use Prim.Native.Nat.{ℕ, _+_, _*_, _≤_}
+use native.Mathlib.Omega.{arith}
+use lib.ListN.{set, take, drop}
+use Rattle.layout.specs.Layout.{entrySize, mostEntries, fewestBlocks, nodeLimit, tableBytes}
+use Rattle.flash_rows.specs.declared.Row.{Row}
+use Rattle.flash_rows.specs.Row.{rowsOf, rowBytes}
+
+abbrev pub bufferBytes : ℕ
+bufferBytes = entrySize * mostEntries
+
+abbrev pub rowsAt : ℕ
+rowsAt = 416
+
+-- The rows that a pool of so many blocks needs: 10 × (B − 2) nodes, and a checkpoint page for the first 50 of them and for each 54 more.
+abbrev pub rowsFor : ℕ → ℕ
+rowsFor blocks = 11 * blocks
+
+-- Where what is free begins.
+abbrev pub freeAt : ℕ → ℕ
+freeAt blocks = rowsAt + rowBytes * rowsFor blocks
+
+-- What the table holds.
+pub record Work : Type 0 where
+  pub buffer : List ℕ
+  pub rows : List Row
+
+abbrev pub work : List ℕ → List Row → Work
+work buffer rows = record { buffer = buffer; rows = rows }
+
+unfoldable pub bufferOf : List ℕ → List ℕ
+bufferOf table = take bufferBytes table
+
+unfoldable pub rowsIn : List ℕ → List Row
+rowsIn table = rowsOf (drop rowsAt table)
+
+abbrev pub workOf : List ℕ → Work
+workOf table = work (bufferOf table) (rowsIn table)
+
+-- The same with other rows, with one other row, with another buffer.
+abbrev pub withRows : List Row → Work → Work
+withRows rows w = work (w .buffer) rows
+
+abbrev pub withRow : ℕ → Row → Work → Work
+withRow n r w = withRows (set (w .rows) n r) w
+
+abbrev pub withBuffer : List ℕ → Work → Work
+withBuffer buffer w = work buffer (w .rows)
+
+-- It fits for every B from 4, with the tree check's 17 bytes a node behind the rows; with a buffer of 1,695 bytes too, as pages of 2,048 bytes need it.
+pub plan-fits : (blocks : ℕ) → fewestBlocks ≤ blocks → freeAt blocks + 17 * nodeLimit blocks ≤ tableBytes blocks
+plan-fits blocks few = omega arith
+
+pub plan-fits-wide : (blocks : ℕ) → fewestBlocks ≤ blocks → 1696 + (rowBytes * rowsFor blocks + 17 * nodeLimit blocks) ≤ tableBytes blocks
+plan-fits-wide blocks few = omega arith

@@ -1,0 +1,73 @@
+-- The work table in bytes: its rows lent and come back, bytes laid in its buffer. Assumes nothing.
+use mathlib.Core.Path.{_≡_, refl, sym, ap, _∙_}
+use mathlib.Core.List.{List, [], _∷_}
+use Prim.Native.Nat.{ℕ, suc, _+_, _-_, _≤_}
+use native.Mathlib.Omega.{arith}
+use lib.ListN.{length, take, drop, length-drop}
+use lib.Seq.{sets, length-take-le, take-set-lt, take-all}
+use borrow.Rule.Slice.PartMut.{putMid}
+use Rattle.laws.specs.Lay.{lay, part, lay-lent, lay-sets, lay-whole, drop-lay, length-lay, part-lay-before}
+use Rattle.laws.specs.Chunks.{drop-lay-front}
+use Rattle.flash_rows.specs.Row.{rowsOf}
+use Rattle.flash_rows.specs.Work.{bufferBytes, rowsAt, work, bufferOf, rowsIn, workOf, withRows, withBuffer}
+
+-- Bytes laid in the first k, and the first k with bytes laid.
+take-sets : (vs s : List ℕ) (k at : ℕ) → at + length vs ≤ k → take k (sets s at vs) ≡ sets (take k s) at vs
+take-sets [] s k at h = refl
+take-sets (v ∷ vs) s k at h =
+    take-sets vs _ k (suc at) (omega arith) ∙ ap (λ (l : List ℕ). sets l (suc at) vs) (take-set-lt k s at v (omega arith))
+
+take-laid : (s vs : List ℕ) (k at : ℕ) → k ≤ length s → at + length vs ≤ k → take k (lay s at vs) ≡ lay (take k s) at vs
+take-laid s vs k at l h =
+    ap (take k) (sym (lay-sets vs s at (omega arith))) ∙
+    take-sets vs s k at h ∙
+    lay-sets vs (take k s) at (rw (length-take-le k s l) h)
+
+module _ (table : List ℕ) (long : rowsAt ≤ length table) where
+  pub length-buffer : length (bufferOf table) ≡ bufferBytes
+  unfolding bufferOf
+  length-buffer = length-take-le bufferBytes table (omega arith)
+
+  -- The part that holds the rows, as it is lent.
+  abbrev lent : List ℕ
+  lent = take (length table - rowsAt) (drop rowsAt table)
+
+  rows-lent : lent ≡ drop rowsAt table
+  rows-lent = take-all (length table - rowsAt) (drop rowsAt table) (omega (arith, length-drop rowsAt table))
+
+  pub rows-part : rowsOf lent ≡ rowsIn table
+  unfolding rowsIn
+  rows-part = ap rowsOf rows-lent
+
+  -- It came back as so many bytes.
+  module _ (rows : List ℕ) (kept : length rows ≡ length lent) where
+    length-rows : length rows ≡ length table - rowsAt
+    length-rows = kept ∙ ap length rows-lent ∙ length-drop rowsAt table
+
+    lent-laid : putMid rowsAt (length table - rowsAt) table rows ≡ lay table rowsAt rows
+    lent-laid = lay-lent rowsAt (length table) table rows long length-rows
+
+    pub lent-length : length (putMid rowsAt (length table - rowsAt) table rows) ≡ length table
+    lent-length = ap length lent-laid ∙ length-lay table rowsAt rows (omega (arith, length-rows))
+
+    pub lent-rows : workOf (putMid rowsAt (length table - rowsAt) table rows) ≡ withRows (rowsOf rows) (workOf table)
+    unfolding rowsIn bufferOf part
+    lent-rows = ap workOf lent-laid ∙ rw (front, back) refl
+      where
+        front : take bufferBytes (lay table rowsAt rows) ≡ take bufferBytes table
+        front = part-lay-before table rowsAt rows long 0 bufferBytes (omega arith)
+
+        back : drop rowsAt (lay table rowsAt rows) ≡ rows
+        back =
+            drop-lay-front table rowsAt 0 rows long ∙ lay-whole (drop rowsAt table) rows (length-rows ∙ sym (length-drop rowsAt table))
+
+  -- Bytes laid within the buffer.
+  pub laid-buffer : (at : ℕ) (bytes : List ℕ) → at + length bytes ≤ bufferBytes →
+      workOf (lay table at bytes) ≡ withBuffer (lay (bufferOf table) at bytes) (workOf table)
+  unfolding rowsIn bufferOf
+  laid-buffer at bytes l = rw (take-laid table bytes bufferBytes at (omega arith) l, behind) refl
+    where
+      behind : drop rowsAt (lay table at bytes) ≡ drop rowsAt table
+      behind =
+          let e : at + length bytes + (rowsAt - (at + length bytes)) ≡ rowsAt = omega arith in
+          rw e at (drop-lay table at bytes (rowsAt - (at + length bytes)) (omega arith))
