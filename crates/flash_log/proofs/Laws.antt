@@ -22,7 +22,7 @@ use Rattle.flash_allocate.specs.Compact.{compact}
 use Rattle.flash_allocate.specs.Allocate.{behind, nextBlock, allocate}
 use Rattle.flash_allocate.specs.declared.state.State.{State}
 use Rattle.page_write.specs.Pages.{entryRecord, entryRecord-bytes, logImage}
-use Rattle.flash_log.specs.Entry.{entryOf, Log, log, laidAt, entered, append}
+use Rattle.flash_log.specs.Entry.{entryOf, Logged, logged, laidAt, entered, append}
 use Rattle.flash_log.specs.Claim.{idAt, versionAt, claimRow, claimEntry, claimEntries, claimOne, claimed}
 use Rattle.flash_log.specs.Flush.{writeBuffer, ifRoom, flush, room}
 use Rattle.flash_allocate.specs.State.{inBlock, withEntries, nextSequence, advanced, withoutEntries}
@@ -39,11 +39,11 @@ record-entry id version c kind key pointer k y p =
 
 -- An entry more, where the buffer has room.
 pub append-in : (id version : ℕ) (c : Change) (t t′ : Work) (s s′ : State) → s .entries < 27 →
-    t′ ≡ laidAt (s .entries) (entryBytes (entryOf id version c)) t → s′ ≡ withEntries (s .entries + 1) s → log t′ s′ ≡ append id version c (log t s)
+    t′ ≡ laidAt (s .entries) (entryBytes (entryOf id version c)) t → s′ ≡ withEntries (s .entries + 1) s → logged t′ s′ ≡ append id version c (logged t s)
 unfolding append entered
 append-in id version c t t′ s s′ h e f = rw (lt-ltb (s .entries) 27 h, e, f) refl
 
-pub append-full : (id version : ℕ) (c : Change) (t : Work) (s : State) → 27 ≤ s .entries → log t s ≡ append id version c (log t s)
+pub append-full : (id version : ℕ) (c : Change) (t : Work) (s : State) → 27 ≤ s .entries → logged t s ≡ append id version c (logged t s)
 unfolding append
 append-full id version c t s h = rw (le-ltb (s .entries) 27 h) refl
 
@@ -88,7 +88,7 @@ module _ (nodes page n : ℕ) where
         ap (λ (b : List ℕ). work b (u .rows)) (i .buffer) ∙ ap (work (t .buffer)) rows
 
 -- A state good for other buffers: what an entry more leaves.
-pub good-append : {P T : ℕ} (id version : ℕ) (c : Change) (l : Log) → Good P T (l .state) → Good P T (append id version c l .state)
+pub good-append : {P T : ℕ} (id version : ℕ) (c : Change) (l : Logged) → Good P T (l .state) → Good P T (append id version c l .state)
 unfolding append entered withEntries
 good-append {P} {T} id version c l g = go (ltb (s .entries) 27) refl
   where
@@ -115,7 +115,7 @@ pub record Beside (s s′ : State) : Type 0 where
   pub nodes : s′ .nodes ≡ s .nodes
   pub checkpoint : s′ .checkpoint ≡ s .checkpoint
 
-pub beside-append : (id version : ℕ) (c : Change) (l : Log) → Beside (l .state) (append id version c l .state)
+pub beside-append : (id version : ℕ) (c : Change) (l : Logged) → Beside (l .state) (append id version c l .state)
 unfolding append entered withEntries
 beside-append id version c l = go (ltb (l .state .entries) 27)
   where

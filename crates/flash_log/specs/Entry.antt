@@ -18,15 +18,15 @@ abbrev pub entryOf : ℕ → ℕ → Change → Entry
 entryOf id version change = record { id = id; version = version; change = change }
 
 -- What an entry changes: the work table, which has the buffer, and the state, which counts its entries.
-pub record Log : Type 0 where
+pub record Logged : Type 0 where
   pub work : Work
   pub state : State
 
-abbrev pub log : Work → State → Log
-log work state = record { work = work; state = state }
+abbrev pub logged : Work → State → Logged
+logged work state = record { work = work; state = state }
 
 -- The world with these pages.
-abbrev pub besides : List (List ℕ) → Log → World
+abbrev pub besides : List (List ℕ) → Logged → World
 besides pages l = world pages (l .work) (l .state)
 
 -- The bytes of an entry behind the first n of the buffer.
@@ -34,14 +34,14 @@ abbrev pub laidAt : ℕ → List ℕ → Work → Work
 laidAt n bytes t = withBuffer (lay (t .buffer) (15 * n) bytes) t
 
 -- The same behind those that it has.
-unfoldable pub entered : List ℕ → Log → Log
-entered bytes l = log (laidAt (l .state .entries) bytes (l .work)) (withEntries (l .state .entries + 1) (l .state))
+unfoldable pub entered : List ℕ → Logged → Logged
+entered bytes l = logged (laidAt (l .state .entries) bytes (l .work)) (withEntries (l .state .entries + 1) (l .state))
 
 -- One entry more, where the buffer has room.
-unfoldable pub append : ℕ → ℕ → Change → Log → Log
+unfoldable pub append : ℕ → ℕ → Change → Logged → Logged
 append id version change l = choose (ltb (l .state .entries) mostEntries) (entered (entryBytes (entryOf id version change)) l) l
 
 -- Entries of one node and one version, one after another.
-unfoldable pub appendAll : ℕ → ℕ → List Change → Log → Log
+unfoldable pub appendAll : ℕ → ℕ → List Change → Logged → Logged
 appendAll id version [] l = l
 appendAll id version (c ∷ cs) l = appendAll id version cs (append id version c l)

@@ -5,7 +5,7 @@ ghost use lib.ListN.{length};
 ghost use Rattle.node.specs.Drafts.{changeOf};
 ghost use Rattle.page.specs.Image.{changeNumber, changeKey, changePointer, entryBytes};
 ghost use Rattle.flash_log.specs.Entry as def;
-ghost use Rattle.flash_log.specs.Entry.{entryOf, log, laidAt};
+ghost use Rattle.flash_log.specs.Entry.{entryOf, logged, laidAt};
 ghost use Rattle.flash_rows.specs.Work.{rowsAt, workOf};
 ghost use Rattle.layout.specs.Layout.{mostEntries};
 use flash_allocate::state::State;
@@ -72,8 +72,8 @@ fn lay_change(table: &mut [u8], n: usize, id: usize, version: u32, change: Chang
 // One entry more in the buffer, where it has room.
 pub fn append(table: &mut [u8], state: State, id: usize, version: u32, change: ChangeValue) -> State
     requires { ⌜ rowsAt ≤ length (now table) ⌝ }
-    ensures { λ r. ⌜ log (workOf (now (table .exit))) r
-        ≡ def.append id version (changeOf change) (log (workOf (now (table .entry))) state) ⌝ }
+    ensures { λ r. ⌜ logged (workOf (now (table .exit))) r
+        ≡ def.append id version (changeOf change) (logged (workOf (now (table .entry))) state) ⌝ }
 {
     if state.entries < MOST_ENTRIES {
         lay_change(table, state.entries, id, version, change);

@@ -11,6 +11,7 @@ use borrow.Author.Tests.{lt-ltb, le-ltb}
 use Rattle.pairs.specs.Pairs.{Pair}
 use Rattle.flash_rows.specs.Row.{noRow}
 use Rattle.flash_rows.specs.declared.Row.{Row}
+use Rattle.flash_rows.specs.Work.{Work, rowsFor}
 use Rattle.node.specs.declared.NodeValue.{NodeValue}
 use Rattle.node.specs.Node.{Node, pairsOf}
 use Rattle.node.specs.Change.{Change, put, puts, changesOf}
@@ -21,11 +22,11 @@ use Rattle.page.specs.Image.{image}
 use Rattle.page_write.specs.Pages.{firstPairs}
 use Rattle.flash_allocate.specs.World.{World, world, spot, Good, Kept}
 use Rattle.flash_allocate.specs.declared.state.State.{State}
-use Rattle.flash_log.specs.Entry.{append, appendAll}
+use Rattle.flash_log.specs.Entry.{Logged, logged, besides, append, appendAll}
 use Rattle.flash_log.specs.Flush.{room}
 use Rattle.flash_log.proofs.Laws.{Beside, beside-append, good-append, good-advanced}
-use Rattle.flash_write.specs.Group.{startState, start, Started, roomFor, restart, group, startNext, create, Grown}
-use Rattle.flash_write.specs.NodePage.{diskRow, writeNode}
+use Rattle.flash_write.specs.Group.{begun, started, start, roomFor, restart, group, startNext, create, Grown}
+use Rattle.flash_write.specs.NodePage.{onPage, writeNode}
 use Rattle.flash_write.specs.Edit.{editBy, editIn, edit}
 use Rattle.flash_allocate.specs.State.{nextSequence, advanced, withSequence, withNodes}
 
@@ -50,43 +51,42 @@ pairs-first v s =
 
 -- A turn of the loop over the pairs, its start and its end.
 module _ (id version : ℕ) (keys pointers : List ℕ) (n : ℕ) where
-  pub entries-begin : (s : State) → appendAll id version (puts (firstPairs (n - 0) keys pointers 0)) s ≡ appendAll id
-      version (puts (firstPairs n keys pointers 0)) s
-  entries-begin s = rw sub-zero refl
+  pub entries-begin : (l : Logged) → appendAll id version (puts (firstPairs (n - 0) keys pointers 0)) l ≡ appendAll id version (puts (firstPairs n keys pointers 0)) l
+  entries-begin l = rw sub-zero refl
 
-  pub entries-more : (i : ℕ) (s : State) → i < n →
-      appendAll id version (puts (firstPairs (n - (i + 1)) keys pointers (i + 1))) (append id version (put (getD keys i 0) (getD pointers i 0)) s) ≡
-      appendAll id version (puts (firstPairs (n - i) keys pointers i)) s
+  pub entries-more : (i : ℕ) (l : Logged) → i < n →
+      appendAll id version (puts (firstPairs (n - (i + 1)) keys pointers (i + 1))) (append id version (put (getD keys i 0) (getD pointers i 0)) l) ≡
+      appendAll id version (puts (firstPairs (n - i) keys pointers i)) l
   unfolding firstPairs appendAll
-  entries-more i s h =
+  entries-more i l h =
       let e : n - i ≡ suc (n - (i + 1)) = omega arith in
-      sym (ap (λ (k : ℕ). appendAll id version (puts (firstPairs k keys pointers i)) s) e)
+      sym (ap (λ (k : ℕ). appendAll id version (puts (firstPairs k keys pointers i)) l) e)
 
-  pub entries-done : (i : ℕ) (s : State) → n ≤ i → appendAll id version (puts (firstPairs (n - i) keys pointers i)) s ≡ s
+  pub entries-done : (i : ℕ) (l : Logged) → n ≤ i → appendAll id version (puts (firstPairs (n - i) keys pointers i)) l ≡ l
   unfolding firstPairs appendAll
-  entries-done i s h =
+  entries-done i l h =
       let e : n - i ≡ 0 = omega arith in
-      ap (λ (k : ℕ). appendAll id version (puts (firstPairs k keys pointers i)) s) e
+      ap (λ (k : ℕ). appendAll id version (puts (firstPairs k keys pointers i)) l) e
 
 module _ (id version : ℕ) where
   -- one entry behind others
-  pub appendAll-last : (cs : List Change) (c : Change) (s : State) → append id version c
-      (appendAll id version cs s) ≡ appendAll id version (cs ++ (c ∷ [])) s
+  pub appendAll-last : (cs : List Change) (c : Change) (l : Logged) →
+      append id version c (appendAll id version cs l) ≡ appendAll id version (cs ++ (c ∷ [])) l
   unfolding appendAll
-  appendAll-last [] c s = refl
-  appendAll-last (x ∷ cs) c s = appendAll-last cs c (append id version x s)
+  appendAll-last [] c l = refl
+  appendAll-last (x ∷ cs) c l = appendAll-last cs c (append id version x l)
 
-  good-appendAll : {P T : ℕ} (cs : List Change) (s : State) → Good P T s → Good P T (appendAll id version cs s)
+  good-appendAll : {P T : ℕ} (cs : List Change) (l : Logged) → Good P T (l .state) → Good P T (appendAll id version cs l .state)
   unfolding appendAll
-  good-appendAll [] s g = g
-  good-appendAll (c ∷ cs) s g = good-appendAll cs (append id version c s) (good-append id version c s g)
+  good-appendAll [] l g = g
+  good-appendAll (c ∷ cs) l g = good-appendAll cs (append id version c l) (good-append id version c l g)
 
-  beside-appendAll : (cs : List Change) (s : State) → Beside s (appendAll id version cs s)
+  beside-appendAll : (cs : List Change) (l : Logged) → Beside (l .state) (appendAll id version cs l .state)
   unfolding appendAll
-  beside-appendAll [] s = record { blocks = refl; nodes = refl; checkpoint = refl }
-  beside-appendAll (c ∷ cs) s =
-      let a = beside-append id version c s in
-      let b = beside-appendAll cs (append id version c s) in
+  beside-appendAll [] l = record { blocks = refl; nodes = refl; checkpoint = refl }
+  beside-appendAll (c ∷ cs) l =
+      let a = beside-append id version c l in
+      let b = beside-appendAll cs (append id version c l) in
       record {
         blocks = b .blocks ∙ a .blocks;
         nodes = b .nodes ∙ a .nodes;
@@ -94,70 +94,68 @@ module _ (id version : ℕ) where
       }
 
 -- A fresh start keeps the state good, with the same blocks, nodes and checkpoint pages.
-module _ (n version : ℕ) (x : Node) (s : State) where
-  good-start : {P T T′ : ℕ} → Good P T s → T′ ≡ T → Good P T′ (startState n version x s)
+module _ (n : ℕ) (row : Row) (version : ℕ) (x : Node) (t : Work) (s : State) where
+  good-start : {P T T′ : ℕ} → Good P T s → T′ ≡ T → Good P T′ (started n row version x t s .state)
   unfolding withSequence
-  good-start g t =
+  good-start g e =
       good-appendAll n version (changesOf x) _
       (record {
         few = g .few;
         most = g .most;
         pool = g .pool;
-        table = t ∙ g .table;
+        table = omega (arith, e, g .table);
         inside = g .inside;
         full = g .full;
         used = g .used;
         entries = g .entries;
       })
 
-  beside-start : Beside s (startState n version x s)
+  beside-start : Beside s (started n row version x t s .state)
   unfolding withSequence
   beside-start =
-      let b = beside-appendAll n version (changesOf x) (withSequence version s) in
+      let b = beside-appendAll n version (changesOf x) (begun n row version t s) in
       record { blocks = b .blocks; nodes = b .nodes; checkpoint = b .checkpoint }
 
--- Room, then the fresh start.
+-- Room, then the fresh start: what it leaves, and what it should.
 module _ {P T T′ : ℕ} (x : Node) (w w₁ : World) (k : ℕ) (e : k ≡ length (pairsOf x) + 1) (m : Kept P T (w .state) w₁ (room k w)) (t : T′ ≡ T)
     (version : ℕ) (v : version ≡ nextSequence (w₁ .state .last)) where
-  started : (n : ℕ) (row row′ : Row) (rows₂ : List Row) (s₂ : State) → row ≡ row′ → Started (w₁ .rows) (w₁ .state) n
-      row version x rows₂ s₂ →
-      world (w₁ .pages) rows₂ s₂ ≡ start n row′ x w₁
+  start-is : (n : ℕ) (row row′ : Row) (l : Logged) → row ≡ row′ → l ≡ started n row version x (w₁ .work) (w₁ .state) →
+      besides (w₁ .pages) l ≡ start n row′ x w₁
   unfolding start
-  started n row row′ rows₂ s₂ r st = rw (st .rows, st .state, r, v) refl
+  start-is n row row′ l r st = rw (st, r, v) refl
 
   roomed : w₁ ≡ roomFor x w
   roomed = m .is ∙ ap (λ (j : ℕ). room j w) e
 
-  pub group-made : (n : ℕ) (row : Row) (rows₂ : List Row) (s₂ : State) → row ≡ getD (w₁ .rows) n noRow → Started
-      (w₁ .rows) (w₁ .state) n row version x rows₂ s₂ →
-      Kept P T′ (w .state) (world (w₁ .pages) rows₂ s₂) (group n x w)
+  -- the numbers of a state that a fresh start left
+  beside : (n : ℕ) (row : Row) (l : Logged) → l ≡ started n row version x (w₁ .work) (w₁ .state) → Beside (w₁ .state) (l .state)
+  beside n row l st = rw st (beside-start n row version x (w₁ .work) (w₁ .state))
+
+  pub group-made : (n : ℕ) (row : Row) (l : Logged) → row ≡ getD (w₁ .work .rows) n noRow →
+      l ≡ started n row version x (w₁ .work) (w₁ .state) → Kept P T′ (w .state) (besides (w₁ .pages) l) (group n x w)
   unfolding group
-  group-made n row rows₂ s₂ r st =
-      let b = beside-start n version x (w₁ .state) in
+  group-made n row l r st =
+      let b = beside n row l st in
       record {
-        is = started n row (getD (w₁ .rows) n noRow) rows₂ s₂ r st ∙ ap (restart n x) roomed;
-        good = rw (st .state) (good-start n version x (w₁ .state) (m .good) t);
-        blocks = ap (λ (s : State). s .blocks) (st .state) ∙ b .blocks ∙ m .blocks;
-        nodes = ap (λ (s : State). s .nodes) (st .state) ∙ b .nodes ∙ m .nodes;
-        checkpoint = ap (λ (s : State). s .checkpoint) (st .state) ∙ b .checkpoint ∙ m .checkpoint;
+        is = start-is n row (getD (w₁ .work .rows) n noRow) l r st ∙ ap (restart n x) roomed;
+        good = rw st (good-start n row version x (w₁ .work) (w₁ .state) (m .good) t);
+        blocks = b .blocks ∙ m .blocks;
+        nodes = b .nodes ∙ m .nodes;
+        checkpoint = b .checkpoint ∙ m .checkpoint;
       }
 
-  pub create-made : (row : Row) (rows₂ : List Row) (s₂ s₃ : State) → row ≡ noRow → Started (w₁ .rows) (w₁ .state)
-      (w₁ .state .nodes) row version x rows₂ s₂ →
-      s₃ ≡ withNodes (w₁ .state .nodes + 1) s₂ → w .state .nodes + w .state .checkpoint < 64 * w .state .blocks →
-      Grown P T′ (w .state) (world (w₁ .pages) rows₂ s₃) (create x w)
+  pub create-made : (row : Row) (l : Logged) (s : State) → row ≡ noRow →
+      l ≡ started (w₁ .state .nodes) row version x (w₁ .work) (w₁ .state) → s ≡ withNodes (w₁ .state .nodes + 1) (l .state) →
+      w .state .nodes + w .state .checkpoint < rowsFor (w .state .blocks) → Grown P T′ (w .state) (world (w₁ .pages) (l .work) s) (create x w)
   unfolding create withNodes
-  create-made row rows₂ s₂ s₃ r st f h =
-      let b = beside-start (w₁ .state .nodes) version x (w₁ .state) in
-      let nodes : s₂ .nodes ≡ w₁ .state .nodes = ap (λ (s : State). s .nodes) (st .state) ∙ b .nodes in
-      let blocks : s₂ .blocks ≡ w₁ .state .blocks = ap (λ (s : State). s .blocks) (st .state) ∙ b .blocks in
-      let checkpoint : s₂ .checkpoint ≡ w₁ .state .checkpoint = ap (λ (s : State). s .checkpoint) (st .state) ∙ b .checkpoint in
-      let g : Good P T′ s₂ = rw (st .state) (good-start (w₁ .state .nodes) version x (w₁ .state) (m .good) t) in
+  create-made row l s r st f h =
+      let b = beside (w₁ .state .nodes) row l st in
+      let g : Good P T′ (l .state) = rw st (good-start (w₁ .state .nodes) row version x (w₁ .work) (w₁ .state) (m .good) t) in
       record {
         is =
-            ap (λ (s : State). world (w₁ .pages) rows₂ s) f ∙
-            ap (λ (y : World). world (y .pages) (y .rows) (withNodes (w₁ .state .nodes + 1) (y .state)))
-            (started (w₁ .state .nodes) row noRow rows₂ s₂ r st) ∙
+            ap (world (w₁ .pages) (l .work)) f ∙
+            ap (λ (y : World). world (y .pages) (y .work) (withNodes (w₁ .state .nodes + 1) (y .state)))
+            (start-is (w₁ .state .nodes) row noRow l r st) ∙
             ap (startNext x) roomed;
         good =
             rw f
@@ -168,21 +166,21 @@ module _ {P T T′ : ℕ} (x : Node) (w w₁ : World) (k : ℕ) (e : k ≡ lengt
               table = g .table;
               inside = g .inside;
               full = g .full;
-              used = omega (arith, nodes, blocks, checkpoint, m .blocks, m .nodes, m .checkpoint);
+              used = omega (arith, b .nodes, b .blocks, b .checkpoint, m .blocks, m .nodes, m .checkpoint);
               entries = g .entries;
             });
-        blocks = ap (λ (s : State). s .blocks) f ∙ blocks ∙ m .blocks;
-        nodes = ap (λ (s : State). s .nodes) f ∙ ap (λ (k : ℕ). k + 1) (m .nodes);
-        checkpoint = ap (λ (s : State). s .checkpoint) f ∙ checkpoint ∙ m .checkpoint;
+        blocks = ap (λ (z : State). z .blocks) f ∙ b .blocks ∙ m .blocks;
+        nodes = ap (λ (z : State). z .nodes) f ∙ ap (λ (j : ℕ). j + 1) (m .nodes);
+        checkpoint = ap (λ (z : State). z .checkpoint) f ∙ b .checkpoint ∙ m .checkpoint;
       }
 
 -- The page, the row and the state of a node page put together.
-pub node-written : {P T P′ T′ : ℕ} (n : ℕ) (x : Node) (pages pages′ : List (List ℕ)) (rows rows′ : List Row) (s s₁ : State) (number : ℕ) →
+pub node-written : {P T P′ T′ : ℕ} (n : ℕ) (x : Node) (pages pages′ : List (List ℕ)) (w w′ : Work) (s s₁ : State) (number : ℕ) →
     Good P T s → P′ ≡ P → T′ ≡ T → s .fill < 32 → number ≡ nextSequence (s .last) →
-    pages′ ≡ set pages (spot s) (image (page number (whole n x))) → rows′ ≡ diskRow n number (spot s) rows → s₁ ≡ advanced number s →
-    Kept P′ T′ s (world pages′ rows′ s₁) (writeNode n x (world pages rows s))
+    pages′ ≡ set pages (spot s) (image (page number (whole n x))) → w′ ≡ onPage n number (spot s) w → s₁ ≡ advanced number s →
+    Kept P′ T′ s (world pages′ w′ s₁) (writeNode n x (world pages w s))
 unfolding writeNode advanced
-node-written n x pages pages′ rows rows′ s s₁ number g p t h e f r a =
+node-written n x pages pages′ w w′ s s₁ number g p t h e f r a =
     record {
       is = rw (f, r, a, e) refl;
       good = rw a (good-advanced number s g p t h);
@@ -196,21 +194,23 @@ node-written n x pages pages′ rows rows′ s s₁ number g p t h e f r a =
 
 -- An edit, once there is room for its entry.
 module _ {P T : ℕ} (n : ℕ) (c : Change) (x : Node) (w w₁ : World) (m : Kept P T (w .state) w₁ (room 1 w)) (row : Row)
-    (r : row ≡ getD (w₁ .rows) n noRow) where
-  pub edit-entry : (s₂ : State) → row .pages < 3 → s₂ ≡ append n (row .version) c (w₁ .state) → Kept P T (w .state)
-      (world (w₁ .pages) (w₁ .rows) s₂) (edit n c x w)
+    (r : row ≡ getD (w₁ .work .rows) n noRow) where
+  pub edit-entry : {T′ : ℕ} (l : Logged) → T′ ≡ T → row .pages < 3 → l ≡ append n (row .version) c (logged (w₁ .work) (w₁ .state)) →
+      Kept P T′ (w .state) (besides (w₁ .pages) l) (edit n c x w)
   unfolding edit editBy
-  edit-entry s₂ h e =
-      let b = beside-append n (row .version) c (w₁ .state) in
+  edit-entry l t h e =
+      let before = logged (w₁ .work) (w₁ .state) in
+      let b = beside-append n (row .version) c before in
+      let g = good-append n (row .version) c before (m .good) in
       record {
         is = entry ∙ ap (editIn n c x) (m .is);
-        good = rw e (good-append n (row .version) c (w₁ .state) (m .good));
-        blocks = ap (λ (s : State). s .blocks) e ∙ b .blocks ∙ m .blocks;
-        nodes = ap (λ (s : State). s .nodes) e ∙ b .nodes ∙ m .nodes;
-        checkpoint = ap (λ (s : State). s .checkpoint) e ∙ b .checkpoint ∙ m .checkpoint;
+        good = rw (t, e) g;
+        blocks = ap (λ (z : Logged). z .state .blocks) e ∙ b .blocks ∙ m .blocks;
+        nodes = ap (λ (z : Logged). z .state .nodes) e ∙ b .nodes ∙ m .nodes;
+        checkpoint = ap (λ (z : Logged). z .state .checkpoint) e ∙ b .checkpoint ∙ m .checkpoint;
       }
     where
-      entry : world (w₁ .pages) (w₁ .rows) s₂ ≡ editIn n c x w₁
+      entry : besides (w₁ .pages) l ≡ editIn n c x w₁
       entry = rw (← r, lt-ltb (row .pages) 3 h, e) refl
 
   pub edit-group : {P′ T′ : ℕ} (w₂ : World) → 3 ≤ row .pages → Kept P′ T′ (w₁ .state) w₂ (group n x w₁) → Kept P′ T′

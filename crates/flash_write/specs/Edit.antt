@@ -9,19 +9,19 @@ use Rattle.flash_rows.specs.Row.{noRow}
 use Rattle.flash_rows.specs.declared.Row.{Row}
 use Rattle.node.specs.Node.{Node}
 use Rattle.node.specs.Change.{Change}
-use Rattle.flash_allocate.specs.World.{World, world}
-use Rattle.flash_log.specs.Entry.{append}
+use Rattle.flash_allocate.specs.World.{World}
+use Rattle.flash_log.specs.Entry.{logged, besides, append}
 use Rattle.flash_log.specs.Flush.{room}
 use Rattle.flash_write.specs.Group.{group}
 
 -- One entry under the row's version, or the whole edited content x, by the pages that the row names.
 unfoldable pub editBy : Row → ℕ → Change → Node → World → World
 editBy row n c x w =
-    choose (ltb (row .pages) mostLogPages) (world (w .pages) (w .rows) (append n (row .version) c (w .state))) (group n x w)
+    choose (ltb (row .pages) mostLogPages) (besides (w .pages) (append n (row .version) c (logged (w .work) (w .state)))) (group n x w)
 
 -- The row is read once there is room for the entry.
 abbrev pub editIn : ℕ → Change → Node → World → World
-editIn n c x w = editBy (getD (w .rows) n noRow) n c x w
+editIn n c x w = editBy (getD (w .work .rows) n noRow) n c x w
 
 unfoldable pub edit : ℕ → Change → Node → World → World
 edit n c x w = editIn n c x (room 1 w)

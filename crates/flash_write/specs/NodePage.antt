@@ -6,6 +6,7 @@ use Rattle.account.specs.declared.Mode.the-variants.{Disk}
 use Rattle.flash_rows.specs.Row.{noRow}
 use Rattle.flash_rows.specs.Step.{fresh, noted}
 use Rattle.flash_rows.specs.declared.Row.{Row}
+use Rattle.flash_rows.specs.Work.{Work, withRows}
 use Rattle.node.specs.Node.{Node}
 use Rattle.page.specs.Page.{page, whole}
 use Rattle.page.specs.Image.{image}
@@ -18,12 +19,16 @@ use Rattle.flash_allocate.specs.State.{nextSequence, advanced}
 unfoldable pub diskRow : ℕ → ℕ → ℕ → List Row → List Row
 diskRow n number at rows = set rows n (noted at (fresh number Disk (getD rows n noRow)))
 
+-- The work table then.
+abbrev pub onPage : ℕ → ℕ → ℕ → Work → Work
+onPage n number at t = withRows (diskRow n number at (t .rows)) t
+
 -- The node as the page written next.
 unfoldable pub writeNode : ℕ → Node → World → World
 writeNode n x w =
     world
     (set (w .pages) (spot (w .state)) (image (page (nextSequence (w .state .last)) (whole n x))))
-    (diskRow n (nextSequence (w .state .last)) (spot (w .state)) (w .rows))
+    (onPage n (nextSequence (w .state .last)) (spot (w .state)) (w .work))
     (advanced (nextSequence (w .state .last)) (w .state))
 
 -- A place for the page, then the page. While the place is found, the node's row is the old one.

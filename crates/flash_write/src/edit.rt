@@ -9,6 +9,7 @@ use super::group::group;
 use flash_allocate::state::State;
 use flash_log::entry::append;
 use flash_log::flush::make_room;
+use flash_rows::table::row_at;
 use node::ChangeValue;
 use node::NodeValue;
 
@@ -27,9 +28,9 @@ pub fn edit(
         ⌝ }
 {
     let s = make_room(pool, table, state, 1);
-    let row = flash_rows::read_row(table, id);
+    let row = row_at(table, id);
     if row.pages < 3 {
-        return append(s, id, row.version, change);
+        return append(table, s, id, row.version, change);
     }
     group(pool, table, s, id, edited)
 }

@@ -2,13 +2,14 @@
 ghost use mathlib.Core.Path.{_≡_};
 ghost use Prim.Native.Nat.{_+_, _*_, _≤_, _<_};
 ghost use lib.ListN.{length};
-ghost use Rattle.flash_rows.specs.Row.{rowsOf, rowBytes};
+ghost use Rattle.flash_rows.specs.Row.{rowBytes};
+ghost use Rattle.flash_rows.specs.Work.{rowsAt, rowsFor, workOf};
 ghost use Rattle.node.specs.Change.{puts, changesOf};
 ghost use Rattle.node.specs.Value.{pairsIn, nodeOf, Sized};
 ghost use Rattle.flash_allocate.specs.World.{Good, worldIn, Kept, LeftIn};
-ghost use Rattle.flash_log.specs.Entry.{appendAll};
+ghost use Rattle.flash_log.specs.Entry.{logged, appendAll};
 ghost use Rattle.flash_write.specs.Group as def;
-ghost use Rattle.flash_write.specs.Group.{Started, Grown};
+ghost use Rattle.flash_write.specs.Group.{started, Grown};
 use account::Mode;
 use flash_allocate::state::State;
 use flash_allocate::state::next_sequence;
@@ -18,13 +19,16 @@ use flash_log::entry::append;
 use flash_log::flush::make_room;
 use flash_rows::Row;
 use flash_rows::no_row;
+use flash_rows::table::put_row;
+use flash_rows::table::row_at;
 use node::ChangeValue;
 use node::NodeValue;
 
 // An entry for each pair, ascending.
-fn append_pairs(state: State, id: usize, version: u32, v: NodeValue) -> State
-    requires { ⌜ Sized v ⌝ }
-    ensures { λ r. ⌜ r ≡ appendAll id version (puts (pairsIn v)) state ⌝ }
+fn append_pairs(table: &mut [u8], state: State, id: usize, version: u32, v: NodeValue) -> State
+    requires { ⌜ (rowsAt ≤ length (now table)) × (Sized v) ⌝ }
+    ensures { λ r. ⌜ logged (workOf (now (table .exit))) r
+        ≡ appendAll id version (puts (pairsIn v)) (logged (workOf (now (table .entry))) state) ⌝ }
 {
     let keys = v.keys;
     let pointers = v.pointers;
@@ -35,34 +39,35 @@ fn append_pairs(state: State, id: usize, version: u32, v: NodeValue) -> State
             key: keys[i],
             pointer: pointers[i],
         };
-        s = append(s, id, version, change);
+        s = append(table, s, id, version, change);
         i += 1;
     }
     s
 }
 
 // An entry for each pair, then the link's.
-fn append_node(state: State, id: usize, version: u32, v: NodeValue) -> State
-    requires { ⌜ Sized v ⌝ }
-    ensures { λ r. ⌜ r ≡ appendAll id version (changesOf (nodeOf v)) state ⌝ }
+fn append_node(table: &mut [u8], state: State, id: usize, version: u32, v: NodeValue) -> State
+    requires { ⌜ (rowsAt ≤ length (now table)) × (Sized v) ⌝ }
+    ensures { λ r. ⌜ logged (workOf (now (table .exit))) r
+        ≡ appendAll id version (changesOf (nodeOf v)) (logged (workOf (now (table .entry))) state) ⌝ }
 {
     let shape = v.shape;
-    let s = append_pairs(state, id, version, v);
+    let s = append_pairs(table, state, id, version, v);
     let change = ChangeValue::Link {
         shape,
         link: v.link,
     };
-    append(s, id, version, change)
+    append(table, s, id, version, change)
 }
 
 // A fresh start of a node whose row was this.
 fn start(table: &mut [u8], state: State, id: usize, row: Row, version: u32, v: NodeValue) -> State
-    requires { ⌜ (rowBytes * id + rowBytes ≤ length (now table)) × (Sized v) ⌝ }
-    ensures { λ r. ⌜ Started (rowsOf (now (table .entry))) state id row version (nodeOf v)
-        (rowsOf (now (table .exit))) r ⌝ }
+    requires { ⌜ (rowsAt + rowBytes * id + rowBytes ≤ length (now table)) × (Sized v) ⌝ }
+    ensures { λ r. ⌜ logged (workOf (now (table .exit))) r
+        ≡ started id row version (nodeOf v) (workOf (now (table .entry))) state ⌝ }
 {
-    flash_rows::write_row(table, id, row.fresh(version, Mode::Log));
-    append_node(with_sequence(state, version), id, version, v)
+    put_row(table, id, row.fresh(version, Mode::Log));
+    append_node(table, with_sequence(state, version), id, version, v)
 }
 
 // The whole content of a node under a new version. A page that it forces out takes its sequence number before.
@@ -73,14 +78,14 @@ pub fn group(pool: &mut [u8], table: &mut [u8], state: State, id: usize, v: Node
 {
     let s = make_room(pool, table, state, v.count + 1);
     let version = next_sequence(s.last);
-    let row = flash_rows::read_row(table, id);
+    let row = row_at(table, id);
     start(table, s, id, row, version, v)
 }
 
 // A new node, the next one, in log mode with score 0.
 pub fn create(pool: &mut [u8], table: &mut [u8], state: State, v: NodeValue) -> State
     requires { ⌜ (Good (length (now pool)) (length (now table)) state)
-        × (state .nodes + state .checkpoint < 64 * state .blocks) × (Sized v) ⌝ }
+        × (state .nodes + state .checkpoint < rowsFor (state .blocks)) × (Sized v) ⌝ }
     ensures { λ r. ⌜ LeftIn Grown (now (pool .exit)) (now (table .exit)) state r
         (def.create (nodeOf v) (worldIn (now (pool .entry)) (now (table .entry)) state)) ⌝ }
 {

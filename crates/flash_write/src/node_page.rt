@@ -2,14 +2,15 @@
 ghost use mathlib.Core.Path.{_≡_};
 ghost use Prim.Native.Nat.{_+_, _*_, _≤_, _<_};
 ghost use lib.ListN.{length, set};
-ghost use Rattle.flash_rows.specs.Row.{rowsOf, rowBytes};
+ghost use Rattle.flash_rows.specs.Row.{rowBytes};
+ghost use Rattle.flash_rows.specs.Work.{rowsAt, workOf};
 ghost use Rattle.flash_blocks.specs.Pages.{pagesOf};
 ghost use Rattle.node.specs.Value.{nodeOf, Sized};
 ghost use Rattle.page.specs.Page as p;
 ghost use Rattle.page.specs.Image.{image};
 ghost use Rattle.flash_allocate.specs.World.{Good, worldIn, Kept, LeftIn};
 ghost use Rattle.flash_write.specs.NodePage as def;
-ghost use Rattle.flash_write.specs.NodePage.{diskRow, writeNode};
+ghost use Rattle.flash_write.specs.NodePage.{onPage, writeNode};
 ghost use Rattle.layout.specs.Layout.{pageBytes, pagesInBlock};
 use account::Mode;
 use flash_allocate::allocate::allocate;
@@ -17,6 +18,8 @@ use flash_allocate::state::State;
 use flash_allocate::state::advance;
 use flash_allocate::state::next_sequence;
 use flash_blocks::page::put_page;
+use flash_rows::table::put_row;
+use flash_rows::table::row_at;
 use layout::PAGES_IN_BLOCK;
 use node::NodeValue;
 use page_write::node_page::node_image;
@@ -36,11 +39,11 @@ fn put_node(pool: &mut [u8], page: usize, number: u32, id: usize, v: NodeValue)
 
 // The row of a node that has this page for its version, alone.
 fn node_page_row(table: &mut [u8], id: usize, number: u32, page: u16)
-    requires { ⌜ rowBytes * id + rowBytes ≤ length (now table) ⌝ }
-    ensures { λ _. ⌜ rowsOf (now (table .exit)) ≡ diskRow id number page (rowsOf (now (table .entry))) ⌝ }
+    requires { ⌜ rowsAt + rowBytes * id + rowBytes ≤ length (now table) ⌝ }
+    ensures { λ _. ⌜ workOf (now (table .exit)) ≡ onPage id number page (workOf (now (table .entry))) ⌝ }
 {
-    let row = flash_rows::read_row(table, id).fresh(number, Mode::Disk);
-    flash_rows::write_row(table, id, row.note(page));
+    let row = row_at(table, id).fresh(number, Mode::Disk);
+    put_row(table, id, row.note(page));
 }
 
 // A node page as the next page, in a block that has room.

@@ -1,9 +1,10 @@
 -- `edit::edit` meets its contract: room, the row read again, then one entry or the whole content. Assumes nothing.
-use Rattle.flash_rows.specs.Row.{rowsOf}
+use Rattle.flash_rows.specs.Work.{workOf}
 use Rattle.flash_blocks.specs.Pages.{pagesOf}
 use Rattle.node.specs.Value.{nodeOf}
 use Rattle.node.specs.Drafts.{changeOf}
 use Rattle.flash_allocate.specs.World.{world}
+use Rattle.flash_log.specs.Entry.{logged}
 use Rattle.flash_write.proofs.Laws.{edit-entry, edit-group}
 use borrow.Author.Needs.{needs}
 use Rattle.flash_write.proofs.edit.edit.Statement.{statement}
@@ -12,8 +13,8 @@ use Rattle.flash_write.proofs.edit.edit.Tie as tie
 make-room-requires : tie.Need-make-room-requires
 make-room-requires c κs = search needs
 
-read-row-requires : tie.Need-read-row-requires
-read-row-requires c κs = search needs
+row-at-requires : tie.Need-row-at-requires
+row-at-requires c κs = search needs
 
 append-requires : tie.Need-append-requires
 append-requires c κs = search needs
@@ -26,17 +27,19 @@ same-length-2 c = search needs
 
 returns : tie.Need-returns
 returns c =
-    let c1 = c .before in
-    let c3 = c1 .before .before in
-    let c9 = c3 .before .before .before .before .before .before in
-    let c14 = c9 .before .before .before .before .before in
-    let a = c14 .args in
-    let m = c9 .make-room in
-    let l = c3 .read-row in
+    let c2 = c .before .before in
+    let c4 = c2 .before .before in
+    let c6 = c4 .before .before in
+    let c12 = c6 .before .before .before .before .before .before in
+    let c17 = c12 .before .before .before .before .before in
+    let a = c17 .args in
+    let m = c12 .make-room in
+    let l = c6 .row-at in
+    let p = c2 .append in
     edit-entry (a .id) (changeOf (a .change)) (nodeOf (a .edited))
-    (world (pagesOf (a .pool .now)) (rowsOf (a .table .now)) (a .state))
-    (world (pagesOf (m .last .0)) (rowsOf (m .last .1 .0)) (m .result)) (m .ensures) (l .result) (l .ensures)
-    (c .append .result) (c1 .if1 .taken) (c .append .ensures)
+    (world (pagesOf (a .pool .now)) (workOf (a .table .now)) (a .state))
+    (world (pagesOf (m .last .0)) (workOf (m .last .1 .0)) (m .result)) (m .ensures) (l .result) (l .ensures)
+    (logged (workOf (p .last .0)) (p .result)) (p .kept .0) (c4 .if1 .taken) (p .ensures)
 
 group-requires : tie.Need-group-requires
 group-requires c κs = search needs
@@ -56,13 +59,13 @@ returns-2 c =
     let c20 = c15 .before .before .before .before .before in
     let a = c20 .args in
     let m = c15 .make-room in
-    let l = c9 .read-row in
+    let l = c9 .row-at in
     let g = c4 .group in
     edit-group (a .id) (changeOf (a .change)) (nodeOf (a .edited))
-    (world (pagesOf (a .pool .now)) (rowsOf (a .table .now)) (a .state))
-    (world (pagesOf (m .last .0)) (rowsOf (m .last .1 .0)) (m .result)) (m .ensures) (l .result) (l .ensures)
-    (world (pagesOf (g .last .0)) (rowsOf (g .last .1 .0)) (g .result)) (c7 .if1 .left) (g .ensures)
+    (world (pagesOf (a .pool .now)) (workOf (a .table .now)) (a .state))
+    (world (pagesOf (m .last .0)) (workOf (m .last .1 .0)) (m .result)) (m .ensures) (l .result) (l .ensures)
+    (world (pagesOf (g .last .0)) (workOf (g .last .1 .0)) (g .result)) (c7 .if1 .left) (g .ensures)
 
 pub edit-spec : {M : Type 1} → statement M
-edit-spec = tie.close (tie.spec make-room-requires read-row-requires append-requires same-length same-length-2
+edit-spec = tie.close (tie.spec make-room-requires row-at-requires append-requires same-length same-length-2
     returns group-requires same-length-3 same-length-4 returns-2)

@@ -2,6 +2,8 @@
 use mathlib.Core.Path.{_∙_}
 use Rattle.node.specs.Change.{puts, link}
 use Rattle.node.specs.Value.{pairsIn}
+use Rattle.flash_rows.specs.Work.{workOf}
+use Rattle.flash_log.specs.Entry.{logged}
 use Rattle.flash_write.proofs.Laws.{appendAll-last}
 use borrow.Author.Needs.{needs}
 use Rattle.flash_write.proofs.group.append_node.Statement.{statement}
@@ -13,10 +15,16 @@ append-pairs-requires c κs = search needs
 append-requires : tie.Need-append-requires
 append-requires c κs = search needs
 
+same-length : tie.Need-same-length
+same-length c = search needs
+
 returns : tie.Need-returns
-returns c = let a = c .before .before .args in
-    c .append .ensures ∙ rw (c .before .append-pairs .ensures)
-    (appendAll-last (a .id) (a .version) (puts (pairsIn (a .v))) (link (a .v .shape) (a .v .link)) (a .state))
+returns c =
+    let c2 = c .before .before in
+    let c6 = c2 .before .before .before .before in
+    let a = c6 .before .before .before .args in
+    c2 .append .ensures ∙ rw (c6 .append-pairs .ensures)
+    (appendAll-last (a .id) (a .version) (puts (pairsIn (a .v))) (link (a .v .shape) (a .v .link)) (logged (workOf (a .table .now)) (a .state)))
 
 pub append-node-spec : {M : Type 1} → statement M
-append-node-spec = tie.close (tie.spec append-pairs-requires append-requires returns)
+append-node-spec = tie.close (tie.spec append-pairs-requires append-requires same-length returns)

@@ -1,10 +1,11 @@
 -- `group::create` meets its contract: room, the number behind it, the fresh start of the next node. Assumes nothing.
 use mathlib.Core.Path.{ap, sym}
 use Prim.Native.Nat.{ℕ, _+_}
-use Rattle.flash_rows.specs.Row.{rowsOf}
+use Rattle.flash_rows.specs.Work.{workOf}
 use Rattle.flash_blocks.specs.Pages.{pagesOf}
 use Rattle.node.specs.Value.{nodeOf, length-pairsIn}
 use Rattle.flash_allocate.specs.World.{world}
+use Rattle.flash_log.specs.Entry.{logged}
 use Rattle.flash_write.proofs.Laws.{create-made}
 use borrow.Author.Needs.{needs}
 use Rattle.flash_write.proofs.group.create.Statement.{statement}
@@ -50,10 +51,10 @@ returns c =
     let n = c7 .next-sequence in
     let r = c6 .no-row in
     let t = c4 .start in
-    create-made (nodeOf (a .v)) (world (pagesOf (a .pool .now)) (rowsOf (a .table .now)) (a .state))
-    (world (pagesOf (m .last .0)) (rowsOf (m .last .1 .0)) (m .result)) (a .v .count + 1)
+    create-made (nodeOf (a .v)) (world (pagesOf (a .pool .now)) (workOf (a .table .now)) (a .state))
+    (world (pagesOf (m .last .0)) (workOf (m .last .1 .0)) (m .result)) (a .v .count + 1)
     (ap (λ (k : ℕ). k + 1) (sym (length-pairsIn (a .v) (p .2)))) (m .ensures) (t .kept .0) (n .result) (n .ensures)
-    (r .result) (rowsOf (t .last .0)) (t .result) (c .with-nodes .result) (r .ensures) (t .ensures)
+    (r .result) (logged (workOf (t .last .0)) (t .result)) (c .with-nodes .result) (r .ensures) (t .ensures)
     (c .with-nodes .ensures) (p .1)
 
 pub create-spec : {M : Type 1} → statement M

@@ -1,10 +1,11 @@
 -- `group::group` meets its contract: room, the number behind it, the fresh start. Assumes nothing.
 use mathlib.Core.Path.{ap, sym}
 use Prim.Native.Nat.{ℕ, _+_}
-use Rattle.flash_rows.specs.Row.{rowsOf}
+use Rattle.flash_rows.specs.Work.{workOf}
 use Rattle.flash_blocks.specs.Pages.{pagesOf}
 use Rattle.node.specs.Value.{nodeOf, length-pairsIn}
 use Rattle.flash_allocate.specs.World.{world}
+use Rattle.flash_log.specs.Entry.{logged}
 use Rattle.flash_write.proofs.Laws.{group-made}
 use borrow.Author.Needs.{needs}
 use Rattle.flash_write.proofs.group.group.Statement.{statement}
@@ -19,8 +20,8 @@ make-room-requires c κs = search needs
 next-sequence-requires : tie.Need-next-sequence-requires
 next-sequence-requires c κs = search needs
 
-read-row-requires : tie.Need-read-row-requires
-read-row-requires c κs = search needs
+row-at-requires : tie.Need-row-at-requires
+row-at-requires c κs = search needs
 
 start-requires : tie.Need-start-requires
 start-requires c κs = search needs
@@ -41,12 +42,12 @@ returns c =
     let a = c17 .args in
     let m = c11 .make-room in
     let n = c6 .next-sequence in
-    let l = c4 .read-row in
+    let l = c4 .row-at in
     let t = c2 .start in
-    group-made (nodeOf (a .v)) (world (pagesOf (a .pool .now)) (rowsOf (a .table .now)) (a .state))
-    (world (pagesOf (m .last .0)) (rowsOf (m .last .1 .0)) (m .result)) (a .v .count + 1)
+    group-made (nodeOf (a .v)) (world (pagesOf (a .pool .now)) (workOf (a .table .now)) (a .state))
+    (world (pagesOf (m .last .0)) (workOf (m .last .1 .0)) (m .result)) (a .v .count + 1)
     (ap (λ (k : ℕ). k + 1) (sym (length-pairsIn (a .v) (c17 .pre .2)))) (m .ensures) (t .kept .0) (n .result)
-    (n .ensures) (a .id) (l .result) (rowsOf (t .last .0)) (t .result) (l .ensures) (t .ensures)
+    (n .ensures) (a .id) (l .result) (logged (workOf (t .last .0)) (t .result)) (l .ensures) (t .ensures)
 
 pub group-spec : {M : Type 1} → statement M
-group-spec = tie.close (tie.spec add-make-room make-room-requires next-sequence-requires read-row-requires start-requires same-length same-length-2 returns)
+group-spec = tie.close (tie.spec add-make-room make-room-requires next-sequence-requires row-at-requires start-requires same-length same-length-2 returns)
