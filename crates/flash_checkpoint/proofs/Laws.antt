@@ -15,6 +15,7 @@ use Rattle.layout.specs.Layout.{pageBytes, nodeLimit}
 use Rattle.account.specs.declared.Tariff.{Tariff}
 use Rattle.flash_rows.specs.Row.{noRow}
 use Rattle.flash_rows.specs.declared.Row.{Row}
+use Rattle.flash_rows.specs.Work.{Work, withRow}
 use Rattle.page.specs.Page.{Score, page}
 use Rattle.page.specs.Page as p
 use Rattle.page.specs.Image.{scoreBytes, tariffBytes, countBytes, fields, fieldIf, contentBytes, numbered, sealed, image}
@@ -158,13 +159,13 @@ checkpoint-page-put number t k nodes rows from n count records bytes pages pages
 
 -- The page, the row and the state of a checkpoint page put together.
 pub checkpoint-page-written : {P T P′ T′ : ℕ} (t : Tariff) (k : ℕ) (pages pages′ : List (List ℕ))
-    (rows rows′ : List Row) (s s₁ : State) (number : ℕ) →
+    (v v′ : Work) (s s₁ : State) (number : ℕ) →
     Good P T s → Closing k s → P′ ≡ P → T′ ≡ T → s .fill < 32 → number ≡ nextSequence (s .last) →
-    pages′ ≡ set pages (spot s) (checkpointImage number t k (s .nodes) rows) → rows′ ≡ set rows (used s)
-    (checkpointRow number (spot s)) → s₁ ≡ pageCounted number s →
-    CheckpointPageWritten P′ T′ s (world pages′ rows′ s₁) (writeCheckpointPage t k (world pages rows s))
+    pages′ ≡ set pages (spot s) (checkpointImage number t k (s .nodes) (v .rows)) → v′ ≡ withRow (used s)
+    (checkpointRow number (spot s)) v → s₁ ≡ pageCounted number s →
+    CheckpointPageWritten P′ T′ s (world pages′ v′ s₁) (writeCheckpointPage t k (world pages v s))
 unfolding writeCheckpointPage pageCounted
-checkpoint-page-written t k pages pages′ rows rows′ s s₁ number g w pl tl h e f r a =
+checkpoint-page-written t k pages pages′ v v′ s s₁ number g w pl tl h e f r a =
     rw a
     (record {
       is = rw (f, r, e) refl;
@@ -173,7 +174,7 @@ checkpoint-page-written t k pages pages′ rows rows′ s s₁ number g w pl tl 
             few = g .few;
             most = g .most;
             pool = pl ∙ g .pool;
-            table = tl ∙ g .table;
+            table = omega (arith, tl, g .table);
             inside = g .inside;
             full = omega arith;
             used = omega (arith, w .limit, w .needed, w .before, g .few);

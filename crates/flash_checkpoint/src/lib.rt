@@ -4,7 +4,8 @@ ghost use Prim.Native.Nat.{_+_, _*_, _≤_, _<_};
 ghost use lib.ListN.{length, set, replicate};
 ghost use Rattle.laws.specs.Lay.{lay};
 ghost use Rattle.layout.specs.Layout.{nodeLimit, pageBytes, pagesInBlock};
-ghost use Rattle.flash_rows.specs.Row.{rowsOf, rowBytes};
+ghost use Rattle.flash_rows.specs.Row.{rowBytes};
+ghost use Rattle.flash_rows.specs.Work.{rowsAt, rowsIn, workOf, withRow};
 ghost use Rattle.flash_blocks.specs.Pages.{pagesOf};
 ghost use Rattle.flash_allocate.specs.World.{Good, worldIn, Kept, LeftIn};
 ghost use Rattle.flash_checkpoint.specs.Scores.{scoresOf, scoresBytes};
@@ -20,6 +21,8 @@ use flash_allocate::state::next_sequence;
 use flash_blocks::page::put_page;
 use flash_log::flush::flush;
 use flash_rows::no_row;
+use flash_rows::table::put_row;
+use flash_rows::table::row_at;
 use layout::FIRST_SCORES;
 use layout::OTHER_SCORES;
 use layout::PAGES_IN_BLOCK;
@@ -63,13 +66,13 @@ fn page_count(nodes: usize) -> usize
 
 // The records of n scores from a node on.
 fn score_records(table: &[u8], from: usize, n: usize) -> [u8; SCORE_BYTES * OTHER_SCORES]
-    requires { ⌜ (n ≤ 54) × (from + n ≤ 4096) × (rowBytes * (from + n) ≤ length (now table)) ⌝ }
-    ensures { λ r. ⌜ r ≡ lay (replicate 324 0) 0 (scoresBytes (scoresOf (rowsOf (now (table .entry))) from n)) ⌝ }
+    requires { ⌜ (n ≤ 54) × (from + n ≤ 4096) × (rowsAt + rowBytes * (from + n) ≤ length (now table)) ⌝ }
+    ensures { λ r. ⌜ r ≡ lay (replicate 324 0) 0 (scoresBytes (scoresOf (rowsIn (now (table .entry))) from n)) ⌝ }
 {
     let mut records = [0u8; SCORE_BYTES * OTHER_SCORES];
     let mut i: usize = 0;
     while i < n {
-        let row = flash_rows::read_row(table, from + i);
+        let row = row_at(table, from + i);
         lay_score(&mut records, SCORE_BYTES * i, (from + i) as u32, row.score);
         i += 1;
     }
@@ -86,10 +89,10 @@ fn put_checkpoint_page(
     k: usize,
     nodes: usize,
 )
-    requires { ⌜ (pageBytes * page + pageBytes ≤ length (now pool)) × (rowBytes * nodes ≤ length (now table)) × (nodes ≤ 4096)
+    requires { ⌜ (pageBytes * page + pageBytes ≤ length (now pool)) × (rowsAt + rowBytes * nodes ≤ length (now table)) × (nodes ≤ 4096)
         × (k < pageCount nodes) ⌝ }
     ensures { λ _. ⌜ pagesOf (now (pool .exit)) ≡ set (pagesOf (now (pool .entry))) page
-        (checkpointImage number tariff k nodes (rowsOf (now (table .entry)))) ⌝ }
+        (checkpointImage number tariff k nodes (rowsIn (now (table .entry)))) ⌝ }
 {
     let from = scores_before(k);
     let n = scores_on(k, nodes);
@@ -101,11 +104,11 @@ fn put_checkpoint_page(
 
 // The row of a checkpoint page, behind the nodes' rows.
 fn store_checkpoint_page(table: &mut [u8], n: usize, number: u32, page: u16)
-    requires { ⌜ rowBytes * n + rowBytes ≤ length (now table) ⌝ }
-    ensures { λ _. ⌜ rowsOf (now (table .exit)) ≡ set (rowsOf (now (table .entry))) n (checkpointRow number page) ⌝ }
+    requires { ⌜ rowsAt + rowBytes * n + rowBytes ≤ length (now table) ⌝ }
+    ensures { λ _. ⌜ workOf (now (table .exit)) ≡ withRow n (checkpointRow number page) (workOf (now (table .entry))) ⌝ }
 {
     let row = no_row().fresh(number, Mode::Disk);
-    flash_rows::write_row(table, n, row.note(page));
+    put_row(table, n, row.note(page));
 }
 
 // Checkpoint page k as the next page, in a block that has room.

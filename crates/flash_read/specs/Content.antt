@@ -9,6 +9,7 @@ use Rattle.node.specs.Replay.{Draft, unlinked}
 use Rattle.flash_rows.specs.Row.{noRow}
 use Rattle.flash_rows.specs.Step.{byMode}
 use Rattle.flash_rows.specs.declared.Row.{Row}
+use Rattle.flash_rows.specs.Work.{Work}
 use Rattle.flash_allocate.specs.declared.state.State.{State}
 use Rattle.flash_read.specs.Replay.{redoBuffer}
 use Rattle.flash_read.specs.Slots.{slotAt, redoAt, redoTwo, redoThree}
@@ -24,14 +25,14 @@ redoPages pages row n d =
     (redoTwo pages (slotAt pages (row .first)) (slotAt pages (row .second)) n (row .version) d)
     (redoThree pages (slotAt pages (row .first)) (slotAt pages (row .second)) (slotAt pages (row .third)) n (row .version) d)))
 
--- Node n replayed from nothing: the pages, then the buffer.
-unfoldable pub logContent : List (List ℕ) → State → Row → ℕ → Draft
-logContent pages s row n = redoBuffer n (row .version) (s .buffer) (s .entries) (redoPages pages row n (unlinked []))
+-- Node n replayed from nothing: the pages, then the entries of the buffer.
+unfoldable pub logContent : List (List ℕ) → List ℕ → ℕ → Row → ℕ → Draft
+logContent pages buffer entries row n = redoBuffer n (row .version) buffer entries (redoPages pages row n (unlinked []))
 
 -- Node n by its row: replayed in log mode, whole from its one page in disk mode.
-unfoldable pub contentBy : List (List ℕ) → State → Row → ℕ → Draft
-contentBy pages s row n = byMode (row .mode) (logContent pages s row n) (nodePageAt pages (row .first))
+unfoldable pub contentBy : List (List ℕ) → List ℕ → ℕ → Row → ℕ → Draft
+contentBy pages buffer entries row n = byMode (row .mode) (logContent pages buffer entries row n) (nodePageAt pages (row .first))
 
 -- The content of node n.
-unfoldable pub content : List (List ℕ) → List Row → State → ℕ → Draft
-content pages rows s n = contentBy pages s (getD rows n noRow) n
+unfoldable pub content : List (List ℕ) → Work → State → ℕ → Draft
+content pages t s n = contentBy pages (t .buffer) (s .entries) (getD (t .rows) n noRow) n

@@ -1,7 +1,8 @@
 // The content of a node.
 ghost use Prim.Native.Nat.{_+_, _*_, _≤_};
 ghost use lib.ListN.{length};
-ghost use Rattle.flash_rows.specs.Row.{rowsOf, rowBytes};
+ghost use Rattle.flash_rows.specs.Row.{rowBytes};
+ghost use Rattle.flash_rows.specs.Work.{rowsAt, bufferBytes, workOf};
 ghost use Rattle.flash_blocks.specs.Pages.{pagesOf};
 ghost use Rattle.node.specs.Value.{Held};
 ghost use Rattle.node.specs.Drafts.{draftOf, Redone};
@@ -17,6 +18,8 @@ use super::slot::slot_at;
 use account::Mode;
 use flash_allocate::state::State;
 use flash_rows::Row;
+use flash_rows::table::buffer_part;
+use flash_rows::table::row_at;
 use node::DraftValue;
 use node::empty_draft;
 
@@ -41,32 +44,43 @@ fn redo_pages(pool: &[u8], row: Row, n: usize, d: DraftValue) -> DraftValue
 }
 
 // The content of node n, whose row this is: its entries on pages, then those in the buffer.
-pub fn log_content(pool: &[u8], state: State, row: Row, n: usize) -> DraftValue
-    requires { ⌜ state .entries ≤ mostEntries ⌝ }
-    ensures { λ r. ⌜ Redone r (logContent (pagesOf (now (pool .entry))) state row n) ⌝ }
+fn log_content<'a>(
+    pool: &'a [u8],
+    buffer: &'a [u8],
+    entries: usize,
+    row: Row,
+    n: usize,
+) -> DraftValue
+    requires { ⌜ (entries ≤ mostEntries) × (length (now buffer) ≡ bufferBytes) ⌝ }
+    ensures { λ r. ⌜ Redone r (logContent (pagesOf (now (pool .entry))) (now (buffer .entry)) entries row n) ⌝ }
 {
     let d = redo_pages(pool, row, n, empty_draft());
-    let buffer = state.buffer;
-    redo_buffer(&buffer, state.entries, n, row.version, d)
+    redo_buffer(buffer, entries, n, row.version, d)
 }
 
 // The content of node n, whose row this is.
-fn content_by(pool: &[u8], state: State, row: Row, n: usize) -> DraftValue
-    requires { ⌜ state .entries ≤ mostEntries ⌝ }
-    ensures { λ r. ⌜ Redone r (contentBy (pagesOf (now (pool .entry))) state row n) ⌝ }
+fn content_by<'a>(
+    pool: &'a [u8],
+    buffer: &'a [u8],
+    entries: usize,
+    row: Row,
+    n: usize,
+) -> DraftValue
+    requires { ⌜ (entries ≤ mostEntries) × (length (now buffer) ≡ bufferBytes) ⌝ }
+    ensures { λ r. ⌜ Redone r (contentBy (pagesOf (now (pool .entry))) (now (buffer .entry)) entries row n) ⌝ }
 {
     let mode = row.mode;
     match mode {
-        Mode::Log => log_content(pool, state, row, n),
+        Mode::Log => log_content(pool, buffer, entries, row, n),
         Mode::Disk => node_page_at(pool, row.first),
     }
 }
 
 // The content of node n.
 pub fn content<'a>(pool: &'a [u8], table: &'a [u8], state: State, n: usize) -> DraftValue
-    requires { ⌜ (state .entries ≤ mostEntries) × (rowBytes * n + rowBytes ≤ length (now table)) ⌝ }
-    ensures { λ r. ⌜ Redone r (def.content (pagesOf (now (pool .entry))) (rowsOf (now (table .entry))) state n) ⌝ }
+    requires { ⌜ (state .entries ≤ mostEntries) × (rowsAt + rowBytes * n + rowBytes ≤ length (now table)) ⌝ }
+    ensures { λ r. ⌜ Redone r (def.content (pagesOf (now (pool .entry))) (workOf (now (table .entry))) state n) ⌝ }
 {
-    let row = flash_rows::read_row(table, n);
-    content_by(pool, state, row, n)
+    let row = row_at(table, n);
+    content_by(pool, buffer_part(table), state.entries, row, n)
 }

@@ -96,14 +96,8 @@ fn redo_entries(buffer: &[u8], n: usize, id: usize, version: u32, d: DraftValue)
 }
 
 // The first n entries of the buffer, in order.
-pub fn redo_buffer(
-    buffer: &[u8; BUFFER_BYTES],
-    n: usize,
-    id: usize,
-    version: u32,
-    d: DraftValue,
-) -> DraftValue
-    requires { ⌜ (n ≤ mostEntries) × (Held (d .node)) ⌝ }
+pub fn redo_buffer(buffer: &[u8], n: usize, id: usize, version: u32, d: DraftValue) -> DraftValue
+    requires { ⌜ (n ≤ mostEntries) × (length (now buffer) ≡ bufferBytes) × (Held (d .node)) ⌝ }
     ensures { λ r. ⌜ Redone r (redoBuffer id version (now (buffer .entry)) n (draftOf d)) ⌝ }
 {
     redo_entries(buffer, n, id, version, d)

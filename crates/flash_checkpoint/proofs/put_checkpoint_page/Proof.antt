@@ -1,6 +1,6 @@
 -- `put_checkpoint_page` meets its contract: the records of its nodes' scores, their image, the page. Assumes nothing.
 use native.Mathlib.Omega.{arith}
-use Rattle.flash_rows.specs.Row.{rowsOf}
+use Rattle.flash_rows.specs.Work.{rowsIn}
 use Rattle.flash_blocks.specs.Pages.{pagesOf}
 use Rattle.flash_checkpoint.proofs.Laws.{checkpoint-page-put}
 use borrow.Author.Needs.{needs}
@@ -53,7 +53,7 @@ returns c =
     let m = c6 .page-count in
     let i = c4 .checkpoint-image in
     let w = c2 .put-page in
-    checkpoint-page-put (a .number) (a .tariff) (a .k) (a .nodes) (rowsOf (a .table .now)) (f .result) (n .result)
+    checkpoint-page-put (a .number) (a .tariff) (a .k) (a .nodes) (rowsIn (a .table .now)) (f .result) (n .result)
     (m .result) (r .result) (i .result) (pagesOf (a .pool .now)) (pagesOf (w .last .0)) (a .page) (f .ensures)
     (n .ensures .is) (m .ensures) (r .ensures) (i .ensures) (w .ensures .0)
 

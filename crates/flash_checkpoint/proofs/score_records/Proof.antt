@@ -4,7 +4,7 @@ use Prim.Native.Nat.{ℕ, _+_, _-_, _*_, _≤_}
 use native.Mathlib.Omega.{arith}
 use lib.ListN.{length, replicate, length-replicate}
 use Rattle.laws.specs.Lay.{lay}
-use Rattle.flash_rows.specs.Row.{rowsOf}
+use Rattle.flash_rows.specs.Work.{rowsIn}
 use Rattle.flash_checkpoint.specs.Scores.{scoresOf, scoresBytes}
 use Rattle.flash_checkpoint.proofs.Laws.{records-begin, records-more, records-done}
 use Rattle.flash_checkpoint.proofs.score_records.Statement.{statement}
@@ -12,21 +12,21 @@ use Rattle.flash_checkpoint.proofs.score_records.Tie as tie
 
 abbrev Inv-loop : tie.InvT-loop
 Inv-loop table from n records₀ i₀ records i = ((i ≤ n) × (length records ≡ 324)) ×
-    (lay records (6 * i) (scoresBytes (scoresOf (rowsOf table) (from + i) (n - i))) ≡ lay (replicate 324 0) 0
-    (scoresBytes (scoresOf (rowsOf table) from n)))
+    (lay records (6 * i) (scoresBytes (scoresOf (rowsIn table) (from + i) (n - i))) ≡ lay (replicate 324 0) 0
+    (scoresBytes (scoresOf (rowsIn table) from n)))
 
 abbrev μ-loop : tie.MeasureT-loop
 μ-loop table from n records₀ i₀ records i = n - i
 
 loop-holds : tie.Need-loop-holds Inv-loop μ-loop
 loop-holds c = let a = c .before .args in
-    ((omega arith, length-replicate {A = ℕ} 324 0), records-begin (rowsOf (a .table .now)) (a .from) (a .n) (replicate 324 0))
+    ((omega arith, length-replicate {A = ℕ} 324 0), records-begin (rowsIn (a .table .now)) (a .from) (a .n) (replicate 324 0))
 
-add-read-row : tie.Need-add-read-row Inv-loop μ-loop
-add-read-row c = omega arith
+add-row-at : tie.Need-add-row-at Inv-loop μ-loop
+add-row-at c = omega arith
 
-read-row-requires : tie.Need-read-row-requires Inv-loop μ-loop
-read-row-requires c κs = omega arith
+row-at-requires : tie.Need-row-at-requires Inv-loop μ-loop
+row-at-requires c κs = omega arith
 
 slice-aggregate-lay-score : tie.Need-slice-aggregate-lay-score Inv-loop μ-loop
 slice-aggregate-lay-score c = omega arith
@@ -54,15 +54,15 @@ loop-again c = let l = c .before .before .before .before .before .loop in
     let a = c .before .before .before .before .before .before .before .args in (
       omega (arith, c .before .lay-score .kept .0),
       rw
-          (c .before .lay-score .ensures, c .before .before .before .read-row .ensures)
-          (records-more (rowsOf (a .table .now)) (a .from) (a .n) (l .records) (l .i) (omega arith) (omega arith) ∙
+          (c .before .lay-score .ensures, c .before .before .before .row-at .ensures)
+          (records-more (rowsIn (a .table .now)) (a .from) (a .n) (l .records) (l .i) (omega arith) (omega arith) ∙
           l .inv .1),
     )
 
 returns : tie.Need-returns Inv-loop μ-loop
 returns c = let l = c .before .loop in
     let a = c .before .before .before .args in
-    sym (records-done (rowsOf (a .table .now)) (a .from) (a .n) (l .records) (l .i) (omega arith)) ∙ l .inv .1
+    sym (records-done (rowsIn (a .table .now)) (a .from) (a .n) (l .records) (l .i) (omega arith)) ∙ l .inv .1
 
 pub score-records-spec : {M : Type 1} → statement M
 score-records-spec =
@@ -71,8 +71,8 @@ score-records-spec =
     Inv-loop
     μ-loop
     loop-holds
-    add-read-row
-    read-row-requires
+    add-row-at
+    row-at-requires
     slice-aggregate-lay-score
     mul-lay-score
     add-lay-score

@@ -13,8 +13,8 @@ fresh-requires c κs = search needs
 note-requires : tie.Need-note-requires
 note-requires c κs = search needs
 
-write-row-requires : tie.Need-write-row-requires
-write-row-requires c κs = search needs
+put-row-requires : tie.Need-put-row-requires
+put-row-requires c κs = search needs
 
 same-length : tie.Need-same-length
 same-length c = search needs
@@ -26,7 +26,7 @@ returns c =
     let c3 = c2 .before in
     let c5 = c3 .before .before in
     let c6 = c5 .before in
-    rw (← c6 .no-row .ensures, ← c5 .fresh .ensures, ← c3 .note .ensures) (c2 .write-row .ensures)
+    rw (← c6 .no-row .ensures, ← c5 .fresh .ensures, ← c3 .note .ensures) (c2 .put-row .ensures)
 
 pub store-checkpoint-page-spec : {M : Type 1} → statement M
-store-checkpoint-page-spec = tie.close (tie.spec no-row-requires fresh-requires note-requires write-row-requires same-length returns)
+store-checkpoint-page-spec = tie.close (tie.spec no-row-requires fresh-requires note-requires put-row-requires same-length returns)
