@@ -6,7 +6,7 @@ use native.Mathlib.Omega.{arith}
 use lib.ListN.{replicate}
 use borrow.Author.Tests.{lt-ltb, le-ltb, le-leb, lt-leb}
 use Rattle.flash_rows.specs.declared.Row.{Row}
-use Rattle.flash_rows.specs.Work.{Work, withRows}
+use Rattle.flash_rows.specs.Worktable.{Worktable, withRows}
 use Rattle.flash_blocks.specs.Pages.{erased}
 use Rattle.flash_blocks.specs.Blank.{blankBlocks, nextBlank}
 use Rattle.flash_live.specs.Live.{liveMap}
@@ -34,14 +34,14 @@ unfolding allocate
 allocate-room w h = rw (lt-ltb (w .state .fill) 32 h) refl
 
 -- None: two blank blocks or more, or a compaction.
-module _ (pages : List (List ℕ)) (t : Work) (s : State) (to blank : ℕ) (h : 32 ≤ s .fill)
+module _ (pages : List (List ℕ)) (t : Worktable) (s : State) (to blank : ℕ) (h : 32 ≤ s .fill)
     (next : to ≡ nextBlank (s .blocks) (s .current) pages) (b : blank ≡ blankBlocks (s .blocks) pages) where
   pub allocate-next : 2 ≤ blank → (s′ : State) → s′ ≡ inBlock to 0 s → world pages t s′ ≡ allocate (world pages t s)
   unfolding allocate nextBlock
   allocate-next k s′ e = rw (le-ltb (s .fill) 32 h, ← next, ← b, le-leb 2 blank k, e) refl
 
   pub allocate-compact : blank < 2 → (pages′ : List (List ℕ)) (rows′ : List Row) (fill : ℕ) →
-      compacted pages′ rows′ fill ≡ compact (used s) (s .blocks) to pages (t .rows) → (t′ : Work) → t′ ≡ withRows rows′ t →
+      compacted pages′ rows′ fill ≡ compact (used s) (s .blocks) to pages (t .rows) → (t′ : Worktable) → t′ ≡ withRows rows′ t →
       (s′ : State) → s′ ≡ inBlock to fill s → world pages′ t′ s′ ≡ allocate (world pages t s)
   unfolding allocate nextBlock
   allocate-compact k pages′ rows′ fill c t′ w s′ e =

@@ -5,20 +5,20 @@ use Prim.Native.Nat.{ℕ, _+_, _*_, _≤_, _<_}
 use Rattle.layout.specs.Layout.{fewestBlocks, mostBlocks, blockBytes, tableBytes, pagesInBlock, mostEntries}
 use Rattle.flash_allocate.specs.declared.state.State.{State}
 use Rattle.flash_blocks.specs.Pages.{pagesOf}
-use Rattle.flash_rows.specs.Work.{Work, workOf, rowsFor}
+use Rattle.flash_rows.specs.Worktable.{Worktable, tableFrom, rowsFor}
 use lib.ListN.{length}
 
 pub record World : Type 0 where
   pub pages : List (List ℕ)
-  pub work : Work
+  pub table : Worktable
   pub state : State
 
-abbrev pub world : List (List ℕ) → Work → State → World
-world pages work state = record { pages = pages; work = work; state = state }
+abbrev pub world : List (List ℕ) → Worktable → State → World
+world pages table state = record { pages = pages; table = table; state = state }
 
 -- The world of a pool and a table, as bytes, and a state.
 abbrev pub worldIn : List ℕ → List ℕ → State → World
-worldIn pool table state = world (pagesOf pool) (workOf table) state
+worldIn pool table state = world (pagesOf pool) (tableFrom table) state
 
 -- The rows in use: one a node, then one for each checkpoint page being written.
 abbrev pub used : State → ℕ

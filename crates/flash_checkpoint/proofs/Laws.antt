@@ -15,7 +15,7 @@ use Rattle.layout.specs.Layout.{pageBytes, nodeLimit}
 use Rattle.account.specs.declared.Tariff.{Tariff}
 use Rattle.flash_rows.specs.Row.{noRow}
 use Rattle.flash_rows.specs.declared.Row.{Row}
-use Rattle.flash_rows.specs.Work.{Work, withRow}
+use Rattle.flash_rows.specs.Worktable.{Worktable, withRow}
 use Rattle.page.specs.Page.{Score, page}
 use Rattle.page.specs.Page as p
 use Rattle.page.specs.Image.{scoreBytes, tariffBytes, countBytes, fields, fieldIf, contentBytes, numbered, sealed, image}
@@ -159,7 +159,7 @@ checkpoint-page-put number t k nodes rows from n count records bytes pages pages
 
 -- The page, the row and the state of a checkpoint page put together.
 pub checkpoint-page-written : {P T P′ T′ : ℕ} (t : Tariff) (k : ℕ) (pages pages′ : List (List ℕ))
-    (v v′ : Work) (s s₁ : State) (number : ℕ) →
+    (v v′ : Worktable) (s s₁ : State) (number : ℕ) →
     Good P T s → Closing k s → P′ ≡ P → T′ ≡ T → s .fill < 32 → number ≡ nextSequence (s .last) →
     pages′ ≡ set pages (spot s) (checkpointImage number t k (s .nodes) (v .rows)) → v′ ≡ withRow (used s)
     (checkpointRow number (spot s)) v → s₁ ≡ pageCounted number s →

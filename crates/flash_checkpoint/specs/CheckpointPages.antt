@@ -13,7 +13,7 @@ use Rattle.account.specs.declared.Tariff.{Tariff}
 use Rattle.flash_rows.specs.Row.{noRow}
 use Rattle.flash_rows.specs.Step.{fresh, noted}
 use Rattle.flash_rows.specs.declared.Row.{Row}
-use Rattle.flash_rows.specs.Work.{withRow}
+use Rattle.flash_rows.specs.Worktable.{withRow}
 use Rattle.page.specs.Page.{page}
 use Rattle.page.specs.Page as p
 use Rattle.page.specs.Image.{image}
@@ -61,8 +61,8 @@ checkpointRow number at = noted at (fresh number Disk noRow)
 unfoldable pub writeCheckpointPage : Tariff → ℕ → World → World
 writeCheckpointPage tariff k w =
     world
-    (set (w .pages) (spot (w .state)) (checkpointImage (nextSequence (w .state .last)) tariff k (w .state .nodes) (w .work .rows)))
-    (withRow (used (w .state)) (checkpointRow (nextSequence (w .state .last)) (spot (w .state))) (w .work))
+    (set (w .pages) (spot (w .state)) (checkpointImage (nextSequence (w .state .last)) tariff k (w .state .nodes) (w .table .rows)))
+    (withRow (used (w .state)) (checkpointRow (nextSequence (w .state .last)) (spot (w .state))) (w .table))
     (pageCounted (nextSequence (w .state .last)) (w .state))
 
 -- A place for checkpoint page k, then the checkpoint page.

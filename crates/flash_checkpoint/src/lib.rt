@@ -5,7 +5,7 @@ ghost use lib.ListN.{length, set, replicate};
 ghost use Rattle.laws.specs.Lay.{lay};
 ghost use Rattle.layout.specs.Layout.{nodeLimit, pageBytes, pagesInBlock};
 ghost use Rattle.flash_rows.specs.Row.{rowBytes};
-ghost use Rattle.flash_rows.specs.Work.{rowsAt, rowsIn, workOf, withRow};
+ghost use Rattle.flash_rows.specs.Worktable.{rowsAt, rowsIn, tableFrom, withRow};
 ghost use Rattle.flash_blocks.specs.Pages.{pagesOf};
 ghost use Rattle.flash_allocate.specs.World.{Good, worldIn, Kept, LeftIn};
 ghost use Rattle.flash_checkpoint.specs.Scores.{scoresOf, scoresBytes};
@@ -105,7 +105,7 @@ fn put_checkpoint_page(
 // The row of a checkpoint page, behind the nodes' rows.
 fn store_checkpoint_page(table: &mut [u8], n: usize, number: u32, page: u16)
     requires { ⌜ rowsAt + rowBytes * n + rowBytes ≤ length (now table) ⌝ }
-    ensures { λ _. ⌜ workOf (now (table .exit)) ≡ withRow n (checkpointRow number page) (workOf (now (table .entry))) ⌝ }
+    ensures { λ _. ⌜ tableFrom (now (table .exit)) ≡ withRow n (checkpointRow number page) (tableFrom (now (table .entry))) ⌝ }
 {
     let row = no_row().fresh(number, Mode::Disk);
     put_row(table, n, row.note(page));

@@ -10,7 +10,7 @@ use borrow.Author.Tests.{lt-ltb, le-ltb, ltb-true}
 use Rattle.laws.specs.Tests.{choose}
 use Rattle.laws.specs.Loops.{steps, steps-begin, steps-more, steps-done}
 use Rattle.flash_rows.specs.Row.{noRow}
-use Rattle.flash_rows.specs.Work.{Work, work}
+use Rattle.flash_rows.specs.Worktable.{Worktable, worktable}
 use Rattle.flash_rows.specs.Step.{claim, settled}
 use Rattle.flash_rows.specs.declared.Row.{Row}
 use Rattle.flash_rows.specs.declared.Claim.{Claim}
@@ -38,12 +38,12 @@ record-entry id version c kind key pointer k y p =
     rw (k, y, p, high, low) (entryRecord-bytes id version c)
 
 -- An entry more, where the buffer has room.
-pub append-in : (id version : ℕ) (c : Change) (t t′ : Work) (s s′ : State) → s .entries < 27 →
+pub append-in : (id version : ℕ) (c : Change) (t t′ : Worktable) (s s′ : State) → s .entries < 27 →
     t′ ≡ laidAt (s .entries) (entryBytes (entryOf id version c)) t → s′ ≡ withEntries (s .entries + 1) s → logged t′ s′ ≡ append id version c (logged t s)
 unfolding append entered
 append-in id version c t t′ s s′ h e f = rw (lt-ltb (s .entries) 27 h, e, f) refl
 
-pub append-full : (id version : ℕ) (c : Change) (t : Work) (s : State) → 27 ≤ s .entries → logged t s ≡ append id version c (logged t s)
+pub append-full : (id version : ℕ) (c : Change) (t : Worktable) (s : State) → 27 ≤ s .entries → logged t s ≡ append id version c (logged t s)
 unfolding append
 append-full id version c t s h = rw (le-ltb (s .entries) 27 h) refl
 
@@ -61,17 +61,17 @@ unfolding claimEntry
 claim-out buffer nodes page k rows id i h = rw (← i, le-ltb id nodes h) refl
 
 -- The claims of the first n entries, once those of the first k are made: the buffer is the same, and those left give all.
-pub record Claiming (nodes page n k : ℕ) (before now : Work) : Type 0 where
+pub record Claiming (nodes page n k : ℕ) (before now : Worktable) : Type 0 where
   pub buffer : now .buffer ≡ before .buffer
   pub rows : steps (claimEntry (before .buffer) nodes page) (n - k) k (now .rows) ≡ claimEntries (before .buffer) nodes page n (before .rows)
 
 module _ (nodes page n : ℕ) where
-  pub claiming-begin : (t : Work) → Claiming nodes page n 0 t t
+  pub claiming-begin : (t : Worktable) → Claiming nodes page n 0 t t
   unfolding claimEntries
   claiming-begin t = record { buffer = refl; rows = steps-begin (claimEntry (t .buffer) nodes page) n (t .rows) }
 
   module _ (k : ℕ) where
-    pub claiming-more : k < n → (t u v : Work) → Claiming nodes page n k t u → v ≡ claimOne nodes page k u → Claiming nodes page n (k + 1) t v
+    pub claiming-more : k < n → (t u v : Worktable) → Claiming nodes page n k t u → v ≡ claimOne nodes page k u → Claiming nodes page n (k + 1) t v
     claiming-more l t u v i e =
         rw e
         (record {
@@ -82,10 +82,10 @@ module _ (nodes page n : ℕ) where
               i .rows;
         })
 
-    pub claiming-done : n ≤ k → (t u : Work) → Claiming nodes page n k t u → u ≡ claimed nodes page n t
+    pub claiming-done : n ≤ k → (t u : Worktable) → Claiming nodes page n k t u → u ≡ claimed nodes page n t
     claiming-done l t u i =
         let rows = sym (steps-done (claimEntry (t .buffer) nodes page) n k (u .rows) l) ∙ i .rows in
-        ap (λ (b : List ℕ). work b (u .rows)) (i .buffer) ∙ ap (work (t .buffer)) rows
+        ap (λ (b : List ℕ). worktable b (u .rows)) (i .buffer) ∙ ap (worktable (t .buffer)) rows
 
 -- A state good for other buffers: what an entry more leaves.
 pub good-append : {P T : ℕ} (id version : ℕ) (c : Change) (l : Logged) → Good P T (l .state) → Good P T (append id version c l .state)
@@ -134,8 +134,8 @@ beside-allocate w = go (ltb (w .state .fill) 32) (leb 2 (blankBlocks (w .state .
         Beside (w .state)
         (choose a w
         (choose b
-        (world (w .pages) (w .work) (inBlock to 0 (w .state)))
-        (behind to (w .work) (w .state) (compact (used (w .state)) (w .state .blocks) to (w .pages) (w .work .rows)))) .state)
+        (world (w .pages) (w .table) (inBlock to 0 (w .state)))
+        (behind to (w .table) (w .state) (compact (used (w .state)) (w .state .blocks) to (w .pages) (w .table .rows)))) .state)
     go true b = record { blocks = refl; nodes = refl; checkpoint = refl }
     go false true = record { blocks = refl; nodes = refl; checkpoint = refl }
     go false false = record { blocks = refl; nodes = refl; checkpoint = refl }
@@ -202,7 +202,7 @@ good-advanced number s g p t h =
     }
 
 -- The page, the claims and the state of a flush put together.
-pub buffer-written : {P T P′ T′ : ℕ} (pages pages′ : List (List ℕ)) (w w′ : Work) (s s₁ s₂ : State) (number : ℕ) →
+pub buffer-written : {P T P′ T′ : ℕ} (pages pages′ : List (List ℕ)) (w w′ : Worktable) (s s₁ s₂ : State) (number : ℕ) →
     Good P T s → P′ ≡ P → T′ ≡ T → s .fill < 32 → number ≡ nextSequence (s .last) →
     pages′ ≡ set pages (spot s) (logImage number (s .entries) (w .buffer)) → w′ ≡ claimed (s .nodes) (spot s) (s .entries) w →
     s₁ ≡ advanced number s → s₂ ≡ withoutEntries s₁ → Kept P′ T′ s (world pages′ w′ s₂) (writeBuffer (world pages w s))

@@ -10,7 +10,7 @@ use Rattle.laws.specs.BigEndian.{numberAt}
 use Rattle.flash_rows.specs.Row.{noRow}
 use Rattle.flash_rows.specs.Step.{claim, settled}
 use Rattle.flash_rows.specs.declared.Row.{Row}
-use Rattle.flash_rows.specs.Work.{Work, withRows}
+use Rattle.flash_rows.specs.Worktable.{Worktable, withRows}
 
 -- The node and the version of entry k of a buffer.
 abbrev pub idAt : List ℕ → ℕ → ℕ
@@ -33,8 +33,8 @@ unfoldable pub claimEntries : List ℕ → ℕ → ℕ → ℕ → List Row → 
 claimEntries buffer nodes page n rows = steps (claimEntry buffer nodes page) n 0 rows
 
 -- The work table after one of its buffer's entries, and after the first n.
-abbrev pub claimOne : ℕ → ℕ → ℕ → Work → Work
+abbrev pub claimOne : ℕ → ℕ → ℕ → Worktable → Worktable
 claimOne nodes page k t = withRows (claimEntry (t .buffer) nodes page k (t .rows)) t
 
-abbrev pub claimed : ℕ → ℕ → ℕ → Work → Work
+abbrev pub claimed : ℕ → ℕ → ℕ → Worktable → Worktable
 claimed nodes page n t = withRows (claimEntries (t .buffer) nodes page n (t .rows)) t

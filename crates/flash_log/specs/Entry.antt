@@ -8,7 +8,7 @@ use Rattle.layout.specs.Layout.{mostEntries}
 use Rattle.node.specs.Change.{Change}
 use Rattle.page.specs.Page.{Entry}
 use Rattle.page.specs.Image.{entryBytes}
-use Rattle.flash_rows.specs.Work.{Work, withBuffer}
+use Rattle.flash_rows.specs.Worktable.{Worktable, withBuffer}
 use Rattle.flash_allocate.specs.declared.state.State.{State}
 use Rattle.flash_allocate.specs.State.{withEntries}
 use Rattle.flash_allocate.specs.World.{World, world}
@@ -19,23 +19,23 @@ entryOf id version change = record { id = id; version = version; change = change
 
 -- What an entry changes: the work table, which has the buffer, and the state, which counts its entries.
 pub record Logged : Type 0 where
-  pub work : Work
+  pub table : Worktable
   pub state : State
 
-abbrev pub logged : Work → State → Logged
-logged work state = record { work = work; state = state }
+abbrev pub logged : Worktable → State → Logged
+logged table state = record { table = table; state = state }
 
 -- The world with these pages.
 abbrev pub besides : List (List ℕ) → Logged → World
-besides pages l = world pages (l .work) (l .state)
+besides pages l = world pages (l .table) (l .state)
 
 -- The bytes of an entry behind the first n of the buffer.
-abbrev pub laidAt : ℕ → List ℕ → Work → Work
+abbrev pub laidAt : ℕ → List ℕ → Worktable → Worktable
 laidAt n bytes t = withBuffer (lay (t .buffer) (15 * n) bytes) t
 
 -- The same behind those that it has.
 unfoldable pub entered : List ℕ → Logged → Logged
-entered bytes l = logged (laidAt (l .state .entries) bytes (l .work)) (withEntries (l .state .entries + 1) (l .state))
+entered bytes l = logged (laidAt (l .state .entries) bytes (l .table)) (withEntries (l .state .entries + 1) (l .state))
 
 -- One entry more, where the buffer has room.
 unfoldable pub append : ℕ → ℕ → Change → Logged → Logged

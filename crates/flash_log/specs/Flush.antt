@@ -14,8 +14,8 @@ use Rattle.flash_allocate.specs.State.{nextSequence, advanced, withoutEntries}
 unfoldable pub writeBuffer : World → World
 writeBuffer w =
     world
-    (set (w .pages) (spot (w .state)) (logImage (nextSequence (w .state .last)) (w .state .entries) (w .work .buffer)))
-    (claimed (w .state .nodes) (spot (w .state)) (w .state .entries) (w .work))
+    (set (w .pages) (spot (w .state)) (logImage (nextSequence (w .state .last)) (w .state .entries) (w .table .buffer)))
+    (claimed (w .state .nodes) (spot (w .state)) (w .state .entries) (w .table))
     (withoutEntries (advanced (nextSequence (w .state .last)) (w .state)))
 
 -- A step where the current block has room, as it has after an allocation.

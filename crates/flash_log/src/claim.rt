@@ -3,7 +3,7 @@ ghost use mathlib.Core.Path.{_≡_};
 ghost use Prim.Native.Nat.{_+_, _*_, _≤_, _<_};
 ghost use lib.ListN.{length};
 ghost use Rattle.flash_rows.specs.Row.{rowBytes};
-ghost use Rattle.flash_rows.specs.Work.{rowsAt, rowsIn, workOf, withRows};
+ghost use Rattle.flash_rows.specs.Worktable.{rowsAt, rowsIn, tableFrom, withRows};
 ghost use Rattle.flash_rows.specs.Step.{settled};
 ghost use Rattle.flash_log.specs.Claim.{claimOne, claimed};
 ghost use Rattle.layout.specs.Layout.{mostEntries};
@@ -18,8 +18,8 @@ use wire::number::read32;
 // Stores what a claim made of a row.
 fn store_claim(table: &mut [u8], n: usize, claim: Claim)
     requires { ⌜ rowsAt + rowBytes * n + rowBytes ≤ length (now table) ⌝ }
-    ensures { λ _. ⌜ workOf (now (table .exit))
-        ≡ withRows (settled claim n (rowsIn (now (table .entry)))) (workOf (now (table .entry))) ⌝ }
+    ensures { λ _. ⌜ tableFrom (now (table .exit))
+        ≡ withRows (settled claim n (rowsIn (now (table .entry)))) (tableFrom (now (table .entry))) ⌝ }
 {
     match claim {
         Claim::Same => {}
@@ -32,7 +32,7 @@ fn store_claim(table: &mut [u8], n: usize, claim: Claim)
 // The row of entry k claims the page, where its node exists.
 fn claim_entry(table: &mut [u8], nodes: usize, page: u16, k: usize)
     requires { ⌜ (k < mostEntries) × (rowsAt + rowBytes * nodes ≤ length (now table)) ⌝ }
-    ensures { λ _. ⌜ workOf (now (table .exit)) ≡ claimOne nodes page k (workOf (now (table .entry))) ⌝ }
+    ensures { λ _. ⌜ tableFrom (now (table .exit)) ≡ claimOne nodes page k (tableFrom (now (table .entry))) ⌝ }
 {
     let buffer = buffer_part(table);
     let id = read16(buffer, ENTRY_BYTES * k) as usize;
@@ -47,7 +47,7 @@ fn claim_entry(table: &mut [u8], nodes: usize, page: u16, k: usize)
 // The rows of the first n entries claim the page.
 pub fn claim_entries(table: &mut [u8], n: usize, nodes: usize, page: u16)
     requires { ⌜ (n ≤ mostEntries) × (rowsAt + rowBytes * nodes ≤ length (now table)) ⌝ }
-    ensures { λ _. ⌜ workOf (now (table .exit)) ≡ claimed nodes page n (workOf (now (table .entry))) ⌝ }
+    ensures { λ _. ⌜ tableFrom (now (table .exit)) ≡ claimed nodes page n (tableFrom (now (table .entry))) ⌝ }
 {
     let mut k: usize = 0;
     while k < n {

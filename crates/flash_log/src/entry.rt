@@ -6,7 +6,7 @@ ghost use Rattle.node.specs.Drafts.{changeOf};
 ghost use Rattle.page.specs.Image.{changeNumber, changeKey, changePointer, entryBytes};
 ghost use Rattle.flash_log.specs.Entry as def;
 ghost use Rattle.flash_log.specs.Entry.{entryOf, logged, laidAt};
-ghost use Rattle.flash_rows.specs.Work.{rowsAt, workOf};
+ghost use Rattle.flash_rows.specs.Worktable.{rowsAt, tableFrom};
 ghost use Rattle.layout.specs.Layout.{mostEntries};
 use flash_allocate::state::State;
 use flash_allocate::state::with_entries;
@@ -52,8 +52,8 @@ fn change_pointer(change: ChangeValue) -> u32
 // Lays an entry behind the first n of the buffer; an id has two bytes.
 fn lay_change(table: &mut [u8], n: usize, id: usize, version: u32, change: ChangeValue)
     requires { ⌜ (n < mostEntries) × (rowsAt ≤ length (now table)) ⌝ }
-    ensures { λ _. ⌜ workOf (now (table .exit))
-        ≡ laidAt n (entryBytes (entryOf id version (changeOf change))) (workOf (now (table .entry))) ⌝ }
+    ensures { λ _. ⌜ tableFrom (now (table .exit))
+        ≡ laidAt n (entryBytes (entryOf id version (changeOf change))) (tableFrom (now (table .entry))) ⌝ }
 {
     let kind = change_number(change);
     let key = change_key(change);
@@ -72,8 +72,8 @@ fn lay_change(table: &mut [u8], n: usize, id: usize, version: u32, change: Chang
 // One entry more in the buffer, where it has room.
 pub fn append(table: &mut [u8], state: State, id: usize, version: u32, change: ChangeValue) -> State
     requires { ⌜ rowsAt ≤ length (now table) ⌝ }
-    ensures { λ r. ⌜ logged (workOf (now (table .exit))) r
-        ≡ def.append id version (changeOf change) (logged (workOf (now (table .entry))) state) ⌝ }
+    ensures { λ r. ⌜ logged (tableFrom (now (table .exit))) r
+        ≡ def.append id version (changeOf change) (logged (tableFrom (now (table .entry))) state) ⌝ }
 {
     if state.entries < MOST_ENTRIES {
         lay_change(table, state.entries, id, version, change);

@@ -2,7 +2,7 @@
 ghost use mathlib.Core.Path.{_≡_};
 ghost use Prim.Native.Nat.{_+_, _*_, _≤_, _<_};
 ghost use lib.ListN.{length, set};
-ghost use Rattle.flash_rows.specs.Work.{bufferBytes};
+ghost use Rattle.flash_rows.specs.Worktable.{bufferBytes};
 ghost use Rattle.flash_blocks.specs.Pages.{pagesOf};
 ghost use Rattle.flash_allocate.specs.World.{Good, worldIn, Kept, LeftIn};
 ghost use Rattle.page_write.specs.Pages.{logImage};

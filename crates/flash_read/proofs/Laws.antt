@@ -20,7 +20,6 @@ use Rattle.account.specs.declared.Mode.{Mode}
 use Rattle.account.specs.declared.Mode.the-variants.{Log, Disk}
 use Rattle.flash_rows.specs.Step.{byMode}
 use Rattle.flash_rows.specs.declared.Row.{Row}
-use Rattle.flash_allocate.specs.declared.state.State.{State}
 use Rattle.node.specs.declared.ChangeValue.{ChangeValue}
 use Rattle.node.specs.declared.DraftValue.{DraftValue}
 use Rattle.node.specs.declared.DraftState.the-variants.{Made}
@@ -232,11 +231,11 @@ node-behind pages q h =
     (payload-blank 7 0x11 (omega arith) (λ e. omega arith)))
 
 -- A node by its mode.
-module _ (pages : List (List ℕ)) (s : State) (row : Row) (n : ℕ) where
-  pub content-log : row .mode ≡ Log → logContent pages s row n ≡ contentBy pages s row n
+module _ (pages : List (List ℕ)) (buffer : List ℕ) (entries : ℕ) (row : Row) (n : ℕ) where
+  pub content-log : row .mode ≡ Log → logContent pages buffer entries row n ≡ contentBy pages buffer entries row n
   unfolding contentBy
-  content-log e = ap (λ (m : Mode). byMode m (logContent pages s row n) (nodePageAt pages (row .first))) (sym e)
+  content-log e = ap (λ (m : Mode). byMode m (logContent pages buffer entries row n) (nodePageAt pages (row .first))) (sym e)
 
-  pub content-disk : row .mode ≡ Disk → nodePageAt pages (row .first) ≡ contentBy pages s row n
+  pub content-disk : row .mode ≡ Disk → nodePageAt pages (row .first) ≡ contentBy pages buffer entries row n
   unfolding contentBy
-  content-disk e = ap (λ (m : Mode). byMode m (logContent pages s row n) (nodePageAt pages (row .first))) (sym e)
+  content-disk e = ap (λ (m : Mode). byMode m (logContent pages buffer entries row n) (nodePageAt pages (row .first))) (sym e)

@@ -9,7 +9,7 @@ use Rattle.node.specs.Replay.{Draft, unlinked}
 use Rattle.flash_rows.specs.Row.{noRow}
 use Rattle.flash_rows.specs.Step.{byMode}
 use Rattle.flash_rows.specs.declared.Row.{Row}
-use Rattle.flash_rows.specs.Work.{Work}
+use Rattle.flash_rows.specs.Worktable.{Worktable}
 use Rattle.flash_allocate.specs.declared.state.State.{State}
 use Rattle.flash_read.specs.Replay.{redoBuffer}
 use Rattle.flash_read.specs.Slots.{slotAt, redoAt, redoTwo, redoThree}
@@ -34,5 +34,5 @@ unfoldable pub contentBy : List (List ℕ) → List ℕ → ℕ → Row → ℕ 
 contentBy pages buffer entries row n = byMode (row .mode) (logContent pages buffer entries row n) (nodePageAt pages (row .first))
 
 -- The content of node n.
-unfoldable pub content : List (List ℕ) → Work → State → ℕ → Draft
+unfoldable pub content : List (List ℕ) → Worktable → State → ℕ → Draft
 content pages t s n = contentBy pages (t .buffer) (s .entries) (getD (t .rows) n noRow) n

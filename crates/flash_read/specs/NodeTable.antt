@@ -10,15 +10,15 @@ use Rattle.layout.specs.Layout.{mostEntries, mostBlocks, nodeLimit}
 use Rattle.node.specs.Node.{Node}
 use Rattle.store.specs.Store.{nodeIn, noNode}
 use Rattle.flash_rows.specs.Row.{rowBytes}
-use Rattle.flash_rows.specs.Work.{Work, rowsAt}
+use Rattle.flash_rows.specs.Worktable.{Worktable, rowsAt}
 use Rattle.flash_allocate.specs.declared.state.State.{State}
 use Rattle.flash_read.specs.Content.{content}
 
 -- "Ids run from 0 without gaps" (document 01, "Nodes and tree"): behind the count there is no node.
-unfoldable pub tableOf : List (List ℕ) → Work → State → ℕ → Node
+unfoldable pub tableOf : List (List ℕ) → Worktable → State → ℕ → Node
 tableOf pages t s n = choose (ltb n (s .nodes)) (nodeIn (content pages t s n)) noNode
 
-module _ (pages : List (List ℕ)) (t : Work) (s : State) (n : ℕ) where
+module _ (pages : List (List ℕ)) (t : Worktable) (s : State) (n : ℕ) where
   pub tableOf-in : n < s .nodes → tableOf pages t s n ≡ nodeIn (content pages t s n)
   unfolding tableOf
   tableOf-in l = rw (lt-ltb n (s .nodes) l)

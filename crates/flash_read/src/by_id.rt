@@ -1,6 +1,6 @@
 // A node of the table, by id.
 ghost use Rattle.flash_blocks.specs.Pages.{pagesOf};
-ghost use Rattle.flash_rows.specs.Work.{workOf};
+ghost use Rattle.flash_rows.specs.Worktable.{tableFrom};
 ghost use Rattle.node.specs.Value.{Held, Becomes};
 ghost use Rattle.node.specs.Drafts.{draftOf};
 ghost use Rattle.store.specs.Store.{nodeIn};
@@ -29,7 +29,7 @@ pub fn node_in(d: DraftValue) -> NodeValue
 // Node n of the table; behind the count there is none.
 pub fn node_at<'a>(pool: &'a [u8], table: &'a [u8], state: State, n: usize) -> NodeValue
     requires { ⌜ Readable state (now table) ⌝ }
-    ensures { λ r. ⌜ Becomes r (tableOf (pagesOf (now (pool .entry))) (workOf (now (table .entry))) state n) ⌝ }
+    ensures { λ r. ⌜ Becomes r (tableOf (pagesOf (now (pool .entry))) (tableFrom (now (table .entry))) state n) ⌝ }
 {
     if n < state.nodes {
         let d = content(pool, table, state, n);

@@ -1,8 +1,9 @@
 // The content of a node.
+ghost use mathlib.Core.Path.{_≡_};
 ghost use Prim.Native.Nat.{_+_, _*_, _≤_};
 ghost use lib.ListN.{length};
 ghost use Rattle.flash_rows.specs.Row.{rowBytes};
-ghost use Rattle.flash_rows.specs.Work.{rowsAt, bufferBytes, workOf};
+ghost use Rattle.flash_rows.specs.Worktable.{rowsAt, bufferBytes, tableFrom};
 ghost use Rattle.flash_blocks.specs.Pages.{pagesOf};
 ghost use Rattle.node.specs.Value.{Held};
 ghost use Rattle.node.specs.Drafts.{draftOf, Redone};
@@ -79,7 +80,7 @@ fn content_by<'a>(
 // The content of node n.
 pub fn content<'a>(pool: &'a [u8], table: &'a [u8], state: State, n: usize) -> DraftValue
     requires { ⌜ (state .entries ≤ mostEntries) × (rowsAt + rowBytes * n + rowBytes ≤ length (now table)) ⌝ }
-    ensures { λ r. ⌜ Redone r (def.content (pagesOf (now (pool .entry))) (workOf (now (table .entry))) state n) ⌝ }
+    ensures { λ r. ⌜ Redone r (def.content (pagesOf (now (pool .entry))) (tableFrom (now (table .entry))) state n) ⌝ }
 {
     let row = row_at(table, n);
     content_by(pool, buffer_part(table), state.entries, row, n)

@@ -1,4 +1,4 @@
 pub mod Row
 pub mod Step
-pub mod Work
-pub mod WorkLaws
+pub mod Worktable
+pub mod WorktableLaws

@@ -1,9 +1,9 @@
-// The work table while a batch runs, by the plan of specs/Work.antt: the log buffer, the rows, and what is free.
+// The work table while a batch runs, by the plan of specs/Worktable.antt: the log buffer, the rows, and what is free.
 ghost use mathlib.Core.Path.{_≡_};
 ghost use Prim.Native.Nat.{_+_, _*_, _≤_};
 ghost use lib.ListN.{length, getD};
 ghost use Rattle.flash_rows.specs.Row.{noRow, rowBytes};
-ghost use Rattle.flash_rows.specs.Work.{rowsAt, bufferBytes, bufferOf, rowsIn, workOf, withRow};
+ghost use Rattle.flash_rows.specs.Worktable.{rowsAt, bufferBytes, bufferOf, rowsIn, tableFrom, withRow};
 use super::Row;
 use super::read_row;
 use super::write_row;
@@ -30,7 +30,7 @@ pub fn row_at(table: &[u8], n: usize) -> Row
 // The row laid in its place.
 pub fn put_row(table: &mut [u8], n: usize, r: Row)
     requires { ⌜ rowsAt + rowBytes * n + rowBytes ≤ length (now table) ⌝ }
-    ensures { λ _. ⌜ workOf (now (table .exit)) ≡ withRow n r (workOf (now (table .entry))) ⌝ }
+    ensures { λ _. ⌜ tableFrom (now (table .exit)) ≡ withRow n r (tableFrom (now (table .entry))) ⌝ }
 {
     write_row(&mut table[ROWS_AT..], n, r);
 }

@@ -11,7 +11,7 @@ use borrow.Author.Tests.{lt-ltb, le-ltb}
 use Rattle.pairs.specs.Pairs.{Pair}
 use Rattle.flash_rows.specs.Row.{noRow}
 use Rattle.flash_rows.specs.declared.Row.{Row}
-use Rattle.flash_rows.specs.Work.{Work, rowsFor}
+use Rattle.flash_rows.specs.Worktable.{Worktable, rowsFor}
 use Rattle.node.specs.declared.NodeValue.{NodeValue}
 use Rattle.node.specs.Node.{Node, pairsOf}
 use Rattle.node.specs.Change.{Change, put, puts, changesOf}
@@ -94,7 +94,7 @@ module _ (id version : ℕ) where
       }
 
 -- A fresh start keeps the state good, with the same blocks, nodes and checkpoint pages.
-module _ (n : ℕ) (row : Row) (version : ℕ) (x : Node) (t : Work) (s : State) where
+module _ (n : ℕ) (row : Row) (version : ℕ) (x : Node) (t : Worktable) (s : State) where
   good-start : {P T T′ : ℕ} → Good P T s → T′ ≡ T → Good P T′ (started n row version x t s .state)
   unfolding withSequence
   good-start g e =
@@ -119,7 +119,7 @@ module _ (n : ℕ) (row : Row) (version : ℕ) (x : Node) (t : Work) (s : State)
 -- Room, then the fresh start: what it leaves, and what it should.
 module _ {P T T′ : ℕ} (x : Node) (w w₁ : World) (k : ℕ) (e : k ≡ length (pairsOf x) + 1) (m : Kept P T (w .state) w₁ (room k w)) (t : T′ ≡ T)
     (version : ℕ) (v : version ≡ nextSequence (w₁ .state .last)) where
-  start-is : (n : ℕ) (row row′ : Row) (l : Logged) → row ≡ row′ → l ≡ started n row version x (w₁ .work) (w₁ .state) →
+  start-is : (n : ℕ) (row row′ : Row) (l : Logged) → row ≡ row′ → l ≡ started n row version x (w₁ .table) (w₁ .state) →
       besides (w₁ .pages) l ≡ start n row′ x w₁
   unfolding start
   start-is n row row′ l r st = rw (st, r, v) refl
@@ -128,33 +128,33 @@ module _ {P T T′ : ℕ} (x : Node) (w w₁ : World) (k : ℕ) (e : k ≡ lengt
   roomed = m .is ∙ ap (λ (j : ℕ). room j w) e
 
   -- the numbers of a state that a fresh start left
-  beside : (n : ℕ) (row : Row) (l : Logged) → l ≡ started n row version x (w₁ .work) (w₁ .state) → Beside (w₁ .state) (l .state)
-  beside n row l st = rw st (beside-start n row version x (w₁ .work) (w₁ .state))
+  beside : (n : ℕ) (row : Row) (l : Logged) → l ≡ started n row version x (w₁ .table) (w₁ .state) → Beside (w₁ .state) (l .state)
+  beside n row l st = rw st (beside-start n row version x (w₁ .table) (w₁ .state))
 
-  pub group-made : (n : ℕ) (row : Row) (l : Logged) → row ≡ getD (w₁ .work .rows) n noRow →
-      l ≡ started n row version x (w₁ .work) (w₁ .state) → Kept P T′ (w .state) (besides (w₁ .pages) l) (group n x w)
+  pub group-made : (n : ℕ) (row : Row) (l : Logged) → row ≡ getD (w₁ .table .rows) n noRow →
+      l ≡ started n row version x (w₁ .table) (w₁ .state) → Kept P T′ (w .state) (besides (w₁ .pages) l) (group n x w)
   unfolding group
   group-made n row l r st =
       let b = beside n row l st in
       record {
-        is = start-is n row (getD (w₁ .work .rows) n noRow) l r st ∙ ap (restart n x) roomed;
-        good = rw st (good-start n row version x (w₁ .work) (w₁ .state) (m .good) t);
+        is = start-is n row (getD (w₁ .table .rows) n noRow) l r st ∙ ap (restart n x) roomed;
+        good = rw st (good-start n row version x (w₁ .table) (w₁ .state) (m .good) t);
         blocks = b .blocks ∙ m .blocks;
         nodes = b .nodes ∙ m .nodes;
         checkpoint = b .checkpoint ∙ m .checkpoint;
       }
 
   pub create-made : (row : Row) (l : Logged) (s : State) → row ≡ noRow →
-      l ≡ started (w₁ .state .nodes) row version x (w₁ .work) (w₁ .state) → s ≡ withNodes (w₁ .state .nodes + 1) (l .state) →
-      w .state .nodes + w .state .checkpoint < rowsFor (w .state .blocks) → Grown P T′ (w .state) (world (w₁ .pages) (l .work) s) (create x w)
+      l ≡ started (w₁ .state .nodes) row version x (w₁ .table) (w₁ .state) → s ≡ withNodes (w₁ .state .nodes + 1) (l .state) →
+      w .state .nodes + w .state .checkpoint < rowsFor (w .state .blocks) → Grown P T′ (w .state) (world (w₁ .pages) (l .table) s) (create x w)
   unfolding create withNodes
   create-made row l s r st f h =
       let b = beside (w₁ .state .nodes) row l st in
-      let g : Good P T′ (l .state) = rw st (good-start (w₁ .state .nodes) row version x (w₁ .work) (w₁ .state) (m .good) t) in
+      let g : Good P T′ (l .state) = rw st (good-start (w₁ .state .nodes) row version x (w₁ .table) (w₁ .state) (m .good) t) in
       record {
         is =
-            ap (world (w₁ .pages) (l .work)) f ∙
-            ap (λ (y : World). world (y .pages) (y .work) (withNodes (w₁ .state .nodes + 1) (y .state)))
+            ap (world (w₁ .pages) (l .table)) f ∙
+            ap (λ (y : World). world (y .pages) (y .table) (withNodes (w₁ .state .nodes + 1) (y .state)))
             (start-is (w₁ .state .nodes) row noRow l r st) ∙
             ap (startNext x) roomed;
         good =
@@ -175,7 +175,7 @@ module _ {P T T′ : ℕ} (x : Node) (w w₁ : World) (k : ℕ) (e : k ≡ lengt
       }
 
 -- The page, the row and the state of a node page put together.
-pub node-written : {P T P′ T′ : ℕ} (n : ℕ) (x : Node) (pages pages′ : List (List ℕ)) (w w′ : Work) (s s₁ : State) (number : ℕ) →
+pub node-written : {P T P′ T′ : ℕ} (n : ℕ) (x : Node) (pages pages′ : List (List ℕ)) (w w′ : Worktable) (s s₁ : State) (number : ℕ) →
     Good P T s → P′ ≡ P → T′ ≡ T → s .fill < 32 → number ≡ nextSequence (s .last) →
     pages′ ≡ set pages (spot s) (image (page number (whole n x))) → w′ ≡ onPage n number (spot s) w → s₁ ≡ advanced number s →
     Kept P′ T′ s (world pages′ w′ s₁) (writeNode n x (world pages w s))
@@ -194,12 +194,12 @@ node-written n x pages pages′ w w′ s s₁ number g p t h e f r a =
 
 -- An edit, once there is room for its entry.
 module _ {P T : ℕ} (n : ℕ) (c : Change) (x : Node) (w w₁ : World) (m : Kept P T (w .state) w₁ (room 1 w)) (row : Row)
-    (r : row ≡ getD (w₁ .work .rows) n noRow) where
-  pub edit-entry : {T′ : ℕ} (l : Logged) → T′ ≡ T → row .pages < 3 → l ≡ append n (row .version) c (logged (w₁ .work) (w₁ .state)) →
+    (r : row ≡ getD (w₁ .table .rows) n noRow) where
+  pub edit-entry : {T′ : ℕ} (l : Logged) → T′ ≡ T → row .pages < 3 → l ≡ append n (row .version) c (logged (w₁ .table) (w₁ .state)) →
       Kept P T′ (w .state) (besides (w₁ .pages) l) (edit n c x w)
   unfolding edit editBy
   edit-entry l t h e =
-      let before = logged (w₁ .work) (w₁ .state) in
+      let before = logged (w₁ .table) (w₁ .state) in
       let b = beside-append n (row .version) c before in
       let g = good-append n (row .version) c before (m .good) in
       record {

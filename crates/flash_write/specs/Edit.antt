@@ -17,11 +17,11 @@ use Rattle.flash_write.specs.Group.{group}
 -- One entry under the row's version, or the whole edited content x, by the pages that the row names.
 unfoldable pub editBy : Row → ℕ → Change → Node → World → World
 editBy row n c x w =
-    choose (ltb (row .pages) mostLogPages) (besides (w .pages) (append n (row .version) c (logged (w .work) (w .state)))) (group n x w)
+    choose (ltb (row .pages) mostLogPages) (besides (w .pages) (append n (row .version) c (logged (w .table) (w .state)))) (group n x w)
 
 -- The row is read once there is room for the entry.
 abbrev pub editIn : ℕ → Change → Node → World → World
-editIn n c x w = editBy (getD (w .work .rows) n noRow) n c x w
+editIn n c x w = editBy (getD (w .table .rows) n noRow) n c x w
 
 unfoldable pub edit : ℕ → Change → Node → World → World
 edit n c x w = editIn n c x (room 1 w)

@@ -3,7 +3,7 @@ ghost use mathlib.Core.Path.{_≡_};
 ghost use Prim.Native.Nat.{_+_, _*_, _≤_, _<_};
 ghost use lib.ListN.{length};
 ghost use Rattle.flash_rows.specs.Row.{rowBytes};
-ghost use Rattle.flash_rows.specs.Work.{rowsAt, rowsFor, workOf};
+ghost use Rattle.flash_rows.specs.Worktable.{rowsAt, rowsFor, tableFrom};
 ghost use Rattle.node.specs.Change.{puts, changesOf};
 ghost use Rattle.node.specs.Value.{pairsIn, nodeOf, Sized};
 ghost use Rattle.flash_allocate.specs.World.{Good, worldIn, Kept, LeftIn};
@@ -27,8 +27,8 @@ use node::NodeValue;
 // An entry for each pair, ascending.
 fn append_pairs(table: &mut [u8], state: State, id: usize, version: u32, v: NodeValue) -> State
     requires { ⌜ (rowsAt ≤ length (now table)) × (Sized v) ⌝ }
-    ensures { λ r. ⌜ logged (workOf (now (table .exit))) r
-        ≡ appendAll id version (puts (pairsIn v)) (logged (workOf (now (table .entry))) state) ⌝ }
+    ensures { λ r. ⌜ logged (tableFrom (now (table .exit))) r
+        ≡ appendAll id version (puts (pairsIn v)) (logged (tableFrom (now (table .entry))) state) ⌝ }
 {
     let keys = v.keys;
     let pointers = v.pointers;
@@ -48,8 +48,8 @@ fn append_pairs(table: &mut [u8], state: State, id: usize, version: u32, v: Node
 // An entry for each pair, then the link's.
 fn append_node(table: &mut [u8], state: State, id: usize, version: u32, v: NodeValue) -> State
     requires { ⌜ (rowsAt ≤ length (now table)) × (Sized v) ⌝ }
-    ensures { λ r. ⌜ logged (workOf (now (table .exit))) r
-        ≡ appendAll id version (changesOf (nodeOf v)) (logged (workOf (now (table .entry))) state) ⌝ }
+    ensures { λ r. ⌜ logged (tableFrom (now (table .exit))) r
+        ≡ appendAll id version (changesOf (nodeOf v)) (logged (tableFrom (now (table .entry))) state) ⌝ }
 {
     let shape = v.shape;
     let s = append_pairs(table, state, id, version, v);
@@ -63,8 +63,8 @@ fn append_node(table: &mut [u8], state: State, id: usize, version: u32, v: NodeV
 // A fresh start of a node whose row was this.
 fn start(table: &mut [u8], state: State, id: usize, row: Row, version: u32, v: NodeValue) -> State
     requires { ⌜ (rowsAt + rowBytes * id + rowBytes ≤ length (now table)) × (Sized v) ⌝ }
-    ensures { λ r. ⌜ logged (workOf (now (table .exit))) r
-        ≡ started id row version (nodeOf v) (workOf (now (table .entry))) state ⌝ }
+    ensures { λ r. ⌜ logged (tableFrom (now (table .exit))) r
+        ≡ started id row version (nodeOf v) (tableFrom (now (table .entry))) state ⌝ }
 {
     put_row(table, id, row.fresh(version, Mode::Log));
     append_node(table, with_sequence(state, version), id, version, v)

@@ -3,7 +3,7 @@ ghost use mathlib.Core.Path.{_≡_};
 ghost use Prim.Native.Nat.{_+_, _*_, _≤_, _<_};
 ghost use lib.ListN.{length, set};
 ghost use Rattle.flash_rows.specs.Row.{rowBytes};
-ghost use Rattle.flash_rows.specs.Work.{rowsAt, workOf};
+ghost use Rattle.flash_rows.specs.Worktable.{rowsAt, tableFrom};
 ghost use Rattle.flash_blocks.specs.Pages.{pagesOf};
 ghost use Rattle.node.specs.Value.{nodeOf, Sized};
 ghost use Rattle.page.specs.Page as p;
@@ -40,7 +40,7 @@ fn put_node(pool: &mut [u8], page: usize, number: u32, id: usize, v: NodeValue)
 // The row of a node that has this page for its version, alone.
 fn node_page_row(table: &mut [u8], id: usize, number: u32, page: u16)
     requires { ⌜ rowsAt + rowBytes * id + rowBytes ≤ length (now table) ⌝ }
-    ensures { λ _. ⌜ workOf (now (table .exit)) ≡ onPage id number page (workOf (now (table .entry))) ⌝ }
+    ensures { λ _. ⌜ tableFrom (now (table .exit)) ≡ onPage id number page (tableFrom (now (table .entry))) ⌝ }
 {
     let row = row_at(table, id).fresh(number, Mode::Disk);
     put_row(table, id, row.note(page));

@@ -1,5 +1,5 @@
 -- `checkpoint` meets its contract: the buffer drained, then the checkpoint pages. Assumes nothing.
-use Rattle.flash_rows.specs.Work.{workOf}
+use Rattle.flash_rows.specs.Worktable.{tableFrom}
 use Rattle.flash_blocks.specs.Pages.{pagesOf}
 use Rattle.flash_allocate.specs.World.{world}
 use Rattle.flash_checkpoint.proofs.Laws.{checkpoint-made}
@@ -27,9 +27,9 @@ returns c =
     let a = c16 .args in
     let d = c11 .drain in
     let s = c4 .checkpoint-pages in
-    checkpoint-made (a .tariff) (world (pagesOf (a .pool .now)) (workOf (a .table .now)) (a .state))
-    (world (pagesOf (d .last .0)) (workOf (d .last .1 .0)) (d .result))
-    (world (pagesOf (s .last .0)) (workOf (s .last .1 .0)) (s .result)) (d .ensures) (s .ensures)
+    checkpoint-made (a .tariff) (world (pagesOf (a .pool .now)) (tableFrom (a .table .now)) (a .state))
+    (world (pagesOf (d .last .0)) (tableFrom (d .last .1 .0)) (d .result))
+    (world (pagesOf (s .last .0)) (tableFrom (s .last .1 .0)) (s .result)) (d .ensures) (s .ensures)
 
 pub checkpoint-spec : {M : Type 1} → statement M
 checkpoint-spec =

@@ -1,5 +1,5 @@
 -- `checkpoint_page` meets its contract: an allocation, and the checkpoint page written where it left room. Assumes nothing.
-use Rattle.flash_rows.specs.Work.{workOf}
+use Rattle.flash_rows.specs.Worktable.{tableFrom}
 use Rattle.flash_blocks.specs.Pages.{pagesOf}
 use Rattle.flash_allocate.specs.World.{world}
 use Rattle.flash_log.proofs.Laws.{allocated}
@@ -20,8 +20,8 @@ write-checkpoint-page-requires c κs =
     let a = c13 .args in
     let x = c8 .allocate in
     let b = allocated (writeCheckpointPage (a .tariff) (a .k))
-    (world (pagesOf (a .pool .now)) (workOf (a .table .now)) (a .state))
-    (world (pagesOf (x .last .0)) (workOf (x .last .1 .0)) (x .result)) (x .ensures) in
+    (world (pagesOf (a .pool .now)) (tableFrom (a .table .now)) (a .state))
+    (world (pagesOf (x .last .0)) (tableFrom (x .last .1 .0)) (x .result)) (x .ensures) in
     (x .ensures .good, closing-beside (a .k) (a .state) (x .result) b (c13 .pre .1), c2 .if1 .taken)
 
 same-length : tie.Need-same-length
@@ -39,9 +39,9 @@ returns c =
     let a = c18 .args in
     let x = c13 .allocate in
     let y = c4 .write-checkpoint-page in
-    checkpoint-page-room (a .tariff) (a .k) (world (pagesOf (a .pool .now)) (workOf (a .table .now)) (a .state))
-    (world (pagesOf (x .last .0)) (workOf (x .last .1 .0)) (x .result)) (x .ensures)
-    (world (pagesOf (y .last .0)) (workOf (y .last .1 .0)) (y .result)) (c7 .if1 .taken) (y .ensures)
+    checkpoint-page-room (a .tariff) (a .k) (world (pagesOf (a .pool .now)) (tableFrom (a .table .now)) (a .state))
+    (world (pagesOf (x .last .0)) (tableFrom (x .last .1 .0)) (x .result)) (x .ensures)
+    (world (pagesOf (y .last .0)) (tableFrom (y .last .1 .0)) (y .result)) (c7 .if1 .taken) (y .ensures)
 
 same-length-3 : tie.Need-same-length-3
 same-length-3 c = search needs
@@ -55,8 +55,8 @@ returns-2 c =
     let c11 = c6 .before .before .before .before .before in
     let a = c11 .args in
     let x = c6 .allocate in
-    checkpoint-page-stuck (a .tariff) (a .k) (world (pagesOf (a .pool .now)) (workOf (a .table .now)) (a .state))
-    (world (pagesOf (x .last .0)) (workOf (x .last .1 .0)) (x .result)) (x .ensures) (c .if1 .left)
+    checkpoint-page-stuck (a .tariff) (a .k) (world (pagesOf (a .pool .now)) (tableFrom (a .table .now)) (a .state))
+    (world (pagesOf (x .last .0)) (tableFrom (x .last .1 .0)) (x .result)) (x .ensures) (c .if1 .left)
 
 pub checkpoint-page-spec : {M : Type 1} → statement M
 checkpoint-page-spec =

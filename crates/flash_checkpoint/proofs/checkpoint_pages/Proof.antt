@@ -4,7 +4,7 @@ use Prim.Native.Nat.{ℕ, _+_, _-_}
 use native.Mathlib.Omega.{arith}
 use lib.ListN.{length}
 use Rattle.laws.specs.Loops.{steps, steps-begin, steps-more, steps-done}
-use Rattle.flash_rows.specs.Work.{workOf}
+use Rattle.flash_rows.specs.Worktable.{tableFrom}
 use Rattle.flash_blocks.specs.Pages.{pagesOf}
 use Rattle.flash_allocate.specs.World.{world}
 use Rattle.flash_checkpoint.specs.CheckpointPages.{checkpointPage, checkpointPages}
@@ -15,8 +15,8 @@ use Rattle.flash_checkpoint.proofs.checkpoint_pages.Tie as tie
 abbrev Inv-loop : tie.InvT-loop
 Inv-loop pool₀ table₀ tariff count s₀ k₀ pool table s k =
     (Between (length pool) (length table) (length pool₀) (length table₀) s₀ s k count) ×
-    (steps (checkpointPage tariff) (count - k) k (world (pagesOf pool) (workOf table) s) ≡ steps
-    (checkpointPage tariff) count 0 (world (pagesOf pool₀) (workOf table₀) s₀))
+    (steps (checkpointPage tariff) (count - k) k (world (pagesOf pool) (tableFrom table) s) ≡ steps
+    (checkpointPage tariff) count 0 (world (pagesOf pool₀) (tableFrom table₀) s₀))
 
 abbrev μ-loop : tie.MeasureT-loop
 μ-loop pool₀ table₀ tariff count s₀ k₀ pool table s k = count - k
@@ -31,7 +31,7 @@ loop-holds c =
       between-begin (a .state) (c .page-count .result) (c3 .pre .0) (c3 .pre .2),
       steps-begin
           (checkpointPage (a .tariff)) (c .page-count .result)
-          (world (pagesOf (a .pool .now)) (workOf (a .table .now)) (a .state)),
+          (world (pagesOf (a .pool .now)) (tableFrom (a .table .now)) (a .state)),
     )
 
 checkpoint-page-requires : tie.Need-checkpoint-page-requires Inv-loop μ-loop
@@ -64,8 +64,8 @@ loop-again c =
     let l = c8 .loop in
     let n = c9 .page-count in
     let x = c4 .checkpoint-page in
-    let w = world (pagesOf (l .pool)) (workOf (l .table)) (l .s) in
-    let made = world (pagesOf (x .last .0)) (workOf (x .last .1 .0)) (x .result) in (
+    let w = world (pagesOf (l .pool)) (tableFrom (l .table)) (l .s) in
+    let made = world (pagesOf (x .last .0)) (tableFrom (x .last .1 .0)) (x .result) in (
       between-more (a .state) (l .s) (l .k) (n .result) made (checkpointPage (a .tariff) (l .k) w) (l .inv .0)
           (c7 .loop-test .taken) (x .kept .0) (x .kept .1 .0) (x .ensures),
       ap (steps (checkpointPage (a .tariff)) (n .result - (l .k + 1)) (l .k + 1)) (x .ensures .is) ∙ steps-more
@@ -85,9 +85,9 @@ returns c = let a = c .before .before .before .before .before .args in
     let n = c .before .before .page-count in
     record {
       is =
-          sym (steps-done (checkpointPage (a .tariff)) (n .result) (l .k) (world (pagesOf (l .pool)) (workOf (l .table)) (l .s)) (c .loop-test .left)) ∙
+          sym (steps-done (checkpointPage (a .tariff)) (n .result) (l .k) (world (pagesOf (l .pool)) (tableFrom (l .table)) (l .s)) (c .loop-test .left)) ∙
           l .inv .1 ∙
-          ap (λ (m : ℕ). steps (checkpointPage (a .tariff)) m 0 (world (pagesOf (a .pool .now)) (workOf (a .table .now)) (a .state))) (n .ensures);
+          ap (λ (m : ℕ). steps (checkpointPage (a .tariff)) m 0 (world (pagesOf (a .pool .now)) (tableFrom (a .table .now)) (a .state))) (n .ensures);
       good = l .inv .0 .good;
       blocks = l .inv .0 .blocks;
       nodes = l .inv .0 .nodes;

@@ -1,6 +1,6 @@
 -- `put_checkpoint_page` meets its contract: the records of its nodes' scores, their image, the page. Assumes nothing.
 use native.Mathlib.Omega.{arith}
-use Rattle.flash_rows.specs.Work.{rowsIn}
+use Rattle.flash_rows.specs.Worktable.{rowsIn}
 use Rattle.flash_blocks.specs.Pages.{pagesOf}
 use Rattle.flash_checkpoint.proofs.Laws.{checkpoint-page-put}
 use borrow.Author.Needs.{needs}

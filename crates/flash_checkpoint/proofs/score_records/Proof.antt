@@ -4,7 +4,7 @@ use Prim.Native.Nat.{ℕ, _+_, _-_, _*_, _≤_}
 use native.Mathlib.Omega.{arith}
 use lib.ListN.{length, replicate, length-replicate}
 use Rattle.laws.specs.Lay.{lay}
-use Rattle.flash_rows.specs.Work.{rowsIn}
+use Rattle.flash_rows.specs.Worktable.{rowsIn}
 use Rattle.flash_checkpoint.specs.Scores.{scoresOf, scoresBytes}
 use Rattle.flash_checkpoint.proofs.Laws.{records-begin, records-more, records-done}
 use Rattle.flash_checkpoint.proofs.score_records.Statement.{statement}

@@ -1,5 +1,5 @@
 -- `write_checkpoint_page` meets its contract: the page, the row, the state behind it. Assumes nothing.
-use Rattle.flash_rows.specs.Work.{workOf}
+use Rattle.flash_rows.specs.Worktable.{tableFrom}
 use Rattle.flash_blocks.specs.Pages.{pagesOf}
 use Rattle.flash_checkpoint.proofs.Laws.{checkpoint-page-written}
 use borrow.Author.Needs.{needs}
@@ -48,7 +48,7 @@ returns c =
     let w = c8 .put-checkpoint-page in
     let r = c3 .store-checkpoint-page in
     checkpoint-page-written (a .tariff) (a .k) (pagesOf (a .pool .now)) (pagesOf (w .last .0))
-    (workOf (a .table .now)) (workOf (r .last .0)) (a .state) (c .count-page .result) (n .result) (p .0) (p .1)
+    (tableFrom (a .table .now)) (tableFrom (r .last .0)) (a .state) (c .count-page .result) (n .result) (p .0) (p .1)
     (w .kept .0) (r .kept .0) (p .2) (n .ensures) (w .ensures) (r .ensures) (c .count-page .ensures)
 
 pub write-checkpoint-page-spec : {M : Type 1} → statement M

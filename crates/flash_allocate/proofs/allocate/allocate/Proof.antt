@@ -2,8 +2,8 @@
 use mathlib.Core.Path.{refl, ap, _∙_}
 use native.Mathlib.Omega.{arith}
 use Rattle.flash_rows.specs.Row.{rowsOf}
-use Rattle.flash_rows.specs.Work.{workOf}
-use Rattle.flash_rows.specs.WorkLaws.{rows-part, lent-rows, lent-length}
+use Rattle.flash_rows.specs.Worktable.{tableFrom}
+use Rattle.flash_rows.specs.WorktableLaws.{rows-part, lent-rows, lent-length}
 use Rattle.flash_blocks.specs.Pages.{pagesOf}
 use Rattle.flash_allocate.specs.World.{world, used}
 use Rattle.flash_allocate.specs.Compact.{compact}
@@ -16,7 +16,7 @@ returns : tie.Need-returns
 returns c =
     let c4 = c .before .before .before .before in
     let a = c4 .args in
-    record { is = allocate-room (world (pagesOf (a .pool .now)) (workOf (a .table .now)) (a .state)) (c .if1 .taken); good = c4 .pre }
+    record { is = allocate-room (world (pagesOf (a .pool .now)) (tableFrom (a .table .now)) (a .state)) (c .if1 .taken); good = c4 .pre }
 
 next-blank-requires : tie.Need-next-blank-requires
 next-blank-requires c κs = search needs
@@ -35,7 +35,7 @@ returns-2 c = let a = c .before .before .before .before .before .before .before 
     let n = c .before .before .before .before .next-blank in
     let b = c .before .before .count-blank in
     record {
-      is = allocate-next (pagesOf (a .pool .now)) (workOf (a .table .now)) (a .state) (n .result) (b .result)
+      is = allocate-next (pagesOf (a .pool .now)) (tableFrom (a .table .now)) (a .state) (n .result) (b .result)
           (c .before .before .before .before .before .before .if1 .left) (n .ensures .0) (b .ensures)
           (c .before .if2 .taken) (c .in-block .result) (c .in-block .ensures);
       good = good-in-block (c .before .before .before .before .before .before .before .before .before .before .pre)
@@ -79,7 +79,7 @@ returns-3 c =
     let b = c10 .count-blank in
     let m = c5 .compact in
     record {
-      is = allocate-compact (pagesOf (a .pool .now)) (workOf (a .table .now)) (a .state) (n .result) (b .result)
+      is = allocate-compact (pagesOf (a .pool .now)) (tableFrom (a .table .now)) (a .state) (n .result) (b .result)
           (c14 .if1 .left) (n .ensures .0) (b .ensures) (c9 .if2 .left) (pagesOf (m .last .0)) (rowsOf (m .last .1 .0)) (m .result)
           (m .ensures .0 ∙ ap (compact (used (a .state)) (a .state .blocks) (n .result) (pagesOf (a .pool .now))) (rows-part (a .table .now) (omega arith)))
           _ (lent-rows (a .table .now) (omega arith) (m .last .1 .0) (m .kept .1 .0))

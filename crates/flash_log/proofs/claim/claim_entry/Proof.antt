@@ -5,7 +5,7 @@ use Prim.Native.Nat.{ℕ, _+_, _*_}
 use Rattle.laws.specs.BigEndian.{numberAt}
 use Rattle.flash_rows.specs.declared.Row.{Row}
 use Rattle.flash_rows.specs.Step.{settled}
-use Rattle.flash_rows.specs.Work.{bufferOf, rowsIn, workOf, withRows}
+use Rattle.flash_rows.specs.Worktable.{bufferOf, rowsIn, tableFrom, withRows}
 use Rattle.flash_log.proofs.Laws.{claim-in, claim-out}
 use borrow.Author.Needs.{needs}
 use Rattle.flash_log.proofs.claim.claim_entry.Statement.{statement}
@@ -62,7 +62,7 @@ returns c =
     let buffer = c10 .buffer-part .ensures .0 in
     let rows = rowsIn (a .table .now) in
     c2 .store-claim .ensures ∙
-    ap (λ (r : List Row). withRows r (workOf (a .table .now)))
+    ap (λ (r : List Row). withRows r (tableFrom (a .table .now)))
     (claim-in (bufferOf (a .table .now)) (a .nodes) (a .page) (a .k) rows (settled (x .result) (i .result) rows) (i .result) (v .result) (l .result) (x .result)
     (i .ensures .is ∙ ap (λ (b : List ℕ). numberAt 2 b (15 * a .k)) buffer)
     (v .ensures .is ∙ ap (λ (b : List ℕ). numberAt 4 b (15 * a .k + 2)) buffer)
@@ -76,7 +76,7 @@ returns-2 c =
     let c2 = c .before .before in
     let c3 = c2 .before in
     let a = c3 .before .before .before .args in
-    ap (λ (r : List Row). withRows r (workOf (a .table .now)))
+    ap (λ (r : List Row). withRows r (tableFrom (a .table .now)))
     (claim-out (bufferOf (a .table .now)) (a .nodes) (a .page) (a .k) (rowsIn (a .table .now)) (c2 .read16 .result)
     (c2 .read16 .ensures .is ∙ ap (λ (b : List ℕ). numberAt 2 b (15 * a .k)) (c3 .buffer-part .ensures .0)) (c .if1 .left))
 

@@ -1,6 +1,6 @@
 -- `entry::append` meets its contract: the entry laid behind the others, where there is room. Assumes nothing.
 use Rattle.node.specs.Drafts.{changeOf}
-use Rattle.flash_rows.specs.Work.{workOf}
+use Rattle.flash_rows.specs.Worktable.{tableFrom}
 use Rattle.flash_log.proofs.Laws.{append-in, append-full}
 use borrow.Author.Needs.{needs}
 use Rattle.flash_log.proofs.entry.append.Statement.{statement}
@@ -23,13 +23,13 @@ returns c =
     let c4 = c .before .before .before .before in
     let c6 = c4 .before .before in
     let a = c6 .before .before .before .args in
-    append-in (a .id) (a .version) (changeOf (a .change)) (workOf (a .table .now)) (workOf (c4 .lay-change .last .0)) (a .state) _
+    append-in (a .id) (a .version) (changeOf (a .change)) (tableFrom (a .table .now)) (tableFrom (c4 .lay-change .last .0)) (a .state) _
     (c6 .if1 .taken) (c4 .lay-change .ensures) (c .with-entries .ensures)
 
 returns-2 : tie.Need-returns-2
 returns-2 c =
     let a = c .before .before .before .args in
-    append-full (a .id) (a .version) (changeOf (a .change)) (workOf (a .table .now)) (a .state) (c .if1 .left)
+    append-full (a .id) (a .version) (changeOf (a .change)) (tableFrom (a .table .now)) (a .state) (c .if1 .left)
 
 pub append-spec : {M : Type 1} → statement M
 append-spec =

@@ -6,8 +6,8 @@ use Rattle.laws.specs.Lay.{lay}
 use Rattle.node.specs.Drafts.{changeOf}
 use Rattle.page.specs.Image.{entryBytes}
 use Rattle.page.specs.Spelled.{length-entryBytes}
-use Rattle.flash_rows.specs.Work.{workOf}
-use Rattle.flash_rows.specs.WorkLaws.{laid-buffer}
+use Rattle.flash_rows.specs.Worktable.{tableFrom}
+use Rattle.flash_rows.specs.WorktableLaws.{laid-buffer}
 use Rattle.flash_log.specs.Entry.{entryOf}
 use Rattle.flash_log.proofs.Laws.{record-entry}
 use borrow.Author.Needs.{needs}
@@ -44,7 +44,7 @@ returns c =
     let a = c6 .before .before .args in
     let long = c6 .before .before .pre .1 in
     let bytes = entryBytes (entryOf (a .id) (a .version) (changeOf (a .change))) in
-    ap workOf (c2 .lay-entry .ensures ∙
+    ap tableFrom (c2 .lay-entry .ensures ∙
     ap (lay (a .table .now) (15 * a .n))
     (record-entry (a .id) (a .version) (changeOf (a .change)) (c6 .change-number .result) (c5 .change-key .result) (c4 .change-pointer .result)
     (c6 .change-number .ensures) (c5 .change-key .ensures) (c4 .change-pointer .ensures))) ∙

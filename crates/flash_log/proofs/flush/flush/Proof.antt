@@ -1,5 +1,5 @@
 -- `flush::flush` meets its contract: an allocation, and the buffer written where it left room. Assumes nothing.
-use Rattle.flash_rows.specs.Work.{workOf}
+use Rattle.flash_rows.specs.Worktable.{tableFrom}
 use Rattle.flash_blocks.specs.Pages.{pagesOf}
 use Rattle.flash_allocate.specs.World.{world}
 use Rattle.flash_log.specs.Flush.{writeBuffer, flush}
@@ -30,9 +30,9 @@ returns c =
     let a = c18 .args in
     let x = c13 .allocate in
     let y = c4 .write-buffer in
-    kept-room writeBuffer (world (pagesOf (a .pool .now)) (workOf (a .table .now)) (a .state))
-    (world (pagesOf (x .last .0)) (workOf (x .last .1 .0)) (x .result)) (x .ensures)
-    (world (pagesOf (y .last .0)) (workOf (y .last .1 .0)) (y .result)) (c7 .if1 .taken) (y .ensures)
+    kept-room writeBuffer (world (pagesOf (a .pool .now)) (tableFrom (a .table .now)) (a .state))
+    (world (pagesOf (x .last .0)) (tableFrom (x .last .1 .0)) (x .result)) (x .ensures)
+    (world (pagesOf (y .last .0)) (tableFrom (y .last .1 .0)) (y .result)) (c7 .if1 .taken) (y .ensures)
 
 same-length-3 : tie.Need-same-length-3
 same-length-3 c = search needs
@@ -47,8 +47,8 @@ returns-2 c =
     let c11 = c6 .before .before .before .before .before in
     let a = c11 .args in
     let x = c6 .allocate in
-    kept-stuck writeBuffer (world (pagesOf (a .pool .now)) (workOf (a .table .now)) (a .state))
-    (world (pagesOf (x .last .0)) (workOf (x .last .1 .0)) (x .result)) (x .ensures) (c .if1 .left)
+    kept-stuck writeBuffer (world (pagesOf (a .pool .now)) (tableFrom (a .table .now)) (a .state))
+    (world (pagesOf (x .last .0)) (tableFrom (x .last .1 .0)) (x .result)) (x .ensures) (c .if1 .left)
 
 pub flush-spec : {M : Type 1} → statement M
 flush-spec =

@@ -3,7 +3,7 @@ use mathlib.Core.Path.{ap, _∙_}
 use mathlib.Core.List.{List}
 use Prim.Native.Nat.{ℕ}
 use lib.ListN.{set}
-use Rattle.flash_rows.specs.Work.{workOf}
+use Rattle.flash_rows.specs.Worktable.{tableFrom}
 use Rattle.flash_allocate.specs.World.{spot}
 use Rattle.page_write.specs.Pages.{logImage}
 use Rattle.flash_blocks.specs.Pages.{pagesOf}
@@ -59,7 +59,7 @@ returns c =
     let w = c8 .put-log in
     let k = c4 .claim-entries in
     let page = ap (λ (b : List ℕ). set (pagesOf (a .pool .now)) (spot (a .state)) (logImage (n .result) (a .state .entries) b)) (c9 .buffer-part .ensures .0) in
-    buffer-written (pagesOf (a .pool .now)) (pagesOf (w .last .0)) (workOf (a .table .now)) (workOf (k .last .0))
+    buffer-written (pagesOf (a .pool .now)) (pagesOf (w .last .0)) (tableFrom (a .table .now)) (tableFrom (k .last .0))
     (a .state) (c1 .advance .result) (c .without-entries .result) (n .result) (p .0) (w .kept .0) (k .kept .0) (p .1)
     (n .ensures) (w .ensures ∙ page) (k .ensures) (c1 .advance .ensures) (c .without-entries .ensures)
 

@@ -18,14 +18,14 @@ node-page-at-requires : tie.Need-node-page-at-requires
 node-page-at-requires c κs = search needs
 
 returns : tie.Need-returns
-returns c = let a = c .before .before .before .before .args in
+returns c = let a = c .before .before .before .before .before .args in
     redone-is (c .log-content .result) _ _ (c .log-content .ensures)
-    (content-log (pagesOf (a .pool .now)) (a .state) (a .row) (a .n) (c .before .enum-told .given .1))
+    (content-log (pagesOf (a .pool .now)) (a .buffer .now) (a .entries) (a .row) (a .n) (c .before .enum-told .given .1))
 
 returns-2 : tie.Need-returns-2
-returns-2 c = let a = c .before .before .before .before .args in
+returns-2 c = let a = c .before .before .before .before .before .args in
     redone-is (c .node-page-at .result) _ _ (c .node-page-at .ensures)
-    (content-disk (pagesOf (a .pool .now)) (a .state) (a .row) (a .n) (c .before .enum-told2 .given .1))
+    (content-disk (pagesOf (a .pool .now)) (a .buffer .now) (a .entries) (a .row) (a .n) (c .before .enum-told2 .given .1))
 
 pub content-by-spec : {M : Type 1} → statement M
 content-by-spec =

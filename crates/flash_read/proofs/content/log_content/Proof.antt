@@ -15,11 +15,7 @@ redo-buffer-requires c κs = search needs
 
 returns : tie.Need-returns
 unfolding logContent
-returns c = rw (
-  ← c .before .before .before .before .empty-draft .ensures .is,
-  ←
-      c .before .before .before .redo-pages .ensures .is,
-) (c .redo-buffer .ensures)
+returns c = rw (← c .before .before .empty-draft .ensures .is, ← c .before .redo-pages .ensures .is) (c .redo-buffer .ensures)
 
 pub log-content-spec : {M : Type 1} → statement M
 log-content-spec =

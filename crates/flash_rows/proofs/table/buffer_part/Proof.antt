@@ -1,7 +1,7 @@
 -- `table::buffer_part` meets its contract: the table's first bytes are the buffer. Assumes nothing.
 use mathlib.Core.Path.{refl}
-use Rattle.flash_rows.specs.Work.{bufferOf}
-use Rattle.flash_rows.specs.WorkLaws.{length-buffer}
+use Rattle.flash_rows.specs.Worktable.{bufferOf}
+use Rattle.flash_rows.specs.WorktableLaws.{length-buffer}
 use borrow.Author.Needs.{needs}
 use Rattle.flash_rows.proofs.table.buffer_part.Statement.{statement}
 use Rattle.flash_rows.proofs.table.buffer_part.Tie as tie

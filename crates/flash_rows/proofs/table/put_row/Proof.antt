@@ -4,8 +4,8 @@ use mathlib.Core.List.{List}
 use native.Mathlib.Omega.{arith}
 use lib.ListN.{set}
 use Rattle.flash_rows.specs.declared.Row.{Row}
-use Rattle.flash_rows.specs.Work.{workOf, withRows}
-use Rattle.flash_rows.specs.WorkLaws.{rows-part, lent-rows}
+use Rattle.flash_rows.specs.Worktable.{tableFrom, withRows}
+use Rattle.flash_rows.specs.WorktableLaws.{rows-part, lent-rows}
 use borrow.Author.Needs.{needs}
 use Rattle.flash_rows.proofs.table.put_row.Statement.{statement}
 use Rattle.flash_rows.proofs.table.put_row.Tie as tie
@@ -31,7 +31,7 @@ returns c =
     let c5 = c2 .before .before .before in
     let a = c5 .args in
     lent-rows (a .table .now) (omega arith) (c2 .write-row .last .0) (c2 .write-row .kept .0) ∙
-    ap (λ (rows : List Row). withRows rows (workOf (a .table .now))) (c2 .write-row .ensures ∙ ap (λ (rows : List Row). set rows (a .n) (a .r)) (rows-part (a .table .now) (omega arith)))
+    ap (λ (rows : List Row). withRows rows (tableFrom (a .table .now))) (c2 .write-row .ensures ∙ ap (λ (rows : List Row). set rows (a .n) (a .r)) (rows-part (a .table .now) (omega arith)))
 
 pub put-row-spec : {M : Type 1} → statement M
 put-row-spec =

@@ -5,7 +5,7 @@ use native.Mathlib.Omega.{arith}
 use lib.ListN.{getD}
 use Rattle.flash_rows.specs.declared.Row.{Row}
 use Rattle.flash_rows.specs.Row.{noRow}
-use Rattle.flash_rows.specs.WorkLaws.{rows-part}
+use Rattle.flash_rows.specs.WorktableLaws.{rows-part}
 use borrow.Author.Needs.{needs}
 use Rattle.flash_rows.proofs.table.row_at.Statement.{statement}
 use Rattle.flash_rows.proofs.table.row_at.Tie as tie

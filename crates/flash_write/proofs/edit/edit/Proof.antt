@@ -1,5 +1,5 @@
 -- `edit::edit` meets its contract: room, the row read again, then one entry or the whole content. Assumes nothing.
-use Rattle.flash_rows.specs.Work.{workOf}
+use Rattle.flash_rows.specs.Worktable.{tableFrom}
 use Rattle.flash_blocks.specs.Pages.{pagesOf}
 use Rattle.node.specs.Value.{nodeOf}
 use Rattle.node.specs.Drafts.{changeOf}
@@ -37,9 +37,9 @@ returns c =
     let l = c6 .row-at in
     let p = c2 .append in
     edit-entry (a .id) (changeOf (a .change)) (nodeOf (a .edited))
-    (world (pagesOf (a .pool .now)) (workOf (a .table .now)) (a .state))
-    (world (pagesOf (m .last .0)) (workOf (m .last .1 .0)) (m .result)) (m .ensures) (l .result) (l .ensures)
-    (logged (workOf (p .last .0)) (p .result)) (p .kept .0) (c4 .if1 .taken) (p .ensures)
+    (world (pagesOf (a .pool .now)) (tableFrom (a .table .now)) (a .state))
+    (world (pagesOf (m .last .0)) (tableFrom (m .last .1 .0)) (m .result)) (m .ensures) (l .result) (l .ensures)
+    (logged (tableFrom (p .last .0)) (p .result)) (p .kept .0) (c4 .if1 .taken) (p .ensures)
 
 group-requires : tie.Need-group-requires
 group-requires c κs = search needs
@@ -62,9 +62,9 @@ returns-2 c =
     let l = c9 .row-at in
     let g = c4 .group in
     edit-group (a .id) (changeOf (a .change)) (nodeOf (a .edited))
-    (world (pagesOf (a .pool .now)) (workOf (a .table .now)) (a .state))
-    (world (pagesOf (m .last .0)) (workOf (m .last .1 .0)) (m .result)) (m .ensures) (l .result) (l .ensures)
-    (world (pagesOf (g .last .0)) (workOf (g .last .1 .0)) (g .result)) (c7 .if1 .left) (g .ensures)
+    (world (pagesOf (a .pool .now)) (tableFrom (a .table .now)) (a .state))
+    (world (pagesOf (m .last .0)) (tableFrom (m .last .1 .0)) (m .result)) (m .ensures) (l .result) (l .ensures)
+    (world (pagesOf (g .last .0)) (tableFrom (g .last .1 .0)) (g .result)) (c7 .if1 .left) (g .ensures)
 
 pub edit-spec : {M : Type 1} → statement M
 edit-spec = tie.close (tie.spec make-room-requires row-at-requires append-requires same-length same-length-2

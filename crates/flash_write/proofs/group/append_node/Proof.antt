@@ -2,7 +2,7 @@
 use mathlib.Core.Path.{_∙_}
 use Rattle.node.specs.Change.{puts, link}
 use Rattle.node.specs.Value.{pairsIn}
-use Rattle.flash_rows.specs.Work.{workOf}
+use Rattle.flash_rows.specs.Worktable.{tableFrom}
 use Rattle.flash_log.specs.Entry.{logged}
 use Rattle.flash_write.proofs.Laws.{appendAll-last}
 use borrow.Author.Needs.{needs}
@@ -24,7 +24,7 @@ returns c =
     let c6 = c2 .before .before .before .before in
     let a = c6 .before .before .before .args in
     c2 .append .ensures ∙ rw (c6 .append-pairs .ensures)
-    (appendAll-last (a .id) (a .version) (puts (pairsIn (a .v))) (link (a .v .shape) (a .v .link)) (logged (workOf (a .table .now)) (a .state)))
+    (appendAll-last (a .id) (a .version) (puts (pairsIn (a .v))) (link (a .v .shape) (a .v .link)) (logged (tableFrom (a .table .now)) (a .state)))
 
 pub append-node-spec : {M : Type 1} → statement M
 append-node-spec = tie.close (tie.spec append-pairs-requires append-requires same-length returns)

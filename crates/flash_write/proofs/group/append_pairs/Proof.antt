@@ -7,7 +7,7 @@ use lib.ListN.{length}
 use Rattle.pairs.specs.Pairs.{Pair}
 use Rattle.node.specs.Change.{puts}
 use Rattle.page_write.specs.Pages.{firstPairs}
-use Rattle.flash_rows.specs.Work.{workOf}
+use Rattle.flash_rows.specs.Worktable.{tableFrom}
 use Rattle.flash_log.specs.Entry.{logged, appendAll}
 use Rattle.flash_write.proofs.Laws.{pairs-first, entries-begin, entries-more, entries-done}
 use Rattle.flash_write.proofs.group.append_pairs.Statement.{statement}
@@ -15,15 +15,15 @@ use Rattle.flash_write.proofs.group.append_pairs.Tie as tie
 
 abbrev Inv-loop : tie.InvT-loop
 Inv-loop table₀ id version v keys pointers s₀ i₀ table s i = ((i ≤ v .count) × (length table ≡ length table₀)) ×
-    (appendAll id version (puts (firstPairs (v .count - i) keys pointers i)) (logged (workOf table) s) ≡ appendAll id version
-    (puts (firstPairs (v .count) keys pointers 0)) (logged (workOf table₀) s₀))
+    (appendAll id version (puts (firstPairs (v .count - i) keys pointers i)) (logged (tableFrom table) s) ≡ appendAll id version
+    (puts (firstPairs (v .count) keys pointers 0)) (logged (tableFrom table₀) s₀))
 
 abbrev μ-loop : tie.MeasureT-loop
 μ-loop table₀ id version v keys pointers s₀ i₀ table s i = v .count - i
 
 loop-holds : tie.Need-loop-holds Inv-loop μ-loop
 loop-holds c = let a = c .before .before .before .args in
-    (omega arith, entries-begin (a .id) (a .version) (a .v .keys) (a .v .pointers) (a .v .count) (logged (workOf (a .table .now)) (a .state)))
+    (omega arith, entries-begin (a .id) (a .version) (a .v .keys) (a .v .pointers) (a .v .count) (logged (tableFrom (a .table .now)) (a .state)))
 
 mul-t12 : tie.Need-mul-t12 Inv-loop μ-loop
 mul-t12 c = omega arith
@@ -55,7 +55,7 @@ loop-again c =
     let l = c6 .loop in (
       omega arith,
       rw (c2 .append .ensures)
-          (entries-more (a .id) (a .version) (a .v .keys) (a .v .pointers) (a .v .count) (l .i) (logged (workOf (l .table)) (l .s))
+          (entries-more (a .id) (a .version) (a .v .keys) (a .v .pointers) (a .v .count) (l .i) (logged (tableFrom (l .table)) (l .s))
           (c4 .if1 .taken) ∙ l .inv .1),
     )
 
@@ -68,9 +68,9 @@ returns c =
     let c6 = c2 .before .before .before .before in
     let a = c6 .args in
     let l = c2 .loop in
-    sym (entries-done (a .id) (a .version) (a .v .keys) (a .v .pointers) (a .v .count) (l .i) (logged (workOf (l .table)) (l .s)) (c .if1 .left)) ∙
+    sym (entries-done (a .id) (a .version) (a .v .keys) (a .v .pointers) (a .v .count) (l .i) (logged (tableFrom (l .table)) (l .s)) (c .if1 .left)) ∙
     l .inv .1 ∙
-    ap (λ (ps : List Pair). appendAll (a .id) (a .version) (puts ps) (logged (workOf (a .table .now)) (a .state))) (pairs-first (a .v) (c6 .pre .1))
+    ap (λ (ps : List Pair). appendAll (a .id) (a .version) (puts ps) (logged (tableFrom (a .table .now)) (a .state))) (pairs-first (a .v) (c6 .pre .1))
 
 pub append-pairs-spec : {M : Type 1} → statement M
 append-pairs-spec =

@@ -1,7 +1,7 @@
 -- `group::create` meets its contract: room, the number behind it, the fresh start of the next node. Assumes nothing.
 use mathlib.Core.Path.{ap, sym}
 use Prim.Native.Nat.{ℕ, _+_}
-use Rattle.flash_rows.specs.Work.{workOf}
+use Rattle.flash_rows.specs.Worktable.{tableFrom}
 use Rattle.flash_blocks.specs.Pages.{pagesOf}
 use Rattle.node.specs.Value.{nodeOf, length-pairsIn}
 use Rattle.flash_allocate.specs.World.{world}
@@ -51,10 +51,10 @@ returns c =
     let n = c7 .next-sequence in
     let r = c6 .no-row in
     let t = c4 .start in
-    create-made (nodeOf (a .v)) (world (pagesOf (a .pool .now)) (workOf (a .table .now)) (a .state))
-    (world (pagesOf (m .last .0)) (workOf (m .last .1 .0)) (m .result)) (a .v .count + 1)
+    create-made (nodeOf (a .v)) (world (pagesOf (a .pool .now)) (tableFrom (a .table .now)) (a .state))
+    (world (pagesOf (m .last .0)) (tableFrom (m .last .1 .0)) (m .result)) (a .v .count + 1)
     (ap (λ (k : ℕ). k + 1) (sym (length-pairsIn (a .v) (p .2)))) (m .ensures) (t .kept .0) (n .result) (n .ensures)
-    (r .result) (logged (workOf (t .last .0)) (t .result)) (c .with-nodes .result) (r .ensures) (t .ensures)
+    (r .result) (logged (tableFrom (t .last .0)) (t .result)) (c .with-nodes .result) (r .ensures) (t .ensures)
     (c .with-nodes .ensures) (p .1)
 
 pub create-spec : {M : Type 1} → statement M

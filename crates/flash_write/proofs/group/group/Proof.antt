@@ -1,7 +1,7 @@
 -- `group::group` meets its contract: room, the number behind it, the fresh start. Assumes nothing.
 use mathlib.Core.Path.{ap, sym}
 use Prim.Native.Nat.{ℕ, _+_}
-use Rattle.flash_rows.specs.Work.{workOf}
+use Rattle.flash_rows.specs.Worktable.{tableFrom}
 use Rattle.flash_blocks.specs.Pages.{pagesOf}
 use Rattle.node.specs.Value.{nodeOf, length-pairsIn}
 use Rattle.flash_allocate.specs.World.{world}
@@ -44,10 +44,10 @@ returns c =
     let n = c6 .next-sequence in
     let l = c4 .row-at in
     let t = c2 .start in
-    group-made (nodeOf (a .v)) (world (pagesOf (a .pool .now)) (workOf (a .table .now)) (a .state))
-    (world (pagesOf (m .last .0)) (workOf (m .last .1 .0)) (m .result)) (a .v .count + 1)
+    group-made (nodeOf (a .v)) (world (pagesOf (a .pool .now)) (tableFrom (a .table .now)) (a .state))
+    (world (pagesOf (m .last .0)) (tableFrom (m .last .1 .0)) (m .result)) (a .v .count + 1)
     (ap (λ (k : ℕ). k + 1) (sym (length-pairsIn (a .v) (c17 .pre .2)))) (m .ensures) (t .kept .0) (n .result)
-    (n .ensures) (a .id) (l .result) (logged (workOf (t .last .0)) (t .result)) (l .ensures) (t .ensures)
+    (n .ensures) (a .id) (l .result) (logged (tableFrom (t .last .0)) (t .result)) (l .ensures) (t .ensures)
 
 pub group-spec : {M : Type 1} → statement M
 group-spec = tie.close (tie.spec add-make-room make-room-requires next-sequence-requires row-at-requires start-requires same-length same-length-2 returns)

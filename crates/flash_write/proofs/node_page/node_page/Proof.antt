@@ -1,6 +1,6 @@
 -- `node_page::node_page` meets its contract: an allocation, and the page written where it left room. Assumes nothing.
 use native.Mathlib.Omega.{arith}
-use Rattle.flash_rows.specs.Work.{workOf}
+use Rattle.flash_rows.specs.Worktable.{tableFrom}
 use Rattle.flash_blocks.specs.Pages.{pagesOf}
 use Rattle.node.specs.Value.{nodeOf}
 use Rattle.flash_allocate.specs.World.{world}
@@ -22,8 +22,8 @@ write-node-requires c κs =
     let p = c13 .pre in
     let x = c8 .allocate in
     let b = allocated (writeNode (a .id) (nodeOf (a .v)))
-    (world (pagesOf (a .pool .now)) (workOf (a .table .now)) (a .state))
-    (world (pagesOf (x .last .0)) (workOf (x .last .1 .0)) (x .result)) (x .ensures) in
+    (world (pagesOf (a .pool .now)) (tableFrom (a .table .now)) (a .state))
+    (world (pagesOf (x .last .0)) (tableFrom (x .last .1 .0)) (x .result)) (x .ensures) in
     (x .ensures .good, c2 .if1 .taken, omega (arith, b .nodes, p .1), p .2)
 
 same-length : tie.Need-same-length
@@ -42,9 +42,9 @@ returns c =
     let a = c18 .args in
     let x = c13 .allocate in
     let y = c4 .write-node in
-    kept-room (writeNode (a .id) (nodeOf (a .v))) (world (pagesOf (a .pool .now)) (workOf (a .table .now)) (a .state))
-    (world (pagesOf (x .last .0)) (workOf (x .last .1 .0)) (x .result)) (x .ensures)
-    (world (pagesOf (y .last .0)) (workOf (y .last .1 .0)) (y .result)) (c7 .if1 .taken) (y .ensures)
+    kept-room (writeNode (a .id) (nodeOf (a .v))) (world (pagesOf (a .pool .now)) (tableFrom (a .table .now)) (a .state))
+    (world (pagesOf (x .last .0)) (tableFrom (x .last .1 .0)) (x .result)) (x .ensures)
+    (world (pagesOf (y .last .0)) (tableFrom (y .last .1 .0)) (y .result)) (c7 .if1 .taken) (y .ensures)
 
 same-length-3 : tie.Need-same-length-3
 same-length-3 c = search needs
@@ -60,8 +60,8 @@ returns-2 c =
     let a = c11 .args in
     let x = c6 .allocate in
     kept-stuck (writeNode (a .id) (nodeOf (a .v)))
-    (world (pagesOf (a .pool .now)) (workOf (a .table .now)) (a .state))
-    (world (pagesOf (x .last .0)) (workOf (x .last .1 .0)) (x .result)) (x .ensures) (c .if1 .left)
+    (world (pagesOf (a .pool .now)) (tableFrom (a .table .now)) (a .state))
+    (world (pagesOf (x .last .0)) (tableFrom (x .last .1 .0)) (x .result)) (x .ensures) (c .if1 .left)
 
 pub node-page-spec : {M : Type 1} → statement M
 node-page-spec =

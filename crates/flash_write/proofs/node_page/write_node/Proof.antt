@@ -1,5 +1,5 @@
 -- `node_page::write_node` meets its contract: the page, the row, the state behind it. Assumes nothing.
-use Rattle.flash_rows.specs.Work.{workOf}
+use Rattle.flash_rows.specs.Worktable.{tableFrom}
 use Rattle.flash_blocks.specs.Pages.{pagesOf}
 use Rattle.node.specs.Value.{nodeOf}
 use Rattle.flash_write.proofs.Laws.{node-written}
@@ -45,8 +45,8 @@ returns c =
     let n = c9 .next-sequence in
     let w = c7 .put-node in
     let d = c3 .node-page-row in
-    node-written (a .id) (nodeOf (a .v)) (pagesOf (a .pool .now)) (pagesOf (w .last .0)) (workOf (a .table .now))
-    (workOf (d .last .0)) (a .state) (c .advance .result) (n .result) (p .0) (w .kept .0) (d .kept .0) (p .1)
+    node-written (a .id) (nodeOf (a .v)) (pagesOf (a .pool .now)) (pagesOf (w .last .0)) (tableFrom (a .table .now))
+    (tableFrom (d .last .0)) (a .state) (c .advance .result) (n .result) (p .0) (w .kept .0) (d .kept .0) (p .1)
     (n .ensures) (w .ensures) (d .ensures) (c .advance .ensures)
 
 pub write-node-spec : {M : Type 1} → statement M

@@ -29,12 +29,12 @@ abbrev pub freeAt : ℕ → ℕ
 freeAt blocks = rowsAt + rowBytes * rowsFor blocks
 
 -- What the table holds.
-pub record Work : Type 0 where
+pub record Worktable : Type 0 where
   pub buffer : List ℕ
   pub rows : List Row
 
-abbrev pub work : List ℕ → List Row → Work
-work buffer rows = record { buffer = buffer; rows = rows }
+abbrev pub worktable : List ℕ → List Row → Worktable
+worktable buffer rows = record { buffer = buffer; rows = rows }
 
 unfoldable pub bufferOf : List ℕ → List ℕ
 bufferOf table = take bufferBytes table
@@ -42,18 +42,18 @@ bufferOf table = take bufferBytes table
 unfoldable pub rowsIn : List ℕ → List Row
 rowsIn table = rowsOf (drop rowsAt table)
 
-abbrev pub workOf : List ℕ → Work
-workOf table = work (bufferOf table) (rowsIn table)
+abbrev pub tableFrom : List ℕ → Worktable
+tableFrom table = worktable (bufferOf table) (rowsIn table)
 
 -- The same with other rows, with one other row, with another buffer.
-abbrev pub withRows : List Row → Work → Work
-withRows rows w = work (w .buffer) rows
+abbrev pub withRows : List Row → Worktable → Worktable
+withRows rows w = worktable (w .buffer) rows
 
-abbrev pub withRow : ℕ → Row → Work → Work
+abbrev pub withRow : ℕ → Row → Worktable → Worktable
 withRow n r w = withRows (set (w .rows) n r) w
 
-abbrev pub withBuffer : List ℕ → Work → Work
-withBuffer buffer w = work buffer (w .rows)
+abbrev pub withBuffer : List ℕ → Worktable → Worktable
+withBuffer buffer w = worktable buffer (w .rows)
 
 -- It fits for every B from 4, with the tree check's 17 bytes a node behind the rows; with a buffer of 1,695 bytes too, as pages of 2,048 bytes need it.
 pub plan-fits : (blocks : ℕ) → fewestBlocks ≤ blocks → freeAt blocks + 17 * nodeLimit blocks ≤ tableBytes blocks

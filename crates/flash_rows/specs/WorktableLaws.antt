@@ -9,7 +9,7 @@ use borrow.Rule.Slice.PartMut.{putMid}
 use Rattle.laws.specs.Lay.{lay, part, lay-lent, lay-sets, lay-whole, drop-lay, length-lay, part-lay-before}
 use Rattle.laws.specs.Chunks.{drop-lay-front}
 use Rattle.flash_rows.specs.Row.{rowsOf}
-use Rattle.flash_rows.specs.Work.{bufferBytes, rowsAt, work, bufferOf, rowsIn, workOf, withRows, withBuffer}
+use Rattle.flash_rows.specs.Worktable.{bufferBytes, rowsAt, worktable, bufferOf, rowsIn, tableFrom, withRows, withBuffer}
 
 -- Bytes laid in the first k, and the first k with bytes laid.
 take-sets : (vs s : List ℕ) (k at : ℕ) → at + length vs ≤ k → take k (sets s at vs) ≡ sets (take k s) at vs
@@ -50,9 +50,9 @@ module _ (table : List ℕ) (long : rowsAt ≤ length table) where
     pub lent-length : length (putMid rowsAt (length table - rowsAt) table rows) ≡ length table
     lent-length = ap length lent-laid ∙ length-lay table rowsAt rows (omega (arith, length-rows))
 
-    pub lent-rows : workOf (putMid rowsAt (length table - rowsAt) table rows) ≡ withRows (rowsOf rows) (workOf table)
+    pub lent-rows : tableFrom (putMid rowsAt (length table - rowsAt) table rows) ≡ withRows (rowsOf rows) (tableFrom table)
     unfolding rowsIn bufferOf part
-    lent-rows = ap workOf lent-laid ∙ rw (front, back) refl
+    lent-rows = ap tableFrom lent-laid ∙ rw (front, back) refl
       where
         front : take bufferBytes (lay table rowsAt rows) ≡ take bufferBytes table
         front = part-lay-before table rowsAt rows long 0 bufferBytes (omega arith)
@@ -63,7 +63,7 @@ module _ (table : List ℕ) (long : rowsAt ≤ length table) where
 
   -- Bytes laid within the buffer.
   pub laid-buffer : (at : ℕ) (bytes : List ℕ) → at + length bytes ≤ bufferBytes →
-      workOf (lay table at bytes) ≡ withBuffer (lay (bufferOf table) at bytes) (workOf table)
+      tableFrom (lay table at bytes) ≡ withBuffer (lay (bufferOf table) at bytes) (tableFrom table)
   unfolding rowsIn bufferOf
   laid-buffer at bytes l = rw (take-laid table bytes bufferBytes at (omega arith) l, behind) refl
     where
