@@ -10,7 +10,7 @@ use Rattle.command.specs.declared.Command.{Command}
 use Rattle.command.specs.declared.Command.the-variants.{Get, Put, Delete, Scan}
 use Rattle.command.specs.Answer.{answerBytes, scanBytes}
 use Rattle.book.specs.Command.{replyBytes}
-use Rattle.flash_rows.specs.declared.Row.{Row}
+use Rattle.flash_rows.specs.Worktable.{Worktable}
 use Rattle.flash_allocate.specs.World.{World}
 use Rattle.run_serve.specs.declared.charged.Charged.{Charged}
 use Rattle.run_serve.specs.declared.charged.Answered.{Answered}
@@ -33,38 +33,38 @@ pub record RepliedAs (before after : List ℕ) (r : Progress) (c : Charged) (at 
   pub behind : r .at ≡ at + length bytes
 
 -- Served, and its reply laid, of a command that is known by an equation.
-module _ {P T : ℕ} {pages : List (List ℕ)} {rows : List Row} (t : Tariff) (w : World) {before after : List ℕ} {r : Progress}
+module _ {P T : ℕ} {pages : List (List ℕ)} {table : Worktable} (t : Tariff) (w : World) {before after : List ℕ} {r : Progress}
     {at : ℕ} {c : Command} where
   replied : {d : Command} {paid : Charged} {m : ℕ} {bytes : List ℕ} → c ≡ d →
-      ChargedAs Grew P T pages rows paid (w .state) m (commandWorld t d w) (commandCharge t d w) → m ≤ mostRequests →
-      bytes ≡ replyBytes (commandReply t d w) → RepliedAs before after r paid at bytes → CommandAs P T pages rows before after r t c at w
+      ChargedAs Grew P T pages table paid (w .state) m (commandWorld t d w) (commandCharge t d w) → m ≤ mostRequests →
+      bytes ≡ replyBytes (commandReply t d w) → RepliedAs before after r paid at bytes → CommandAs P T pages table before after r t c at w
   replied {d} {m = m} e k most f l =
-      subst (λ (x : Command). CommandAs P T pages rows before after r t x at w) (sym e)
+      subst (λ (x : Command). CommandAs P T pages table before after r t x at w) (sym e)
       (record {
         charged =
             charged-is
-            (subst (λ (z : Charged). ChargedAs Grew P T pages rows z (w .state) m (commandWorld t d w) (commandCharge t d w)) (sym (l .charged)) k) most refl
+            (subst (λ (z : Charged). ChargedAs Grew P T pages table z (w .state) m (commandWorld t d w) (commandCharge t d w)) (sym (l .charged)) k) most refl
             refl;
         answers = l .answers ∙ ap (lay before at) f;
         behind = l .behind ∙ ap (λ (xs : List ℕ). at + length xs) f;
       })
 
-  pub put-replied : {k v : ℕ} {d : Answered} → c ≡ Put k v → DoneAs P T pages rows d (w .state) (Put.put t k v w) →
-      RepliedAs before after r (d .charged) at (answerBytes (d .answer)) → CommandAs P T pages rows before after r t c at w
+  pub put-replied : {k v : ℕ} {d : Answered} → c ≡ Put k v → DoneAs P T pages table d (w .state) (Put.put t k v w) →
+      RepliedAs before after r (d .charged) at (answerBytes (d .answer)) → CommandAs P T pages table before after r t c at w
   put-replied e h l = replied e (h .charged) (omega arith) (ap answerBytes (h .answer)) l
 
   -- those that make no node
   module _ {P₀ T₀ : ℕ} (g : Growing P₀ T₀ (w .state)) where
-    pub get-replied : {k : ℕ} {d : Answered} → c ≡ Get k → GotAs P T pages rows d t k w →
-        RepliedAs before after r (d .charged) at (answerBytes (d .answer)) → CommandAs P T pages rows before after r t c at w
+    pub get-replied : {k : ℕ} {d : Answered} → c ≡ Get k → GotAs P T pages table d t k w →
+        RepliedAs before after r (d .charged) at (answerBytes (d .answer)) → CommandAs P T pages table before after r t c at w
     get-replied e h l = replied e (grew-charged g (h .charged)) (omega arith) (ap answerBytes (h .answer)) l
 
-    pub delete-replied : {k : ℕ} {d : Answered} → c ≡ Delete k → DeletedAs P T pages rows d t k w →
-        RepliedAs before after r (d .charged) at (answerBytes (d .answer)) → CommandAs P T pages rows before after r t c at w
+    pub delete-replied : {k : ℕ} {d : Answered} → c ≡ Delete k → DeletedAs P T pages table d t k w →
+        RepliedAs before after r (d .charged) at (answerBytes (d .answer)) → CommandAs P T pages table before after r t c at w
     delete-replied e h l = replied e (grew-charged g (h .charged)) (omega arith) (ap answerBytes (h .answer)) l
 
-    pub scan-replied : {low high most : ℕ} {d : Scanned} → c ≡ Scan low high most → ScannedAs P T pages rows d t low high most w →
-        RepliedAs before after r (d .charged) at (scanBytes (pairsOf (d .pairs))) → CommandAs P T pages rows before after r t c at w
+    pub scan-replied : {low high most : ℕ} {d : Scanned} → c ≡ Scan low high most → ScannedAs P T pages table d t low high most w →
+        RepliedAs before after r (d .charged) at (scanBytes (pairsOf (d .pairs))) → CommandAs P T pages table before after r t c at w
     scan-replied e h l = replied e (grew-charged g (h .charged)) (omega arith) (ap scanBytes (h .pairs)) l
 
 pub range-is : {c d : Command} → c ≡ d → InRange c → InRange d

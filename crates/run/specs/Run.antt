@@ -1,4 +1,4 @@
--- What commands make of pages, rows and state: the world after one and after all, what is charged, and what is answered (document 01, "Commands
+-- What commands make of pages, table and state: the world after one and after all, what is charged, and what is answered (document 01, "Commands
 -- and answers").
 use mathlib.Core.Path.{_≡_}
 use mathlib.Core.List.{List, [], _∷_}
@@ -13,7 +13,7 @@ use Rattle.command.specs.declared.Command.the-variants.{Get, Put, Delete, Scan}
 use Rattle.command.specs.Answer.{valueOr}
 use Rattle.command.specs.Command.{mostPairs}
 use Rattle.book.specs.Command.{Reply, short, listed, replyBytes, repliesBytes}
-use Rattle.flash_rows.specs.declared.Row.{Row}
+use Rattle.flash_rows.specs.Worktable.{Worktable}
 use Rattle.flash_allocate.specs.World.{World, world}
 use Rattle.run_serve.specs.Step.{ChargedAs}
 use Rattle.run_path.specs.Path.{pathTo}
@@ -69,16 +69,16 @@ abbrev pub mostRequests : ℕ
 mostRequests = 9 + nodeLimit mostBlocks
 
 -- What the code of one command leaves: this world, this charge, and its reply laid at a place of the answer buffer.
-pub record CommandAs (poolLength tableLength : ℕ) (pages : List (List ℕ)) (rows : List Row) (before after : List ℕ) (r : Progress) (t : Tariff)
+pub record CommandAs (poolLength tableLength : ℕ) (pages : List (List ℕ)) (table : Worktable) (before after : List ℕ) (r : Progress) (t : Tariff)
     (c : Command) (at : ℕ) (w : World) : Type 0 where
-  pub charged : ChargedAs Grew poolLength tableLength pages rows (r .charged) (w .state) mostRequests (commandWorld t c w) (commandCharge t c w)
+  pub charged : ChargedAs Grew poolLength tableLength pages table (r .charged) (w .state) mostRequests (commandWorld t c w) (commandCharge t c w)
   pub answers : after ≡ lay before at (replyBytes (commandReply t c w))
   pub behind : r .at ≡ at + length (replyBytes (commandReply t c w))
 
 -- What the code of a whole batch leaves.
-pub record RunAs (poolLength tableLength : ℕ) (pages : List (List ℕ)) (rows : List Row) (before after : List ℕ) (r : Progress) (t : Tariff)
+pub record RunAs (poolLength tableLength : ℕ) (pages : List (List ℕ)) (table : Worktable) (before after : List ℕ) (r : Progress) (t : Tariff)
     (cs : List Command) (w : World) : Type 0 where
-  pub kept : Grew poolLength tableLength (w .state) (world pages rows (r .charged .state)) (runWorld t cs w)
+  pub kept : Grew poolLength tableLength (w .state) (world pages table (r .charged .state)) (runWorld t cs w)
   pub charge : r .charged .charge ≡ runCharge t cs w
   pub answers : after ≡ lay before 0 (repliesBytes (runReplies t cs w))
   pub behind : r .at ≡ length (repliesBytes (runReplies t cs w))

@@ -15,7 +15,7 @@ use Rattle.command.specs.Command.{commandAt}
 use Rattle.command.specs.Batch.{before, commandsFrom, roomFor, roomForAll}
 use Rattle.command.specs.BatchLaws.{commandsFrom-end, commandsFrom-next, commandsFrom-invalid}
 use Rattle.book.specs.Command.{replyBytes, repliesBytes}
-use Rattle.flash_rows.specs.declared.Row.{Row}
+use Rattle.flash_rows.specs.Worktable.{Worktable}
 use Rattle.flash_allocate.specs.World.{World, world}
 use Rattle.run_split.specs.Growing.{Growing}
 use Rattle.run.specs.declared.Progress.{Progress}
@@ -79,10 +79,10 @@ module _ {P T : ℕ} {t : Tariff} {batch empty : List ℕ} {from : ℕ} {start n
     pub running-room : place + roomFor c ≤ length empty
     running-room = omega (arith, r .room, ap roomForAll (first .whole))
 
-    pub running-next : (P′ T′ : ℕ) (pages : List (List ℕ)) (rows : List Row) (after : List ℕ) (p : Progress) → from < next → next ≤ length batch →
-        CommandAs P′ T′ pages rows answers after p t c place now →
-        Running P′ T′ t batch empty next start (world pages rows (p .charged .state)) after (paid + p .charged .charge) (p .at)
-    running-next P′ T′ pages rows after p further inBatch d =
+    pub running-next : (P′ T′ : ℕ) (pages : List (List ℕ)) (table : Worktable) (after : List ℕ) (p : Progress) → from < next → next ≤ length batch →
+        CommandAs P′ T′ pages table answers after p t c place now →
+        Running P′ T′ t batch empty next start (world pages table (p .charged .state)) after (paid + p .charged .charge) (p .at)
+    running-next P′ T′ pages table after p further inBatch d =
         let f = first in
         let bytes = replyBytes (commandReply t c now) in
         let served = d .charged in
@@ -109,7 +109,7 @@ module _ {P T : ℕ} {t : Tariff} {batch empty : List ℕ} {from : ℕ} {start n
               lay-next empty 0 (r .laid) bytes place (omega arith) (omega (arith, r .behind));
           behind = omega (arith, d .behind, r .behind, length-append (r .laid) bytes);
           replies =
-              append-assoc (r .laid) bytes (repliesBytes (runReplies t (f .tail) (world pages rows (p .charged .state)))) ∙
+              append-assoc (r .laid) bytes (repliesBytes (runReplies t (f .tail) (world pages table (p .charged .state)))) ∙
               ap (λ (w : World). r .laid ++ (bytes ++ repliesBytes (runReplies t (f .tail) w))) (served .kept .is) ∙
               ap (λ (cs : List Command). r .laid ++ repliesBytes (runReplies t cs now)) (f .whole) ∙
               r .replies;
@@ -122,7 +122,7 @@ module _ {P T : ℕ} {t : Tariff} {batch empty : List ℕ} {from : ℕ} {start n
 
   -- none left
   pub running-end : length batch ≤ from →
-      RunAs P T (now .pages) (now .rows) empty answers (record { charged = record { state = now .state; charge = paid }; at = place }) t (commandsIn batch)
+      RunAs P T (now .pages) (now .table) empty answers (record { charged = record { state = now .state; charge = paid }; at = place }) t (commandsIn batch)
       start
   running-end l =
       let none : r .rest ≡ [] = ap listOr (sym (r .left) ∙ commandsFrom-end batch from l) in

@@ -7,7 +7,7 @@ use Rattle.node.specs.Change.{remove}
 use Rattle.store.specs.Serve.{edit}
 use Rattle.command.specs.declared.Answer.the-variants.{Deleted}
 use Rattle.command.specs.Answer.{valueOr}
-use Rattle.flash_rows.specs.declared.Row.{Row}
+use Rattle.flash_rows.specs.Worktable.{Worktable}
 use Rattle.flash_allocate.specs.World.{World, Kept}
 use Rattle.run_serve.specs.Step.{AnsweredAs}
 use Rattle.run_serve.specs.declared.charged.Answered.{Answered}
@@ -33,6 +33,6 @@ unfoldable pub deleteCharge : Tariff → ℕ → World → ℕ
 deleteCharge t k w = readCharges t (pathTo k w) w + deletionCharge t (valueIn k w) (leafAt k w) k (readAll t (pathTo k w) w)
 
 -- What the code of a delete leaves: this world and this charge, and "answer 83 with the word removed", or 80.
-abbrev pub DeletedAs : ℕ → ℕ → List (List ℕ) → List Row → Answered → Tariff → ℕ → World → Type 0
-DeletedAs poolLength tableLength pages rows r t k w =
-    AnsweredAs Kept poolLength tableLength pages rows r (w .state) 10 (delete t k w) (deleteCharge t k w) (valueOr Deleted (valueIn k w))
+abbrev pub DeletedAs : ℕ → ℕ → List (List ℕ) → Worktable → Answered → Tariff → ℕ → World → Type 0
+DeletedAs poolLength tableLength pages table r t k w =
+    AnsweredAs Kept poolLength tableLength pages table r (w .state) 10 (delete t k w) (deleteCharge t k w) (valueOr Deleted (valueIn k w))

@@ -9,7 +9,7 @@ use Rattle.node.specs.Change.{remove}
 use Rattle.store.specs.Serve.{edit}
 use Rattle.command.specs.declared.Answer.the-variants.{Absent, Deleted}
 use Rattle.command.specs.Answer.{valueOr}
-use Rattle.flash_rows.specs.declared.Row.{Row}
+use Rattle.flash_rows.specs.Worktable.{Worktable}
 use Rattle.flash_allocate.specs.World.{World, world}
 use Rattle.run_serve.specs.Serve.{serve, charge, ServedAs}
 use Rattle.run_serve.specs.Step.{kept-then, charged-is, both, then}
@@ -20,8 +20,8 @@ use Rattle.run_lookup.specs.Value.{valueIn}
 use Rattle.run_lookup.specs.Delete.{deletion, deletionCharge, delete, deleteCharge, DeletedAs}
 
 -- After the reads of the path.
-module _ {P T : ℕ} {pages : List (List ℕ)} {rows : List Row} {c : Charged} (t : Tariff) (k : ℕ) (w : World)
-    (reads : ReadAs P T pages rows c t 9 (pathTo k w) w) where
+module _ {P T : ℕ} {pages : List (List ℕ)} {table : Worktable} {c : Charged} (t : Tariff) (k : ℕ) (w : World)
+    (reads : ReadAs P T pages table c t 9 (pathTo k w) w) where
   -- what is done in the world that they leave, by what was at the key
   abbrev done : ℕ → Option ℕ → World
   done leaf o = deletion t o leaf k (readAll t (pathTo k w) w)
@@ -30,7 +30,7 @@ module _ {P T : ℕ} {pages : List (List ℕ)} {rows : List Row} {c : Charged} (
   paid leaf o = readCharges t (pathTo k w) w + deletionCharge t o leaf k (readAll t (pathTo k w) w)
 
   -- the key is not there
-  pub deleted-none : valueIn k w ≡ none → DeletedAs P T pages rows (record { charged = c; answer = Absent }) t k w
+  pub deleted-none : valueIn k w ≡ none → DeletedAs P T pages table (record { charged = c; answer = Absent }) t k w
   unfolding delete deleteCharge
   deleted-none e =
       record {
@@ -39,9 +39,9 @@ module _ {P T : ℕ} {pages : List (List ℕ)} {rows : List Row} {c : Charged} (
       }
 
   -- it is, and the leaf is edited
-  pub deleted-one : {P′ T′ : ℕ} {pages′ : List (List ℕ)} {rows′ : List Row} {d : Charged} (leaf old : ℕ) → leaf ≡ leafAt k w → valueIn k w ≡ some old →
-      ServedAs P′ T′ pages′ rows′ d t leaf (edit (remove k)) (world pages rows (c .state)) →
-      DeletedAs P′ T′ pages′ rows′ (record { charged = both c d; answer = Deleted old }) t k w
+  pub deleted-one : {P′ T′ : ℕ} {pages′ : List (List ℕ)} {rows′ : Worktable} {d : Charged} (leaf old : ℕ) → leaf ≡ leafAt k w → valueIn k w ≡ some old →
+      ServedAs P′ T′ pages′ table′ d t leaf (edit (remove k)) (world pages table (c .state)) →
+      DeletedAs P′ T′ pages′ table′ (record { charged = both c d; answer = Deleted old }) t k w
   unfolding delete deleteCharge
   deleted-one leaf old l e s =
       let step = serve t leaf (edit (remove k)) in

@@ -17,7 +17,7 @@ use Rattle.tree.specs.Get.{getAnswer}
 use Rattle.command.specs.declared.Answer.{Answer}
 use Rattle.command.specs.declared.Answer.the-variants.{Got}
 use Rattle.command.specs.Answer.{valueOr}
-use Rattle.flash_rows.specs.declared.Row.{Row}
+use Rattle.flash_rows.specs.Worktable.{Worktable}
 use Rattle.flash_allocate.specs.World.{World}
 use Rattle.run_serve.specs.Step.{charged-is}
 use Rattle.run_serve.specs.declared.charged.Charged.{Charged}
@@ -44,13 +44,13 @@ module _ {k : ℕ} (w : World) {path : Path} (found : PathTo (tableIn w) k path)
   unfolding getAnswer
   value-in o e = sym (e ∙ ap (λ n. lookup k (pairsOf n)) (found .leaf .is))
 
-  module _ {P T : ℕ} {pages : List (List ℕ)} {rows : List Row} {c : Charged} (t : Tariff)
-      (r : ReadAs P T pages rows c t (path .length) (take (path .length) (path .ids)) w) where
-    pub path-read : ReadAs P T pages rows c t 9 (pathTo k w) w
+  module _ {P T : ℕ} {pages : List (List ℕ)} {table : Worktable} {c : Charged} (t : Tariff)
+      (r : ReadAs P T pages table c t (path .length) (take (path .length) (path .ids)) w) where
+    pub path-read : ReadAs P T pages table c t 9 (pathTo k w) w
     path-read =
         charged-is r (found .few) (ap (λ (ns : List ℕ). readAll t ns w) (found .ids)) (ap (λ (ns : List ℕ). readCharges t ns w) (found .ids))
 
     -- a get: the path read, and the value in its leaf
     pub got-as : (v : Value) → valueOf v ≡ lookup k (pairsIn (path .leaf)) → (a : Answer) → a ≡ valueOr Got (valueOf v) →
-        GotAs P T pages rows (record { charged = c; answer = a }) t k w
+        GotAs P T pages table (record { charged = c; answer = a }) t k w
     got-as v e a f = record { charged = path-read; answer = f ∙ ap (valueOr Got) (sym (value-in (valueOf v) e)) }

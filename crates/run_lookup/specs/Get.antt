@@ -4,7 +4,7 @@ use Prim.Native.Nat.{ℕ}
 use Rattle.account.specs.declared.Tariff.{Tariff}
 use Rattle.command.specs.declared.Answer.the-variants.{Got}
 use Rattle.command.specs.Answer.{valueOr}
-use Rattle.flash_rows.specs.declared.Row.{Row}
+use Rattle.flash_rows.specs.Worktable.{Worktable}
 use Rattle.flash_allocate.specs.World.{World, Kept}
 use Rattle.run_serve.specs.Step.{AnsweredAs}
 use Rattle.run_serve.specs.declared.charged.Answered.{Answered}
@@ -13,6 +13,6 @@ use Rattle.run_path.specs.Reads.{readAll, readCharges}
 use Rattle.run_lookup.specs.Value.{valueIn}
 
 -- What the code of a get leaves: the nodes from root to leaf read, what that is charged, and "answer 81 with the card word", or 80.
-abbrev pub GotAs : ℕ → ℕ → List (List ℕ) → List Row → Answered → Tariff → ℕ → World → Type 0
-GotAs poolLength tableLength pages rows r t k w =
-    AnsweredAs Kept poolLength tableLength pages rows r (w .state) 9 (readAll t (pathTo k w) w) (readCharges t (pathTo k w) w) (valueOr Got (valueIn k w))
+abbrev pub GotAs : ℕ → ℕ → List (List ℕ) → Worktable → Answered → Tariff → ℕ → World → Type 0
+GotAs poolLength tableLength pages table r t k w =
+    AnsweredAs Kept poolLength tableLength pages table r (w .state) 9 (readAll t (pathTo k w) w) (readCharges t (pathTo k w) w) (valueOr Got (valueIn k w))

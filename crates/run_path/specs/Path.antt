@@ -11,7 +11,7 @@ use Rattle.run_path.specs.declared.path.Path.{Path}
 
 -- The nodes as a world has them.
 abbrev pub tableIn : World → Table
-tableIn w = tableOf (w .pages) (w .rows) (w .state)
+tableIn w = tableOf (w .pages) (w .table) (w .state)
 
 -- A sound tree has at most 9 levels, so a path has at most 9 nodes: 8 steps down.
 abbrev pub mostSteps : ℕ

@@ -9,7 +9,7 @@ use lib.ListN.{length, getD, take, drop, drop-of-length-le}
 use lib.Seq.{drop-cons, length-take-le}
 use Rattle.account.specs.declared.Tariff.{Tariff}
 use Rattle.account.specs.Fair.{mostCharge}
-use Rattle.flash_rows.specs.declared.Row.{Row}
+use Rattle.flash_rows.specs.Worktable.{Worktable}
 use Rattle.store.specs.Serve.{read}
 use Rattle.flash_allocate.specs.World.{World, world, Good}
 use Rattle.run_serve.specs.Serve.{serve, charge, ServedAs}
@@ -34,9 +34,9 @@ reading-start p q t ns w g =
 
 module _ {p q : ℕ} {t : Tariff} {ns : List ℕ} {i : ℕ} {start now : World} {paid : ℕ} (r : Reading p q t ns i start now paid) where
   -- one read more
-  pub reading-next : (p′ q′ : ℕ) (pages : List (List ℕ)) (rows : List Row) (c : Charged) (n : ℕ) → i < length ns → n ≡ getD ns i 0 →
-      ServedAs p′ q′ pages rows c t n read now → Reading p′ q′ t ns (i + 1) start (world pages rows (c .state)) (paid + c .charge)
-  reading-next p′ q′ pages rows c n l e s =
+  pub reading-next : (p′ q′ : ℕ) (pages : List (List ℕ)) (table : Worktable) (c : Charged) (n : ℕ) → i < length ns → n ≡ getD ns i 0 →
+      ServedAs p′ q′ pages table c t n read now → Reading p′ q′ t ns (i + 1) start (world pages table (c .state)) (paid + c .charge)
+  reading-next p′ q′ pages table c n l e s =
       let next : drop i ns ≡ n ∷ drop (i + 1) ns = rw (add-one, e) (drop-cons ns i 0 l) in
       record {
         good = s .kept .good;
@@ -56,9 +56,9 @@ module _ {p q : ℕ} {t : Tariff} {ns : List ℕ} {i : ℕ} {start now : World} 
       }
 
   -- none left
-  pub reading-end : (pages : List (List ℕ)) (rows : List Row) (c : Charged) → now ≡ world pages rows (c .state) → paid ≡ c .charge → i ≡ length ns →
-      (requests : ℕ) → i ≡ requests → ReadAs p q pages rows c t requests ns start
-  reading-end pages rows c e f l requests m =
+  pub reading-end : (pages : List (List ℕ)) (table : Worktable) (c : Charged) → now ≡ world pages table (c .state) → paid ≡ c .charge → i ≡ length ns →
+      (requests : ℕ) → i ≡ requests → ReadAs p q pages table c t requests ns start
+  reading-end pages table c e f l requests m =
       let none : drop i ns ≡ [] = drop-of-length-le ns {i = i} (omega arith) in
       record {
         kept =
@@ -73,13 +73,13 @@ module _ {p q : ℕ} {t : Tariff} {ns : List ℕ} {i : ℕ} {start now : World} 
         most = omega (arith, r .most, f, m);
       }
     where
-      ap-good : now ≡ world pages rows (c .state) → Good p q (now .state) → Good p q (c .state)
+      ap-good : now ≡ world pages table (c .state) → Good p q (now .state) → Good p q (c .state)
       ap-good e g = subst (λ (w : World). Good p q (w .state)) e g
 
 -- Reads of the first n nodes of a list, where that part of it is lent.
-pub reads-part : {p q : ℕ} {pages : List (List ℕ)} {rows : List Row} {c : Charged} (t : Tariff) (w : World) (n : ℕ) (ns : List ℕ) →
+pub reads-part : {p q : ℕ} {pages : List (List ℕ)} {table : Worktable} {c : Charged} (t : Tariff) (w : World) (n : ℕ) (ns : List ℕ) →
     n ≤ length ns →
-    ReadAs p q pages rows c t (length (take (n - 0) ns)) (take (n - 0) ns) w → ReadAs p q pages rows c t n (take n ns) w
+    ReadAs p q pages table c t (length (take (n - 0) ns)) (take (n - 0) ns) w → ReadAs p q pages table c t n (take n ns) w
 reads-part t w n ns l r = rw (sub-zero, length-take-le n ns l) at r
 
 -- Reads of some nodes, then of others, are the reads of both lists in one.
@@ -92,10 +92,10 @@ pub readCharges-append : (t : Tariff) (ms ns : List ℕ) (w : World) →
 readCharges-append t [] ns w = omega arith
 readCharges-append t (m ∷ ms) ns w = omega (arith, readCharges-append t ms ns (serve t m read w))
 
-module _ {p q p′ q′ m n : ℕ} {pages pages′ : List (List ℕ)} {rows rows′ : List Row} {c c′ : Charged} (t : Tariff)
+module _ {p q p′ q′ m n : ℕ} {pages pages′ : List (List ℕ)} {table table′ : Worktable} {c c′ : Charged} (t : Tariff)
     (ms ns : List ℕ) (w : World) where
-  pub reads-then : ReadAs p q pages rows c t m ms w → ReadAs p′ q′ pages′ rows′ c′ t n ns (world pages rows (c .state)) →
-      ReadAs p′ q′ pages′ rows′ (both c c′) t (m + n) (ms ++ ns) w
+  pub reads-then : ReadAs p q pages table c t m ms w → ReadAs p′ q′ pages′ table′ c′ t n ns (world pages table (c .state)) →
+      ReadAs p′ q′ pages′ table′ (both c c′) t (m + n) (ms ++ ns) w
   reads-then a b =
       charged-is (then (readAll t ns) (readCharges t ns) (kept-then (readAll t ns)) a b) (omega arith) (sym (readAll-append t ms ns w))
       (sym (readCharges-append t ms ns w))

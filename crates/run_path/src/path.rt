@@ -1,5 +1,5 @@
 // The path from the root to the leaf of a key.
-ghost use Rattle.flash_rows.specs.Row.{rowsOf};
+ghost use Rattle.flash_rows.specs.Worktable.{tableFrom};
 ghost use Rattle.flash_blocks.specs.Pages.{pagesOf};
 ghost use Rattle.flash_read.specs.NodeTable.{tableOf, Readable};
 ghost use Rattle.run_path.specs.Path.{PathTo};
@@ -21,7 +21,7 @@ pub struct Path {
 // At most 9 nodes are read: a sound tree has no more levels.
 pub fn path_to<'a>(pool: &'a [u8], table: &'a [u8], state: State, key: u32) -> Path
     requires { ⌜ Readable state (now table) ⌝ }
-    ensures { λ r. ⌜ PathTo (tableOf (pagesOf (now (pool .entry))) (rowsOf (now (table .entry))) state) key r ⌝ }
+    ensures { λ r. ⌜ PathTo (tableOf (pagesOf (now (pool .entry))) (tableFrom (now (table .entry))) state) key r ⌝ }
 {
     let mut ids = [0usize; MOST_LEVELS];
     let mut id: usize = 0;

@@ -22,7 +22,7 @@ use Rattle.node.specs.Value.{pairsIn, Held}
 use Rattle.tree.specs.Table.{Table, path, leafFor}
 use Rattle.tree.specs.Put.{idsNeeded}
 use Rattle.tree_laws.specs.IdsNeeded.{sizeAt}
-use Rattle.flash_rows.specs.declared.Row.{Row}
+use Rattle.flash_rows.specs.Worktable.{Worktable}
 use Rattle.store.specs.Serve.{edit}
 use Rattle.flash_allocate.specs.declared.state.State.{State}
 use Rattle.flash_allocate.specs.World.{World, world}
@@ -56,30 +56,30 @@ module _ (v : NodeValue) (h : Held v) (key : ℕ) where
 
 -- The reads, then the edit or the splits.
 module _ {P₀ T₀ P₁ T₁ : ℕ} (t : Tariff) (key value n : ℕ) (onPath : List ℕ) (w : World) (g : Growing P₀ T₀ (w .state)) (few : n ≤ 9)
-    (pages₁ : List (List ℕ)) (rows₁ : List Row) (one : Charged) (r : ReadAs P₁ T₁ pages₁ rows₁ one t n onPath w)
-    (pages : List (List ℕ)) (rows : List Row) (two : Charged) where
-  pub then-edit : {P T : ℕ} (leaf : ℕ) → ServedAs P T pages rows two t leaf (edit (Change.put key value)) (world pages₁ rows₁ (one .state)) →
-      RequestsAs P T pages rows (both one two) (w .state) (readAndEdit t onPath leaf key value w)
+    (pages₁ : List (List ℕ)) (held₁ : Worktable) (one : Charged) (r : ReadAs P₁ T₁ pages₁ held₁ one t n onPath w)
+    (pages : List (List ℕ)) (held : Worktable) (two : Charged) where
+  pub then-edit : {P T : ℕ} (leaf : ℕ) → ServedAs P T pages held two t leaf (edit (Change.put key value)) (world pages₁ held₁ (one .state)) →
+      RequestsAs P T pages held (both one two) (w .state) (readAndEdit t onPath leaf key value w)
   unfolding readAndEdit
   then-edit leaf s =
       let step = serve t leaf (edit (Change.put key value)) in
       charged-is (grew-charged g (then step (charge t leaf (edit (Change.put key value))) (kept-then step) r s)) (omega (arith, few)) refl refl
 
-  pub then-split : {P T : ℕ} → SplitUpwardsAs P T pages rows two t key value onPath (world pages₁ rows₁ (one .state)) →
-      RequestsAs P T pages rows (both one two) (w .state) (readAndSplit t onPath key value w)
+  pub then-split : {P T : ℕ} → SplitUpwardsAs P T pages held two t key value onPath (world pages₁ held₁ (one .state)) →
+      RequestsAs P T pages held (both one two) (w .state) (readAndSplit t onPath key value w)
   unfolding readAndSplit
   then-split s =
       let step : World → World = λ z. splitUpwards t key value onPath z .now in
       charged-is (then step (λ (z : World). splitUpwards t key value onPath z .charge) (grew-then step) r s) (omega (arith, few)) refl refl
 
-pub done-is : {P T : ℕ} {pages : List (List ℕ)} {rows : List Row} {r : Answered} {s : State} {a b : Doing} → a ≡ b → DoneAs P T pages rows r s a →
-    DoneAs P T pages rows r s b
-done-is {P} {T} {pages} {rows} {r} {s} e k = subst (λ (z : Doing). DoneAs P T pages rows r s z) e k
+pub done-is : {P T : ℕ} {pages : List (List ℕ)} {held : Worktable} {r : Answered} {s : State} {a b : Doing} → a ≡ b → DoneAs P T pages held r s a →
+    DoneAs P T pages held r s b
+done-is {P} {T} {pages} {held} {r} {s} e k = subst (λ (z : Doing). DoneAs P T pages held r s z) e k
 
 -- A new key: refused, or put with the splits.
 module _ (t : Tariff) (onPath : List ℕ) (needed counted key value : ℕ) (w : World) (e : needed ≡ counted) where
   pub new-refused : {P T : ℕ} → nodeLimit (w .state .blocks) < w .state .nodes + needed → Growing P T (w .state) →
-      DoneAs P T (w .pages) (w .rows) (record { charged = record { state = w .state; charge = 0 }; answer = Refused 9 }) (w .state)
+      DoneAs P T (w .pages) (w .table) (record { charged = record { state = w .state; charge = 0 }; answer = Refused 9 }) (w .state)
       (putSplitting t onPath counted key value w)
   unfolding putSplitting
   new-refused l g =
@@ -87,11 +87,11 @@ module _ (t : Tariff) (onPath : List ℕ) (needed counted key value : ℕ) (w : 
       rw (← e, lt-ltb (nodeLimit (w .state .blocks)) (w .state .nodes + needed) l) refl in
       done-is is (record { charged = charged-is (charged-none w (grew-same w g)) (omega arith) refl refl; answer = refl })
 
-  pub new-split : {P T : ℕ} (pages : List (List ℕ)) (rows : List Row) (r : Charged) → w .state .nodes + needed ≤ nodeLimit (w .state .blocks) →
-      RequestsAs P T pages rows r (w .state) (readAndSplit t onPath key value w) →
-      DoneAs P T pages rows (record { charged = r; answer = Absent }) (w .state) (putSplitting t onPath counted key value w)
+  pub new-split : {P T : ℕ} (pages : List (List ℕ)) (held : Worktable) (r : Charged) → w .state .nodes + needed ≤ nodeLimit (w .state .blocks) →
+      RequestsAs P T pages held r (w .state) (readAndSplit t onPath key value w) →
+      DoneAs P T pages held (record { charged = r; answer = Absent }) (w .state) (putSplitting t onPath counted key value w)
   unfolding putSplitting
-  new-split pages rows r l k =
+  new-split pages held r l k =
       let is : answering Absent (readAndSplit t onPath key value w) ≡ putSplitting t onPath counted key value w =
       rw (← e, le-ltb (nodeLimit (w .state .blocks)) (w .state .nodes + needed) l) refl in
       done-is is (record { charged = k; answer = refl })
@@ -114,12 +114,12 @@ module _ (t : Tariff) (key value : ℕ) (w : World) (p : Path) (to : PathTo (tab
   fit-is = ap (fitOf key) (sym pairs-are) ∙ sym e
 
   -- it fits
-  pub put-edit : {P T : ℕ} (pages : List (List ℕ)) (rows : List Row) (answer : Answer) (r : Charged) → f ≡ Room →
+  pub put-edit : {P T : ℕ} (pages : List (List ℕ)) (held : Worktable) (answer : Answer) (r : Charged) → f ≡ Room →
       answer ≡ valueOr Replaced (lookup key (pairsIn (p .leaf))) →
-      RequestsAs P T pages rows r (w .state) (readAndEdit t (take (p .length) (p .ids)) (lastOf (p .length) (p .ids)) key value w) →
-      DoneAs P T pages rows (record { charged = r; answer = answer }) (w .state) (put t key value w)
+      RequestsAs P T pages held r (w .state) (readAndEdit t (take (p .length) (p .ids)) (lastOf (p .length) (p .ids)) key value w) →
+      DoneAs P T pages held (record { charged = r; answer = answer }) (w .state) (put t key value w)
   unfolding putIn
-  put-edit pages rows answer r room said k =
+  put-edit pages held answer r room said k =
       let done : answering answer (readAndEdit t (take (p .length) (p .ids)) (lastOf (p .length) (p .ids)) key value w) ≡ put t key value w =
       ap₂ (λ (ids : List ℕ) (id : ℕ). answering answer (readAndEdit t ids id key value w)) (to .ids) (to .end) ∙
       ap (λ (a : Answer). answering a (readAndEdit t onPath leaf key value w)) (said ∙ ap (λ (ps : _). valueOr Replaced (lookup key ps)) pairs-are) ∙

@@ -1,4 +1,4 @@
--- THE COMMAND PUT over pages, rows and state (document 01, "Nodes and tree", and question 9). The table of the moment decides; then come
+-- THE COMMAND PUT over pages, work table and state (document 01, "Nodes and tree", and question 9). The table of the moment decides; then come
 -- "the nodes from root to leaf" read, and one edit, or the splits.
 use mathlib.Core.List.{List}
 use Prim.Native.Nat.{ℕ, _+_, _-_}
@@ -16,7 +16,7 @@ use Rattle.node.specs.Change as Change
 use Rattle.tree.specs.Table.{Table, path, leafFor}
 use Rattle.tree.specs.Put.{idsNeeded}
 use Rattle.book.specs.Command.{noIds}
-use Rattle.flash_rows.specs.declared.Row.{Row}
+use Rattle.flash_rows.specs.Worktable.{Worktable}
 use Rattle.store.specs.Serve.{edit}
 use Rattle.flash_allocate.specs.declared.state.State.{State}
 use Rattle.flash_allocate.specs.World.{World}
@@ -77,7 +77,7 @@ putSplitting t onPath needed key value w =
     choose (ltb (nodeLimit (w .state .blocks)) (w .state .nodes + needed)) (refused w) (answering Absent (readAndSplit t onPath key value w))
 
 abbrev pub tableAt : World → Table
-tableAt w = tableOf (w .pages) (w .rows) (w .state)
+tableAt w = tableOf (w .pages) (w .table) (w .state)
 
 unfoldable pub putIn : Table → Tariff → ℕ → ℕ → World → Doing
 putIn table t key value w =
@@ -91,10 +91,10 @@ abbrev pub put : Tariff → ℕ → ℕ → World → Doing
 put t key value w = putIn (tableAt w) t key value w
 
 -- What the code of the requests leaves.
-abbrev pub RequestsAs : ℕ → ℕ → List (List ℕ) → List Row → Charged → State → Requests → Type 0
-RequestsAs poolLength tableLength pages rows r before right = ChargedAs Grew poolLength tableLength pages rows r before 27 (right .now) (right .charge)
+abbrev pub RequestsAs : ℕ → ℕ → List (List ℕ) → Worktable → Charged → State → Requests → Type 0
+RequestsAs poolLength tableLength pages table r before right = ChargedAs Grew poolLength tableLength pages table r before 27 (right .now) (right .charge)
 
 -- What the code of a command leaves: the world, the charge and the answer of the definition.
-abbrev pub DoneAs : ℕ → ℕ → List (List ℕ) → List Row → Answered → State → Doing → Type 0
-DoneAs poolLength tableLength pages rows r before right =
-    AnsweredAs Grew poolLength tableLength pages rows r before 27 (right .now) (right .charge) (right .answer)
+abbrev pub DoneAs : ℕ → ℕ → List (List ℕ) → Worktable → Answered → State → Doing → Type 0
+DoneAs poolLength tableLength pages table r before right =
+    AnsweredAs Grew poolLength tableLength pages table r before 27 (right .now) (right .charge) (right .answer)

@@ -3,7 +3,7 @@ ghost use mathlib.Core.Path.{_≡_};
 ghost use Prim.Native.Nat.{_-_, _≤_};
 ghost use lib.ListN.{getD, take};
 ghost use Rattle.layout.specs.Layout.{mostKeys};
-ghost use Rattle.flash_rows.specs.Row.{rowsOf};
+ghost use Rattle.flash_rows.specs.Worktable.{tableFrom};
 ghost use Rattle.flash_blocks.specs.Pages.{pagesOf};
 ghost use Rattle.tree.specs.Put.{idsNeeded};
 ghost use Rattle.tree_laws.specs.IdsNeeded.{sizeAt};
@@ -23,8 +23,8 @@ pub fn ids_needed<'a>(
     n: usize,
 ) -> usize
     requires { ⌜ (Readable state (now table)) × (1 ≤ n) × (n ≤ 9)
-        × (mostKeys ≤ sizeAt (tableOf (pagesOf (now pool)) (rowsOf (now table)) state) (getD ids (n - 1) 0)) ⌝ }
-    ensures { λ r. ⌜ (r ≡ idsNeeded (tableOf (pagesOf (now (pool .entry))) (rowsOf (now (table .entry))) state)
+        × (mostKeys ≤ sizeAt (tableOf (pagesOf (now pool)) (tableFrom (now table)) state) (getD ids (n - 1) 0)) ⌝ }
+    ensures { λ r. ⌜ (r ≡ idsNeeded (tableOf (pagesOf (now (pool .entry))) (tableFrom (now (table .entry))) state)
         (take n ids))
         × (r ≤ 10) ⌝ }
 {

@@ -6,7 +6,7 @@ ghost use Rattle.layout.specs.Layout.{mostKeys};
 ghost use Rattle.account.specs.Range.{Ranged};
 ghost use Rattle.command.specs.Answer.{valueOr};
 ghost use Rattle.pairs.specs.Pairs.{lookup};
-ghost use Rattle.flash_rows.specs.Row.{rowsOf};
+ghost use Rattle.flash_rows.specs.Worktable.{tableFrom};
 ghost use Rattle.flash_blocks.specs.Pages.{pagesOf};
 ghost use Rattle.node.specs.Value.{pairsIn, Held};
 ghost use Rattle.tree.specs.Put.{idsNeeded};
@@ -120,10 +120,10 @@ fn put_splitting(
     value: u32,
 ) -> Answered
     requires { ⌜ (Growing (length (now pool)) (length (now table)) state) × (Ranged tariff) × (1 ≤ n) × (n ≤ 9)
-        × (mostKeys ≤ sizeAt (tableOf (pagesOf (now pool)) (rowsOf (now table)) state) (def.lastOf n ids)) ⌝ }
+        × (mostKeys ≤ sizeAt (tableOf (pagesOf (now pool)) (tableFrom (now table)) state) (def.lastOf n ids)) ⌝ }
     ensures { λ r. ⌜ InBytes DoneAs (now (pool .exit)) (now (table .exit)) r state
         (def.putSplitting tariff (take n ids)
-        (idsNeeded (tableOf (pagesOf (now (pool .entry))) (rowsOf (now (table .entry))) state) (take n ids))
+        (idsNeeded (tableOf (pagesOf (now (pool .entry))) (tableFrom (now (table .entry))) state) (take n ids))
         key value (worldIn (now (pool .entry)) (now (table .entry)) state)) ⌝ }
 {
     let needed = ids_needed(pool, table, state, ids, n);

@@ -11,7 +11,7 @@ use Rattle.account.specs.declared.Tariff.{Tariff}
 use Rattle.layout.specs.Layout.{nodeLimit, mostBlocks}
 use Rattle.pairs.specs.Pairs.{Pair}
 use Rattle.tree.specs.Scan.{pairsFrom, leavesAfter}
-use Rattle.flash_rows.specs.declared.Row.{Row}
+use Rattle.flash_rows.specs.Worktable.{Worktable}
 use Rattle.flash_allocate.specs.World.{World, world, Good, Kept}
 use Rattle.run_serve.specs.Step.{ChargedAs, kept-same, charged-none, charged-is, both}
 use Rattle.run_serve.specs.declared.charged.Charged.{Charged}
@@ -42,8 +42,8 @@ scanPairs low high most w =
     ]
 
 -- What the code of a scan leaves: these nodes read, what that is charged, and these pairs.
-pub record ScannedAs (poolLength tableLength : ℕ) (pages : List (List ℕ)) (rows : List Row) (r : Scanned) (t : Tariff) (low high wanted : ℕ) (w : World) : Type 0 where
-  pub charged : ChargedAs Kept poolLength tableLength pages rows (r .charged) (w .state) (9 + nodeLimit mostBlocks) (readAll t (scanReads low high wanted w) w)
+pub record ScannedAs (poolLength tableLength : ℕ) (pages : List (List ℕ)) (table : Worktable) (r : Scanned) (t : Tariff) (low high wanted : ℕ) (w : World) : Type 0 where
+  pub charged : ChargedAs Kept poolLength tableLength pages table (r .charged) (w .state) (9 + nodeLimit mostBlocks) (readAll t (scanReads low high wanted w) w)
       (readCharges t (scanReads low high wanted w) w)
   pub pairs : pairsOf (r .pairs) ≡ scanPairs low high wanted w
   pub sized : Sized (r .pairs)
@@ -57,7 +57,7 @@ module _ (t : Tariff) (low high most : ℕ) (w : World) where
 
   -- low above high
   pub scanned-none : {P T : ℕ} (p : Pairs) → high < low → Good P T (w .state) → pairsOf p ≡ [] → Sized p → p .count ≤ most →
-      ScannedAs P T (w .pages) (w .rows) (record { charged = record { state = w .state; charge = 0 }; pairs = p }) t low high most w
+      ScannedAs P T (w .pages) (w .table) (record { charged = record { state = w .state; charge = 0 }; pairs = p }) t low high most w
   unfolding scanReads scanPairs
   scanned-none p l g e s f =
       let none = reads-are [] (sym (rw (lt-ltb high low l, scanReads) refl)) in
@@ -69,11 +69,11 @@ module _ (t : Tariff) (low high most : ℕ) (w : World) where
       }
 
   -- the path read, then the leaves behind it
-  module _ {P T P′ T′ : ℕ} {pages pages′ : List (List ℕ)} {rows rows′ : List Row} {c d : Charged} {onPath : Path} {g : Gathered} where
+  module _ {P T P′ T′ : ℕ} {pages pages′ : List (List ℕ)} {table table′ : Worktable} {c d : Charged} {onPath : Path} {g : Gathered} where
     pub scanned : low ≤ high → w .state .nodes ≤ nodeLimit mostBlocks → PathTo (tableIn w) low onPath → GatheredAs (tableIn w) (w .state .nodes) low high most g →
-        ReadAs P T pages rows c t (onPath .length) (take (onPath .length) (onPath .ids)) w →
-        ReadAs P′ T′ pages′ rows′ d t (g .visited) (take (g .visited) (g .leaves)) (world pages rows (c .state)) →
-        ScannedAs P′ T′ pages′ rows′ (record { charged = both c d; pairs = g .pairs }) t low high most w
+        ReadAs P T pages table c t (onPath .length) (take (onPath .length) (onPath .ids)) w →
+        ReadAs P′ T′ pages′ table′ d t (g .visited) (take (g .visited) (g .leaves)) (world pages table (c .state)) →
+        ScannedAs P′ T′ pages′ table′ (record { charged = both c d; pairs = g .pairs }) t low high most w
     unfolding scanReads scanPairs
     scanned l limit found gathered down along =
         let ms = take (onPath .length) (onPath .ids) in

@@ -1,6 +1,6 @@
 // The pairs of a scan gathered, leaf after leaf, and the leaves that it goes to by links.
 ghost use Prim.Native.Nat.{_≤_};
-ghost use Rattle.flash_rows.specs.Row.{rowsOf};
+ghost use Rattle.flash_rows.specs.Worktable.{tableFrom};
 ghost use Rattle.flash_blocks.specs.Pages.{pagesOf};
 ghost use Rattle.flash_read.specs.NodeTable.{tableOf, Readable};
 ghost use Rattle.run_path.specs.Path.{PathTo};
@@ -32,9 +32,9 @@ pub fn gather<'a>(
     most: usize,
 ) -> Gathered
     requires { ⌜ (Readable state (now table))
-        × (PathTo (tableOf (pagesOf (now pool)) (rowsOf (now table)) state) low path) × (low ≤ high)
+        × (PathTo (tableOf (pagesOf (now pool)) (tableFrom (now table)) state) low path) × (low ≤ high)
         × (1 ≤ most) × (most ≤ mostPairs) ⌝ }
-    ensures { λ r. ⌜ GatheredAs (tableOf (pagesOf (now (pool .entry))) (rowsOf (now (table .entry))) state)
+    ensures { λ r. ⌜ GatheredAs (tableOf (pagesOf (now (pool .entry))) (tableFrom (now (table .entry))) state)
         (state .nodes) low high most r ⌝ }
 {
     let mut keys = [0u32; MOST_PAIRS];

@@ -18,6 +18,7 @@ use Rattle.node.specs.Node.{Node}
 use Rattle.node.specs.Value.{Becomes}
 use Rattle.store.specs.Serve.{Work}
 use Rattle.flash_rows.specs.Row.{noRow}
+use Rattle.flash_rows.specs.Worktable.{Worktable}
 use Rattle.flash_rows.specs.declared.Row.{Row}
 use Rattle.flash_allocate.specs.declared.state.State.{State}
 use Rattle.flash_allocate.specs.World.{World, world, Good, Kept}
@@ -48,21 +49,21 @@ module _ {P T : ℕ} (from to : Mode) (n : ℕ) (w : World) where
   switch-whole x w₁ e f k = kept-is k (ap (λ (y : Node). writeWhole to n y w) f ∙ rw e refl)
 
 -- The row loaded, its account served, the switch, and the score in the row that the switch leaves.
-module _ {P T T′ : ℕ} (t : Tariff) (q : Request) (n : ℕ) (w w₁ : World) (row : Row) (account : Account) (served : Served) (rows₂ : List Row)
-    (r : row ≡ getD (w .rows) n noRow) (a : account ≡ accountIn row) (f : Fair t account q served)
+module _ {P T T′ : ℕ} (t : Tariff) (q : Request) (n : ℕ) (w w₁ : World) (row : Row) (account : Account) (served : Served) (table₂ : Worktable)
+    (r : row ≡ getD (w .table .rows) n noRow) (a : account ≡ accountIn row) (f : Fair t account q served)
     (k : Kept P T (w .state) w₁ (switch (row .mode) (served .account .mode) n w))
-    (e : rows₂ ≡ rescored n (served .account .score) (w₁ .rows)) (l : T′ ≡ T) where
+    (e : table₂ ≡ rescored n (served .account .score) (w₁ .table)) (l : T′ ≡ T) where
   is-served : served ≡ servedAt t q n w
   is-served = f .is ∙ ap (λ (z : Account). serveOf t z q) (a ∙ ap accountIn r)
 
-  is-settled : world (w₁ .pages) rows₂ (w₁ .state) ≡ settle t q n w
+  is-settled : world (w₁ .pages) table₂ (w₁ .state) ≡ settle t q n w
   unfolding settleBy
   is-settled =
-      ap (λ (rows : List Row). world (w₁ .pages) rows (w₁ .state)) e ∙
-      ap (λ (z : World). world (z .pages) (rescored n (served .account .score) (z .rows)) (z .state)) (k .is) ∙
+      ap (λ (table : Worktable). world (w₁ .pages) table (w₁ .state)) e ∙
+      ap (λ (z : World). world (z .pages) (rescored n (served .account .score) (z .table)) (z .state)) (k .is) ∙
       ap₂ (λ (m : Mode) (z : Served). settleBy m (z .account) n w) (ap (λ (z : Row). z .mode) r) is-served
 
-  pub settled : SettledAs P T′ (w₁ .pages) rows₂
+  pub settled : SettledAs P T′ (w₁ .pages) table₂
       (record { charged = record { state = w₁ .state; charge = served .charge }; mode = served .account .mode }) t q n w
   settled =
       record {
@@ -84,13 +85,13 @@ module _ {P T T′ : ℕ} (t : Tariff) (q : Request) (n : ℕ) (w w₁ : World) 
 
 -- A request of a node that is there: the account settled, then the own change with the content that the request leaves.
 module _ {P T P′ T′ : ℕ} (t : Tariff) (n : ℕ) (work : Work) (w : World) (there : n < w .state .nodes)
-    (pages₁ : List (List ℕ)) (rows₁ : List Row) (r : Settled)
-    (s : SettledAs P T pages₁ rows₁ r t (requestOf work) n w) (x : Node) (e : x ≡ contentAfter work n w) where
-  pub served-there : (pages₂ : List (List ℕ)) (rows₂ : List Row) (s₂ : State) →
-      Kept P′ T′ (r .charged .state) (world pages₂ rows₂ s₂) (write (r .mode) n work x (world pages₁ rows₁ (r .charged .state))) →
-      ServedAs P′ T′ pages₂ rows₂ (record { state = s₂; charge = r .charged .charge }) t n work w
+    (pages₁ : List (List ℕ)) (table₁ : Worktable) (r : Settled)
+    (s : SettledAs P T pages₁ table₁ r t (requestOf work) n w) (x : Node) (e : x ≡ contentAfter work n w) where
+  pub served-there : (pages₂ : List (List ℕ)) (table₂ : Worktable) (s₂ : State) →
+      Kept P′ T′ (r .charged .state) (world pages₂ table₂ s₂) (write (r .mode) n work x (world pages₁ table₁ (r .charged .state))) →
+      ServedAs P′ T′ pages₂ table₂ (record { state = s₂; charge = r .charged .charge }) t n work w
   unfolding serve serveThere charge
-  served-there pages₂ rows₂ s₂ k =
+  served-there pages₂ table₂ s₂ k =
       record {
         kept = kept-is (kept-then (write (r .mode) n work x) (s .charged .kept) k) own;
         charge = s .charged .charge ∙ rw (lt-ltb n (w .state .nodes) there) refl;
@@ -104,7 +105,7 @@ module _ {P T P′ T′ : ℕ} (t : Tariff) (n : ℕ) (work : Work) (w : World) 
 
 -- A request of a node that is not there.
 pub served-nowhere : {P T : ℕ} (t : Tariff) (n : ℕ) (work : Work) (w : World) → w .state .nodes ≤ n → Good P T (w .state) →
-    ServedAs P T (w .pages) (w .rows) (record { state = w .state; charge = 0 }) t n work w
+    ServedAs P T (w .pages) (w .table) (record { state = w .state; charge = 0 }) t n work w
 unfolding serve charge
 served-nowhere t n work w h g =
     charged-is (charged-none w (kept-same w g)) (omega arith) (rw (le-ltb n (w .state .nodes) h) refl) (rw (le-ltb n (w .state .nodes) h) refl)

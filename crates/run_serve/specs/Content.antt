@@ -10,7 +10,7 @@ use Rattle.flash_read.specs.Content.{content}
 
 -- What the pages and the buffer spell of node n.
 abbrev pub draftAt : ℕ → World → Draft
-draftAt n w = content (w .pages) (w .rows) (w .state) n
+draftAt n w = content (w .pages) (w .table) (w .state) n
 
 unfoldable pub contentOf : ℕ → World → Node
 contentOf n w = nodeIn (draftAt n w)

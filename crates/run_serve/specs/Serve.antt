@@ -6,7 +6,7 @@ use Rattle.laws.specs.Tests.{choose}
 use Rattle.account.specs.declared.Request.{Request}
 use Rattle.account.specs.declared.Request.the-variants.{Read, Edit, Rewrite}
 use Rattle.account.specs.declared.Tariff.{Tariff}
-use Rattle.flash_rows.specs.declared.Row.{Row}
+use Rattle.flash_rows.specs.Worktable.{Worktable}
 use Rattle.store.specs.Serve.{Work, read, edit, rewrite}
 use Rattle.flash_allocate.specs.World.{World, Kept}
 use Rattle.run_serve.specs.declared.charged.Charged.{Charged}
@@ -34,6 +34,6 @@ unfoldable pub charge : Tariff → ℕ → Work → World → ℕ
 charge t n work w = choose (ltb n (w .state .nodes)) (servedAt t (requestOf work) n w .charge) 0
 
 -- What the code of a request leaves: this world, and this charge.
-abbrev pub ServedAs : ℕ → ℕ → List (List ℕ) → List Row → Charged → Tariff → ℕ → Work → World → Type 0
-ServedAs poolLength tableLength pages rows r t n work w =
-    ChargedAs Kept poolLength tableLength pages rows r (w .state) 1 (serve t n work w) (charge t n work w)
+abbrev pub ServedAs : ℕ → ℕ → List (List ℕ) → Worktable → Charged → Tariff → ℕ → Work → World → Type 0
+ServedAs poolLength tableLength pages table r t n work w =
+    ChargedAs Kept poolLength tableLength pages table r (w .state) 1 (serve t n work w) (charge t n work w)

@@ -3,7 +3,7 @@ use mathlib.Core.Path.{_≡_}
 use mathlib.Core.Bool.{Bool, true, false}
 use mathlib.Core.List.{List}
 use Prim.Native.Nat.{ℕ}
-use lib.ListN.{getD, set}
+use lib.ListN.{getD}
 use Rattle.laws.specs.Tests.{choose}
 use Rattle.account.specs.declared.Mode.{Mode}
 use Rattle.account.specs.declared.Mode.the-variants.{Log, Disk}
@@ -13,6 +13,7 @@ use Rattle.account.specs.declared.Account.{Account}
 use Rattle.account.specs.declared.Served.{Served}
 use Rattle.account.specs.Serve.{serveOf}
 use Rattle.flash_rows.specs.Row.{noRow}
+use Rattle.flash_rows.specs.Worktable.{Worktable, withRow}
 use Rattle.flash_rows.specs.Step.{scored}
 use Rattle.flash_rows.specs.declared.Row.{Row}
 use Rattle.flash_allocate.specs.World.{World, world, Kept}
@@ -26,7 +27,7 @@ abbrev pub accountIn : Row → Account
 accountIn row = record { mode = row .mode; score = row .score }
 
 abbrev pub accountAt : ℕ → World → Account
-accountAt n w = accountIn (getD (w .rows) n noRow)
+accountAt n w = accountIn (getD (w .table .rows) n noRow)
 
 -- What the account of node n makes of a request: the account after it, and the charge.
 abbrev pub servedAt : Tariff → Request → ℕ → World → Served
@@ -42,20 +43,20 @@ sameMode Disk Disk = true
 unfoldable pub switch : Mode → Mode → ℕ → World → World
 switch from to n w = choose (sameMode from to) w (writeWhole to n (contentOf n w) w)
 
--- The rows with another score of node n.
-unfoldable pub rescored : ℕ → ℕ → List Row → List Row
-rescored n score rows = set rows n (scored score (getD rows n noRow))
+-- The work table with another score of node n.
+unfoldable pub rescored : ℕ → ℕ → Worktable → Worktable
+rescored n score t = withRow n (scored score (getD (t .rows) n noRow)) t
 
 -- The switch from a mode as the account after the request says, then its score. The row is the one that the switch leaves.
 unfoldable pub settleBy : Mode → Account → ℕ → World → World
 settleBy from after n w =
     let switched = switch from (after .mode) n w in
-    world (switched .pages) (rescored n (after .score) (switched .rows)) (switched .state)
+    world (switched .pages) (rescored n (after .score) (switched .table)) (switched .state)
 
 abbrev pub settle : Tariff → Request → ℕ → World → World
 settle t q n w = settleBy (accountAt n w .mode) (servedAt t q n w .account) n w
 
 -- What the code of it leaves: this world and this charge, and the mode that the account says.
-pub record SettledAs (poolLength tableLength : ℕ) (pages : List (List ℕ)) (rows : List Row) (r : Settled) (t : Tariff) (q : Request) (n : ℕ) (w : World) : Type 0 where
-  pub charged : ChargedAs Kept poolLength tableLength pages rows (r .charged) (w .state) 1 (settle t q n w) (servedAt t q n w .charge)
+pub record SettledAs (poolLength tableLength : ℕ) (pages : List (List ℕ)) (table : Worktable) (r : Settled) (t : Tariff) (q : Request) (n : ℕ) (w : World) : Type 0 where
+  pub charged : ChargedAs Kept poolLength tableLength pages table (r .charged) (w .state) 1 (settle t q n w) (servedAt t q n w .charge)
   pub mode : r .mode ≡ servedAt t q n w .account .mode

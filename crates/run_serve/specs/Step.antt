@@ -8,28 +8,27 @@ use lib.ListN.{length}
 use Rattle.account.specs.Fair.{mostCharge}
 use Rattle.command.specs.declared.Answer.{Answer}
 use Rattle.flash_blocks.specs.Pages.{pagesOf}
-use Rattle.flash_rows.specs.Row.{rowsOf}
-use Rattle.flash_rows.specs.declared.Row.{Row}
+use Rattle.flash_rows.specs.Worktable.{Worktable, tableFrom}
 use Rattle.flash_allocate.specs.declared.state.State.{State}
 use Rattle.flash_allocate.specs.World.{World, world, Good, Kept, Leaves}
 use Rattle.run_serve.specs.declared.charged.Charged.{Charged}
 use Rattle.run_serve.specs.declared.charged.Answered.{Answered}
 
--- What is said of the pages and the rows of a pool and a table, said of their bytes.
-abbrev pub InBytes : {A : Type 1} → (ℕ → ℕ → List (List ℕ) → List Row → A) → List ℕ → List ℕ → A
-InBytes said pool table = said (length pool) (length table) (pagesOf pool) (rowsOf table)
+-- What is said of the pages of a pool and of a work table, said of their bytes.
+abbrev pub InBytes : {A : Type 1} → (ℕ → ℕ → List (List ℕ) → Worktable → A) → List ℕ → List ℕ → A
+InBytes said pool table = said (length pool) (length table) (pagesOf pool) (tableFrom table)
 
 -- So many requests at most: the world right, and what was paid for it.
-pub record ChargedAs (L : Leaves) (poolLength tableLength : ℕ) (pages : List (List ℕ)) (rows : List Row) (r : Charged) (before : State)
+pub record ChargedAs (L : Leaves) (poolLength tableLength : ℕ) (pages : List (List ℕ)) (table : Worktable) (r : Charged) (before : State)
     (requests : ℕ) (right : World) (paid : ℕ) : Type 0 where
-  pub kept : L poolLength tableLength before (world pages rows (r .state)) right
+  pub kept : L poolLength tableLength before (world pages table (r .state)) right
   pub charge : r .charge ≡ paid
   pub most : r .charge ≤ mostCharge * requests
 
 -- The same with an answer.
-pub record AnsweredAs (L : Leaves) (poolLength tableLength : ℕ) (pages : List (List ℕ)) (rows : List Row) (r : Answered) (before : State)
+pub record AnsweredAs (L : Leaves) (poolLength tableLength : ℕ) (pages : List (List ℕ)) (table : Worktable) (r : Answered) (before : State)
     (requests : ℕ) (right : World) (paid : ℕ) (said : Answer) : Type 0 where
-  pub charged : ChargedAs L poolLength tableLength pages rows (r .charged) before requests right paid
+  pub charged : ChargedAs L poolLength tableLength pages table (r .charged) before requests right paid
   pub answer : r .answer ≡ said
 
 -- A step said otherwise.
@@ -53,15 +52,15 @@ kept-then step k l =
 
 -- No request.
 pub charged-none : {L : Leaves} {P T : ℕ} (w : World) → L P T (w .state) w w →
-    ChargedAs L P T (w .pages) (w .rows) (record { state = w .state; charge = 0 }) (w .state) 0 w 0
+    ChargedAs L P T (w .pages) (w .table) (record { state = w .state; charge = 0 }) (w .state) 0 w 0
 charged-none w k = record { kept = k; charge = refl; most = omega arith }
 
 -- Requests said otherwise, or as some of more.
-pub charged-is : {L : Leaves} {P T : ℕ} {pages : List (List ℕ)} {rows : List Row} {r : Charged} {s : State} {m m′ : ℕ} {a b : World} {c d : ℕ} →
-    ChargedAs L P T pages rows r s m a c → m ≤ m′ → a ≡ b → c ≡ d → ChargedAs L P T pages rows r s m′ b d
-charged-is {L} {P} {T} {pages} {rows} {r} {s} k l e f =
+pub charged-is : {L : Leaves} {P T : ℕ} {pages : List (List ℕ)} {table : Worktable} {r : Charged} {s : State} {m m′ : ℕ} {a b : World} {c d : ℕ} →
+    ChargedAs L P T pages table r s m a c → m ≤ m′ → a ≡ b → c ≡ d → ChargedAs L P T pages table r s m′ b d
+charged-is {L} {P} {T} {pages} {table} {r} {s} k l e f =
     record {
-      kept = subst (λ (z : World). L P T s (world pages rows (r .state)) z) e (k .kept);
+      kept = subst (λ (z : World). L P T s (world pages table (r .state)) z) e (k .kept);
       charge = k .charge ∙ f;
       most = omega (arith, k .most, l);
     }
@@ -70,14 +69,14 @@ charged-is {L} {P} {T} {pages} {rows} {r} {s} k l e f =
 abbrev pub both : Charged → Charged → Charged
 both one two = record { state = two .state; charge = one .charge + two .charge }
 
-pub then : {L : Leaves} {P T P′ T′ : ℕ} {pages pages′ : List (List ℕ)} {rows rows′ : List Row} {one two : Charged}
+pub then : {L : Leaves} {P T P′ T′ : ℕ} {pages pages′ : List (List ℕ)} {table table′ : Worktable} {one two : Charged}
     {s : State} {m n : ℕ} {right : World} {paid : ℕ} (step : World → World) (cost : World → ℕ) →
-    (Kept P T s (world pages rows (one .state)) right →
-    L P′ T′ (one .state) (world pages′ rows′ (two .state)) (step (world pages rows (one .state))) →
-    L P′ T′ s (world pages′ rows′ (two .state)) (step right)) →
-    ChargedAs Kept P T pages rows one s m right paid →
-    ChargedAs L P′ T′ pages′ rows′ two (one .state) n (step (world pages rows (one .state))) (cost (world pages rows (one .state))) →
-    ChargedAs L P′ T′ pages′ rows′ (both one two) s (m + n) (step right) (paid + cost right)
+    (Kept P T s (world pages table (one .state)) right →
+    L P′ T′ (one .state) (world pages′ table′ (two .state)) (step (world pages table (one .state))) →
+    L P′ T′ s (world pages′ table′ (two .state)) (step right)) →
+    ChargedAs Kept P T pages table one s m right paid →
+    ChargedAs L P′ T′ pages′ table′ two (one .state) n (step (world pages table (one .state))) (cost (world pages table (one .state))) →
+    ChargedAs L P′ T′ pages′ table′ (both one two) s (m + n) (step right) (paid + cost right)
 then step cost join a b =
     record {
       kept = join (a .kept) (b .kept);

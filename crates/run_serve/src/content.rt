@@ -7,6 +7,7 @@ ghost use Rattle.flash_allocate.specs.World.{worldIn};
 ghost use Rattle.run_serve.specs.Content.{contentOf, editedOf};
 ghost use Rattle.layout.specs.Layout.{mostEntries};
 ghost use Rattle.flash_rows.specs.Row.{rowBytes};
+ghost use Rattle.flash_rows.specs.Worktable.{rowsAt};
 use flash_allocate::state::State;
 use flash_read::by_id::node_in;
 use flash_read::content::content;
@@ -16,7 +17,7 @@ use node_replay::redo;
 
 // The content of a node.
 pub fn content_of<'a>(pool: &'a [u8], table: &'a [u8], state: State, id: usize) -> NodeValue
-    requires { ⌜ (state .entries ≤ mostEntries) × (rowBytes * id + rowBytes ≤ length (now table)) ⌝ }
+    requires { ⌜ (state .entries ≤ mostEntries) × (rowsAt + rowBytes * id + rowBytes ≤ length (now table)) ⌝ }
     ensures { λ r. ⌜ Becomes r (contentOf id (worldIn (now (pool .entry)) (now (table .entry)) state)) ⌝ }
 {
     let d = content(pool, table, state, id);
@@ -31,7 +32,7 @@ pub fn edited_content<'a>(
     id: usize,
     change: ChangeValue,
 ) -> NodeValue
-    requires { ⌜ (state .entries ≤ mostEntries) × (rowBytes * id + rowBytes ≤ length (now table)) ⌝ }
+    requires { ⌜ (state .entries ≤ mostEntries) × (rowsAt + rowBytes * id + rowBytes ≤ length (now table)) ⌝ }
     ensures { λ r. ⌜ Becomes r (editedOf (changeOf change) id
         (worldIn (now (pool .entry)) (now (table .entry)) state)) ⌝ }
 {

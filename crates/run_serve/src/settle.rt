@@ -3,7 +3,8 @@ ghost use mathlib.Core.Path.{_≡_};
 ghost use Prim.Native.Nat.{_+_, _*_, _≤_, _<_};
 ghost use lib.ListN.{length};
 ghost use Rattle.account.specs.Range.{Ranged};
-ghost use Rattle.flash_rows.specs.Row.{rowsOf, rowBytes};
+ghost use Rattle.flash_rows.specs.Row.{rowBytes};
+ghost use Rattle.flash_rows.specs.Worktable.{rowsAt, tableFrom};
 ghost use Rattle.flash_allocate.specs.World.{Good, worldIn, Kept, LeftIn};
 ghost use Rattle.run_serve.specs.Step.{InBytes};
 ghost use Rattle.run_serve.specs.Settle as def;
@@ -17,6 +18,8 @@ use account::Request;
 use account::Tariff;
 use flash_allocate::state::State;
 use flash_rows::Row;
+use flash_rows::table::put_row;
+use flash_rows::table::row_at;
 
 // A request whose account is settled: its charge and the state, and the mode that serves it.
 pub struct Settled {
@@ -53,11 +56,11 @@ fn same_mode(a: Mode, b: Mode) -> bool
 
 // The score of a node, in its row as it is now.
 fn rescore(table: &mut [u8], id: usize, score: u32)
-    requires { ⌜ rowBytes * id + rowBytes ≤ length (now table) ⌝ }
-    ensures { λ _. ⌜ rowsOf (now (table .exit)) ≡ rescored id score (rowsOf (now (table .entry))) ⌝ }
+    requires { ⌜ rowsAt + rowBytes * id + rowBytes ≤ length (now table) ⌝ }
+    ensures { λ _. ⌜ tableFrom (now (table .exit)) ≡ rescored id score (tableFrom (now (table .entry))) ⌝ }
 {
-    let row = flash_rows::read_row(table, id);
-    flash_rows::write_row(table, id, row.scored(score));
+    let row = row_at(table, id);
+    put_row(table, id, row.scored(score));
 }
 
 // A switch where the modes differ: the content that the node has, whole in the other mode.
@@ -86,7 +89,7 @@ pub fn settle(
     ensures { λ r. ⌜ InBytes SettledAs (now (pool .exit)) (now (table .exit)) r tariff request id
         (worldIn (now (pool .entry)) (now (table .entry)) state) ⌝ }
 {
-    let row = flash_rows::read_row(table, id);
+    let row = row_at(table, id);
     let account = account_in(row);
     let served = account.serve(tariff, request);
     let after = served.account;

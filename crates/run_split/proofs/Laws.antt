@@ -24,7 +24,7 @@ use Rattle.node.specs.Search.{childPlace, keyAt}
 use Rattle.node.specs.Repoint.{repoint}
 use Rattle.node.specs.Value.{pairsIn, nodeOf, Sized, Held, Becomes, length-pairsIn}
 use Rattle.node_split.specs.Split.{Splits}
-use Rattle.flash_rows.specs.declared.Row.{Row}
+use Rattle.flash_rows.specs.Worktable.{Worktable}
 use Rattle.store.specs.Store.{noNode}
 use Rattle.store.specs.Serve.{edit, rewrite}
 use Rattle.flash_allocate.specs.declared.state.State.{State}
@@ -54,10 +54,10 @@ full-splits v h key at e =
     }
 
 -- A turn's result said otherwise.
-pub absorbed-is : {P T : ℕ} {pages : List (List ℕ)} {rows : List Row} {r : Absorbed} {s : State} {a b : Absorbing} →
-    AbsorbedAs P T pages rows r s a → a ≡ b →
-    AbsorbedAs P T pages rows r s b
-absorbed-is {P} {T} {pages} {rows} {r} {s} k e = subst (AbsorbedAs P T pages rows r s) e k
+pub absorbed-is : {P T : ℕ} {pages : List (List ℕ)} {table : Worktable} {r : Absorbed} {s : State} {a b : Absorbing} →
+    AbsorbedAs P T pages table r s a → a ≡ b →
+    AbsorbedAs P T pages table r s b
+absorbed-is {P} {T} {pages} {table} {r} {s} k e = subst (AbsorbedAs P T pages table r s) e k
 
 -- A node more, or none where the limit is reached.
 module _ {P T P₀ T₀ : ℕ} (x : Node) (w : World) (g : Growing P₀ T₀ (w .state)) where
@@ -80,14 +80,14 @@ grow-none x w g l = record { is = rw (le-ltb (w .state .nodes) (nodeLimit (w .st
 module _ (t : Tariff) (whole : Node) (w : World) where
   pub below-split : {P T P₁ T₁ : ℕ} (id : ℕ) (low high : Node) (middle : ℕ) →
       low ≡ lowerHalf whole (w .state .nodes) → high ≡ upperHalf whole → middle ≡ middleKey whole →
-      (pages₁ : List (List ℕ)) (rows₁ : List Row) (r : Charged) → ServedAs P₁ T₁ pages₁ rows₁ r t id (rewrite low) w →
-      (pages₂ : List (List ℕ)) (rows₂ : List Row) (s₂ : State) → Grew P T (r .state) (world pages₂ rows₂ s₂)
-      (grow high (world pages₁ rows₁ (r .state))) →
-      AbsorbedAs P T pages₂ rows₂ (record
+      (pages₁ : List (List ℕ)) (table₁ : Worktable) (r : Charged) → ServedAs P₁ T₁ pages₁ table₁ r t id (rewrite low) w →
+      (pages₂ : List (List ℕ)) (table₂ : Worktable) (s₂ : State) → Grew P T (r .state) (world pages₂ table₂ s₂)
+      (grow high (world pages₁ table₁ (r .state))) →
+      AbsorbedAs P T pages₂ table₂ (record
       { charged = record { state = s₂; charge = r .charge }; pending = Halves middle id (w .state .nodes) }) (w .state)
       (splitBelow t id whole w)
   unfolding splitBelow
-  below-split id low high middle e f m pages₁ rows₁ r s pages₂ rows₂ s₂ k =
+  below-split id low high middle e f m pages₁ table₁ r s pages₂ table₂ s₂ k =
       record {
         charged =
             record {
@@ -108,10 +108,10 @@ module _ (t : Tariff) (whole : Node) (w : World) where
       top ≡ node Branch ((middle, w .state .nodes) ∷ []) (w .state .nodes + 1) →
       (w₁ : World) → Grew P₁ T₁ (w .state) w₁ (grow low w) →
       (w₂ : World) → Grew P₂ T₂ (w₁ .state) w₂ (grow high w₁) →
-      (pages : List (List ℕ)) (rows : List Row) (r : Charged) → ServedAs P T pages rows r t 0 (rewrite top) w₂ →
-      AbsorbedAs P T pages rows (record { charged = r; pending = Nothing }) (w .state) (splitRoot t whole w)
+      (pages : List (List ℕ)) (table : Worktable) (r : Charged) → ServedAs P T pages table r t 0 (rewrite top) w₂ →
+      AbsorbedAs P T pages table (record { charged = r; pending = Nothing }) (w .state) (splitRoot t whole w)
   unfolding splitRoot
-  root-split low high middle top e f m g w₁ k w₂ l pages rows r s =
+  root-split low high middle top e f m g w₁ k w₂ l pages table r s =
       record {
         charged =
             record {
@@ -143,18 +143,18 @@ module _ (t : Tariff) (whole : Node) (w : World) where
 
 -- The edits.
 module _ {P₀ T₀ : ℕ} (t : Tariff) (id : ℕ) (w : World) (g : Growing P₀ T₀ (w .state)) where
-  pub one-edit : {P T : ℕ} (c : Change) (pages : List (List ℕ)) (rows : List Row) (r : Charged) → ServedAs P T pages rows r t id (edit c) w →
-      AbsorbedAs P T pages rows (record { charged = r; pending = Nothing }) (w .state) (absorbEdit t id c w)
+  pub one-edit : {P T : ℕ} (c : Change) (pages : List (List ℕ)) (table : Worktable) (r : Charged) → ServedAs P T pages table r t id (edit c) w →
+      AbsorbedAs P T pages table (record { charged = r; pending = Nothing }) (w .state) (absorbEdit t id c w)
   unfolding absorbEdit
-  one-edit c pages rows r s =
+  one-edit c pages table r s =
       record { charged = charged-is (grew-charged g s) (omega arith) refl refl; pending = refl }
 
-  pub two-edits : {P T P₁ T₁ : ℕ} (first second : Change) (pages₁ : List (List ℕ)) (rows₁ : List Row) (one : Charged) →
-      ServedAs P₁ T₁ pages₁ rows₁ one t id (edit first) w →
-      (pages : List (List ℕ)) (rows : List Row) (two : Charged) → ServedAs P T pages rows two t id (edit second) (world pages₁ rows₁ (one .state)) →
-      AbsorbedAs P T pages rows (record { charged = both one two; pending = Nothing }) (w .state) (absorbEdits t id first second w)
+  pub two-edits : {P T P₁ T₁ : ℕ} (first second : Change) (pages₁ : List (List ℕ)) (table₁ : Worktable) (one : Charged) →
+      ServedAs P₁ T₁ pages₁ table₁ one t id (edit first) w →
+      (pages : List (List ℕ)) (table : Worktable) (two : Charged) → ServedAs P T pages table two t id (edit second) (world pages₁ table₁ (one .state)) →
+      AbsorbedAs P T pages table (record { charged = both one two; pending = Nothing }) (w .state) (absorbEdits t id first second w)
   unfolding absorbEdits
-  two-edits first second pages₁ rows₁ one s pages rows two s′ =
+  two-edits first second pages₁ table₁ one s pages table two s′ =
       let step = serve t id (edit second) in
       record { charged = grew-charged g (then step (charge t id (edit second)) (kept-then step) s s′); pending = refl }
 
@@ -190,7 +190,7 @@ module _ (t : Tariff) (root : Bool) (id key value : ℕ) (w : World) (v : NodeVa
     pub pair-there : Held v → id < w .state .nodes
     pair-there h =
         there (w .state .nodes) id
-        (λ l. full-none v at key (pair-full h) (ap pairsOf (is ∙ tableOf-out (w .pages) (w .rows) (w .state) id l)))
+        (λ l. full-none v at key (pair-full h) (ap pairsOf (is ∙ tableOf-out (w .pages) (w .table) (w .state) id l)))
 
 none-renamed : (wanted right : ℕ) → pairsOf (change (renaming wanted right noNode) noNode) ≡ []
 unfolding repoint
@@ -229,11 +229,11 @@ module _ (t : Tariff) (root : Bool) (id wanted middle left right : ℕ) (w : Wor
         there (w .state .nodes) id
         (λ l.
         full-none u at middle (halves-full h)
-        (ap pairsOf (renamed-is ∙ ap renamedIn (tableOf-out (w .pages) (w .rows) (w .state) id l)) ∙ none-renamed wanted right))
+        (ap pairsOf (renamed-is ∙ ap renamedIn (tableOf-out (w .pages) (w .table) (w .state) id l)) ∙ none-renamed wanted right))
 
 -- What is pending, known.
 pub absorb-nothing : {P T : ℕ} (t : Tariff) (wanted : ℕ) (root : Bool) (id : ℕ) (p : Pending) (w : World) → p ≡ Nothing → Growing P T (w .state) →
-    AbsorbedAs P T (w .pages) (w .rows) (record { charged = record { state = w .state; charge = 0 }; pending = p }) (w .state) (absorb t wanted root id p w)
+    AbsorbedAs P T (w .pages) (w .table) (record { charged = record { state = w .state; charge = 0 }; pending = p }) (w .state) (absorb t wanted root id p w)
 absorb-nothing t wanted root id p w e g =
     rw e (record { charged = charged-is (charged-none w (grew-same w g)) (omega arith) refl refl; pending = refl })
 

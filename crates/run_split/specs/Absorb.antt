@@ -18,7 +18,7 @@ use Rattle.run_split.specs.Split.{split}
 
 -- Node n as it is now.
 abbrev pub nodeAt : ℕ → World → Node
-nodeAt n w = tableOf (w .pages) (w .rows) (w .state) n
+nodeAt n w = tableOf (w .pages) (w .table) (w .state) n
 
 -- "A hang that fits" is one edit.
 unfoldable pub absorbEdit : Tariff → ℕ → Change → World → Absorbing

@@ -2,7 +2,7 @@
 use mathlib.Core.Path.{_≡_, ap, _∙_}
 use mathlib.Core.List.{List}
 use Prim.Native.Nat.{ℕ}
-use Rattle.flash_rows.specs.declared.Row.{Row}
+use Rattle.flash_rows.specs.Worktable.{Worktable}
 use Rattle.flash_allocate.specs.declared.state.State.{State}
 use Rattle.flash_allocate.specs.World.{World, world}
 use Rattle.run_serve.specs.Step.{ChargedAs}
@@ -24,12 +24,12 @@ absorbing-is {b = b} {m = m} {n = n} {p = p} e f g =
     ap (λ (z : World). absorbing z m p) e ∙ ap (λ (z : ℕ). absorbing b z p) f ∙ ap (λ (z : Pending). absorbing b n z) g
 
 -- What the code of a turn leaves: the world, the charge and the rest of the definition; at most two requests were charged.
-pub record AbsorbedAs (poolLength tableLength : ℕ) (pages : List (List ℕ)) (rows : List Row) (r : Absorbed) (before : State) (right : Absorbing) : Type 0 where
-  pub charged : ChargedAs Grew poolLength tableLength pages rows (r .charged) before 2 (right .now) (right .charge)
+pub record AbsorbedAs (poolLength tableLength : ℕ) (pages : List (List ℕ)) (table : Worktable) (r : Absorbed) (before : State) (right : Absorbing) : Type 0 where
+  pub charged : ChargedAs Grew poolLength tableLength pages table (r .charged) before 2 (right .now) (right .charge)
   pub pending : r .pending ≡ right .pending
 
 -- All three as one.
-pub absorbed-whole : {P T : ℕ} {pages : List (List ℕ)} {rows : List Row} {r : Absorbed} {s : State} {right : Absorbing} →
-    AbsorbedAs P T pages rows r s right →
-    absorbing (world pages rows (r .charged .state)) (r .charged .charge) (r .pending) ≡ right
+pub absorbed-whole : {P T : ℕ} {pages : List (List ℕ)} {table : Worktable} {r : Absorbed} {s : State} {right : Absorbing} →
+    AbsorbedAs P T pages table r s right →
+    absorbing (world pages table (r .charged .state)) (r .charged .charge) (r .pending) ≡ right
 absorbed-whole k = absorbing-is (k .charged .kept .is) (k .charged .charge) (k .pending)

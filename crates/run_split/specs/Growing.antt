@@ -5,7 +5,7 @@ use Prim.Native.Nat.{ℕ, _≤_}
 use native.Mathlib.Omega.{arith}
 use lib.ListN.{length}
 use Rattle.layout.specs.Layout.{nodeLimit}
-use Rattle.flash_rows.specs.declared.Row.{Row}
+use Rattle.flash_rows.specs.Worktable.{Worktable}
 use Rattle.flash_allocate.specs.declared.state.State.{State}
 use Rattle.flash_allocate.specs.World.{World, Good, Kept}
 use Rattle.flash_read.specs.NodeTable.{Readable}
@@ -32,8 +32,8 @@ pub growing-kept : {P T P₀ T₀ : ℕ} {s : State} {made right : World} → Gr
 growing-kept g k =
     record { good = k .good; limited = omega (arith, g .limited, k .nodes, k .blocks); noCheckpointPage = k .checkpoint ∙ g .noCheckpointPage }
 
-pub grew-charged : {P T P₀ T₀ : ℕ} {pages : List (List ℕ)} {rows : List Row} {r : Charged} {s : State} {m : ℕ} {right : World} {paid : ℕ} →
-    Growing P₀ T₀ s → ChargedAs Kept P T pages rows r s m right paid → ChargedAs Grew P T pages rows r s m right paid
+pub grew-charged : {P T P₀ T₀ : ℕ} {pages : List (List ℕ)} {table : Worktable} {r : Charged} {s : State} {m : ℕ} {right : World} {paid : ℕ} →
+    Growing P₀ T₀ s → ChargedAs Kept P T pages table r s m right paid → ChargedAs Grew P T pages table r s m right paid
 grew-charged g k =
     record {
       kept = record { is = k .kept .is; growing = growing-kept g (k .kept); blocks = k .kept .blocks };

@@ -4,7 +4,7 @@ use mathlib.Core.List.{List, [], _∷_}
 use Prim.Native.Nat.{ℕ, _+_}
 use lib.ListN.{drop}
 use Rattle.account.specs.declared.Tariff.{Tariff}
-use Rattle.flash_rows.specs.declared.Row.{Row}
+use Rattle.flash_rows.specs.Worktable.{Worktable}
 use Rattle.flash_allocate.specs.World.{World}
 use Rattle.run_serve.specs.Step.{ChargedAs}
 use Rattle.run_serve.specs.declared.charged.Charged.{Charged}
@@ -30,6 +30,6 @@ unfoldable pub splitUpwards : Tariff → ℕ → ℕ → List ℕ → World → 
 splitUpwards t key value ids w = upward t key true 0 (splitUpwardsBelow t key (drop 1 ids) (absorbing w 0 (Pair key value)))
 
 -- What the code of it leaves.
-abbrev pub SplitUpwardsAs : ℕ → ℕ → List (List ℕ) → List Row → Charged → Tariff → ℕ → ℕ → List ℕ → World → Type 0
-SplitUpwardsAs poolLength tableLength pages rows r t key value ids w =
-    ChargedAs Grew poolLength tableLength pages rows r (w .state) 18 (splitUpwards t key value ids w .now) (splitUpwards t key value ids w .charge)
+abbrev pub SplitUpwardsAs : ℕ → ℕ → List (List ℕ) → Worktable → Charged → Tariff → ℕ → ℕ → List ℕ → World → Type 0
+SplitUpwardsAs poolLength tableLength pages table r t key value ids w =
+    ChargedAs Grew poolLength tableLength pages table r (w .state) 18 (splitUpwards t key value ids w .now) (splitUpwards t key value ids w .charge)

@@ -8,7 +8,7 @@ use lib.ListN.{length, getD, drop, drop-of-length-le}
 use lib.Seq.{drop-cons}
 use Rattle.account.specs.declared.Tariff.{Tariff}
 use Rattle.account.specs.Fair.{mostCharge}
-use Rattle.flash_rows.specs.declared.Row.{Row}
+use Rattle.flash_rows.specs.Worktable.{Worktable}
 use Rattle.flash_allocate.specs.World.{World, world}
 use Rattle.run_split.specs.declared.Pending.{Pending}
 use Rattle.run_split.specs.declared.Pending.the-variants.{Pair}
@@ -44,17 +44,17 @@ splitting-start t key value ids w g n e some few =
     }
 
 module _ {P T : ℕ} {t : Tariff} {key value : ℕ} {ids : List ℕ} {i : ℕ} {start now : World} {paid : ℕ} {pending : Pending}
-    (r : SplittingUpwards P T t key value ids i start now paid pending) {P′ T′ : ℕ} (pages : List (List ℕ)) (rows : List Row) (x : Absorbed) where
+    (r : SplittingUpwards P T t key value ids i start now paid pending) {P′ T′ : ℕ} (pages : List (List ℕ)) (table : Worktable) (x : Absorbed) where
   -- a node's turn above those that are done
-  turn-is : (root : Bool) (id : ℕ) → AbsorbedAs P′ T′ pages rows x (now .state) (Turn.absorb t key root id pending now) →
-      absorbing (world pages rows (x .charged .state)) (paid + x .charged .charge) (x .pending) ≡
+  turn-is : (root : Bool) (id : ℕ) → AbsorbedAs P′ T′ pages table x (now .state) (Turn.absorb t key root id pending now) →
+      absorbing (world pages table (x .charged .state)) (paid + x .charged .charge) (x .pending) ≡
       upward t key root id (splitUpwardsBelow t key (drop i ids) (absorbing start 0 (Pair key value)))
   unfolding upward
   turn-is root id k = ap (afterIt paid) (absorbed-whole k) ∙ ap (upward t key root id) (r .is)
 
   -- one node more
-  pub splitting-next : 1 < i → (id : ℕ) → id ≡ getD ids (i - 1) 0 → AbsorbedAs P′ T′ pages rows x (now .state) (Turn.absorb t key false id pending now) →
-      SplittingUpwards P′ T′ t key value ids (i - 1) start (world pages rows (x .charged .state)) (paid + x .charged .charge) (x .pending)
+  pub splitting-next : 1 < i → (id : ℕ) → id ≡ getD ids (i - 1) 0 → AbsorbedAs P′ T′ pages table x (now .state) (Turn.absorb t key false id pending now) →
+      SplittingUpwards P′ T′ t key value ids (i - 1) start (world pages table (x .charged .state)) (paid + x .charged .charge) (x .pending)
   unfolding splitUpwardsBelow
   splitting-next l id e k =
       let before : suc (i - 1) ≡ i = omega arith in
@@ -70,12 +70,12 @@ module _ {P T : ℕ} {t : Tariff} {key value : ℕ} {ids : List ℕ} {i : ℕ} {
       }
 
   -- the root last
-  pub splitting-end : i ≤ 1 → AbsorbedAs P′ T′ pages rows x (now .state) (Turn.absorb t key true 0 pending now) →
-      SplitUpwardsAs P′ T′ pages rows (record { state = x .charged .state; charge = paid + x .charged .charge }) t key value ids start
+  pub splitting-end : i ≤ 1 → AbsorbedAs P′ T′ pages table x (now .state) (Turn.absorb t key true 0 pending now) →
+      SplitUpwardsAs P′ T′ pages table (record { state = x .charged .state; charge = paid + x .charged .charge }) t key value ids start
   unfolding splitUpwards
   splitting-end l k =
       let one : i ≡ 1 = omega (arith, r .some) in
-      let whole : absorbing (world pages rows (x .charged .state)) (paid + x .charged .charge) (x .pending) ≡ splitUpwards t key value ids start =
+      let whole : absorbing (world pages table (x .charged .state)) (paid + x .charged .charge) (x .pending) ≡ splitUpwards t key value ids start =
       turn-is true 0 k ∙ ap (λ (j : ℕ). upward t key true 0 (splitUpwardsBelow t key (drop j ids) (absorbing start 0 (Pair key value)))) one in
       record {
         kept =

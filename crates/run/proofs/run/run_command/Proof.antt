@@ -2,7 +2,7 @@
 use mathlib.Core.Path.{ap}
 use native.Mathlib.Omega.{arith}
 use Rattle.command.specs.Batch.{roomFor}
-use Rattle.flash_rows.specs.Row.{rowsOf}
+use Rattle.flash_rows.specs.Worktable.{tableFrom}
 use Rattle.flash_blocks.specs.Pages.{pagesOf}
 use Rattle.flash_allocate.specs.World.{world}
 use Rattle.run.specs.Replies.{put-replied, get-replied, delete-replied, scan-replied, range-is}
@@ -38,7 +38,7 @@ returns c =
     let c12 = c8 .before .before .before .before in
     let c17 = c12 .before .before .before .before .before in
     let a = c17 .args in
-    get-replied (a .tariff) (world (pagesOf (a .pool .now)) (rowsOf (a .table .now)) (a .state)) (c17 .pre .0) (c12 .command .given .1)
+    get-replied (a .tariff) (world (pagesOf (a .pool .now)) (tableFrom (a .table .now)) (a .state)) (c17 .pre .0) (c12 .command .given .1)
     (c8 .get .ensures) (c2 .reply .ensures)
 
 enum-known-command-2 : tie.Need-enum-known-command-2
@@ -69,7 +69,7 @@ returns-2 c =
     let c12 = c8 .before .before .before .before in
     let c17 = c12 .before .before .before .before .before in
     let a = c17 .args in
-    put-replied (a .tariff) (world (pagesOf (a .pool .now)) (rowsOf (a .table .now)) (a .state)) (c12 .command2 .given .1)
+    put-replied (a .tariff) (world (pagesOf (a .pool .now)) (tableFrom (a .table .now)) (a .state)) (c12 .command2 .given .1)
     (c8 .put .ensures) (c2 .reply2 .ensures)
 
 enum-known-command-3 : tie.Need-enum-known-command-3
@@ -100,7 +100,7 @@ returns-3 c =
     let c12 = c8 .before .before .before .before in
     let c17 = c12 .before .before .before .before .before in
     let a = c17 .args in
-    delete-replied (a .tariff) (world (pagesOf (a .pool .now)) (rowsOf (a .table .now)) (a .state)) (c17 .pre .0) (c12 .command3 .given .1)
+    delete-replied (a .tariff) (world (pagesOf (a .pool .now)) (tableFrom (a .table .now)) (a .state)) (c17 .pre .0) (c12 .command3 .given .1)
     (c8 .delete .ensures) (c2 .reply3 .ensures)
 
 enum-known-command-4 : tie.Need-enum-known-command-4
@@ -136,7 +136,7 @@ returns-4 c =
     let c12 = c8 .before .before .before .before in
     let c17 = c12 .before .before .before .before .before in
     let a = c17 .args in
-    scan-replied (a .tariff) (world (pagesOf (a .pool .now)) (rowsOf (a .table .now)) (a .state)) (c17 .pre .0) (c12 .command4 .given .1)
+    scan-replied (a .tariff) (world (pagesOf (a .pool .now)) (tableFrom (a .table .now)) (a .state)) (c17 .pre .0) (c12 .command4 .given .1)
     (c8 .scan .ensures) (c2 .reply-pairs .ensures)
 
 pub run-command-spec : {M : Type 1} → statement M

@@ -7,7 +7,7 @@ use lib.ListN.{length}
 use Rattle.command.specs.declared.Step.the-variants.{Next}
 use Rattle.command.specs.Command.{commandAt, Onward}
 use Rattle.command.specs.CommandLaws.{commandAt-onward}
-use Rattle.flash_rows.specs.Row.{rowsOf}
+use Rattle.flash_rows.specs.Worktable.{tableFrom}
 use Rattle.flash_blocks.specs.Pages.{pagesOf}
 use Rattle.flash_allocate.specs.World.{world}
 use Rattle.run.specs.Valid.{command-range}
@@ -18,8 +18,8 @@ use Rattle.run.proofs.run.run_commands.Tie as tie
 abbrev Inv-loop : tie.InvT-loop
 Inv-loop pool₀ table₀ batch answers₀ tariff s₀ charge₀ place₀ at₀ pool table answers s charge place at =
     (length pool ≡ length pool₀) × (length table ≡ length table₀) × (length answers ≡ length answers₀) ×
-    Running (length pool) (length table) tariff batch answers₀ at (world (pagesOf pool₀) (rowsOf table₀) s₀)
-    (world (pagesOf pool) (rowsOf table) s) answers charge place
+    Running (length pool) (length table) tariff batch answers₀ at (world (pagesOf pool₀) (tableFrom table₀) s₀)
+    (world (pagesOf pool) (tableFrom table) s) answers charge place
 
 abbrev μ-loop : tie.MeasureT-loop
 μ-loop pool₀ table₀ batch answers₀ tariff s₀ charge₀ place₀ at₀ pool table answers s charge place at = length batch - at
@@ -47,7 +47,7 @@ loop-holds c =
       refl,
       refl,
       running-start _ _ (a .tariff) (a .batch .now) (a .answers .now)
-          (world (pagesOf (a .pool .now)) (rowsOf (a .table .now)) (a .state)) (c4 .pre .0) (c4 .pre .2),
+          (world (pagesOf (a .pool .now)) (tableFrom (a .table .now)) (a .state)) (c4 .pre .0) (c4 .pre .2),
     )
 
 command-at-requires : tie.Need-command-at-requires Inv-loop μ-loop
@@ -98,7 +98,7 @@ loop-again c =
       x .kept .1 .0 ∙ l .inv .1,
       x .kept .1 .1 .0 ∙ l .inv .2,
       running-next (l .inv .3) (c17 .loop-test .taken) _ _ (step-is (c13)) (length (x .last .0))
-          (length (x .last .1 .0)) (pagesOf (x .last .0)) (rowsOf (x .last .1 .0)) (x .last .1 .1 .0) (x .result)
+          (length (x .last .1 .0)) (pagesOf (x .last .0)) (tableFrom (x .last .1 .0)) (x .last .1 .1 .0) (x .result)
           (further .0) (further .1) (x .ensures),
     )
 

@@ -1,5 +1,5 @@
 -- `delete::delete` meets its contract: the path read, then the leaf at its end edited where the key was there. Assumes nothing.
-use Rattle.flash_rows.specs.Row.{rowsOf}
+use Rattle.flash_rows.specs.Worktable.{tableFrom}
 use Rattle.flash_blocks.specs.Pages.{pagesOf}
 use Rattle.flash_allocate.specs.World.{world}
 use mathlib.Core.Path.{ap, _∙_}
@@ -63,7 +63,7 @@ returns c =
     let c25 = c21 .before .before .before .before in
     let c30 = c25 .before .before .before .before .before in
     let a = c30 .args in
-    let w = world (pagesOf (a .pool .now)) (rowsOf (a .table .now)) (a .state) in
+    let w = world (pagesOf (a .pool .now)) (tableFrom (a .table .now)) (a .state) in
     let path = c25 .path-to .ensures in
     let value = c21 .value-at in
     deleted-one (a .tariff) (a .key) w (path-read w path (a .tariff) (c18 .serve-reads .ensures)) _ _ (path .end)
@@ -82,7 +82,7 @@ returns-2 c =
     let c14 = c10 .before .before .before .before in
     let c19 = c14 .before .before .before .before .before in
     let a = c19 .args in
-    let w = world (pagesOf (a .pool .now)) (rowsOf (a .table .now)) (a .state) in
+    let w = world (pagesOf (a .pool .now)) (tableFrom (a .table .now)) (a .state) in
     let path = c14 .path-to .ensures in
     let value = c10 .value-at in
     deleted-none (a .tariff) (a .key) w (path-read w path (a .tariff) (c7 .serve-reads .ensures))

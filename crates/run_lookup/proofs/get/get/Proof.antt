@@ -1,5 +1,5 @@
 -- `get::get` meets its contract: the value is looked up before the path is read. Assumes nothing.
-use Rattle.flash_rows.specs.Row.{rowsOf}
+use Rattle.flash_rows.specs.Worktable.{tableFrom}
 use Rattle.flash_blocks.specs.Pages.{pagesOf}
 use Rattle.flash_allocate.specs.World.{world}
 use Rattle.run_lookup.specs.Finding.{got-as}
@@ -33,7 +33,7 @@ returns c =
     let c11 = c9 .before .before in
     let c16 = c11 .before .before .before .before .before in
     let a = c16 .args in
-    got-as (world (pagesOf (a .pool .now)) (rowsOf (a .table .now)) (a .state)) (c11 .path-to .ensures)
+    got-as (world (pagesOf (a .pool .now)) (tableFrom (a .table .now)) (a .state)) (c11 .path-to .ensures)
     (a .tariff) (c4 .serve-reads .ensures) (c9 .value-at .result) (c9 .value-at .ensures) (c8 .get-answer .result)
     (c8 .get-answer .ensures)
 

@@ -5,7 +5,7 @@ use native.Mathlib.Omega.{arith}
 use borrow.Author.Needs.{needs}
 use lib.ListN.{set}
 use Rattle.flash_blocks.specs.Pages.{pagesOf}
-use Rattle.flash_rows.specs.Row.{rowsOf}
+use Rattle.flash_rows.specs.Worktable.{tableFrom}
 use Rattle.node.specs.Value.{pairsIn}
 use Rattle.flash_read.specs.NodeTable.{tableOf}
 use Rattle.flash_read.specs.Shapes.{is-leaf, is-branch}
@@ -14,7 +14,7 @@ use Rattle.run_path.proofs.path.path_to.Statement.{statement}
 use Rattle.run_path.proofs.path.path_to.Tie as tie
 
 abbrev Inv-loop : tie.InvT-loop
-Inv-loop pool table state key ids₀ id₀ i₀ ids id i = Down (tableOf (pagesOf pool) (rowsOf table) state) key ids id i
+Inv-loop pool table state key ids₀ id₀ i₀ ids id i = Down (tableOf (pagesOf pool) (tableFrom table) state) key ids id i
 
 abbrev μ-loop : tie.MeasureT-loop
 μ-loop pool table state key ids₀ id₀ i₀ ids id i = 8 - i
@@ -44,7 +44,7 @@ returns c =
     let c4 = c2 .before .before in
     let c7 = c4 .before .before .before in
     let a = c7 .args in
-    let nodes = tableOf (pagesOf (a .pool .now)) (rowsOf (a .table .now)) (a .state) in
+    let nodes = tableOf (pagesOf (a .pool .now)) (tableFrom (a .table .now)) (a .state) in
     let turn = c4 .loop in
     let read = c2 .node-at in
     down-leaf (turn .inv) (pairsIn (read .result)) (read .result .link)
@@ -72,7 +72,7 @@ loop-again c =
     let c5 = c4 .before in
     let c8 = c5 .before .before .before in
     let a = c8 .args in
-    let nodes = tableOf (pagesOf (a .pool .now)) (rowsOf (a .table .now)) (a .state) in
+    let nodes = tableOf (pagesOf (a .pool .now)) (tableFrom (a .table .now)) (a .state) in
     let turn = c5 .loop in
     let read = c3 .node-at in
     let shape = c2 .same-shape in

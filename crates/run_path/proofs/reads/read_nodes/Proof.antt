@@ -5,7 +5,7 @@ use native.Mathlib.Omega.{arith}
 use borrow.Author.Needs.{needs}
 use lib.ListN.{length, getD}
 use Rattle.flash_blocks.specs.Pages.{pagesOf}
-use Rattle.flash_rows.specs.Row.{rowsOf}
+use Rattle.flash_rows.specs.Worktable.{tableFrom}
 use Rattle.flash_allocate.specs.World.{world}
 use Rattle.run_path.specs.Reading.{Reading, reading-start, reading-next, reading-end}
 use Rattle.run_path.proofs.reads.read_nodes.Statement.{statement}
@@ -14,7 +14,7 @@ use Rattle.run_path.proofs.reads.read_nodes.Tie as tie
 abbrev Inv-loop : tie.InvT-loop
 Inv-loop pool₀ table₀ tariff ids s₀ charge₀ i₀ pool table s charge i = (i ≤ length ids) ×
     (length pool ≡ length pool₀) × (length table ≡ length table₀) ×
-    Reading (length pool) (length table) tariff ids i (world (pagesOf pool₀) (rowsOf table₀) s₀) (world (pagesOf pool) (rowsOf table) s) charge
+    Reading (length pool) (length table) tariff ids i (world (pagesOf pool₀) (tableFrom table₀) s₀) (world (pagesOf pool) (tableFrom table) s) charge
 
 abbrev μ-loop : tie.MeasureT-loop
 μ-loop pool₀ table₀ tariff ids s₀ charge₀ i₀ pool table s charge i = length ids - i
@@ -25,7 +25,7 @@ loop-holds c = let a = c .before .before .before .args in (
   refl,
   refl,
   reading-start _ _ (a .tariff) (a .ids .now)
-      (world (pagesOf (a .pool .now)) (rowsOf (a .table .now)) (a .state)) (c .before .before .before .pre .0),
+      (world (pagesOf (a .pool .now)) (tableFrom (a .table .now)) (a .state)) (c .before .before .before .pre .0),
 )
 
 mul-serve-read : tie.Need-mul-serve-read Inv-loop μ-loop
@@ -63,7 +63,7 @@ loop-again c = let a = c .before .before .before .before .before .before .before
       x .kept .0 ∙ l .inv .1,
       x .kept .1 .0 ∙ l .inv .2,
       reading-next (l .inv .3) (length (x .last .0)) (length (x .last .1 .0)) (pagesOf (x .last .0))
-          (rowsOf (x .last .1 .0)) (x .result) (getD (a .ids .now) (l .i) 0) inside refl (x .ensures),
+          (tableFrom (x .last .1 .0)) (x .result) (getD (a .ids .now) (l .i) 0) inside refl (x .ensures),
     )
 
 same-length : tie.Need-same-length Inv-loop μ-loop
@@ -76,7 +76,7 @@ returns : tie.Need-returns Inv-loop μ-loop
 returns c = let l = c .before .loop in
     let ids = c .before .before .before .before .before .args .ids .now in
     let all : l .i ≡ length ids = omega (arith, l .inv .0, c .loop-test .left) in
-    reading-end (l .inv .3) (pagesOf (l .pool)) (rowsOf (l .table)) _ refl refl all (length ids) all
+    reading-end (l .inv .3) (pagesOf (l .pool)) (tableFrom (l .table)) _ refl refl all (length ids) all
 
 pub read-nodes-spec : {M : Type 1} → statement M
 read-nodes-spec =

@@ -3,7 +3,7 @@ use mathlib.Core.Path.{_≡_}
 use Prim.Native.Nat.{_≤_}
 use native.Mathlib.Omega.{arith}
 use lib.ListN.{length}
-use Rattle.flash_rows.specs.Row.{rowsOf}
+use Rattle.flash_rows.specs.Worktable.{tableFrom}
 use Rattle.flash_blocks.specs.Pages.{pagesOf}
 use Rattle.flash_allocate.specs.World.{world}
 use borrow.Author.Needs.{needs}
@@ -35,7 +35,7 @@ returns c =
     let whole : length (entry .args .t5) ≡ 9 = search needs in
     let few : entry .args .n ≤ length (entry .args .t5) = omega (arith, whole, entry .pre .2) in
     let a = entry .args in
-    reads-part (a .tariff) (world (pagesOf (a .pool .now)) (rowsOf (a .table .now)) (a .state)) (a .n) (a .t5) few
+    reads-part (a .tariff) (world (pagesOf (a .pool .now)) (tableFrom (a .table .now)) (a .state)) (a .n) (a .t5) few
     (c .before .before .before .before .read-nodes .ensures)
 
 pub serve-reads-spec : {M : Type 1} → statement M

@@ -4,7 +4,7 @@ use mathlib.Core.List.{List}
 use Prim.Native.Nat.{ℕ, _-_, _≤_}
 use native.Mathlib.Omega.{arith}
 use lib.ListN.{length, getD, take, length-take}
-use Rattle.flash_rows.specs.Row.{rowsOf}
+use Rattle.flash_rows.specs.Worktable.{tableFrom}
 use Rattle.flash_blocks.specs.Pages.{pagesOf}
 use Rattle.flash_read.specs.NodeTable.{tableOf}
 use Rattle.run_put.specs.FullRun.{Full, leaf-counted, above-counted, gap-counted, all-counted, size-read}
@@ -16,7 +16,7 @@ few : (ids : List ℕ) (n : ℕ) → length ids ≡ 9 → n ≤ 9 → n ≤ leng
 few ids n e l = omega arith
 
 abbrev Inv-loop : tie.InvT-loop
-Inv-loop pool table state n ids i₀ i = (length ids ≡ 9) × Full (tableOf (pagesOf pool) (rowsOf table) state) (take n ids) i
+Inv-loop pool table state n ids i₀ i = (length ids ≡ 9) × Full (tableOf (pagesOf pool) (tableFrom table) state) (take n ids) i
 
 abbrev μ-loop : tie.MeasureT-loop
 μ-loop pool table state n ids i₀ i = i
@@ -28,7 +28,7 @@ loop-holds : tie.Need-loop-holds Inv-loop μ-loop
 loop-holds c =
     let a = c .before .before .args in (
       search needs,
-      leaf-counted (tableOf (pagesOf (a .pool .now)) (rowsOf (a .table .now)) (a .state)) (a .t4) (a .n)
+      leaf-counted (tableOf (pagesOf (a .pool .now)) (tableFrom (a .table .now)) (a .state)) (a .t4) (a .n)
           (few (a .t4) (a .n) (search needs) (c .before .before .pre .2)) (c .before .before .pre .1)
           (c .before .before .pre .3),
     )
@@ -65,7 +65,7 @@ returns c =
     let c7 = c4 .before .before .before in
     let a = c7 .args in
     let l = c4 .loop in
-    let nodes = tableOf (pagesOf (a .pool .now)) (rowsOf (a .table .now)) (a .state) in (
+    let nodes = tableOf (pagesOf (a .pool .now)) (tableFrom (a .table .now)) (a .state) in (
       gap-counted nodes (a .t4) (a .n) (few (a .t4) (a .n) (l .inv .0) (c7 .pre .2)) (l .i) (l .inv .1)
           (c3 .loop-test .taken) (omega (
             arith,
@@ -87,7 +87,7 @@ loop-again c =
     let c7 = c4 .before .before .before in
     let a = c7 .args in
     let l = c4 .loop in
-    let nodes = tableOf (pagesOf (a .pool .now)) (rowsOf (a .table .now)) (a .state) in (
+    let nodes = tableOf (pagesOf (a .pool .now)) (tableFrom (a .table .now)) (a .state) in (
       l .inv .0,
       above-counted nodes (a .t4) (a .n) (few (a .t4) (a .n) (l .inv .0) (c7 .pre .2)) (l .i) (l .inv .1)
           (c3 .loop-test .taken) (omega (
@@ -107,7 +107,7 @@ returns-2 c =
     let c4 = c1 .before .before .before in
     let a = c4 .args in
     let l = c1 .loop in (
-      all-counted (tableOf (pagesOf (a .pool .now)) (rowsOf (a .table .now)) (a .state)) (a .t4) (a .n)
+      all-counted (tableOf (pagesOf (a .pool .now)) (tableFrom (a .table .now)) (a .state)) (a .t4) (a .n)
           (few (a .t4) (a .n) (l .inv .0) (c4 .pre .2)) (l .i) (l .inv .1) (c .loop-test .left),
       omega (arith, c4 .pre .2),
     )

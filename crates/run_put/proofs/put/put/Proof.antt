@@ -1,5 +1,5 @@
 -- `put::put` meets its contract: by whether the pair fits its leaf, one edit, or what a new key does. Assumes nothing.
-use Rattle.flash_rows.specs.Row.{rowsOf}
+use Rattle.flash_rows.specs.Worktable.{tableFrom}
 use Rattle.flash_blocks.specs.Pages.{pagesOf}
 use Rattle.flash_allocate.specs.World.{world}
 use Rattle.run_split.specs.Growing.{readable}
@@ -44,8 +44,8 @@ returns c =
     let p = c13 .path-to in
     let f = c10 .fit in
     let x = c4 .read-and-edit in
-    put-edit (a .tariff) (a .key) (a .value) (world (pagesOf (a .pool .now)) (rowsOf (a .table .now)) (a .state))
-    (p .result) (p .ensures) (f .result) (f .ensures) (pagesOf (x .last .0)) (rowsOf (x .last .1 .0))
+    put-edit (a .tariff) (a .key) (a .value) (world (pagesOf (a .pool .now)) (tableFrom (a .table .now)) (a .state))
+    (p .result) (p .ensures) (f .result) (f .ensures) (pagesOf (x .last .0)) (tableFrom (x .last .1 .0))
     (c7 .replaced-answer .result) (x .result) (c8 .enum-told .given .1) (c7 .replaced-answer .ensures) (x .ensures)
 
 enum-told-2 : tie.Need-enum-told-2
@@ -65,7 +65,7 @@ put-splitting-requires c κs =
       p .ensures .some,
       p .ensures .few,
       leaf-full (a .tariff) (a .key) (a .value)
-          (world (pagesOf (a .pool .now)) (rowsOf (a .table .now)) (a .state)) (p .result) (p .ensures) (f .result)
+          (world (pagesOf (a .pool .now)) (tableFrom (a .table .now)) (a .state)) (p .result) (p .ensures) (f .result)
           (f .ensures) _ (c2 .enum-told2 .given .1),
     )
 
@@ -86,7 +86,7 @@ returns-2 c =
     let p = c12 .path-to in
     let f = c9 .fit in
     done-is
-    (put-new (a .tariff) (a .key) (a .value) (world (pagesOf (a .pool .now)) (rowsOf (a .table .now)) (a .state))
+    (put-new (a .tariff) (a .key) (a .value) (world (pagesOf (a .pool .now)) (tableFrom (a .table .now)) (a .state))
     (p .result) (p .ensures) (f .result) (f .ensures) _ (c7 .enum-told2 .given .1)) (c4 .put-splitting .ensures)
 
 pub put-spec : {M : Type 1} → statement M

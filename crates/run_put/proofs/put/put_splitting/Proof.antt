@@ -1,7 +1,7 @@
 -- `put::put_splitting` meets its contract: the ids counted, then a refusal or the splits. Assumes nothing.
 use native.Mathlib.Omega.{arith}
 use lib.ListN.{take}
-use Rattle.flash_rows.specs.Row.{rowsOf}
+use Rattle.flash_rows.specs.Worktable.{tableFrom}
 use Rattle.flash_blocks.specs.Pages.{pagesOf}
 use Rattle.tree.specs.Put.{idsNeeded}
 use Rattle.flash_allocate.specs.World.{world}
@@ -39,8 +39,8 @@ returns c =
     let a = c8 .args in
     let x = c3 .ids-needed in
     new-refused (a .tariff) (take (a .n) (a .ids)) (x .result)
-    (idsNeeded (tableOf (pagesOf (a .pool .now)) (rowsOf (a .table .now)) (a .state)) (take (a .n) (a .ids)))
-    (a .key) (a .value) (world (pagesOf (a .pool .now)) (rowsOf (a .table .now)) (a .state)) (x .ensures .0)
+    (idsNeeded (tableOf (pagesOf (a .pool .now)) (tableFrom (a .table .now)) (a .state)) (take (a .n) (a .ids)))
+    (a .key) (a .value) (world (pagesOf (a .pool .now)) (tableFrom (a .table .now)) (a .state)) (x .ensures .0)
     (omega (arith, c .if1 .taken, c .before .before .node-limit .ensures .0)) (c8 .pre .0)
 
 read-and-split-requires : tie.Need-read-and-split-requires
@@ -65,9 +65,9 @@ returns-2 c =
     let x = c10 .ids-needed in
     let y = c4 .read-and-split in
     new-split (a .tariff) (take (a .n) (a .ids)) (x .result)
-    (idsNeeded (tableOf (pagesOf (a .pool .now)) (rowsOf (a .table .now)) (a .state)) (take (a .n) (a .ids)))
-    (a .key) (a .value) (world (pagesOf (a .pool .now)) (rowsOf (a .table .now)) (a .state)) (x .ensures .0)
-    (pagesOf (y .last .0)) (rowsOf (y .last .1 .0)) (y .result)
+    (idsNeeded (tableOf (pagesOf (a .pool .now)) (tableFrom (a .table .now)) (a .state)) (take (a .n) (a .ids)))
+    (a .key) (a .value) (world (pagesOf (a .pool .now)) (tableFrom (a .table .now)) (a .state)) (x .ensures .0)
+    (pagesOf (y .last .0)) (tableFrom (y .last .1 .0)) (y .result)
     (omega (arith, c7 .if1 .left, c9 .node-limit .ensures .0)) (y .ensures)
 
 pub put-splitting-spec : {M : Type 1} → statement M

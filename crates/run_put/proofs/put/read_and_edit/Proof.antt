@@ -1,7 +1,7 @@
 -- `put::read_and_edit` meets its contract: the reads, then one edit. Assumes nothing.
 use native.Mathlib.Omega.{arith}
 use lib.ListN.{take}
-use Rattle.flash_rows.specs.Row.{rowsOf}
+use Rattle.flash_rows.specs.Worktable.{tableFrom}
 use Rattle.flash_blocks.specs.Pages.{pagesOf}
 use Rattle.flash_allocate.specs.World.{world}
 use Rattle.run_put.specs.Put.{lastOf}
@@ -52,9 +52,9 @@ returns c =
     let x = c15 .serve-reads in
     let y = c7 .serve-edit in
     then-edit (a .tariff) (a .key) (a .value) (a .n) (take (a .n) (a .t5))
-    (world (pagesOf (a .pool .now)) (rowsOf (a .table .now)) (a .state)) (c20 .pre .0) (c20 .pre .3)
-    (pagesOf (x .last .0)) (rowsOf (x .last .1 .0)) (x .result) (x .ensures) (pagesOf (y .last .0))
-    (rowsOf (y .last .1 .0)) (y .result) (lastOf (a .n) (a .t5)) (y .ensures)
+    (world (pagesOf (a .pool .now)) (tableFrom (a .table .now)) (a .state)) (c20 .pre .0) (c20 .pre .3)
+    (pagesOf (x .last .0)) (tableFrom (x .last .1 .0)) (x .result) (x .ensures) (pagesOf (y .last .0))
+    (tableFrom (y .last .1 .0)) (y .result) (lastOf (a .n) (a .t5)) (y .ensures)
 
 pub read-and-edit-spec : {M : Type 1} → statement M
 read-and-edit-spec = tie.close

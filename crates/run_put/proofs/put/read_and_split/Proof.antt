@@ -1,7 +1,7 @@
 -- `put::read_and_split` meets its contract: the reads, then the splits. Assumes nothing.
 use native.Mathlib.Omega.{arith}
 use lib.ListN.{take}
-use Rattle.flash_rows.specs.Row.{rowsOf}
+use Rattle.flash_rows.specs.Worktable.{tableFrom}
 use Rattle.flash_blocks.specs.Pages.{pagesOf}
 use Rattle.flash_allocate.specs.World.{world}
 use Rattle.run_split.specs.Growing.{growing-kept}
@@ -43,9 +43,9 @@ returns c =
     let x = c15 .serve-reads in
     let y = c7 .split-upwards in
     then-split (a .tariff) (a .key) (a .value) (a .n) (take (a .n) (a .ids))
-    (world (pagesOf (a .pool .now)) (rowsOf (a .table .now)) (a .state)) (c20 .pre .0) (c20 .pre .3)
-    (pagesOf (x .last .0)) (rowsOf (x .last .1 .0)) (x .result) (x .ensures) (pagesOf (y .last .0))
-    (rowsOf (y .last .1 .0)) (y .result) (y .ensures)
+    (world (pagesOf (a .pool .now)) (tableFrom (a .table .now)) (a .state)) (c20 .pre .0) (c20 .pre .3)
+    (pagesOf (x .last .0)) (tableFrom (x .last .1 .0)) (x .result) (x .ensures) (pagesOf (y .last .0))
+    (tableFrom (y .last .1 .0)) (y .result) (y .ensures)
 
 pub read-and-split-spec : {M : Type 1} → statement M
 read-and-split-spec = tie.close (tie.spec serve-reads-requires split-upwards-requires add-t21 same-length same-length-2 returns)

@@ -5,7 +5,7 @@ use Prim.Native.Nat.{_-_}
 use native.Mathlib.Omega.{arith}
 use borrow.Author.Needs.{needs}
 use Rattle.flash_blocks.specs.Pages.{pagesOf}
-use Rattle.flash_rows.specs.Row.{rowsOf}
+use Rattle.flash_rows.specs.Worktable.{tableFrom}
 use Rattle.tree.specs.Table.{leafFor}
 use Rattle.flash_read.specs.NodeTable.{tableOf}
 use Rattle.run_path.specs.Path.{mostSteps}
@@ -24,7 +24,7 @@ abbrev μ-loop : tie.MeasureT-loop
 
 abbrev Inv-leaves : tie.InvT-leaves
 Inv-leaves pool table state low high most keys₀ values₀ count₀ leaves₀ visited₀ leaf₀ keys values count leaves
-    visited leaf = let nodes = tableOf (pagesOf pool) (rowsOf table) state in
+    visited leaf = let nodes = tableOf (pagesOf pool) (tableFrom table) state in
     Along (leafFor mostSteps nodes low 0) nodes (state .nodes) low high most keys values count leaves visited leaf
 
 abbrev μ-leaves : tie.MeasureT-leaves

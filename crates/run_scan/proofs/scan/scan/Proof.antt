@@ -4,7 +4,7 @@ use native.Mathlib.Nat.{sub-zero}
 use native.Mathlib.Omega.{arith}
 use lib.ListN.{length}
 use lib.Seq.{length-take-le}
-use Rattle.flash_rows.specs.Row.{rowsOf}
+use Rattle.flash_rows.specs.Worktable.{tableFrom}
 use Rattle.flash_blocks.specs.Pages.{pagesOf}
 use Rattle.flash_allocate.specs.World.{world}
 use Rattle.run_path.specs.Reading.{reads-part}
@@ -18,7 +18,7 @@ returns : tie.Need-returns
 returns c = let entry = c .before .before .before in
     let a = entry .args in
     scanned-none (a .tariff) (a .low) (a .high) (a .most)
-    (world (pagesOf (a .pool .now)) (rowsOf (a .table .now)) (a .state)) _ (c .if1 .taken) (entry .pre .0)
+    (world (pagesOf (a .pool .now)) (tableFrom (a .table .now)) (a .state)) _ (c .if1 .taken) (entry .pre .0)
     (listed-none _ _) (record { size = omega arith; keyRoom = search needs; valueRoom = search needs }) (omega arith)
 
 path-to-requires : tie.Need-path-to-requires
@@ -67,7 +67,7 @@ add-t45 c =
     let found = c22 .gather in
     let few : found .result .visited ≤ length (found .result .leaves) = omega (arith, found .ensures .few, found .ensures .room, c31 .pre .2) in
     let x = c18 .serve-reads in
-    let left = world (pagesOf (x .last .0)) (rowsOf (x .last .1 .0)) (x .result .state) in
+    let left = world (pagesOf (x .last .0)) (tableFrom (x .last .1 .0)) (x .result .state) in
     let along = reads-part (c31 .args .tariff) left (found .result .visited) (found .result .leaves) few (c7 .read-nodes .ensures) in
     omega (arith, x .ensures .most, c25 .path-to .ensures .few, along .most, found .ensures .room)
 
@@ -91,9 +91,9 @@ returns-2 c =
     let few : found .result .visited ≤ length (found .result .leaves) = omega (arith, found .ensures .few, found .ensures .room, entry .pre .2) in
     let x = c19 .serve-reads in
     scanned (a .tariff) (a .low) (a .high) (a .most)
-    (world (pagesOf (a .pool .now)) (rowsOf (a .table .now)) (a .state)) (c29 .if1 .left) (entry .pre .2)
+    (world (pagesOf (a .pool .now)) (tableFrom (a .table .now)) (a .state)) (c29 .if1 .left) (entry .pre .2)
     (c26 .path-to .ensures) (found .ensures) (x .ensures)
-    (reads-part (a .tariff) (world (pagesOf (x .last .0)) (rowsOf (x .last .1 .0)) (x .result .state))
+    (reads-part (a .tariff) (world (pagesOf (x .last .0)) (tableFrom (x .last .1 .0)) (x .result .state))
     (found .result .visited) (found .result .leaves) few (c8 .read-nodes .ensures))
 
 pub scan-spec : {M : Type 1} → statement M

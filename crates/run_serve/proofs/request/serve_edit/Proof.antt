@@ -1,5 +1,5 @@
 -- `request::serve_edit` meets its contract: the content edited, the account settled, then the edit in the mode that serves. Assumes nothing.
-use Rattle.flash_rows.specs.Row.{rowsOf}
+use Rattle.flash_rows.specs.Worktable.{tableFrom}
 use Rattle.flash_blocks.specs.Pages.{pagesOf}
 use Rattle.node.specs.Value.{nodeOf}
 use Rattle.node.specs.Drafts.{changeOf}
@@ -37,16 +37,16 @@ returns c =
     let y = c4 .write-edit in
     let v = c16 .edited-content in
     served-there (a .tariff) (a .id) (edit (changeOf (a .change)))
-    (world (pagesOf (a .pool .now)) (rowsOf (a .table .now)) (a .state)) (c19 .if1 .taken) (pagesOf (x .last .0))
-    (rowsOf (x .last .1 .0)) (x .result) (x .ensures) (nodeOf (v .result)) (v .ensures .is) (pagesOf (y .last .0))
-    (rowsOf (y .last .1 .0)) (y .result) (y .ensures)
+    (world (pagesOf (a .pool .now)) (tableFrom (a .table .now)) (a .state)) (c19 .if1 .taken) (pagesOf (x .last .0))
+    (tableFrom (x .last .1 .0)) (x .result) (x .ensures) (nodeOf (v .result)) (v .ensures .is) (pagesOf (y .last .0))
+    (tableFrom (y .last .1 .0)) (y .result) (y .ensures)
 
 returns-2 : tie.Need-returns-2
 returns-2 c =
     let c4 = c .before .before .before .before in
     let a = c4 .args in
     served-nowhere (a .tariff) (a .id) (edit (changeOf (a .change)))
-    (world (pagesOf (a .pool .now)) (rowsOf (a .table .now)) (a .state)) (c .if1 .left) (c4 .pre .0)
+    (world (pagesOf (a .pool .now)) (tableFrom (a .table .now)) (a .state)) (c .if1 .left) (c4 .pre .0)
 
 pub serve-edit-spec : {M : Type 1} → statement M
 serve-edit-spec =

@@ -1,6 +1,6 @@
 -- `request::serve_read` meets its contract: the account settled, and no change. Assumes nothing.
 use mathlib.Core.Path.{refl}
-use Rattle.flash_rows.specs.Row.{rowsOf}
+use Rattle.flash_rows.specs.Worktable.{tableFrom}
 use Rattle.flash_blocks.specs.Pages.{pagesOf}
 use Rattle.store.specs.Serve.{read}
 use Rattle.flash_allocate.specs.World.{world}
@@ -27,16 +27,16 @@ returns c =
     let c12 = c8 .before .before .before .before in
     let a = c12 .args in
     let x = c5 .settle in
-    let w = world (pagesOf (a .pool .now)) (rowsOf (a .table .now)) (a .state) in
-    let w₁ = world (pagesOf (x .last .0)) (rowsOf (x .last .1 .0)) (x .result .charged .state) in
-    served-there (a .tariff) (a .id) read w (c8 .if1 .taken) (w₁ .pages) (w₁ .rows) (x .result) (x .ensures)
-    (contentOf (a .id) w) refl (w₁ .pages) (w₁ .rows) (w₁ .state) (kept-same w₁ (x .ensures .charged .kept .good))
+    let w = world (pagesOf (a .pool .now)) (tableFrom (a .table .now)) (a .state) in
+    let w₁ = world (pagesOf (x .last .0)) (tableFrom (x .last .1 .0)) (x .result .charged .state) in
+    served-there (a .tariff) (a .id) read w (c8 .if1 .taken) (w₁ .pages) (w₁ .table) (x .result) (x .ensures)
+    (contentOf (a .id) w) refl (w₁ .pages) (w₁ .table) (w₁ .state) (kept-same w₁ (x .ensures .charged .kept .good))
 
 returns-2 : tie.Need-returns-2
 returns-2 c =
     let c4 = c .before .before .before .before in
     let a = c4 .args in
-    served-nowhere (a .tariff) (a .id) read (world (pagesOf (a .pool .now)) (rowsOf (a .table .now)) (a .state)) (c .if1 .left) (c4 .pre .0)
+    served-nowhere (a .tariff) (a .id) read (world (pagesOf (a .pool .now)) (tableFrom (a .table .now)) (a .state)) (c .if1 .left) (c4 .pre .0)
 
 pub serve-read-spec : {M : Type 1} → statement M
 serve-read-spec = tie.close (tie.spec settle-requires same-length same-length-2 returns returns-2)

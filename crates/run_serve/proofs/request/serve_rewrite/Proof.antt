@@ -1,6 +1,6 @@
 -- `request::serve_rewrite` meets its contract: the account settled, then the content in the mode that serves. Assumes nothing.
 use mathlib.Core.Path.{refl}
-use Rattle.flash_rows.specs.Row.{rowsOf}
+use Rattle.flash_rows.specs.Worktable.{tableFrom}
 use Rattle.flash_blocks.specs.Pages.{pagesOf}
 use Rattle.node.specs.Value.{nodeOf}
 use Rattle.store.specs.Serve.{rewrite}
@@ -32,16 +32,16 @@ returns c =
     let x = c13 .settle in
     let y = c4 .write-whole in
     served-there (a .tariff) (a .id) (rewrite (nodeOf (a .v)))
-    (world (pagesOf (a .pool .now)) (rowsOf (a .table .now)) (a .state)) (c16 .if1 .taken) (pagesOf (x .last .0))
-    (rowsOf (x .last .1 .0)) (x .result) (x .ensures) (nodeOf (a .v)) refl (pagesOf (y .last .0))
-    (rowsOf (y .last .1 .0)) (y .result) (y .ensures)
+    (world (pagesOf (a .pool .now)) (tableFrom (a .table .now)) (a .state)) (c16 .if1 .taken) (pagesOf (x .last .0))
+    (tableFrom (x .last .1 .0)) (x .result) (x .ensures) (nodeOf (a .v)) refl (pagesOf (y .last .0))
+    (tableFrom (y .last .1 .0)) (y .result) (y .ensures)
 
 returns-2 : tie.Need-returns-2
 returns-2 c =
     let c4 = c .before .before .before .before in
     let a = c4 .args in
     served-nowhere (a .tariff) (a .id) (rewrite (nodeOf (a .v)))
-    (world (pagesOf (a .pool .now)) (rowsOf (a .table .now)) (a .state)) (c .if1 .left) (c4 .pre .0)
+    (world (pagesOf (a .pool .now)) (tableFrom (a .table .now)) (a .state)) (c .if1 .left) (c4 .pre .0)
 
 pub serve-rewrite-spec : {M : Type 1} → statement M
 serve-rewrite-spec =

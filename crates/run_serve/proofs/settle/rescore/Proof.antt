@@ -4,14 +4,14 @@ use borrow.Author.Needs.{needs}
 use Rattle.run_serve.proofs.settle.rescore.Statement.{statement}
 use Rattle.run_serve.proofs.settle.rescore.Tie as tie
 
-read-row-requires : tie.Need-read-row-requires
-read-row-requires c κs = search needs
+row-at-requires : tie.Need-row-at-requires
+row-at-requires c κs = search needs
 
 scored-requires : tie.Need-scored-requires
 scored-requires c κs = search needs
 
-write-row-requires : tie.Need-write-row-requires
-write-row-requires c κs = search needs
+put-row-requires : tie.Need-put-row-requires
+put-row-requires c κs = search needs
 
 same-length : tie.Need-same-length
 same-length c = search needs
@@ -22,8 +22,8 @@ returns c =
     let c2 = c .before .before in
     let c3 = c2 .before in
     let c5 = c3 .before .before in
-    rw (← c5 .read-row .ensures, ← c3 .scored .ensures) (c2 .write-row .ensures)
+    rw (← c5 .row-at .ensures, ← c3 .scored .ensures) (c2 .put-row .ensures)
 
 pub rescore-spec : {M : Type 1} → statement M
 rescore-spec =
-    tie.close (tie.spec read-row-requires scored-requires write-row-requires same-length returns)
+    tie.close (tie.spec row-at-requires scored-requires put-row-requires same-length returns)

@@ -1,5 +1,5 @@
 -- `settle::settle` meets its contract: the account of the row served, the switch, and the score in the row that it leaves. Assumes nothing.
-use Rattle.flash_rows.specs.Row.{rowsOf}
+use Rattle.flash_rows.specs.Worktable.{tableFrom}
 use Rattle.flash_blocks.specs.Pages.{pagesOf}
 use Rattle.flash_allocate.specs.World.{world}
 use Rattle.run_serve.proofs.Laws.{settled}
@@ -7,8 +7,8 @@ use borrow.Author.Needs.{needs}
 use Rattle.run_serve.proofs.settle.settle.Statement.{statement}
 use Rattle.run_serve.proofs.settle.settle.Tie as tie
 
-read-row-requires : tie.Need-read-row-requires
-read-row-requires c κs = search needs
+row-at-requires : tie.Need-row-at-requires
+row-at-requires c κs = search needs
 
 account-in-requires : tie.Need-account-in-requires
 account-in-requires c κs = search needs
@@ -39,16 +39,16 @@ returns c =
     let a = c18 .args in
     let x = c8 .switch in
     let y = c2 .rescore in
-    settled (a .tariff) (a .request) (a .id) (world (pagesOf (a .pool .now)) (rowsOf (a .table .now)) (a .state))
-    (world (pagesOf (x .last .0)) (rowsOf (x .last .1 .0)) (x .result)) (c14 .read-row .result)
-    (c13 .account-in .result) (c12 .serve .result) (rowsOf (y .last .0)) (c14 .read-row .ensures)
+    settled (a .tariff) (a .request) (a .id) (world (pagesOf (a .pool .now)) (tableFrom (a .table .now)) (a .state))
+    (world (pagesOf (x .last .0)) (tableFrom (x .last .1 .0)) (x .result)) (c14 .row-at .result)
+    (c13 .account-in .result) (c12 .serve .result) (tableFrom (y .last .0)) (c14 .row-at .ensures)
     (c13 .account-in .ensures) (c12 .serve .ensures) (x .ensures) (y .ensures) (y .kept .0)
 
 pub settle-spec : {M : Type 1} → statement M
 settle-spec =
     tie.close
     (tie.spec
-    read-row-requires
+    row-at-requires
     account-in-requires
     serve-requires
     switch-requires

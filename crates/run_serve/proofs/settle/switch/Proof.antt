@@ -1,6 +1,6 @@
 -- `settle::switch` meets its contract: nothing between equal modes, else the content read and written whole. Assumes nothing.
 use mathlib.Core.Path.{sym, _∙_}
-use Rattle.flash_rows.specs.Row.{rowsOf}
+use Rattle.flash_rows.specs.Worktable.{tableFrom}
 use Rattle.flash_blocks.specs.Pages.{pagesOf}
 use Rattle.node.specs.Value.{nodeOf}
 use Rattle.flash_allocate.specs.World.{world}
@@ -17,7 +17,7 @@ returns c =
     let c1 = c .before in
     let c4 = c1 .before .before .before in
     let a = c4 .args in
-    switch-none (a .from) (a .to) (a .id) (world (pagesOf (a .pool .now)) (rowsOf (a .table .now)) (a .state))
+    switch-none (a .from) (a .to) (a .id) (world (pagesOf (a .pool .now)) (tableFrom (a .table .now)) (a .state))
     (sym (c1 .same-mode .ensures) ∙ c .if1 .taken) (c4 .pre .0)
 
 content-of-requires : tie.Need-content-of-requires
@@ -41,8 +41,8 @@ returns-2 c =
     let c14 = c11 .before .before .before in
     let a = c14 .args in
     let g = c4 .write-whole in
-    switch-whole (a .from) (a .to) (a .id) (world (pagesOf (a .pool .now)) (rowsOf (a .table .now)) (a .state))
-    (nodeOf (c7 .content-of .result)) (world (pagesOf (g .last .0)) (rowsOf (g .last .1 .0)) (g .result))
+    switch-whole (a .from) (a .to) (a .id) (world (pagesOf (a .pool .now)) (tableFrom (a .table .now)) (a .state))
+    (nodeOf (c7 .content-of .result)) (world (pagesOf (g .last .0)) (tableFrom (g .last .1 .0)) (g .result))
     (sym (c11 .same-mode .ensures) ∙ c10 .if1 .left) (c7 .content-of .ensures .is) (g .ensures)
 
 pub switch-spec : {M : Type 1} → statement M

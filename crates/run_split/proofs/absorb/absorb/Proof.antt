@@ -1,5 +1,5 @@
 -- `absorb::absorb` meets its contract: each case of what is pending is one turn. Assumes nothing.
-use Rattle.flash_rows.specs.Row.{rowsOf}
+use Rattle.flash_rows.specs.Worktable.{tableFrom}
 use Rattle.flash_blocks.specs.Pages.{pagesOf}
 use Rattle.flash_allocate.specs.World.{world}
 use Rattle.run_split.proofs.Laws.{absorbed-is, absorb-nothing, absorb-known}
@@ -15,7 +15,7 @@ returns c =
     let c4 = c .before .before .before .before in
     let a = c4 .args in
     absorb-nothing (a .tariff) (a .wanted) (a .root) (a .id) (a .pending)
-    (world (pagesOf (a .pool .now)) (rowsOf (a .table .now)) (a .state)) (c .enum-told .given .1) (c4 .pre .0)
+    (world (pagesOf (a .pool .now)) (tableFrom (a .table .now)) (a .state)) (c .enum-told .given .1) (c4 .pre .0)
 
 enum-known-pending : tie.Need-enum-known-pending
 enum-known-pending c = search needs
@@ -37,7 +37,7 @@ returns-2 c =
     let a = c12 .args in
     absorbed-is (c4 .absorb-pair .ensures)
     (absorb-known (a .tariff) (a .wanted) (a .root) (a .id) (a .pending) _
-    (world (pagesOf (a .pool .now)) (rowsOf (a .table .now)) (a .state)) (c8 .pending .given .1))
+    (world (pagesOf (a .pool .now)) (tableFrom (a .table .now)) (a .state)) (c8 .pending .given .1))
 
 enum-known-pending-2 : tie.Need-enum-known-pending-2
 enum-known-pending-2 c = search needs
@@ -59,7 +59,7 @@ returns-3 c =
     let a = c12 .args in
     absorbed-is (c4 .absorb-halves .ensures)
     (absorb-known (a .tariff) (a .wanted) (a .root) (a .id) (a .pending) _
-    (world (pagesOf (a .pool .now)) (rowsOf (a .table .now)) (a .state)) (c8 .pending2 .given .1))
+    (world (pagesOf (a .pool .now)) (tableFrom (a .table .now)) (a .state)) (c8 .pending2 .given .1))
 
 pub absorb-spec : {M : Type 1} → statement M
 absorb-spec = tie.close (tie.spec enum-told returns enum-known-pending absorb-pair-requires same-length same-length-2

@@ -1,5 +1,5 @@
 -- `absorb::absorb_edit` meets its contract: one request. Assumes nothing.
-use Rattle.flash_rows.specs.Row.{rowsOf}
+use Rattle.flash_rows.specs.Worktable.{tableFrom}
 use Rattle.flash_blocks.specs.Pages.{pagesOf}
 use Rattle.node.specs.Drafts.{changeOf}
 use Rattle.flash_allocate.specs.World.{world}
@@ -25,8 +25,8 @@ returns c =
     let c9 = c4 .before .before .before .before .before in
     let a = c9 .args in
     let x = c4 .serve-edit in
-    one-edit (a .tariff) (a .id) (world (pagesOf (a .pool .now)) (rowsOf (a .table .now)) (a .state)) (c9 .pre .0)
-    (changeOf (a .edit)) (pagesOf (x .last .0)) (rowsOf (x .last .1 .0)) (x .result) (x .ensures)
+    one-edit (a .tariff) (a .id) (world (pagesOf (a .pool .now)) (tableFrom (a .table .now)) (a .state)) (c9 .pre .0)
+    (changeOf (a .edit)) (pagesOf (x .last .0)) (tableFrom (x .last .1 .0)) (x .result) (x .ensures)
 
 pub absorb-edit-spec : {M : Type 1} → statement M
 absorb-edit-spec = tie.close (tie.spec serve-edit-requires same-length same-length-2 returns)

@@ -1,6 +1,6 @@
 -- `absorb::absorb_edits` meets its contract: two requests. Assumes nothing.
 use native.Mathlib.Omega.{arith}
-use Rattle.flash_rows.specs.Row.{rowsOf}
+use Rattle.flash_rows.specs.Worktable.{tableFrom}
 use Rattle.flash_blocks.specs.Pages.{pagesOf}
 use Rattle.node.specs.Drafts.{changeOf}
 use Rattle.flash_allocate.specs.World.{world}
@@ -40,9 +40,9 @@ returns c =
     let a = c20 .args in
     let x = c15 .serve-edit in
     let y = c7 .serve-edit2 in
-    two-edits (a .tariff) (a .id) (world (pagesOf (a .pool .now)) (rowsOf (a .table .now)) (a .state)) (c20 .pre .0)
-    (changeOf (a .first)) (changeOf (a .second)) (pagesOf (x .last .0)) (rowsOf (x .last .1 .0)) (x .result)
-    (x .ensures) (pagesOf (y .last .0)) (rowsOf (y .last .1 .0)) (y .result) (y .ensures)
+    two-edits (a .tariff) (a .id) (world (pagesOf (a .pool .now)) (tableFrom (a .table .now)) (a .state)) (c20 .pre .0)
+    (changeOf (a .first)) (changeOf (a .second)) (pagesOf (x .last .0)) (tableFrom (x .last .1 .0)) (x .result)
+    (x .ensures) (pagesOf (y .last .0)) (tableFrom (y .last .1 .0)) (y .result) (y .ensures)
 
 pub absorb-edits-spec : {M : Type 1} → statement M
 absorb-edits-spec = tie.close (tie.spec serve-edit-requires serve-edit-requires-2 add-t22 same-length same-length-2 returns)

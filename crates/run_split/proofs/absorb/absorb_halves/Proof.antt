@@ -1,5 +1,5 @@
 -- `absorb::absorb_halves` meets its contract: two edits where the middle key fits, else the split. Assumes nothing.
-use Rattle.flash_rows.specs.Row.{rowsOf}
+use Rattle.flash_rows.specs.Worktable.{tableFrom}
 use Rattle.flash_blocks.specs.Pages.{pagesOf}
 use Rattle.node.specs.Drafts.{changeOf}
 use Rattle.flash_allocate.specs.World.{world}
@@ -51,7 +51,7 @@ returns c =
     let u = c11 .pointed in
     absorbed-is (c4 .absorb-edits .ensures)
     (halves-fits (a .tariff) (a .root) (a .id) (a .wanted) (a .middle) (a .left) (a .right)
-    (world (pagesOf (a .pool .now)) (rowsOf (a .table .now)) (a .state)) (v .result) (v .ensures .is)
+    (world (pagesOf (a .pool .now)) (tableFrom (a .table .now)) (a .state)) (v .result) (v .ensures .is)
     (c12 .child-place .result) (c12 .child-place .ensures .0) (u .result) (u .ensures .is) (c10 .fit .result)
     (c10 .fit .ensures) (c8 .enum-told .given .1) (changeOf (c7 .rename .result)) (c7 .rename .ensures))
 
@@ -69,7 +69,7 @@ split-requires c κs =
     let a = c13 .args in
     let v = c8 .node-at in
     let u = c6 .pointed in
-    let w = world (pagesOf (a .pool .now)) (rowsOf (a .table .now)) (a .state) in (
+    let w = world (pagesOf (a .pool .now)) (tableFrom (a .table .now)) (a .state) in (
       c13 .pre .0,
       c13 .pre .1,
       halves-there (a .tariff) (a .root) (a .id) (a .wanted) (a .middle) (a .left)
@@ -101,7 +101,7 @@ returns-2 c =
     let u = c11 .pointed in
     absorbed-is (c4 .split .ensures)
     (halves-split (a .tariff) (a .root) (a .id) (a .wanted) (a .middle) (a .left) (a .right)
-    (world (pagesOf (a .pool .now)) (rowsOf (a .table .now)) (a .state)) (v .result) (v .ensures .is)
+    (world (pagesOf (a .pool .now)) (tableFrom (a .table .now)) (a .state)) (v .result) (v .ensures .is)
     (c12 .child-place .result) (c12 .child-place .ensures .0) (u .result) (u .ensures .is) (c10 .fit .result)
     (c10 .fit .ensures) _ (c8 .found .given .1))
 

@@ -1,5 +1,5 @@
 -- `absorb::absorb_pair` meets its contract: one edit where the pair fits, else the split. Assumes nothing.
-use Rattle.flash_rows.specs.Row.{rowsOf}
+use Rattle.flash_rows.specs.Worktable.{tableFrom}
 use Rattle.flash_blocks.specs.Pages.{pagesOf}
 use Rattle.flash_allocate.specs.World.{world}
 use Rattle.run_split.specs.Growing.{readable}
@@ -36,7 +36,7 @@ returns c =
     let a = c15 .args in
     absorbed-is (c4 .absorb-edit .ensures)
     (pair-fits (a .tariff) (a .root) (a .id) (a .key) (a .value)
-    (world (pagesOf (a .pool .now)) (rowsOf (a .table .now)) (a .state)) (c10 .node-at .result)
+    (world (pagesOf (a .pool .now)) (tableFrom (a .table .now)) (a .state)) (c10 .node-at .result)
     (c10 .node-at .ensures .is) (c9 .fit .result) (c9 .fit .ensures) (c7 .enum-told .given .1))
 
 enum-known-found : tie.Need-enum-known-found
@@ -50,7 +50,7 @@ split-requires c κs =
     let c11 = c6 .before .before .before .before .before in
     let a = c11 .args in
     let v = c6 .node-at in
-    let w = world (pagesOf (a .pool .now)) (rowsOf (a .table .now)) (a .state) in (
+    let w = world (pagesOf (a .pool .now)) (tableFrom (a .table .now)) (a .state) in (
       c11 .pre .0,
       c11 .pre .1,
       pair-there (a .tariff) (a .root) (a .id) (a .key) (a .value) w (v .result)
@@ -77,7 +77,7 @@ returns-2 c =
     let v = c11 .node-at in
     absorbed-is (c4 .split .ensures)
     (pair-splits (a .tariff) (a .root) (a .id) (a .key) (a .value)
-    (world (pagesOf (a .pool .now)) (rowsOf (a .table .now)) (a .state)) (v .result) (v .ensures .is)
+    (world (pagesOf (a .pool .now)) (tableFrom (a .table .now)) (a .state)) (v .result) (v .ensures .is)
     (c10 .fit .result) (c10 .fit .ensures) _ (c8 .found .given .1))
 
 pub absorb-pair-spec : {M : Type 1} → statement M

@@ -1,6 +1,6 @@
 -- `split::grow` meets its contract: a create below the limit, else nothing. Assumes nothing.
 use native.Mathlib.Omega.{arith}
-use Rattle.flash_rows.specs.Row.{rowsOf}
+use Rattle.flash_rows.specs.Worktable.{tableFrom}
 use Rattle.flash_blocks.specs.Pages.{pagesOf}
 use Rattle.node.specs.Value.{nodeOf}
 use Rattle.flash_allocate.specs.World.{world}
@@ -29,15 +29,15 @@ returns c =
     let c12 = c9 .before .before .before in
     let a = c12 .args in
     let y = c4 .create in
-    grow-made (nodeOf (a .v)) (world (pagesOf (a .pool .now)) (rowsOf (a .table .now)) (a .state)) (c12 .pre .0)
-    (world (pagesOf (y .last .0)) (rowsOf (y .last .1 .0)) (y .result))
+    grow-made (nodeOf (a .v)) (world (pagesOf (a .pool .now)) (tableFrom (a .table .now)) (a .state)) (c12 .pre .0)
+    (world (pagesOf (y .last .0)) (tableFrom (y .last .1 .0)) (y .result))
     (omega (arith, c7 .if1 .taken, c9 .node-limit .ensures .0)) (y .ensures)
 
 returns-2 : tie.Need-returns-2
 returns-2 c =
     let c5 = c .before .before .before .before .before in
     let a = c5 .args in
-    grow-none (nodeOf (a .v)) (world (pagesOf (a .pool .now)) (rowsOf (a .table .now)) (a .state)) (c5 .pre .0)
+    grow-none (nodeOf (a .v)) (world (pagesOf (a .pool .now)) (tableFrom (a .table .now)) (a .state)) (c5 .pre .0)
     (omega (arith, c .if1 .left, c .before .before .node-limit .ensures .0))
 
 pub grow-spec : {M : Type 1} → statement M

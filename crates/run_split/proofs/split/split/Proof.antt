@@ -1,5 +1,5 @@
 -- `split::split` meets its contract: the root's split, or another node's. Assumes nothing.
-use Rattle.flash_rows.specs.Row.{rowsOf}
+use Rattle.flash_rows.specs.Worktable.{tableFrom}
 use Rattle.flash_blocks.specs.Pages.{pagesOf}
 use Rattle.node.specs.Change.{change, put}
 use Rattle.node.specs.Value.{nodeOf}
@@ -28,7 +28,7 @@ returns c =
     let a = c10 .args in
     absorbed-is (c4 .split-root .ensures)
     (split-as-root (a .tariff) (change (put (a .key) (a .pointer)) (nodeOf (a .v)))
-    (world (pagesOf (a .pool .now)) (rowsOf (a .table .now)) (a .state)) (a .root) (a .id) (c7 .if1 .taken))
+    (world (pagesOf (a .pool .now)) (tableFrom (a .table .now)) (a .state)) (a .root) (a .id) (c7 .if1 .taken))
 
 split-below-requires : tie.Need-split-below-requires
 split-below-requires c κs = c .before .before .before .before .before .pre
@@ -47,7 +47,7 @@ returns-2 c =
     let a = c10 .args in
     absorbed-is (c4 .split-below .ensures)
     (split-as-below (a .tariff) (change (put (a .key) (a .pointer)) (nodeOf (a .v)))
-    (world (pagesOf (a .pool .now)) (rowsOf (a .table .now)) (a .state)) (a .root) (a .id) (c7 .if1 .left))
+    (world (pagesOf (a .pool .now)) (tableFrom (a .table .now)) (a .state)) (a .root) (a .id) (c7 .if1 .left))
 
 pub split-spec : {M : Type 1} → statement M
 split-spec = tie.close (tie.spec split-root-requires same-length same-length-2 returns split-below-requires same-length-3 same-length-4 returns-2)

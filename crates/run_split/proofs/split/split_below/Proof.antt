@@ -1,5 +1,5 @@
 -- `split::split_below` meets its contract: the lower half rewritten, the upper one made. Assumes nothing.
-use Rattle.flash_rows.specs.Row.{rowsOf}
+use Rattle.flash_rows.specs.Worktable.{tableFrom}
 use Rattle.flash_blocks.specs.Pages.{pagesOf}
 use Rattle.node.specs.Change.{change, put}
 use Rattle.node.specs.Value.{nodeOf}
@@ -56,10 +56,10 @@ returns c =
     let x = c12 .serve-rewrite in
     let y = c4 .grow in
     below-split (a .tariff) (change (put (a .key) (a .pointer)) (nodeOf (a .v)))
-    (world (pagesOf (a .pool .now)) (rowsOf (a .table .now)) (a .state)) (a .id) (nodeOf (c17 .lower .result))
+    (world (pagesOf (a .pool .now)) (tableFrom (a .table .now)) (a .state)) (a .id) (nodeOf (c17 .lower .result))
     (nodeOf (c16 .upper .result)) (c15 .middle .result) (c17 .lower .ensures .is) (c16 .upper .ensures .is)
-    (c15 .middle .ensures) (pagesOf (x .last .0)) (rowsOf (x .last .1 .0)) (x .result) (x .ensures)
-    (pagesOf (y .last .0)) (rowsOf (y .last .1 .0)) (y .result) (y .ensures)
+    (c15 .middle .ensures) (pagesOf (x .last .0)) (tableFrom (x .last .1 .0)) (x .result) (x .ensures)
+    (pagesOf (y .last .0)) (tableFrom (y .last .1 .0)) (y .result) (y .ensures)
 
 pub split-below-spec : {M : Type 1} → statement M
 split-below-spec = tie.close (tie.spec cast-next cast-left lower-requires upper-requires middle-requires

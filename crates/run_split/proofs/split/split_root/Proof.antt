@@ -1,6 +1,6 @@
 -- `split::split_root` meets its contract: the halves made, the lower first, and the root rewritten above them. Assumes nothing.
 use native.Mathlib.Omega.{arith}
-use Rattle.flash_rows.specs.Row.{rowsOf}
+use Rattle.flash_rows.specs.Worktable.{tableFrom}
 use Rattle.flash_blocks.specs.Pages.{pagesOf}
 use Rattle.node.specs.Change.{change, put}
 use Rattle.node.specs.Value.{nodeOf}
@@ -76,12 +76,12 @@ returns c =
     let y = c12 .grow2 in
     let z = c4 .serve-rewrite in
     root-split (a .tariff) (change (put (a .key) (a .pointer)) (nodeOf (a .v)))
-    (world (pagesOf (a .pool .now)) (rowsOf (a .table .now)) (a .state)) (nodeOf (c24 .lower .result))
+    (world (pagesOf (a .pool .now)) (tableFrom (a .table .now)) (a .state)) (nodeOf (c24 .lower .result))
     (nodeOf (c23 .upper .result)) (c22 .middle .result) (nodeOf (c7 .root-above .result)) (c24 .lower .ensures .is)
     (c23 .upper .ensures .is) (c22 .middle .ensures) (c7 .root-above .ensures .is)
-    (world (pagesOf (x .last .0)) (rowsOf (x .last .1 .0)) (x .result)) (x .ensures)
-    (world (pagesOf (y .last .0)) (rowsOf (y .last .1 .0)) (y .result)) (y .ensures) (pagesOf (z .last .0))
-    (rowsOf (z .last .1 .0)) (z .result) (z .ensures)
+    (world (pagesOf (x .last .0)) (tableFrom (x .last .1 .0)) (x .result)) (x .ensures)
+    (world (pagesOf (y .last .0)) (tableFrom (y .last .1 .0)) (y .result)) (y .ensures) (pagesOf (z .last .0))
+    (tableFrom (z .last .1 .0)) (z .result) (z .ensures)
 
 pub split-root-spec : {M : Type 1} → statement M
 split-root-spec = tie.close (tie.spec cast-left add-right lower-requires upper-requires middle-requires grow-requires

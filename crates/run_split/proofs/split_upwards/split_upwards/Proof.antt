@@ -5,7 +5,7 @@ use Prim.Native.Nat.{ℕ, _-_, _≤_}
 use native.Mathlib.Omega.{arith}
 use lib.ListN.{length, getD, take, length-take}
 use lib.Seq.{getD-take, length-take-le}
-use Rattle.flash_rows.specs.Row.{rowsOf}
+use Rattle.flash_rows.specs.Worktable.{tableFrom}
 use Rattle.flash_blocks.specs.Pages.{pagesOf}
 use Rattle.flash_allocate.specs.World.{world}
 use Rattle.run_split.specs.SplittingUpwards.{SplittingUpwards, splitting-start, splitting-next, splitting-end}
@@ -20,7 +20,7 @@ abbrev Inv-loop : tie.InvT-loop
 Inv-loop pool₀ table₀ tariff n key value ids s₀ charge₀ pending₀ i₀ pool table s charge pending i =
     (length ids ≡ 9) × (length pool ≡ length pool₀) × (length table ≡ length table₀) ×
     SplittingUpwards (length pool) (length table) tariff key value (take n ids) i
-    (world (pagesOf pool₀) (rowsOf table₀) s₀) (world (pagesOf pool) (rowsOf table) s) charge pending
+    (world (pagesOf pool₀) (tableFrom table₀) s₀) (world (pagesOf pool) (tableFrom table) s) charge pending
 
 abbrev μ-loop : tie.MeasureT-loop
 μ-loop pool₀ table₀ tariff n key value ids s₀ charge₀ pending₀ i₀ pool table s charge pending i = i
@@ -32,7 +32,7 @@ loop-holds c =
       refl,
       refl,
       splitting-start (a .tariff) (a .key) (a .value) (take (a .n) (a .t5))
-          (world (pagesOf (a .pool .now)) (rowsOf (a .table .now)) (a .state)) (c .before .before .pre .0) (a .n)
+          (world (pagesOf (a .pool .now)) (tableFrom (a .table .now)) (a .state)) (c .before .before .pre .0) (a .n)
           (sym (length-take-le (a .n) (a .t5) (few (a .t5) (a .n) (search needs) (c .before .before .pre .3))))
           (c .before .before .pre .2) (c .before .before .pre .3),
     )
@@ -73,7 +73,7 @@ loop-again c =
       l .inv .0,
       x .kept .0 ∙ l .inv .1,
       x .kept .1 .0 ∙ l .inv .2,
-      splitting-next (l .inv .3) (pagesOf (x .last .0)) (rowsOf (x .last .1 .0)) (x .result) (c10 .loop-test .taken)
+      splitting-next (l .inv .3) (pagesOf (x .last .0)) (tableFrom (x .last .1 .0)) (x .result) (c10 .loop-test .taken)
           (getD (a .t5) (l .i - 1) 0) (sym
           (getD-take (a .n) (a .t5) (l .i - 1) 0
           (omega (arith, l .inv .3 .inside, l .inv .3 .some, length-take (a .n) (a .t5))))) (x .ensures),
@@ -107,7 +107,7 @@ returns c =
     let c11 = c10 .before in
     let l = c11 .loop in
     let x = c7 .absorb2 in
-    splitting-end (l .inv .3) (pagesOf (x .last .0)) (rowsOf (x .last .1 .0)) (x .result) (c10 .loop-test .left) (x .ensures)
+    splitting-end (l .inv .3) (pagesOf (x .last .0)) (tableFrom (x .last .1 .0)) (x .result) (c10 .loop-test .left) (x .ensures)
 
 pub split-upwards-spec : {M : Type 1} → statement M
 split-upwards-spec = tie.close
