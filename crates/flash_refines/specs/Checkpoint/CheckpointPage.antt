@@ -29,6 +29,7 @@ use Rattle.store_laws.specs.Changes.{Same}
 use Rattle.flash_rows.specs.Row.{noRow}
 use Rattle.flash_rows.specs.Step.{names, fresh}
 use Rattle.flash_rows.specs.declared.Row.{Row}
+use Rattle.flash_rows.specs.Worktable.{Worktable, withRows}
 use Rattle.flash_allocate.specs.declared.state.State.{State}
 use Rattle.flash_allocate.specs.World.{World, world, used, spot}
 use Rattle.flash_allocate.specs.Allocate.{allocate}
@@ -105,13 +106,13 @@ names-checkpoint-page number at x =
 -- The next checkpoint page, k being written.
 module _ (base : ℕ) {k : ℕ} {w : World} {st : Store} (few : w .state .blocks ≤ mostBlocks)
     (v : Invariant (w .state .blocks) (w .state .nodes) (checkpointSince base) st) (h : Mirrors image (owner base (w .state .nodes) st) (checkpointSince base) w st)
-    (written : w .state .checkpoint ≡ k) (number : st .last ≡ base + k) (room : used (w .state) < length (w .rows)) (x : CheckpointPage) where
+    (written : w .state .checkpoint ≡ k) (number : st .last ≡ base + k) (room : used (w .state) < length (w .table .rows)) (x : CheckpointPage) where
   abbrev nodes : ℕ
   nodes = w .state .nodes
 
   -- what was found for it: rows and state
   abbrev rows : List Row
-  rows = allocate w .rows
+  rows = allocate w .table .rows
 
   abbrev s : State
   s = allocate w .state
@@ -125,6 +126,9 @@ module _ (base : ℕ) {k : ℕ} {w : World} {st : Store} (few : w .state .blocks
 
   abbrev rowsAfter : List Row
   rowsAfter = set rows (used s) (checkpointRow (suc (st .last)) (spot s))
+
+  abbrev tableAfter : Worktable
+  tableAfter = withRows rowsAfter (allocate w .table)
 
   abbrev stateAfter : State
   stateAfter = pageCounted (suc (st .last)) s
@@ -200,7 +204,7 @@ module _ (base : ℕ) {k : ℕ} {w : World} {st : Store} (few : w .state .blocks
           same-owner (some p) = owner-after n p
 
   -- the row of a node says of it what it said
-  pub row-kept : (n : ℕ) → n < nodes → (g : ℕ → ℕ) × (rowAt rowsAfter n ≡ mapped g (rowAt (w .rows) n))
+  pub row-kept : (n : ℕ) → n < nodes → (g : ℕ → ℕ) × (rowAt rowsAfter n ≡ mapped g (rowAt (w .table .rows) n))
   row-kept n l =
       let r = kept-found few v h .rows n (omega arith) in
       (r .0, row-old n (λ e. omega (arith, used-is)) ∙ r .1)
@@ -210,7 +214,7 @@ module _ (base : ℕ) {k : ℕ} {w : World} {st : Store} (few : w .state .blocks
       record {
         version = λ n l. ap (λ (r : Row). r .version) (row-kept n l .1) ∙ h .rows .version n l ∙ sym (same n l .greatest);
         mode = λ n l. subst (λ (r : Row). RowMode (r .mode) after n) (sym (row-kept n l .1))
-            (place-rowMode v n l (rowAt (w .rows) n .mode) (checkpointPageContent x) (st .buffer) (same n l .greatest) (h .rows .mode n l));
+            (place-rowMode v n l (rowAt (w .table .rows) n .mode) (checkpointPageContent x) (st .buffer) (same n l .greatest) (h .rows .mode n l));
         pages = λ n l. ap (λ (r : Row). r .pages) (row-kept n l .1) ∙ h .rows .pages n l ∙ sym (same n l .pages);
       }
 
@@ -218,7 +222,7 @@ module _ (base : ℕ) {k : ℕ} {w : World} {st : Store} (few : w .state .blocks
   unfolding place
   checkpoint-page-owners = owners-closing base (suc k) nodes after (omega arith)
 
-  checkpoint-page-fills : Fills few v h (checkpointPageContent x) (st .buffer) (owner base nodes after) rowsAfter stateAfter
+  checkpoint-page-fills : Fills few v h (checkpointPageContent x) (st .buffer) (owner base nodes after) tableAfter stateAfter
   unfolding pageCounted
   checkpoint-page-fills =
       let keep = kept-found few v h in
@@ -237,5 +241,5 @@ module _ (base : ℕ) {k : ℕ} {w : World} {st : Store} (few : w .state .blocks
 
   -- THE SHEET WRITTEN mirrors the store's.
   pub checkpoint-page-mirrors : Mirrors image (owner base nodes after) (checkpointSince base)
-      (world (set (allocate w .pages) (spot s) (image pageOfCheckpoint)) rowsAfter stateAfter) after
-  checkpoint-page-mirrors = placed-mirrors few v h (checkpointPageContent x) (st .buffer) (owner base nodes after) rowsAfter stateAfter checkpoint-page-fills
+      (world (set (allocate w .pages) (spot s) (image pageOfCheckpoint)) tableAfter stateAfter) after
+  checkpoint-page-mirrors = placed-mirrors few v h (checkpointPageContent x) (st .buffer) (owner base nodes after) tableAfter stateAfter checkpoint-page-fills

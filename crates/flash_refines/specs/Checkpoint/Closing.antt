@@ -29,10 +29,10 @@ use Rattle.store_laws.specs.Closing.{closing-none, closing-begins}
 use Rattle.store_laws.specs.Good.{flushRun-good}
 use Rattle.store_laws.specs.WriteFits.{flush-fits}
 use Rattle.flash_rows.specs.declared.Row.{Row}
+use Rattle.flash_rows.specs.Worktable.{withRow, rowsFor}
 use Rattle.flash_allocate.specs.declared.state.State.{State}
 use Rattle.flash_allocate.specs.World.{World, world, used, spot}
 use Rattle.flash_allocate.specs.Allocate.{allocate}
-use Rattle.flash_log.specs.Flush.{flush}
 use Rattle.page_checkpoint.specs.Checkpoint.{onlyIf}
 use Rattle.flash_checkpoint.specs.CheckpointPages.{scoresBefore, scoresOfPage, pageCount, checkpointImage, checkpointRow}
 use Rattle.flash_checkpoint.specs.CheckpointPages.{writeCheckpointPage, checkpointPage, checkpointPages, drain, checkpoint}
@@ -51,11 +51,11 @@ use Rattle.flash_allocate.specs.State.{nextSequence, pageCounted}
 -- behind those of the nodes name its pages. With what the store keeps meanwhile.
 pub record Closes (score : ℕ → ℕ) (base k : ℕ) (w : World) (st : Store) : Type 0 where
   pub few : w .state .blocks ≤ mostBlocks
-  pub table : length (w .rows) ≡ 64 * w .state .blocks
+  pub table : rowsFor (w .state .blocks) ≤ length (w .table .rows)
   pub written : w .state .checkpoint ≡ k
   pub number : st .last ≡ base + k
   pub mirrors : Mirrors image (owner base (w .state .nodes) st) (checkpointSince base) w st
-  pub scores : (n : ℕ) → n < w .state .nodes → rowAt (w .rows) n .score ≡ score n
+  pub scores : (n : ℕ) → n < w .state .nodes → rowAt (w .table .rows) n .score ≡ score n
   pub invariant : Invariant (w .state .blocks) (w .state .nodes) (checkpointSince base) st
   pub checkpointPages : tally (checkpointSince base) (st .blocks) ≤ k
 
@@ -67,7 +67,7 @@ module _ {score : ℕ → ℕ} (base k : ℕ) {w : World} {st : Store} (h : Clos
 
   -- what was found for it: rows and state
   abbrev rows : List Row
-  rows = allocate w .rows
+  rows = allocate w .table .rows
 
   abbrev s : State
   s = allocate w .state
@@ -80,12 +80,13 @@ module _ {score : ℕ → ℕ} (base k : ℕ) {w : World} {st : Store} (h : Clos
   after = place (checkpointSince base) nodes (checkpointPageContent x) (st .buffer) st
 
   abbrev put : ℕ → List ℕ → World
-  put number bytes = world (set (allocate w .pages) (spot s) bytes) (set rows (used s) (checkpointRow number (spot s))) (pageCounted number s)
+  put number bytes =
+      world (set (allocate w .pages) (spot s) bytes) (withRow (used s) (checkpointRow number (spot s)) (allocate w .table)) (pageCounted number s)
 
   abbrev with : World
   with = put (suc (st .last)) (image (next st (checkpointPageContent x)))
 
-  room : used (w .state) < length (w .rows)
+  room : used (w .state) < length (w .table .rows)
   room = omega (arith, h .table, h .written, h .invariant .nodes, h .invariant .blocks, h .few)
 
   keep : Kept w (allocate w)

@@ -52,7 +52,7 @@ record Carrier (w : World) (st : Store) (n s : ℕ) : Type 0 where
   own : Page
   found : find s (st .blocks) ≡ some own
   lies : Lies (st .blocks) s own
-  named : names (placeOf lies) (rowAt (w .rows) n) ≡ true
+  named : names (placeOf lies) (rowAt (w .table .rows) n) ≡ true
 
 module _ {B : ℕ} {score : ℕ → ℕ} {w : World} {run : Run} (known : Writable B run) (h : Follows score w run) (n : ℕ) (l : n < run .nodes) where
   inside : n < w .state .nodes
@@ -82,7 +82,7 @@ module _ {B : ℕ} {score : ℕ → ℕ} {w : World} {run : Run} (known : Writab
   sequences : List ℕ
   sequences = sequencesTo (piecesOf (run .now) n) (run .now .last)
 
-  pages-sequences : rowAt (w .rows) n .pages ≡ length sequences
+  pages-sequences : rowAt (w .table .rows) n .pages ≡ length sequences
   unfolding sequences pages
   pages-sequences = h .mirrors .rows .pages n inside ∙ sym (length-sequences (piecesOf (run .now) n) (run .now .last))
 
@@ -101,7 +101,7 @@ module _ {B : ℕ} {score : ℕ → ℕ} {w : World} {run : Run} (known : Writab
 
   -- LOG MODE: the pages, then the buffer
   module _ (inLog : RowMode Log (run .now) n) where
-    told : (s : ℕ) → empty (piecesOf (run .now) n s) ≡ false → Named (w .pages) (rowAt (w .rows) n) n (piecesOf (run .now) n) s
+    told : (s : ℕ) → empty (piecesOf (run .now) n s) ≡ false → Named (w .pages) (rowAt (w .table .rows) n) n (piecesOf (run .now) n) s
     unfolding slotAt sequenceAt redoAt
     told s has =
         let v = greatest (view (run .now)) n in
@@ -124,13 +124,13 @@ module _ {B : ℕ} {score : ℕ → ℕ} {w : World} {run : Run} (known : Writab
               };
         }
 
-    pub log-content : logContent (w .pages) (w .state) (rowAt (w .rows) n) n ≡ draftOf (run .now) n
+    pub log-content : logContent (w .pages) (w .table .buffer) (w .state .entries) (rowAt (w .table .rows) n) n ≡ draftOf (run .now) n
     unfolding logContent sequences
     log-content =
-        let row = rowAt (w .rows) n in
+        let row = rowAt (w .table .rows) n in
         let f = piecesOf (run .now) n in
         let done : Draft = redoPages (w .pages) row n (unlinked []) in
-        ap (λ (u : ℕ). redoBuffer n u (w .state .buffer) (w .state .entries) done) (h .mirrors .rows .version n inside) ∙
+        ap (λ (u : ℕ). redoBuffer n u (w .table .buffer) (w .state .entries) done) (h .mirrors .rows .version n inside) ∙
         buffer-redone n (greatest (view (run .now)) n) (run .now .last) (h .buffer) (known .fits .last) (known .fits .entries) done ∙
         ap (λ (d : Draft). replayFrom d (piecesIn n (greatest (view (run .now)) n) (map entryItem (run .now .buffer))))
         (row-redone (w .pages) row n f told sequences (sequences-falling f (run .now .last)) pages-sequences sequences-few (unlinked [])) ∙
@@ -160,7 +160,7 @@ module _ {B : ℕ} {score : ℕ → ℕ} {w : World} {run : Run} (known : Writab
         rw (one-sequence, disk-own (known .good .versions) onPage, disk-buffer (known .good .versions) onPage)
 
     -- the page that its row names is the node page, whatever node stands there
-    pub disk-page : nodePageAt (w .pages) (rowAt (w .rows) n .first) ≡ nodeOfPayload (payloadAt (image (page version (whole n (onPage .node)))) 7 0x11)
+    pub disk-page : nodePageAt (w .pages) (rowAt (w .table .rows) n .first) ≡ nodeOfPayload (payloadAt (image (page version (whole n (onPage .node)))) 7 0x11)
     unfolding nodePageAt
     disk-page =
         let c = carrier version has-piece in
@@ -169,28 +169,28 @@ module _ {B : ℕ} {score : ℕ → ℕ} {w : World} {run : Run} (known : Writab
         let same : c .own ≡ page version (whole n (onPage .node)) = cc in
         in-one (λ x. nodeOfPayload (payloadAt (pageAt (w .pages) x) 7 0x11) ≡ nodeOfPayload (payloadAt (image (page version (whole n (onPage .node)))) 7 0x11))
         (ap (λ (b : List ℕ). nodeOfPayload (payloadAt b 7 0x11)) (image-here (h .mirrors .pages) (c .lies) ∙ ap image same))
-        (rowAt (w .rows) n) (c .named) (omega (arith, pages-sequences, ap length one-sequence))
+        (rowAt (w .table .rows) n) (c .named) (omega (arith, pages-sequences, ap length one-sequence))
 
-    pub disk-content : Neat (onPage .node) → nodePageAt (w .pages) (rowAt (w .rows) n .first) ≡ made (onPage .node)
+    pub disk-content : Neat (onPage .node) → nodePageAt (w .pages) (rowAt (w .table .rows) n .first) ≡ made (onPage .node)
     disk-content neat = disk-page ∙ node-read version n (onPage .node) own-page neat
 
   -- IN LOG MODE whatever the store says is read
-  pub log-follows : modeOf (run .now) n ≡ Log → content (w .pages) (w .rows) (w .state) n ≡ draftOf (run .now) n
+  pub log-follows : modeOf (run .now) n ≡ Log → content (w .pages) (w .table) (w .state) n ≡ draftOf (run .now) n
   unfolding content contentBy
-  log-follows e = go (rowAt (w .rows) n .mode) (h .mirrors .rows .mode n inside)
+  log-follows e = go (rowAt (w .table .rows) n .mode) (h .mirrors .rows .mode n inside)
     where
       go : (m : Mode) → RowMode m (run .now) n →
-          byMode m (logContent (w .pages) (w .state) (rowAt (w .rows) n) n) (nodePageAt (w .pages) (rowAt (w .rows) n .first)) ≡ draftOf (run .now) n
+          byMode m (logContent (w .pages) (w .table .buffer) (w .state .entries) (rowAt (w .table .rows) n) n) (nodePageAt (w .pages) (rowAt (w .table .rows) n .first)) ≡ draftOf (run .now) n
       go Log i = log-content i
       go Disk o = let d = mode-is Disk (run .now) n o in absurd (let z : _≡_ {A = ℕ} 0 1 = cc in omega arith)
 
   -- IN EITHER MODE a neat node is read
-  pub content-follows : (x : Node) → draftOf (run .now) n ≡ made x → Neat x → content (w .pages) (w .rows) (w .state) n ≡ made x
+  pub content-follows : (x : Node) → draftOf (run .now) n ≡ made x → Neat x → content (w .pages) (w .table) (w .state) n ≡ made x
   unfolding content contentBy
-  content-follows x e neat = go (rowAt (w .rows) n .mode) (h .mirrors .rows .mode n inside)
+  content-follows x e neat = go (rowAt (w .table .rows) n .mode) (h .mirrors .rows .mode n inside)
     where
       go : (m : Mode) → RowMode m (run .now) n →
-          byMode m (logContent (w .pages) (w .state) (rowAt (w .rows) n) n) (nodePageAt (w .pages) (rowAt (w .rows) n .first)) ≡ made x
+          byMode m (logContent (w .pages) (w .table .buffer) (w .state .entries) (rowAt (w .table .rows) n) n) (nodePageAt (w .pages) (rowAt (w .table .rows) n .first)) ≡ made x
       go Log i = log-content i ∙ e
       go Disk o =
           let said = disk-draft o in

@@ -26,7 +26,6 @@ use Rattle.page.specs.ReadBack.{map-back}
 use Rattle.page_write.specs.Chunks.{chunks}
 use Rattle.store.specs.Item.{entryItem, piecesIn}
 use Rattle.flash_read.specs.Replay.{redoEntry, redoRun, redoNth, redoBuffer}
-use Rattle.flash_allocate.specs.declared.state.State.{State}
 use Rattle.flash_refines.specs.Store.Follows.{BufferIs}
 
 -- Entries taken one by one, where they are the node's and of the version.
@@ -83,12 +82,12 @@ entry-back s e l h =
     ap₂ entry one (number-bigEndian 4 (e .version) (omega (arith, h .below)))
 
 -- THE BUFFER
-pub buffer-redone : (n v last : ℕ) {s : State} {es : List Entry} → BufferIs s es → last < bound32 → Every (EntryFits (suc last)) es → (d : Draft) →
-    redoBuffer n v (s .buffer) (s .entries) d ≡ replayFrom d (piecesIn n v (map entryItem es))
+pub buffer-redone : (n v last : ℕ) {buffer : List ℕ} {entries : ℕ} {es : List Entry} → BufferIs buffer entries es → last < bound32 → Every (EntryFits (suc last)) es → (d : Draft) →
+    redoBuffer n v buffer entries d ≡ replayFrom d (piecesIn n v (map entryItem es))
 unfolding redoBuffer
-buffer-redone n v last {s} {es} b l fit d =
-    ap (λ (k : ℕ). steps (redoNth n v (s .buffer)) k 0 d) (b .number) ∙
-    redoNth-chunks n v (s .buffer) (length es) 0 d ∙
+buffer-redone n v last {buffer} {entries} {es} b l fit d =
+    ap (λ (k : ℕ). steps (redoNth n v buffer) k 0 d) (b .number) ∙
+    redoNth-chunks n v buffer (length es) 0 d ∙
     ap (λ (xs : List (List ℕ)). redoAll n v (map entryOf xs) d) (b .bytes) ∙
     ap (λ (xs : List Entry). redoAll n v xs d) (map-back entryBytes entryOf (λ e f. entry-back (suc last) e (omega arith) f) es fit) ∙
     redoAll-pieces n v es d

@@ -25,6 +25,7 @@ use Rattle.store_laws.specs.BlockRules.{spot-moves}
 use Rattle.store_laws.specs.Placing.{Invariant, live-fits, found-same}
 use Rattle.store.specs.Write.{found}
 use Rattle.flash_rows.specs.declared.Row.{Row}
+use Rattle.flash_rows.specs.Worktable.{Worktable, withRows}
 use Rattle.flash_blocks.specs.Blank.{blankBlock, blankBlocks, nextBlank}
 use Rattle.flash_live.specs.Live.{liveMap, marked, liveIn}
 use Rattle.flash_live.specs.Choose.{victim}
@@ -47,7 +48,7 @@ use Rattle.flash_allocate.specs.State.{inBlock}
 -- What pages, rows and state say of the blocks, before and after.
 pub record Stands (image : Page → List ℕ) (own : ℕ → Page → Bool) (w : World) (bs : Blocks) (here : ℕ) : Type 0 where
   pub pages : PagesAre (w .state .blocks) image (w .pages) bs
-  pub names : RowsName (w .state .blocks) (used (w .state)) own (w .rows) bs
+  pub names : RowsName (w .state .blocks) (used (w .state)) own (w .table .rows) bs
   pub current : w .state .current ≡ here
   pub fill : w .state .fill ≡ length (block bs here)
 
@@ -58,25 +59,25 @@ pub record Kept (w w′ : World) : Type 0 where
   pub checkpoint : w′ .state .checkpoint ≡ w .state .checkpoint
   pub last : w′ .state .last ≡ w .state .last
   pub entries : w′ .state .entries ≡ w .state .entries
-  pub buffer : w′ .state .buffer ≡ w .state .buffer
-  pub table : length (w′ .rows) ≡ length (w .rows)
-  pub rows : (n : ℕ) → n < used (w .state) → (g : ℕ → ℕ) × (rowAt (w′ .rows) n ≡ mapped g (rowAt (w .rows) n))
+  pub buffer : w′ .table .buffer ≡ w .table .buffer
+  pub table : length (w′ .table .rows) ≡ length (w .table .rows)
+  pub rows : (n : ℕ) → n < used (w .state) → (g : ℕ → ℕ) × (rowAt (w′ .table .rows) n ≡ mapped g (rowAt (w .table .rows) n))
 
 pub record Allocated (image : Page → List ℕ) (own : ℕ → Page → Bool) (w : World) (place : Spot) (w′ : World) : Type 0 where
   pub stands : Stands image own w′ (place .blocks) (place .current)
   pub kept : Kept w w′
 
-module _ (image : Page → List ℕ) (written : Images image) (own : ℕ → Page → Bool) (keep : Page → Bool) (ps : List (List ℕ)) (rows : List Row)
+module _ (image : Page → List ℕ) (written : Images image) (own : ℕ → Page → Bool) (keep : Page → Bool) (ps : List (List ℕ)) (t : Worktable)
     (s : State) (bs : Blocks)
-    (small : s .blocks ≤ 64) (r : Stands image own (world ps rows s) bs (s .current)) (o : Owned keep own (used s) bs) (inside : s .current < s .blocks) where
+    (small : s .blocks ≤ 64) (r : Stands image own (world ps t s) bs (s .current)) (o : Owned keep own (used s) bs) (inside : s .current < s .blocks) where
   blank-is : (i : ℕ) → i < length bs → blankBlock ps i ≡ empty (block bs i)
   blank-is i l = blank-block (r .pages) written i (omega (arith, r .pages .size))
 
-  mark-is : (i q : ℕ) → i < s .blocks → q < 32 → marked (getD (liveMap (s .nodes + s .checkpoint) rows) (32 * i + q) 0) ≡ test keep (getElem? (block bs i) q)
+  mark-is : (i q : ℕ) → i < s .blocks → q < 32 → marked (getD (liveMap (s .nodes + s .checkpoint) (t .rows)) (32 * i + q) 0) ≡ test keep (getElem? (block bs i) q)
   mark-is i q li lq = mark-live small (r .names) o i q li lq
 
-  live-is : (i : ℕ) → i < length bs → liveIn (liveMap (s .nodes + s .checkpoint) rows) i ≡ count keep (block bs i)
-  live-is i l = liveIn-is keep (liveMap (s .nodes + s .checkpoint) rows) (block bs i) i (r .pages .most i) (λ q lq. mark-is i q (omega (arith, r .pages .size)) lq)
+  live-is : (i : ℕ) → i < length bs → liveIn (liveMap (s .nodes + s .checkpoint) (t .rows)) i ≡ count keep (block bs i)
+  live-is i l = liveIn-is keep (liveMap (s .nodes + s .checkpoint) (t .rows)) (block bs i) i (r .pages .most i) (λ q lq. mark-is i q (omega (arith, r .pages .size)) lq)
 
   blanks-is : blankBlocks (s .blocks) ps ≡ blanks bs
   blanks-is = ap (λ (n : ℕ). blankBlocks n ps) (sym (r .pages .size)) ∙ blankBlocks-is ps bs blank-is
@@ -88,10 +89,10 @@ module _ (image : Page → List ℕ) (written : Images image) (own : ℕ → Pag
   module _ (blank : BlankAt bs (λ i. Unit {0}))
       (moves : leb 2 (blanks bs) ≡ false → Moves bs (Model.victim keep bs) (Model.nextBlank bs (s .current)) ×
       (count keep (block bs (Model.victim keep bs)) < 32)) where
-    stays : (n : ℕ) → n < used s → (g : ℕ → ℕ) × (rowAt rows n ≡ mapped g (rowAt rows n))
+    stays : (n : ℕ) → n < used s → (g : ℕ → ℕ) × (rowAt (t .rows) n ≡ mapped g (rowAt (t .rows) n))
     stays n l = ((λ x. x), refl)
 
-    pub allocate-is : Allocated image own (world ps rows s) (spot 32 keep bs (s .current)) (allocate (world ps rows s))
+    pub allocate-is : Allocated image own (world ps t s) (spot 32 keep bs (s .current)) (allocate (world ps t s))
     unfolding spot inBlock compact
     allocate-is = go (le-or 32 (s .fill)) (leb 2 (blanks bs)) refl
       where
@@ -99,20 +100,20 @@ module _ (image : Page → List ℕ) (written : Images image) (own : ℕ → Pag
         j = Model.nextBlank bs (s .current)
 
         goal : Bool → Bool → World → Type 0
-        goal a two w′ = Allocated image own (world ps rows s) (spotBy a two keep bs (s .current)) w′
+        goal a two w′ = Allocated image own (world ps t s) (spotBy a two keep bs (s .current)) w′
 
         full : 32 ≤ s .fill → ltb (length (block bs (s .current))) 32 ≡ false
         full l = le-ltb (length (block bs (s .current))) 32 (omega (arith, r .fill))
 
         go : (32 ≤ s .fill) ⊎ (s .fill < 32) → (two : Bool) → leb 2 (blanks bs) ≡ two → goal (ltb (length (block bs (s .current))) 32)
-            (leb 2 (blanks bs)) (allocate (world ps rows s))
+            (leb 2 (blanks bs)) (allocate (world ps t s))
         go (inr l) two e =
             rw (lt-ltb (length (block bs (s .current))) 32 (omega (arith, r .fill)))
-            (subst (goal true (leb 2 (blanks bs))) (allocate-room (world ps rows s) l)
+            (subst (goal true (leb 2 (blanks bs))) (allocate-room (world ps t s) l)
             (record { stands = r; kept = record { blocks = refl; nodes = refl; checkpoint = refl; last = refl; entries = refl; buffer = refl; table = refl; rows = stays } }))
         go (inl l) true e =
             rw (full l, e)
-            (subst (goal false true) (allocate-next ps rows s j (blanks bs) l (sym next-is) (sym blanks-is) (leb-true 2 (blanks bs) e) (inBlock j 0 s) refl)
+            (subst (goal false true) (allocate-next ps t s j (blanks bs) l (sym next-is) (sym blanks-is) (leb-true 2 (blanks bs) e) (inBlock j 0 s) refl)
             (record {
               stands = record {
                 pages = r .pages;
@@ -126,7 +127,7 @@ module _ (image : Page → List ℕ) (written : Images image) (own : ℕ → Pag
         go (inl l) false e =
             rw (full l, e)
             (subst (goal false false)
-            (allocate-compact ps rows s j (blanks bs) l (sym next-is) (sym blanks-is) (leb-false 2 (blanks bs) e) (z .pages) (z .rows) (z .fill) whole (inBlock j (z .fill) s) refl)
+            (allocate-compact ps t s j (blanks bs) l (sym next-is) (sym blanks-is) (leb-false 2 (blanks bs) e) (z .pages) (z .rows) (z .fill) whole (withRows (z .rows) t) refl (inBlock j (z .fill) s) refl)
             (record {
               stands = record { pages = c .pages; names = c .names; current = refl; fill = c .fill };
               kept = record { blocks = refl; nodes = refl; checkpoint = refl; last = refl; entries = refl; buffer = refl; table = c .long; rows = c .same };
@@ -136,22 +137,22 @@ module _ (image : Page → List ℕ) (written : Images image) (own : ℕ → Pag
             v = moves e .0
 
             z : Compacted
-            z = compactBlock (Model.victim keep bs) (liveMap (s .nodes + s .checkpoint) rows) (s .nodes + s .checkpoint) (Model.nextBlank bs (s .current)) ps rows
+            z = compactBlock (Model.victim keep bs) (liveMap (s .nodes + s .checkpoint) (t .rows)) (s .nodes + s .checkpoint) (Model.nextBlank bs (s .current)) ps (t .rows)
 
-            c : Compaction (s .blocks) image (used s) own rows bs keep (Model.victim keep bs) (Model.nextBlank bs (s .current)) z
+            c : Compaction (s .blocks) image (used s) own (t .rows) bs keep (Model.victim keep bs) (Model.nextBlank bs (s .current)) z
             c =
-                compactBlock-is keep v (r .pages) (r .names) o (liveMap (s .nodes + s .checkpoint) rows)
+                compactBlock-is keep v (r .pages) (r .names) o (liveMap (s .nodes + s .checkpoint) (t .rows))
                 (λ q lq. mark-is (Model.victim keep bs) q (omega (arith, v .from, r .pages .size)) lq)
 
-            chosen : victim (s .blocks) ps (liveMap (s .nodes + s .checkpoint) rows) ≡ Model.victim keep bs
+            chosen : victim (s .blocks) ps (liveMap (s .nodes + s .checkpoint) (t .rows)) ≡ Model.victim keep bs
             chosen =
-                ap (λ (n : ℕ). victim n ps (liveMap (s .nodes + s .checkpoint) rows)) (sym (r .pages .size)) ∙
-                victim-is keep ps (liveMap (s .nodes + s .checkpoint) rows) bs blank-is live-is (omega (arith, moves e .1))
+                ap (λ (n : ℕ). victim n ps (liveMap (s .nodes + s .checkpoint) (t .rows))) (sym (r .pages .size)) ∙
+                victim-is keep ps (liveMap (s .nodes + s .checkpoint) (t .rows)) bs blank-is live-is (omega (arith, moves e .1))
 
-            whole : z ≡ compact (used s) (s .blocks) (Model.nextBlank bs (s .current)) ps rows
+            whole : z ≡ compact (used s) (s .blocks) (Model.nextBlank bs (s .current)) ps (t .rows)
             whole =
                 sym
-                (ap (λ (x : ℕ). compactBlock x (liveMap (s .nodes + s .checkpoint) rows) (s .nodes + s .checkpoint) (Model.nextBlank bs (s .current)) ps rows) chosen)
+                (ap (λ (x : ℕ). compactBlock x (liveMap (s .nodes + s .checkpoint) (t .rows)) (s .nodes + s .checkpoint) (Model.nextBlank bs (s .current)) ps (t .rows)) chosen)
 
 -- A live page carries a node below the count, or is of the checkpoint being written.
 live-cases : (w : View) (closing : Page → Bool) (N : ℕ) (p : Page) → live w closing N p ≡ true →
@@ -192,7 +193,7 @@ module _ {image : Page → List ℕ} {own : ℕ → Page → Bool} {closing : Pa
   pub found-place : Allocated image own w (spot 32 (live (view st) closing (w .state .nodes)) (st .blocks) (st .current)) (allocate w)
   found-place =
       subst (λ (c : ℕ). Allocated image own w (spot 32 (live (view st) closing (w .state .nodes)) (st .blocks) c) (allocate w)) (h .current)
-      (allocate-is image written own (live (view st) closing (w .state .nodes)) (w .pages) (w .rows) (w .state) (st .blocks) small
+      (allocate-is image written own (live (view st) closing (w .state .nodes)) (w .pages) (w .table) (w .state) (st .blocks) small
       (record {
         pages = h .pages;
         names = h .names;
@@ -217,7 +218,7 @@ module _ {image : Page → List ℕ} {own : ℕ → Page → Bool} {closing : Pa
         names = a .stands .names;
         owners = subst (λ (n : ℕ). Owners own closing n (allocate w .state .checkpoint) st′) (sym (a .kept .nodes))
             (subst (λ (n : ℕ). Owners own closing (w .state .nodes) n st′) (sym (a .kept .checkpoint)) owners);
-        rows = subst (λ (n : ℕ). RowsSay n (allocate w .rows) st′) (sym (a .kept .nodes)) rows;
+        rows = subst (λ (n : ℕ). RowsSay n (allocate w .table .rows) st′) (sym (a .kept .nodes)) rows;
         current = a .stands .current;
         fill = a .stands .fill;
         last = a .kept .last ∙ h .last;
@@ -237,13 +238,13 @@ module _ {image : Page → List ℕ} {own : ℕ → Page → Bool} {closing : Pa
             checkpointPages = h .owners .checkpointPages;
           }
 
-      row : (n : ℕ) → n < w .state .nodes → (g : ℕ → ℕ) × (rowAt (allocate w .rows) n ≡ mapped g (rowAt (w .rows) n))
+      row : (n : ℕ) → n < w .state .nodes → (g : ℕ → ℕ) × (rowAt (allocate w .table .rows) n ≡ mapped g (rowAt (w .table .rows) n))
       row n l = a .kept .rows n (omega arith)
 
-      rows : RowsSay (w .state .nodes) (allocate w .rows) st′
+      rows : RowsSay (w .state .nodes) (allocate w .table .rows) st′
       rows =
           record {
             version = λ n l. ap (λ (x : Row). x .version) (row n l .1) ∙ h .rows .version n l ∙ sym (found-same v n l .greatest);
-            mode = λ n l. subst (λ (x : Row). RowMode (x .mode) st′ n) (sym (row n l .1)) (found-rowMode v n l (rowAt (w .rows) n .mode) (h .rows .mode n l));
+            mode = λ n l. subst (λ (x : Row). RowMode (x .mode) st′ n) (sym (row n l .1)) (found-rowMode v n l (rowAt (w .table .rows) n .mode) (h .rows .mode n l));
             pages = λ n l. ap (λ (x : Row). x .pages) (row n l .1) ∙ h .rows .pages n l ∙ sym (found-same v n l .pages);
           }

@@ -24,8 +24,8 @@ use Rattle.page.specs.Spelled.{length-entryBytes, entryOf-bytes}
 use Rattle.page_write.specs.Chunks.{chunks}
 use Rattle.page_write.specs.Pages.{logBody, logImage}
 use Rattle.store.specs.Item.{entries}
-use Rattle.flash_allocate.specs.declared.state.State.{State}
-use Rattle.flash_log.specs.Entry.{entryOf, entered, append, appendAll}
+use Rattle.flash_rows.specs.Worktable.{withBuffer}
+use Rattle.flash_log.specs.Entry.{Logged, logged, entryOf, entered, append, appendAll}
 use Rattle.flash_log.specs.Claim.{idAt, versionAt}
 use Rattle.flash_refines.specs.Store.Follows.{BufferIs}
 use Rattle.flash_allocate.specs.State.{withEntries}
@@ -59,9 +59,9 @@ module _ (n : ℕ) (e : Entry) (l : n < bound32) (f : EntryFits n e) where
   unfolding Decode.entryOf
   version-bytes = ap (λ (x : Entry). x .version) (entryOf-bytes n e l f)
 
-module _ {s : State} {es : List Entry} (b : BufferIs s es) where
+module _ {buffer : List ℕ} {entries : ℕ} {es : List Entry} (b : BufferIs buffer entries es) where
   -- the same buffer in another state
-  pub buffer-same : {s′ : State} → s′ .entries ≡ s .entries → s′ .buffer ≡ s .buffer → BufferIs s′ es
+  pub buffer-same : {buffer′ : List ℕ} {entries′ : ℕ} → entries′ ≡ entries → buffer′ ≡ buffer → BufferIs buffer′ entries′ es
   buffer-same e d =
       record {
         size = ap length d ∙ b .size;
@@ -71,28 +71,28 @@ module _ {s : State} {es : List Entry} (b : BufferIs s es) where
 
   -- THE ENTRIES READ, one by one
   module _ (k : ℕ) (e : Entry) (q : getElem? es k ≡ some e) where
-    pub entry-at : part (s .buffer) (15 * k) 15 ≡ entryBytes e
-    entry-at = ap (λ (i : ℕ). part (s .buffer) i 15) (sym (zero-add (15 * k))) ∙ bytes-at es (s .buffer) 0 (b .bytes) k e q
+    pub entry-at : part buffer (15 * k) 15 ≡ entryBytes e
+    entry-at = ap (λ (i : ℕ). part buffer i 15) (sym (zero-add (15 * k))) ∙ bytes-at es buffer 0 (b .bytes) k e q
 
     module _ {n : ℕ} (l : n < bound32) (f : Every (EntryFits n) es) where
-      pub id-at : idAt (s .buffer) k ≡ e .id
+      pub id-at : idAt buffer k ≡ e .id
       id-at =
-          ap (numberAt 2 (s .buffer)) (sym (add-zero (15 * k))) ∙
-          sym (numberAt-part 2 (s .buffer) (15 * k) 15 0 (omega arith)) ∙
+          ap (numberAt 2 buffer) (sym (add-zero (15 * k))) ∙
+          sym (numberAt-part 2 buffer (15 * k) 15 0 (omega arith)) ∙
           ap (λ (p : List ℕ). numberAt 2 p 0) entry-at ∙
           id-bytes n e l (every-entry f k e q)
 
-      pub version-at : versionAt (s .buffer) k ≡ e .version
+      pub version-at : versionAt buffer k ≡ e .version
       version-at =
-          sym (numberAt-part 4 (s .buffer) (15 * k) 15 2 (omega arith)) ∙
+          sym (numberAt-part 4 buffer (15 * k) 15 2 (omega arith)) ∙
           ap (λ (p : List ℕ). numberAt 4 p 2) entry-at ∙
           version-bytes n e l (every-entry f k e q)
 
   -- THE BUFFER AS A PAGE
-  pub image-log : (n : ℕ) → logImage n (s .entries) (s .buffer) ≡ image (page n (log es))
+  pub image-log : (n : ℕ) → logImage n entries buffer ≡ image (page n (log es))
   unfolding logImage logBody image contentBytes
   image-log n =
-      ap (λ (k : ℕ). sealed pageBytes (numbered n (fields 0x12 (chunks 15 k (s .buffer) 0)))) (b .number) ∙
+      ap (λ (k : ℕ). sealed pageBytes (numbered n (fields 0x12 (chunks 15 k buffer 0)))) (b .number) ∙
       ap (λ (ps : List (List ℕ)). sealed pageBytes (numbered n (fields 0x12 ps))) (b .bytes)
 
 -- A record laid behind n others.
@@ -105,19 +105,23 @@ chunks-behind zero s at to xs l e h =
 chunks-behind (suc n) s at to xs l e h =
     ap₂ _∷_ (part-lay-before s to xs h at 15 (omega arith)) (chunks-behind n s (at + 15) to xs l (omega arith) h)
 
+-- The buffer of a work table and a state.
+abbrev pub Buffered : Logged → List Entry → Type 0
+Buffered l es = BufferIs (l .table .buffer) (l .state .entries) es
+
 module _ (id version : ℕ) where
   -- ONE ENTRY MORE, where there is room
-  pub append-is : (c : Change) {s : State} {es : List Entry} → BufferIs s es → length es < mostEntries →
-      BufferIs (append id version c s) (es ++ (entryOf id version c ∷ []))
-  unfolding append entered
-  append-is c {s} {es} b l =
-      rw (lt-ltb (s .entries) mostEntries (omega (arith, b .number)))
+  pub append-is : (c : Change) (l : Logged) {es : List Entry} → Buffered l es → length es < mostEntries →
+      Buffered (append id version c l) (es ++ (entryOf id version c ∷ []))
+  unfolding append entered withEntries
+  append-is c l {es} b few =
+      rw (lt-ltb (l .state .entries) mostEntries (omega (arith, b .number)))
       (record {
-        size = length-lay (s .buffer) (15 * s .entries) (entryBytes e) (omega (arith, length-entryBytes e, b .size, b .number)) ∙ b .size;
+        size = length-lay buffer at (entryBytes e) (omega (arith, length-entryBytes e, b .size, b .number)) ∙ b .size;
         number = omega (arith, b .number, more);
         bytes =
-            ap (λ (k : ℕ). chunks 15 k (lay (s .buffer) (15 * s .entries) (entryBytes e)) 0) more ∙
-            chunks-behind (length es) (s .buffer) 0 (15 * s .entries) (entryBytes e) (length-entryBytes e)
+            ap (λ (k : ℕ). chunks 15 k (lay buffer at (entryBytes e)) 0) more ∙
+            chunks-behind (length es) buffer 0 at (entryBytes e) (length-entryBytes e)
             (omega (arith, b .number)) (omega (arith, b .size, b .number)) ∙
             ap (λ (ps : List (List ℕ)). ps ++ (entryBytes e ∷ [])) (b .bytes) ∙
             sym (map-append entryBytes es (e ∷ []));
@@ -126,34 +130,42 @@ module _ (id version : ℕ) where
       e : Entry
       e = entryOf id version c
 
+      buffer : List ℕ
+      buffer = l .table .buffer
+
+      at : ℕ
+      at = 15 * l .state .entries
+
       more : length (es ++ (entryOf id version c ∷ [])) ≡ suc (length es)
       more = omega (arith, length-append es (entryOf id version c ∷ []))
 
   -- SEVERAL, of one node and one version
-  pub appendAll-is : (cs : List Change) {s : State} {es : List Entry} → BufferIs s es → length es + length cs ≤ mostEntries →
-      BufferIs (appendAll id version cs s) (es ++ entries id version cs)
+  pub appendAll-is : (cs : List Change) (l : Logged) {es : List Entry} → Buffered l es → length es + length cs ≤ mostEntries →
+      Buffered (appendAll id version cs l) (es ++ entries id version cs)
   unfolding appendAll
-  appendAll-is [] {s} {es} b l = rw append-nil b
-  appendAll-is (c ∷ cs) {s} {es} b l =
-      subst (BufferIs (appendAll id version cs (append id version c s))) (append-assoc es (entryOf id version c ∷ []) (entries id version cs))
-      (appendAll-is cs (append-is c b (omega arith)) (omega (arith, length-append es (entryOf id version c ∷ []))))
+  appendAll-is [] l {es} b few = rw append-nil b
+  appendAll-is (c ∷ cs) l {es} b few =
+      subst (Buffered (appendAll id version cs (append id version c l))) (append-assoc es (entryOf id version c ∷ []) (entries id version cs))
+      (appendAll-is cs (append id version c l) (append-is c l b (omega arith)) (omega (arith, length-append es (entryOf id version c ∷ []))))
 
   -- Nothing but the buffer and the number of its entries changes.
-  pub append-holds : (c : Change) (s : State) → append id version c s ≡ withEntries (append id version c s .entries) (append id version c s .buffer) s
-  unfolding append entered
-  append-holds c s = go (ltb (s .entries) mostEntries)
-    where
-      new : State
-      new = entered (entryBytes (entryOf id version c)) s
+  abbrev pub onlyBuffer : Logged → Logged → Logged
+  onlyBuffer l m = logged (withBuffer (m .table .buffer) (l .table)) (withEntries (m .state .entries) (l .state))
 
-      go : (t : Bool) → choose t new s ≡ withEntries (choose t new s .entries) (choose t new s .buffer) s
+  pub append-holds : (c : Change) (l : Logged) → append id version c l ≡ onlyBuffer l (append id version c l)
+  unfolding append entered withEntries
+  append-holds c l = go (ltb (l .state .entries) mostEntries)
+    where
+      new : Logged
+      new = entered (entryBytes (entryOf id version c)) l
+
+      go : (t : Bool) → choose t new l ≡ onlyBuffer l (choose t new l)
       go true = refl
       go false = refl
 
-  pub appendAll-holds : (cs : List Change) (s : State) →
-      appendAll id version cs s ≡ withEntries (appendAll id version cs s .entries) (appendAll id version cs s .buffer) s
-  unfolding appendAll
-  appendAll-holds [] s = refl
-  appendAll-holds (c ∷ cs) s =
-      appendAll-holds cs (append id version c s) ∙
-      ap (withEntries (appendAll id version (c ∷ cs) s .entries) (appendAll id version (c ∷ cs) s .buffer)) (append-holds c s)
+  pub appendAll-holds : (cs : List Change) (l : Logged) → appendAll id version cs l ≡ onlyBuffer l (appendAll id version cs l)
+  unfolding appendAll withEntries
+  appendAll-holds [] l = refl
+  appendAll-holds (c ∷ cs) l =
+      appendAll-holds cs (append id version c l) ∙
+      ap (λ (m : Logged). onlyBuffer m (appendAll id version (c ∷ cs) l)) (append-holds c l)

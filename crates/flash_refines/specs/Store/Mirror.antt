@@ -72,9 +72,9 @@ pub record Owners (own : ℕ → Page → Bool) (closing : Page → Bool) (nodeC
 -- A world stands for a store, up to the log buffer.
 pub record Mirrors (image : Page → List ℕ) (own : ℕ → Page → Bool) (closing : Page → Bool) (w : World) (st : Store) : Type 0 where
   pub pages : PagesAre (w .state .blocks) image (w .pages) (st .blocks)
-  pub names : RowsName (w .state .blocks) (used (w .state)) own (w .rows) (st .blocks)
+  pub names : RowsName (w .state .blocks) (used (w .state)) own (w .table .rows) (st .blocks)
   pub owners : Owners own closing (w .state .nodes) (w .state .checkpoint) st
-  pub rows : RowsSay (w .state .nodes) (w .rows) st
+  pub rows : RowsSay (w .state .nodes) (w .table .rows) st
   pub current : w .state .current ≡ st .current
   pub fill : w .state .fill ≡ length (block (st .blocks) (st .current))
   pub last : w .state .last ≡ st .last

@@ -16,7 +16,7 @@ use Rattle.store.specs.Write.{found, next, place}
 use Rattle.store_laws.specs.Placing.{Invariant, found-ready}
 use Rattle.store_laws.specs.Compaction.{found-room}
 use Rattle.flash_rows.specs.Step.{names}
-use Rattle.flash_rows.specs.declared.Row.{Row}
+use Rattle.flash_rows.specs.Worktable.{Worktable}
 use Rattle.flash_blocks.specs.Pages.{isBlank}
 use Rattle.flash_allocate.specs.declared.state.State.{State}
 use Rattle.flash_allocate.specs.World.{World, world, used, spot}
@@ -68,11 +68,11 @@ module _ {own : ℕ → Page → Bool} {closing : Page → Bool} {w : World} {st
   inside-found = omega (arith, kept-found .blocks, found-ready v .inside)
 
   -- No row names the page that is written next.
-  pub next-free : (n : ℕ) → n < used (allocate w .state) → names (spot (allocate w .state)) (rowAt (allocate w .rows) n) ≡ false
+  pub next-free : (n : ℕ) → n < used (allocate w .state) → names (spot (allocate w .state)) (rowAt (allocate w .table .rows) n) ≡ false
   next-free = spot-free stands-found inside-found (found-room v)
 
   -- What is to be shown of a page in that place, and of the rows and the state that follow it.
-  module _ (c : Content) (rest : List Entry) (own′ : ℕ → Page → Bool) (rows′ : List Row) (s′ : State) where
+  module _ (c : Content) (rest : List Entry) (own′ : ℕ → Page → Bool) (t′ : Worktable) (s′ : State) where
     abbrev with : Store
     with = place closing (w .state .nodes) c rest st
 
@@ -81,12 +81,12 @@ module _ {own : ℕ → Page → Bool} {closing : Page → Bool} {w : World} {st
       pub current : s′ .current ≡ allocate w .state .current
       pub fill : s′ .fill ≡ allocate w .state .fill + 1
       pub last : s′ .last ≡ suc (st .last)
-      pub named : Named stands-found inside-found (found-room v) (next st c) (used s′) own′ rows′
+      pub named : Named stands-found inside-found (found-room v) (next st c) (used s′) own′ (t′ .rows)
       pub owners : Owners own′ closing (s′ .nodes) (s′ .checkpoint) with
-      pub rows : RowsSay (s′ .nodes) rows′ with
+      pub rows : RowsSay (s′ .nodes) (t′ .rows) with
 
     -- THE PAGE PLACED mirrors the store's.
-    pub placed-mirrors : Fills → Mirrors image own′ closing (world (set (allocate w .pages) (spot (allocate w .state)) (image (next st c))) rows′ s′) with
+    pub placed-mirrors : Fills → Mirrors image own′ closing (world (set (allocate w .pages) (spot (allocate w .state)) (image (next st c))) t′ s′) with
     unfolding place
     placed-mirrors f =
         record {
@@ -99,6 +99,6 @@ module _ {own : ℕ → Page → Bool} {closing : Page → Bool} {w : World} {st
           last = f .last;
         }
       where
-        stands : Stands image own′ (world (set (allocate w .pages) (spot (allocate w .state)) (image (next st c))) rows′ s′) (with .blocks) here
+        stands : Stands image own′ (world (set (allocate w .pages) (spot (allocate w .state)) (image (next st c))) t′ s′) (with .blocks) here
         stands =
-            stands-written stands-found inside-found (found-room v) (next st c) own′ rows′ s′ (f .blocks) (f .current) (f .fill) (f .named)
+            stands-written stands-found inside-found (found-room v) (next st c) own′ t′ s′ (f .blocks) (f .current) (f .fill) (f .named)

@@ -14,6 +14,7 @@ use Rattle.page.specs.Page.{Page}
 use Rattle.store.specs.Pool.{Blocks, block, addTo}
 use Rattle.flash_rows.specs.Step.{names}
 use Rattle.flash_rows.specs.declared.Row.{Row}
+use Rattle.flash_rows.specs.Worktable.{Worktable}
 use Rattle.flash_allocate.specs.declared.state.State.{State}
 use Rattle.flash_allocate.specs.World.{World, world, used, spot}
 use Rattle.flash_refines.specs.Store.Mirror.{rowAt, test, PagesAre, RowsName}
@@ -31,9 +32,9 @@ module _ {image : Page → List ℕ} {own : ℕ → Page → Bool} {w : World} {
   spot-is = omega (arith, r .current, r .fill)
 
   -- no row names the place of the next page
-  pub spot-free : (n : ℕ) → n < used (w .state) → names (spot (w .state)) (rowAt (w .rows) n) ≡ false
+  pub spot-free : (n : ℕ) → n < used (w .state) → names (spot (w .state)) (rowAt (w .table .rows) n) ≡ false
   spot-free n l =
-      ap (λ (x : ℕ). names x (rowAt (w .rows) n)) spot-is ∙
+      ap (λ (x : ℕ). names x (rowAt (w .table .rows) n)) spot-is ∙
       r .names .each n here (length (block bs here)) l inside room ∙
       ap (test (own n)) (page-past (block bs here))
 
@@ -66,16 +67,16 @@ module _ {image : Page → List ℕ} {own : ℕ → Page → Bool} {w : World} {
           sym (ap (λ (b : List Page). test (own′ n) (getElem? b q)) (getD-set-other bs here i (block bs here ++ (p ∷ [])) [] e))
 
   -- ONE PAGE WRITTEN, with the rows that follow it
-  pub stands-written : (p : Page) (own′ : ℕ → Page → Bool) (rows′ : List Row) (s′ : State) → s′ .blocks ≡ w .state .blocks → s′ .current ≡
+  pub stands-written : (p : Page) (own′ : ℕ → Page → Bool) (t′ : Worktable) (s′ : State) → s′ .blocks ≡ w .state .blocks → s′ .current ≡
       w .state .current →
-      s′ .fill ≡ w .state .fill + 1 → Named p (used s′) own′ rows′ →
-      Stands image own′ (world (set (w .pages) (spot (w .state)) (image p)) rows′ s′) (addTo bs here p) here
-  stands-written p own′ rows′ s′ eb ec ef h =
+      s′ .fill ≡ w .state .fill + 1 → Named p (used s′) own′ (t′ .rows) →
+      Stands image own′ (world (set (w .pages) (spot (w .state)) (image p)) t′ s′) (addTo bs here p) here
+  stands-written p own′ t′ s′ eb ec ef h =
       record {
         pages =
             subst (λ (k : ℕ). PagesAre k image (set (w .pages) (spot (w .state)) (image p)) (addTo bs here p)) (sym eb)
             (subst (λ (k : ℕ). PagesAre (w .state .blocks) image (set (w .pages) k (image p)) (addTo bs here p)) (sym spot-is) (pages-add (r .pages) here inside p room));
-        names = subst (λ (k : ℕ). RowsName k (used s′) own′ rows′ (addTo bs here p)) (sym eb) (rows-added p (used s′) own′ rows′ h);
+        names = subst (λ (k : ℕ). RowsName k (used s′) own′ (t′ .rows) (addTo bs here p)) (sym eb) (rows-added p (used s′) own′ (t′ .rows) h);
         current = ec ∙ r .current;
         fill = ef ∙ omega (arith, r .fill, ap length added, length-append (block bs here) (p ∷ []));
       }

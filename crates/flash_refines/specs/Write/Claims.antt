@@ -29,7 +29,6 @@ use Rattle.flash_rows.specs.Step.{names, noted, byMode, claim, settled}
 use Rattle.flash_rows.specs.declared.Row.{Row}
 use Rattle.flash_rows.specs.declared.Claim.{Claim}
 use Rattle.flash_rows.specs.declared.Claim.the-variants.{Same, Noted}
-use Rattle.flash_allocate.specs.declared.state.State.{State}
 use Rattle.flash_log.specs.Claim.{claimRow, claimEntry, claimEntries}
 use Rattle.flash_refines.specs.Store.Mirror.{rowAt}
 use Rattle.flash_refines.specs.Store.Follows.{BufferIs}
@@ -189,38 +188,38 @@ module _ (nodes page : ℕ) where
 
 -- ---- the buffer's entries
 
-module _ {s : State} {es : List Entry} (b : BufferIs s es) {n : ℕ} (l : n < bound32) (f : Every (EntryFits n) es) (nodes page : ℕ) (rows : List Row) where
-  entries-claim : claimEntries (s .buffer) nodes page (s .entries) rows ≡ claimAll nodes page es rows
+module _ {buffer : List ℕ} {entries : ℕ} {es : List Entry} (b : BufferIs buffer entries es) {n : ℕ} (l : n < bound32) (f : Every (EntryFits n) es) (nodes page : ℕ) (rows : List Row) where
+  entries-claim : claimEntries buffer nodes page entries rows ≡ claimAll nodes page es rows
   unfolding claimEntries claimEntry steps
   entries-claim =
-      ap (λ (k : ℕ). steps (claimEntry (s .buffer) nodes page) k 0 rows) (b .number) ∙
-      go es 0 rows (λ k e q now. ap (λ (j : ℕ). claimEntry (s .buffer) nodes page j now) (zero-add k) ∙ one k e q now)
+      ap (λ (k : ℕ). steps (claimEntry buffer nodes page) k 0 rows) (b .number) ∙
+      go es 0 rows (λ k e q now. ap (λ (j : ℕ). claimEntry buffer nodes page j now) (zero-add k) ∙ one k e q now)
     where
-      one : (k : ℕ) (e : Entry) → getElem? es k ≡ some e → (now : List Row) → claimEntry (s .buffer) nodes page k now ≡ claimOne nodes page e now
+      one : (k : ℕ) (e : Entry) → getElem? es k ≡ some e → (now : List Row) → claimEntry buffer nodes page k now ≡ claimOne nodes page e now
       one k e q now =
           ap₂ (λ (id version : ℕ). choose (ltb id nodes) (claimRow id version page now) now) (id-at b k e q l f) (version-at b k e q l f)
 
       go : (rest : List Entry) (i : ℕ) (now : List Row) →
-          ((k : ℕ) (e : Entry) → getElem? rest k ≡ some e → (now : List Row) → claimEntry (s .buffer) nodes page (i + k) now ≡ claimOne nodes page e now) →
-          steps (claimEntry (s .buffer) nodes page) (length rest) i now ≡ claimAll nodes page rest now
+          ((k : ℕ) (e : Entry) → getElem? rest k ≡ some e → (now : List Row) → claimEntry buffer nodes page (i + k) now ≡ claimOne nodes page e now) →
+          steps (claimEntry buffer nodes page) (length rest) i now ≡ claimAll nodes page rest now
       go [] i now each = refl
       go (e ∷ rest) i now each =
-          ap (steps (claimEntry (s .buffer) nodes page) (length rest) (i + 1))
-          (ap (λ (j : ℕ). claimEntry (s .buffer) nodes page j now) (sym (add-zero i)) ∙ each 0 e refl now) ∙
+          ap (steps (claimEntry buffer nodes page) (length rest) (i + 1))
+          (ap (λ (j : ℕ). claimEntry buffer nodes page j now) (sym (add-zero i)) ∙ each 0 e refl now) ∙
           go rest (i + 1) (claimOne nodes page e now)
-          (λ k x q t. ap (λ (j : ℕ). claimEntry (s .buffer) nodes page j t) (behind k) ∙ each (suc k) x q t)
+          (λ k x q t. ap (λ (j : ℕ). claimEntry buffer nodes page j t) (behind k) ∙ each (suc k) x q t)
         where
           behind : (k : ℕ) → i + 1 + k ≡ i + suc k
           behind k = omega arith
 
   -- As many rows.
-  pub length-claimed : length (claimEntries (s .buffer) nodes page (s .entries) rows) ≡ length rows
+  pub length-claimed : length (claimEntries buffer nodes page entries rows) ≡ length rows
   length-claimed = ap length entries-claim ∙ length-all nodes page es rows
 
   -- THE ROW OF A NODE that does not name the page yet, and has a slot for it where entries concern it
   pub claimed-row : (m : ℕ) → m < nodes → m < length rows → names page (rowAt rows m) ≡ false →
       (concern es m (rowAt rows m) ≡ true → rowAt rows m .pages < 3) →
-      Claimed (concern es m (rowAt rows m)) page (rowAt rows m) (rowAt (claimEntries (s .buffer) nodes page (s .entries) rows) m)
+      Claimed (concern es m (rowAt rows m)) page (rowAt rows m) (rowAt (claimEntries buffer nodes page entries rows) m)
   claimed-row m there long new room =
       subst (λ (t : List Row). Claimed (concern es m (rowAt rows m)) page (rowAt rows m) (rowAt t m)) (sym entries-claim) (go (rowAt rows m .mode) refl room)
     where

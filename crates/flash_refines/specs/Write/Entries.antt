@@ -19,13 +19,12 @@ use Rattle.store.specs.Write.{enter}
 use Rattle.store.specs.Run.{Run, editBy}
 use Rattle.store_laws.specs.Placing.{enter-now, enter-other}
 use Rattle.flash_rows.specs.Step.{names}
-use Rattle.flash_allocate.specs.declared.state.State.{State}
-use Rattle.flash_allocate.specs.World.{World, world}
-use Rattle.flash_log.specs.Entry.{entryOf, append}
+use Rattle.flash_allocate.specs.World.{World}
+use Rattle.flash_log.specs.Entry.{besides, logged, Logged, entryOf, append}
 use Rattle.flash_refines.specs.Store.Mirror.{rowAt, RowsName, RowsSay}
 use Rattle.flash_refines.specs.Store.RowModes.{same-rowMode}
-use Rattle.flash_refines.specs.Store.Buffer.{append-is, append-holds}
-use Rattle.flash_refines.specs.Store.Follows.{BufferIs, Follows, Writable}
+use Rattle.flash_refines.specs.Store.Buffer.{Buffered, append-is, append-holds}
+use Rattle.flash_refines.specs.Store.Follows.{Follows, Writable}
 use Rattle.flash_refines.specs.Store.Followed.{owners-open}
 use Rattle.flash_refines.specs.Store.Ownership.{owned-same}
 use Rattle.flash_allocate.specs.State.{withEntries}
@@ -39,7 +38,7 @@ module _ {B : ℕ} {score : ℕ → ℕ} {w : World} {run : Run} (b : Writable B
   after = enter n c st
 
   abbrev v : ℕ
-  v = rowAt (w .rows) n .version
+  v = rowAt (w .table .rows) n .version
 
   -- every node has its version, and so the same pages
   version-same : (m : ℕ) → greatest (view after) m ≡ greatest (view st) m
@@ -56,7 +55,7 @@ module _ {B : ℕ} {score : ℕ → ℕ} {w : World} {run : Run} (b : Writable B
       go (inl e) = rw (← e) (enter-now (b .good .invariant) n c .pages)
       go (inr d) = enter-other (b .good .invariant) n c m d .pages
 
-  named : RowsName (w .state .blocks) (w .state .nodes + w .state .checkpoint) (carries (view after)) (w .rows) (st .blocks)
+  named : RowsName (w .state .blocks) (w .state .nodes + w .state .checkpoint) (carries (view after)) (w .table .rows) (st .blocks)
   named =
       record {
         long = f .mirrors .names .long;
@@ -65,20 +64,20 @@ module _ {B : ℕ} {score : ℕ → ℕ} {w : World} {run : Run} (b : Writable B
             owned-same (view st) (view after) m (version-same m) (getElem? (block (st .blocks) i) q);
       }
 
-  says : RowsSay (w .state .nodes) (w .rows) after
+  says : RowsSay (w .state .nodes) (w .table .rows) after
   unfolding enter
   says =
       record {
         version = λ m l. f .mirrors .rows .version m l ∙ sym (version-same m);
-        mode = λ m l. same-rowMode (rowAt (w .rows) m .mode) st after m (version-same m) refl (f .mirrors .rows .mode m l);
+        mode = λ m l. same-rowMode (rowAt (w .table .rows) m .mode) st after m (version-same m) refl (f .mirrors .rows .mode m l);
         pages = λ m l. f .mirrors .rows .pages m l ∙ sym (pages-same m);
       }
 
   -- THE ENTRY follows the store's.
-  pub enter-follows : (x : Node) → Follows score (world (w .pages) (w .rows) (append n v c (w .state))) (editBy false n c x run)
-  unfolding enter
+  pub enter-follows : (x : Node) → Follows score (besides (w .pages) (append n v c (logged (w .table) (w .state)))) (editBy false n c x run)
+  unfolding enter withEntries
   enter-follows x =
-      subst (λ (s : State). Follows score (world (w .pages) (w .rows) s) (editBy false n c x run)) (sym (append-holds n v c (w .state)))
+      subst (λ (l : Logged). Follows score (besides (w .pages) l) (editBy false n c x run)) (sym (append-holds n v c (logged (w .table) (w .state))))
       (record {
         table = f .table;
         nodes = f .nodes;
@@ -94,11 +93,11 @@ module _ {B : ℕ} {score : ℕ → ℕ} {w : World} {run : Run} (b : Writable B
               last = f .mirrors .last;
             };
         buffer =
-            subst (λ (k : ℕ). BufferIs (withEntries (append n v c (w .state) .entries) (append n v c (w .state) .buffer) (w .state)) (st .buffer ++ (entryOf n k c ∷ [])))
+            subst (λ (k : ℕ). Buffered (append n v c (logged (w .table) (w .state))) (st .buffer ++ (entryOf n k c ∷ [])))
             (f .mirrors .rows .version n (omega (arith, f .nodes)))
-            (record { size = joined .size; number = joined .number; bytes = joined .bytes });
+            joined;
         scores = f .scores;
       })
     where
-      joined : BufferIs (append n v c (w .state)) (st .buffer ++ (entryOf n v c ∷ []))
-      joined = append-is n v c {s = w .state} {es = st .buffer} (f .buffer) (omega arith)
+      joined : Buffered (append n v c (logged (w .table) (w .state))) (st .buffer ++ (entryOf n v c ∷ []))
+      joined = append-is n v c (logged (w .table) (w .state)) {es = st .buffer} (f .buffer) (omega arith)

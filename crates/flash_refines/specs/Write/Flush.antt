@@ -34,6 +34,7 @@ use Rattle.flash_rows.specs.Step.{names, byMode}
 use Rattle.flash_rows.specs.declared.Row.{Row}
 use Rattle.page_write.specs.Chunks.{chunks}
 use Rattle.page_write.specs.Pages.{logImage}
+use Rattle.flash_rows.specs.Worktable.{Worktable, withRows}
 use Rattle.flash_allocate.specs.declared.state.State.{State}
 use Rattle.flash_allocate.specs.World.{World, world, used, spot}
 use Rattle.flash_allocate.specs.Allocate.{allocate}
@@ -49,7 +50,7 @@ use Rattle.flash_refines.specs.Store.Followed.{few-blocks, invariant-her
 use Rattle.flash_refines.specs.Store.Placed.{nextNumber-is, place-found, step-found, kept-found, next-free, placed-mirrors}
 use Rattle.flash_refines.specs.Store.Buffer.{buffer-same, image-log}
 use Rattle.flash_refines.specs.Write.Claims.{concern, Claimed, length-claimed, claimed-row}
-use Rattle.flash_allocate.specs.State.{nextSequence, advanced, withoutEntries}
+use Rattle.flash_allocate.specs.State.{withEntries, nextSequence, advanced, withoutEntries}
 use Rattle.flash_refines.specs.Read.NodePieces.{pieces-entries}
 
 -- A node in disk mode has nothing of its version in the buffer: its version is a page's number.
@@ -91,7 +92,10 @@ module _ {B : ℕ} {score : ℕ → ℕ} {w : World} {run : Run} (b : Writable B
   at = spot (before .state)
 
   abbrev rows′ : List Row
-  rows′ = claimEntries (before .state .buffer) (before .state .nodes) at (before .state .entries) (before .rows)
+  rows′ = claimEntries (before .table .buffer) (before .state .nodes) at (before .state .entries) (before .table .rows)
+
+  abbrev t′ : Worktable
+  t′ = withRows rows′ (before .table)
 
   abbrev s′ : State
   s′ = withoutEntries (advanced (suc (st .last)) (before .state))
@@ -99,7 +103,7 @@ module _ {B : ℕ} {score : ℕ → ℕ} {w : World} {run : Run} (b : Writable B
   same : Kept w before
   same = kept-found few v (f .mirrors)
 
-  waiting : BufferIs (before .state) (st .buffer)
+  waiting : BufferIs (before .table .buffer) (before .state .entries) (st .buffer)
   waiting = buffer-same (f .buffer) (same .entries) (same .buffer)
 
   -- whether the buffer has something of a node
@@ -111,9 +115,9 @@ module _ {B : ℕ} {score : ℕ → ℕ} {w : World} {run : Run} (b : Writable B
     now = flush-now v m l
 
     abbrev row : Row
-    row = rowAt (before .rows) m
+    row = rowAt (before .table .rows) m
 
-    kept : (g : ℕ → ℕ) × (row ≡ mapped g (rowAt (w .rows) m))
+    kept : (g : ℕ → ℕ) × (row ≡ mapped g (rowAt (w .table .rows) m))
     kept = same .rows m (omega arith)
 
     row-version : row .version ≡ greatest (view st) m
@@ -148,7 +152,7 @@ module _ {B : ℕ} {score : ℕ → ℕ} {w : World} {run : Run} (b : Writable B
     claimed : Claimed (waits m) at row (rowAt rows′ m)
     claimed =
         subst (λ (t : Bool). Claimed t at row (rowAt rows′ m)) concerned
-        (claimed-row waiting number (b .fits .entries) (before .state .nodes) at (before .rows) m (omega (arith, same .nodes))
+        (claimed-row waiting number (b .fits .entries) (before .state .nodes) at (before .table .rows) m (omega (arith, same .nodes))
         (omega (arith, same .table, f .mirrors .names .long)) free (λ e. slot (sym concerned ∙ e)))
 
     names-new : names at (rowAt rows′ m) ≡ carries (view after) m p
@@ -159,7 +163,7 @@ module _ {B : ℕ} {score : ℕ → ℕ} {w : World} {run : Run} (b : Writable B
 
   -- the rows in use are the nodes'
   within : (m : ℕ) → m < used s′ → m < w .state .nodes
-  unfolding withoutEntries advanced
+  unfolding withoutEntries withEntries advanced
   within m l = omega (arith, same .nodes, same .checkpoint, f .noCheckpointPage)
 
   says : RowsSay (w .state .nodes) rows′ after
@@ -174,13 +178,13 @@ module _ {B : ℕ} {score : ℕ → ℕ} {w : World} {run : Run} (b : Writable B
         pages = λ m l. claimed m l .pages ∙ ap (λ (k : ℕ). k + bit (waits m)) (row-pages m l) ∙ sym (now m l .pages);
       }
 
-  length-now : length rows′ ≡ length (before .rows)
-  length-now = length-claimed waiting number (b .fits .entries) (before .state .nodes) at (before .rows)
+  length-now : length rows′ ≡ length (before .table .rows)
+  length-now = length-claimed waiting number (b .fits .entries) (before .state .nodes) at (before .table .rows)
 
-  mirrored : Mirrors image (carries (view after)) noCheckpoint (world (set (before .pages) at (image p)) rows′ s′) after
-  unfolding Model.flush withoutEntries advanced
+  mirrored : Mirrors image (carries (view after)) noCheckpoint (world (set (before .pages) at (image p)) t′ s′) after
+  unfolding Model.flush withoutEntries withEntries advanced
   mirrored =
-      placed-mirrors few v (f .mirrors) (log (st .buffer)) [] (carries (view after)) rows′ s′
+      placed-mirrors few v (f .mirrors) (log (st .buffer)) [] (carries (view after)) t′ s′
       (record {
         blocks = refl;
         current = refl;
@@ -203,16 +207,16 @@ module _ {B : ℕ} {score : ℕ → ℕ} {w : World} {run : Run} (b : Writable B
 
   -- THE BUFFER WRITTEN OUT follows the store's.
   pub flush-follows : Follows score (flush w) (flushRun run)
-  unfolding flush writeBuffer withoutEntries advanced Model.flush write place chunks
+  unfolding flush writeBuffer withoutEntries withEntries advanced Model.flush write place chunks
   flush-follows =
       subst (λ (z : World). Follows score z (flushRun run)) (sym (step-found few v (f .mirrors) writeBuffer ∙ written))
       (record {
-        table = length-now ∙ same .table ∙ f .table ∙ ap (λ (k : ℕ). 64 * k) (sym (same .blocks));
+        table = omega (arith, length-now, same .table, f .table, same .blocks);
         nodes = same .nodes ∙ f .nodes;
         noCheckpointPage = same .checkpoint ∙ f .noCheckpointPage;
         mirrors =
             subst
-            (λ (k : ℕ). Mirrors image (carries (view (Model.flush noCheckpoint k st))) noCheckpoint (world (set (before .pages) at (image p)) rows′ s′)
+            (λ (k : ℕ). Mirrors image (carries (view (Model.flush noCheckpoint k st))) noCheckpoint (world (set (before .pages) at (image p)) t′ s′)
             (Model.flush noCheckpoint k st))
             (f .nodes) mirrored;
         buffer = record { size = waiting .size; number = refl; bytes = refl };
@@ -222,12 +226,12 @@ module _ {B : ℕ} {score : ℕ → ℕ} {w : World} {run : Run} (b : Writable B
             claimed m there .keeps .score ∙ ap (λ (r : Row). r .score) (kept m there .1) ∙ f .scores m l;
       })
     where
-      written : writeBuffer before ≡ world (set (before .pages) at (image p)) rows′ s′
+      written : writeBuffer before ≡ world (set (before .pages) at (image p)) t′ s′
       written =
           ap
-          (λ (k : ℕ). world (set (before .pages) at (logImage k (before .state .entries) (before .state .buffer))) rows′ (withoutEntries (advanced k (before .state))))
+          (λ (k : ℕ). world (set (before .pages) at (logImage k (before .state .entries) (before .table .buffer))) t′ (withoutEntries (advanced k (before .state))))
           (ap nextSequence (same .last ∙ f .mirrors .last) ∙ nextNumber-is (st .last) number) ∙
-          ap (λ (z : List ℕ). world (set (before .pages) at z) rows′ s′) (image-log waiting (suc (st .last)))
+          ap (λ (z : List ℕ). world (set (before .pages) at z) t′ s′) (image-log waiting (suc (st .last)))
 
   -- ROOM MADE for entries follows the store's.
   pub room-follows : (k : ℕ) → Follows score (room k w) (makeRoom k run)

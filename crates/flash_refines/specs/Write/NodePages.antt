@@ -31,10 +31,11 @@ use Rattle.store_laws.specs.BlockRules.{addTo-tally}
 use Rattle.flash_rows.specs.Row.{noRow}
 use Rattle.flash_rows.specs.Step.{names, fresh, noted}
 use Rattle.flash_rows.specs.declared.Row.{Row}
+use Rattle.flash_rows.specs.Worktable.{Worktable, withRows}
 use Rattle.flash_allocate.specs.declared.state.State.{State}
 use Rattle.flash_allocate.specs.World.{World, world, used, spot}
 use Rattle.flash_allocate.specs.Allocate.{allocate}
-use Rattle.flash_write.specs.NodePage.{diskRow}
+use Rattle.flash_write.specs.NodePage.{diskRow, onPage}
 use Rattle.flash_write.specs.NodePage as Code
 use Rattle.flash_refines.specs.Store.Mirror.{rowAt, test, RowMode, RowsSay, Mirrors}
 use Rattle.flash_refines.specs.Store.RowModes.{place-rowMode}
@@ -70,10 +71,13 @@ module _ {B : ℕ} {score : ℕ → ℕ} {w : World} {run : Run} (b : Writable B
   at = spot (before .state)
 
   abbrev row : Row
-  row = noted at (fresh (suc (st .last)) Disk (rowAt (before .rows) n))
+  row = noted at (fresh (suc (st .last)) Disk (rowAt (before .table .rows) n))
 
   abbrev rows′ : List Row
-  rows′ = set (before .rows) n row
+  rows′ = set (before .table .rows) n row
+
+  abbrev t′ : Worktable
+  t′ = withRows rows′ (before .table)
 
   abbrev s′ : State
   s′ = advanced (suc (st .last)) (before .state)
@@ -82,10 +86,10 @@ module _ {B : ℕ} {score : ℕ → ℕ} {w : World} {run : Run} (b : Writable B
   same = kept-found few v (f .mirrors)
 
   row-here : rowAt rows′ n ≡ row
-  row-here = getD-set-same (before .rows) n row noRow (omega (arith, same .table, f .mirrors .names .long, f .nodes))
+  row-here = getD-set-same (before .table .rows) n row noRow (omega (arith, same .table, f .mirrors .names .long, f .nodes))
 
-  row-other : (m : ℕ) → (n ≡ m → ⊥) → rowAt rows′ m ≡ rowAt (before .rows) m
-  row-other m d = getD-set-other (before .rows) n m row noRow (λ e. d (sym e))
+  row-other : (m : ℕ) → (n ≡ m → ⊥) → rowAt rows′ m ≡ rowAt (before .table .rows) m
+  row-other m d = getD-set-other (before .table .rows) n m row noRow (λ e. d (sym e))
 
   other : (m : ℕ) → m < w .state .nodes → (n ≡ m → ⊥) → Same (view st) (view after) m
   other m l d = page-other v n x m l d
@@ -124,8 +128,8 @@ module _ {B : ℕ} {score : ℕ → ℕ} {w : World} {run : Run} (b : Writable B
   named-row : (q : ℕ) → names q row ≡ eqb at q
   unfolding fresh
   named-row q =
-      names-noted (fresh (suc (st .last)) Disk (rowAt (before .rows) n)) at q (omega arith) ∙
-      ap (λ (t : Bool). t || eqb at q) (names-fresh (rowAt (before .rows) n) (suc (st .last)) Disk q)
+      names-noted (fresh (suc (st .last)) Disk (rowAt (before .table .rows) n)) at q (omega arith) ∙
+      ap (λ (t : Bool). t || eqb at q) (names-fresh (rowAt (before .table .rows) n) (suc (st .last)) Disk q)
 
   names-new : (m : ℕ) → m < used s′ → (n ≡ m) ⊎ (n ≡ m → ⊥) → names at (rowAt rows′ m) ≡ own′ m p
   unfolding advanced
@@ -148,22 +152,22 @@ module _ {B : ℕ} {score : ℕ → ℕ} {w : World} {run : Run} (b : Writable B
   -- what it says beside
   row-version : row .version ≡ suc (st .last)
   unfolding fresh
-  row-version = keeps-noted (fresh (suc (st .last)) Disk (rowAt (before .rows) n)) at .version
+  row-version = keeps-noted (fresh (suc (st .last)) Disk (rowAt (before .table .rows) n)) at .version
 
   row-mode : row .mode ≡ Disk
   unfolding fresh
-  row-mode = keeps-noted (fresh (suc (st .last)) Disk (rowAt (before .rows) n)) at .mode
+  row-mode = keeps-noted (fresh (suc (st .last)) Disk (rowAt (before .table .rows) n)) at .mode
 
-  row-score : row .score ≡ rowAt (before .rows) n .score
+  row-score : row .score ≡ rowAt (before .table .rows) n .score
   unfolding fresh
-  row-score = keeps-noted (fresh (suc (st .last)) Disk (rowAt (before .rows) n)) at .score
+  row-score = keeps-noted (fresh (suc (st .last)) Disk (rowAt (before .table .rows) n)) at .score
 
   row-pages : row .pages ≡ 1
   unfolding fresh
-  row-pages = pages-noted (fresh (suc (st .last)) Disk (rowAt (before .rows) n)) at (omega arith)
+  row-pages = pages-noted (fresh (suc (st .last)) Disk (rowAt (before .table .rows) n)) at (omega arith)
 
   -- another row is as it was, but for where its pages are
-  kept : (m : ℕ) → m < w .state .nodes → (n ≡ m → ⊥) → (g : ℕ → ℕ) × (rowAt rows′ m ≡ mapped g (rowAt (w .rows) m))
+  kept : (m : ℕ) → m < w .state .nodes → (n ≡ m → ⊥) → (g : ℕ → ℕ) × (rowAt rows′ m ≡ mapped g (rowAt (w .table .rows) m))
   kept m l d = let k = same .rows m (omega arith) in (k .0, row-other m d ∙ k .1)
 
   says : RowsSay (w .state .nodes) rows′ after
@@ -181,16 +185,16 @@ module _ {B : ℕ} {score : ℕ → ℕ} {w : World} {run : Run} (b : Writable B
           (record { node = x; page = rw (now .greatest) (place-find v (whole n x) (st .buffer)) }))
       mode m l (inr d) =
           subst (λ (k : Mode). RowMode k after m) (sym (ap (λ (r : Row). r .mode) (kept m l d .1)))
-          (place-rowMode v m l (rowAt (w .rows) m .mode) (whole n x) (st .buffer) (other m l d .greatest) (f .mirrors .rows .mode m l))
+          (place-rowMode v m l (rowAt (w .table .rows) m .mode) (whole n x) (st .buffer) (other m l d .greatest) (f .mirrors .rows .mode m l))
 
       pages : (m : ℕ) → m < w .state .nodes → (n ≡ m) ⊎ (n ≡ m → ⊥) → rowAt rows′ m .pages ≡ View.pages (view after) m
       pages m l (inl e) = rw (← e) (ap (λ (r : Row). r .pages) row-here ∙ row-pages ∙ sym (now .pages))
       pages m l (inr d) = ap (λ (r : Row). r .pages) (kept m l d .1) ∙ f .mirrors .rows .pages m l ∙ sym (other m l d .pages)
 
-  mirrored : Mirrors image own′ noCheckpoint (world (set (before .pages) at (image p)) rows′ s′) after
+  mirrored : Mirrors image own′ noCheckpoint (world (set (before .pages) at (image p)) t′ s′) after
   unfolding nodePage advanced
   mirrored =
-      placed-mirrors few v (f .mirrors) (whole n x) (st .buffer) own′ rows′ s′
+      placed-mirrors few v (f .mirrors) (whole n x) (st .buffer) own′ t′ s′
       (record {
         blocks = refl;
         current = refl;
@@ -198,7 +202,7 @@ module _ {B : ℕ} {score : ℕ → ℕ} {w : World} {run : Run} (b : Writable B
         last = refl;
         named =
             record {
-              long = rw (length-set (before .rows) n row) (place-found few v (f .mirrors) .names .long);
+              long = rw (length-set (before .table .rows) n row) (place-found few v (f .mirrors) .names .long);
               new = λ m l. names-new m l (eq-or n m);
               old = λ m i q l li lq d. names-old m i q l li lq d (eq-or n m);
             };
@@ -212,14 +216,14 @@ module _ {B : ℕ} {score : ℕ → ℕ} {w : World} {run : Run} (b : Writable B
   node-page-follows =
       subst (λ (z : World). Follows score z (writeNode n x run)) (sym (step-found few v (f .mirrors) (Code.writeNode n x)))
       (subst (λ (k : ℕ). Follows score
-      (world (set (before .pages) at (image (page k (whole n x)))) (diskRow n k at (before .rows)) (advanced k (before .state))) (writeNode n x run))
+      (world (set (before .pages) at (image (page k (whole n x)))) (onPage n k at (before .table)) (advanced k (before .state))) (writeNode n x run))
       (sym (ap nextSequence (same .last ∙ f .mirrors .last) ∙ nextNumber-is (st .last) room))
       (record {
-        table = length-set (before .rows) n row ∙ same .table ∙ f .table ∙ ap (λ (k : ℕ). 64 * k) (sym (same .blocks));
+        table = omega (arith, length-set (before .table .rows) n row, same .table, f .table, same .blocks);
         nodes = same .nodes ∙ f .nodes;
         noCheckpointPage = same .checkpoint ∙ f .noCheckpointPage;
         mirrors = subst (λ (k : ℕ). Mirrors image (carries (view (nodePage noCheckpoint k n x st))) noCheckpoint
-            (world (set (before .pages) at (image p)) rows′ s′) (nodePage noCheckpoint k n x st)) (f .nodes) mirrored;
+            (world (set (before .pages) at (image p)) t′ s′) (nodePage noCheckpoint k n x st)) (f .nodes) mirrored;
         buffer = buffer-same (f .buffer) (same .entries) (same .buffer);
         scores = λ m l. score-of m l (eq-or n m);
       }))

@@ -103,7 +103,7 @@ module _ {B : ℕ} {score : ℕ → ℕ} {w : World} {run : Run} (b : Writable B
       inside = omega (arith, makeRoom-nodes 1 run)
 
       row : Row
-      row = rowAt (room 1 w .rows) n
+      row = rowAt (room 1 w .table .rows) n
 
       pages-are : row .pages ≡ pages (view (roomy .now)) n
       pages-are = f′ .mirrors .rows .pages n (omega (arith, f′ .nodes, inside))

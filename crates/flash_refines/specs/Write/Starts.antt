@@ -34,15 +34,15 @@ use Rattle.flash_rows.specs.Step.{names, fresh}
 use Rattle.flash_rows.specs.declared.Row.{Row}
 use Rattle.flash_allocate.specs.declared.state.State.{State}
 use Rattle.flash_allocate.specs.World.{World, world}
-use Rattle.flash_log.specs.Entry.{appendAll}
-use Rattle.flash_write.specs.Group.{startRow, startState, restart, startNext}
+use Rattle.flash_log.specs.Entry.{Logged, besides, appendAll}
+use Rattle.flash_write.specs.Group.{begun, started, restart, startNext}
 use Rattle.flash_write.specs.Group as Code
 use Rattle.flash_refines.specs.Store.Mirror.{rowAt, test, RowsName, RowMode, RowsSay, Mirrors}
 use Rattle.flash_refines.specs.Store.RowModes.{same-rowMode}
 use Rattle.flash_refines.specs.Store.Notes.{names-fresh}
 use Rattle.flash_refines.specs.Store.Placed.{nextNumber-is}
-use Rattle.flash_refines.specs.Store.Buffer.{appendAll-is, appendAll-holds}
-use Rattle.flash_refines.specs.Store.Follows.{BufferIs, Follows, Writable}
+use Rattle.flash_refines.specs.Store.Buffer.{Buffered, appendAll-is, onlyBuffer, appendAll-holds}
+use Rattle.flash_refines.specs.Store.Follows.{Follows, Writable}
 use Rattle.flash_refines.specs.Store.Followed.{blocks-are, owners-open}
 use Rattle.flash_refines.specs.Store.Ownership.{none-owned, owned-same, carried-few}
 use Rattle.flash_allocate.specs.State.{withEntries, nextSequence, withSequence, withNodes}
@@ -62,17 +62,21 @@ module _ {B : ℕ} {score : ℕ → ℕ} {w : World} {run : Run} (b : Writable B
   after = start n (c ∷ cs) st
 
   abbrev rows′ : List Row
-  rows′ = set (w .rows) n (fresh v Log row)
+  rows′ = set (w .table .rows) n (fresh v Log row)
 
-  abbrev s′ : State
-  s′ = appendAll n v (c ∷ cs) (withSequence v (w .state))
+  abbrev l′ : Logged
+  l′ = appendAll n v (c ∷ cs) (begun n row v (w .table) (w .state))
 
-  -- the state but for the buffer
-  abbrev holds : State
-  holds = withEntries (s′ .entries) (s′ .buffer) (withSequence v (w .state))
+  -- the same, but for the buffer
+  abbrev holds : Logged
+  holds = onlyBuffer n v (begun n row v (w .table) (w .state)) l′
 
-  held : s′ ≡ holds
-  held = appendAll-holds n v (c ∷ cs) (withSequence v (w .state))
+  held : l′ ≡ holds
+  held = appendAll-holds n v (c ∷ cs) (begun n row v (w .table) (w .state))
+
+  -- the world with this many nodes
+  abbrev grown : Logged → World
+  grown l = world (w .pages) (l .table) (withNodes N′ (l .state))
 
   there : (m : ℕ) → m < N′ → (n ≡ m → ⊥) → m < run .nodes
   there m l d = omega (arith, count)
@@ -87,14 +91,14 @@ module _ {B : ℕ} {score : ℕ → ℕ} {w : World} {run : Run} (b : Writable B
   other m d = start-other (b .good .invariant) n c cs m d
 
   -- rows
-  inside : N′ ≤ length (w .rows)
+  inside : N′ ≤ length (w .table .rows)
   inside = omega (arith, f .table, blocks-are b f, b .good .invariant .blocks)
 
   row-here : rowAt rows′ n ≡ fresh v Log row
-  row-here = getD-set-same (w .rows) n (fresh v Log row) noRow (omega (arith, inside, count))
+  row-here = getD-set-same (w .table .rows) n (fresh v Log row) noRow (omega (arith, inside, count))
 
-  row-other : (m : ℕ) → (n ≡ m → ⊥) → rowAt rows′ m ≡ rowAt (w .rows) m
-  row-other m d = getD-set-other (w .rows) n m (fresh v Log row) noRow (λ e. d (sym e))
+  row-other : (m : ℕ) → (n ≡ m → ⊥) → rowAt rows′ m ≡ rowAt (w .table .rows) m
+  row-other m d = getD-set-other (w .table .rows) n m (fresh v Log row) noRow (λ e. d (sym e))
 
   -- no page carries the node
   nowhere : tally (carries (view after) n) (st .blocks) ≡ 0
@@ -102,7 +106,7 @@ module _ {B : ℕ} {score : ℕ → ℕ} {w : World} {run : Run} (b : Writable B
   nowhere = omega (arith, carried-few after (invariant .rules) n, now .pages)
 
   named : RowsName (w .state .blocks) N′ (carries (view after)) rows′ (st .blocks)
-  named = record { long = rw (length-set (w .rows) n (fresh v Log row)) inside; each = λ m i q l li lq. each m i q l li lq (eq-or n m) }
+  named = record { long = rw (length-set (w .table .rows) n (fresh v Log row)) inside; each = λ m i q l li lq. each m i q l li lq (eq-or n m) }
     where
       each : (m i q : ℕ) → m < N′ → i < w .state .blocks → q < 32 → (n ≡ m) ⊎ (n ≡ m → ⊥) →
           names (32 * i + q) (rowAt rows′ m) ≡ test (carries (view after) m) (getElem? (block (st .blocks) i) q)
@@ -132,14 +136,14 @@ module _ {B : ℕ} {score : ℕ → ℕ} {w : World} {run : Run} (b : Writable B
           (subst (λ (k : Mode). RowMode k after n) (sym (ap (λ (r : Row). r .mode) row-here)) (begin-mode (b .good) n c cs fits next (omega (arith, count)) .none))
       mode m l (inr d) =
           subst (λ (k : Mode). RowMode k after m) (sym (ap (λ (r : Row). r .mode) (row-other m d)))
-          (same-rowMode (rowAt (w .rows) m .mode) st after m (other m d .greatest) refl (f .mirrors .rows .mode m (here m l d)))
+          (same-rowMode (rowAt (w .table .rows) m .mode) st after m (other m d .greatest) refl (f .mirrors .rows .mode m (here m l d)))
 
       pages : (m : ℕ) → m < N′ → (n ≡ m) ⊎ (n ≡ m → ⊥) → rowAt rows′ m .pages ≡ View.pages (view after) m
       pages m l (inl e) = rw (← e) (ap (λ (r : Row). r .pages) row-here ∙ sym (now .pages))
       pages m l (inr d) = ap (λ (r : Row). r .pages) (row-other m d) ∙ f .mirrors .rows .pages m (here m l d) ∙ sym (other m d .pages)
 
-  mirrored : Mirrors image (carries (view after)) noCheckpoint (world (w .pages) rows′ (withNodes N′ holds)) after
-  unfolding start withNodes withSequence
+  mirrored : Mirrors image (carries (view after)) noCheckpoint (grown holds) after
+  unfolding start withNodes withSequence withEntries
   mirrored =
       record {
         pages = f .mirrors .pages;
@@ -151,31 +155,30 @@ module _ {B : ℕ} {score : ℕ → ℕ} {w : World} {run : Run} (b : Writable B
         last = refl;
       }
 
-  begin-follows : Follows score′ (world (w .pages) rows′ (withNodes N′ s′)) (begin n (c ∷ cs) run)
-  unfolding start withNodes withSequence fresh
+  begin-follows : Follows score′ (grown l′) (begin n (c ∷ cs) run)
+  unfolding start withNodes withSequence withEntries fresh
   begin-follows =
-      subst (λ (s : State). Follows score′ (world (w .pages) rows′ (withNodes N′ s)) (begin n (c ∷ cs) run)) (sym held)
+      subst (λ (l : Logged). Follows score′ (grown l) (begin n (c ∷ cs) run)) (sym held)
       (record {
-        table = length-set (w .rows) n (fresh v Log row) ∙ f .table;
+        table = omega (arith, length-set (w .table .rows) n (fresh v Log row), f .table);
         nodes = count;
         noCheckpointPage = f .noCheckpointPage;
         mirrors = mirrored;
-        buffer = record { size = joined .size; number = joined .number; bytes = joined .bytes };
+        buffer = joined;
         scores = λ m l. score-of m (omega (arith, count)) (eq-or n m);
       })
     where
-      joined : BufferIs s′ (after .buffer)
-      joined = appendAll-is n v (c ∷ cs) {s = withSequence v (w .state)} {es = st .buffer}
-          (record { size = f .buffer .size; number = f .buffer .number; bytes = f .buffer .bytes }) (omega arith)
+      joined : Buffered l′ (after .buffer)
+      joined = appendAll-is n v (c ∷ cs) (begun n row v (w .table) (w .state)) {es = st .buffer} (f .buffer) (omega arith)
 
       score-of : (m : ℕ) → m < N′ → (n ≡ m) ⊎ (n ≡ m → ⊥) → rowAt rows′ m .score ≡ score′ m
       score-of m l (inl e) = rw (← e) (ap (λ (r : Row). r .score) row-here ∙ own-score)
       score-of m l (inr d) = ap (λ (r : Row). r .score) (row-other m d) ∙ f .scores m (there m l d) ∙ sym (other-score m l d)
 
   -- the state's own count of nodes, where it stays
-  count-stays : withNodes (w .state .nodes) s′ ≡ s′
-  unfolding withNodes withSequence
-  count-stays = ap (withNodes (w .state .nodes)) held ∙ sym held
+  count-stays : withNodes (w .state .nodes) (l′ .state) ≡ l′ .state
+  unfolding withNodes withSequence withEntries
+  count-stays = ap (λ (l : Logged). withNodes (w .state .nodes) (l .state)) held ∙ sym (ap (λ (l : Logged). l .state) held)
 
 -- The same of a node's whole content, where the buffer has room for it.
 module _ {B : ℕ} {score : ℕ → ℕ} {w : World} {run : Run} (b : Writable B run) (f : Follows score w run) (number : suc (run .now .last) < bound32) (x : Node)
@@ -193,9 +196,9 @@ module _ {B : ℕ} {score : ℕ → ℕ} {w : World} {run : Run} (b : Writable B
   pub restart-follows : (n : ℕ) → n < run .nodes → Follows score (restart n x w) (begin n (changesOf x) run)
   unfolding Code.start
   restart-follows n there =
-      subst (λ (v : ℕ). Follows score (world (w .pages) (startRow n row v (w .rows)) (startState n v x (w .state))) (begin n (changesOf x) run)) version
-      (subst (λ (cs : List Change). Follows score (world (w .pages) (startRow n row v (w .rows)) (appendAll n v cs (withSequence v (w .state)))) (begin n cs run)) (sym (s .is))
-      (subst (λ (t : State). Follows score (world (w .pages) (startRow n row v (w .rows)) t) (begin n (s .first ∷ s .rest) run))
+      subst (λ (v : ℕ). Follows score (besides (w .pages) (started n row v x (w .table) (w .state))) (begin n (changesOf x) run)) version
+      (subst (λ (cs : List Change). Follows score (besides (w .pages) (appendAll n v cs (begun n row v (w .table) (w .state)))) (begin n cs run)) (sym (s .is))
+      (subst (λ (t : State). Follows score (world (w .pages) (appendAll n v (s .first ∷ s .rest) (begun n row v (w .table) (w .state)) .table) t) (begin n (s .first ∷ s .rest) run))
       (count-stays b f n (s .first) (s .rest) fits′ row (w .state .nodes) count next limit score (f .scores n there) (λ m l d. refl))
       (begin-follows b f n (s .first) (s .rest) fits′ row (w .state .nodes) count next limit score (f .scores n there) (λ m l d. refl))))
     where
@@ -203,7 +206,7 @@ module _ {B : ℕ} {score : ℕ → ℕ} {w : World} {run : Run} (b : Writable B
       v = suc (run .now .last)
 
       row : Row
-      row = rowAt (w .rows) n
+      row = rowAt (w .table .rows) n
 
       count : w .state .nodes ≡ max (run .nodes) (suc n)
       count = omega (arith, f .nodes)
@@ -219,14 +222,15 @@ module _ {B : ℕ} {score : ℕ → ℕ} {w : World} {run : Run} (b : Writable B
   unfolding Code.start noRow decode numberAt part
   startNext-follows limit =
       subst (λ (n : ℕ). Follows (update score n 0) (startNext x w) (begin n (changesOf x) run)) (f .nodes)
-      (subst (λ (v : ℕ). Follows score′ (world (w .pages) (startRow n noRow v (w .rows)) (withNodes (n + 1) (startState n v x (w .state))))
-      (begin n (changesOf x) run)) version
-      (subst (λ (cs : List Change). Follows score′
-      (world (w .pages) (startRow n noRow v (w .rows)) (withNodes (n + 1) (appendAll n v cs (withSequence v (w .state))))) (begin n cs run))
+      (subst (λ (v : ℕ). Follows score′ (grownBy n (started n noRow v x (w .table) (w .state))) (begin n (changesOf x) run)) version
+      (subst (λ (cs : List Change). Follows score′ (grownBy n (appendAll n v cs (begun n noRow v (w .table) (w .state)))) (begin n cs run))
       (sym (s .is))
       (begin-follows b f n (s .first) (s .rest) fits′ noRow (n + 1) (omega (arith, f .nodes)) (omega (arith, f .nodes)) (omega (arith, f .nodes)) score′
       (sym (update-same score n 0 n refl)) (λ m l d. update-other score n 0 m (λ e. d (sym e))))))
     where
+      grownBy : ℕ → Logged → World
+      grownBy n l = world (w .pages) (l .table) (withNodes (n + 1) (l .state))
+
       n : ℕ
       n = w .state .nodes
 
