@@ -39,7 +39,7 @@ module _ {P T : ℕ} {pages : List (List ℕ)} {table : Worktable} {c : Charged}
       }
 
   -- it is, and the leaf is edited
-  pub deleted-one : {P′ T′ : ℕ} {pages′ : List (List ℕ)} {rows′ : Worktable} {d : Charged} (leaf old : ℕ) → leaf ≡ leafAt k w → valueIn k w ≡ some old →
+  pub deleted-one : {P′ T′ : ℕ} {pages′ : List (List ℕ)} {table′ : Worktable} {d : Charged} (leaf old : ℕ) → leaf ≡ leafAt k w → valueIn k w ≡ some old →
       ServedAs P′ T′ pages′ table′ d t leaf (edit (remove k)) (world pages table (c .state)) →
       DeletedAs P′ T′ pages′ table′ (record { charged = both c d; answer = Deleted old }) t k w
   unfolding delete deleteCharge

@@ -49,12 +49,12 @@ module _ {blocks : ℕ} {w : World} {s : State} (k : Runs blocks w s) (ps : List
   is-sound = spells-sound limit (bookOf s .count) (bookOf s .table) ps (h .spells) (h .most)
 
   -- THE WAY DOWN that the code walks is the model's.
-  pub path-is : (key : ℕ) → path mostSteps (tableOf (w .pages) (w .rows) (w .state)) key 0 ≡ path (bookOf s .count) (bookOf s .table) key 0
+  pub path-is : (key : ℕ) → path mostSteps (tableOf (w .pages) (w .table) (w .state)) key 0 ≡ path (bookOf s .count) (bookOf s .table) key 0
   path-is key =
       ap (λ table. path mostSteps table key 0) (table-agrees k) ∙
       path-any limit (bookOf s .count) (bookOf s .table) is-sound (omega (arith, k .few)) key mostSteps (omega arith)
 
-  pub leaf-is : (key : ℕ) → leafFor mostSteps (tableOf (w .pages) (w .rows) (w .state)) key 0 ≡ leafFor (bookOf s .count) (bookOf s .table) key 0
+  pub leaf-is : (key : ℕ) → leafFor mostSteps (tableOf (w .pages) (w .table) (w .state)) key 0 ≡ leafFor (bookOf s .count) (bookOf s .table) key 0
   leaf-is key =
       ap (λ table. leafFor mostSteps table key 0) (table-agrees k) ∙
       leafFor-any limit (bookOf s .count) (bookOf s .table) is-sound (omega (arith, k .few)) key mostSteps (omega arith)

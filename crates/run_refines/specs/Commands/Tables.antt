@@ -18,14 +18,14 @@ module _ {blocks : ℕ} {w : World} {s : State} (k : Runs blocks w s) where
   writable : Writable blocks (s .run)
   writable = record { few = k .few; good = k .sound .good; fits = k .fits .now }
 
-  node-agrees : (n : ℕ) → (s .run .nodes ≤ n) ⊎ (n < s .run .nodes) → tableOf (w .pages) (w .rows) (w .state) n ≡ bookOf s .table n
+  node-agrees : (n : ℕ) → (s .run .nodes ≤ n) ⊎ (n < s .run .nodes) → tableOf (w .pages) (w .table) (w .state) n ≡ bookOf s .table n
   node-agrees n (inl l) =
-      tableOf-out (w .pages) (w .rows) (w .state) n (omega (arith, k .agrees .nodes)) ∙
+      tableOf-out (w .pages) (w .table) (w .state) n (omega (arith, k .agrees .nodes)) ∙
       sym (bookOf-trimmed s .table n (omega (arith, bookOf-count s)))
   node-agrees n (inr l) =
       let there : n < bookOf s .count = omega (arith, bookOf-count s) in
-      tableOf-in (w .pages) (w .rows) (w .state) n (omega (arith, k .agrees .nodes)) ∙
+      tableOf-in (w .pages) (w .table) (w .state) n (omega (arith, k .agrees .nodes)) ∙
       ap nodeIn (content-follows writable (k .agrees) n l (bookOf s .table n) (k .sound .holds n there .content) (k .sound .neat n there))
 
-  pub table-agrees : tableOf (w .pages) (w .rows) (w .state) ≡ bookOf s .table
+  pub table-agrees : tableOf (w .pages) (w .table) (w .state) ≡ bookOf s .table
   table-agrees = fun-ext (λ n. node-agrees n (le-or (s .run .nodes) n))

@@ -63,7 +63,7 @@ module _ {B : ℕ} {score : ℕ → ℕ} {w : World} {run : Run} (b : Writable B
   -- THE ACCOUNT in a node's row is that of the mode that the store says, and of the score.
   account-is : accountAt n w ≡ record { mode = modeOf (run .now) n; score = score n }
   account-is =
-      let m = rowMode-is (rowAt (w .rows) n .mode) (run .now) n (f .mirrors .rows .mode n inside) in
+      let m = rowMode-is (rowAt (w .table .rows) n .mode) (run .now) n (f .mirrors .rows .mode n inside) in
       let s = f .scores n there in
       λ i. record { mode = sym m i; score = s i }
 
