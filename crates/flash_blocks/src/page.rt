@@ -4,7 +4,7 @@ ghost use Prim.Native.Nat.{_+_, _*_, _≤_};
 ghost use lib.Dec.{ltb};
 ghost use lib.ListN.{length, set};
 ghost use Rattle.laws.specs.Lay.{lay};
-ghost use Rattle.flash_blocks.specs.Pages.{pagesOf, pageAt, copied, erased, isBlank};
+ghost use Rattle.flash_blocks.specs.Pages.{pagesOf, pageAt, copied, erasedBytes, erased, isBlank};
 ghost use Rattle.layout.specs.Layout.{blockBytes, pageBytes};
 use layout::BLOCK_BYTES;
 use layout::PAGE_BYTES;
@@ -68,7 +68,8 @@ pub fn copy_page(pool: &mut [u8], from: usize, to: usize)
 // All pages of a block blank.
 pub fn erase_block(pool: &mut [u8], block: usize)
     requires { ⌜ blockBytes * block + blockBytes ≤ length (now pool) ⌝ }
-    ensures { λ _. ⌜ pagesOf (now (pool .exit)) ≡ erased block (pagesOf (now (pool .entry))) ⌝ }
+    ensures { λ _. ⌜ (pagesOf (now (pool .exit)) ≡ erased block (pagesOf (now (pool .entry))))
+        × (now (pool .exit) ≡ lay (now (pool .entry)) (blockBytes * block) erasedBytes) ⌝ }
 {
     let from = BLOCK_BYTES * block;
     fill_part(pool, from, from + BLOCK_BYTES, 255);

@@ -41,7 +41,7 @@ write-first-requires c κs =
     let c8 = c6 .before .before in
     let a = c8 .args in
     let p = a-pool (a .pool .now) (c6 .pool-blocks .result) (c6 .pool-blocks .ensures) (c5 .if1 .left) in
-    omega (arith, p .whole, p .least)
+    omega (arith, p .whole, p .least, p .blocks, c6 .pool-blocks .ensures)
 
 same-length : tie.Need-same-length
 same-length c = search needs

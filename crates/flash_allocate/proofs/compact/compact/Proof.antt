@@ -52,7 +52,7 @@ returns c =
     let e = c2 .erase-block in (
       compact-steps (a .used) (a .blocks) (a .to) (pagesOf (a .pool .now)) (rowsOf (a .table .now)) (m .result)
           (v .result) (m .ensures) (v .ensures .0) (pagesOf (k .last .0)) (k .last .1 .0) (k .result) (k .ensures .0)
-          (rowsOf (r .last .0)) (r .ensures) (pagesOf (e .last .0)) (e .ensures),
+          (rowsOf (r .last .0)) (r .ensures) (pagesOf (e .last .0)) (e .ensures .0),
       k .ensures .1,
     )
 
