@@ -1,4 +1,5 @@
-// Whole pages, and a block erased. Here alone the number of a page becomes its place in bytes.
+// Whole pages, and a block erased. Here alone the number of a page becomes its place in bytes, and here alone the pool is written: every
+// page through put_page, every erasure through erase_block, of prepare and of compaction too. All other code hands the pool on.
 ghost use mathlib.Core.Path.{_≡_};
 ghost use Prim.Native.Nat.{_+_, _*_, _≤_};
 ghost use lib.Dec.{ltb};
