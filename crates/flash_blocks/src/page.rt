@@ -40,18 +40,18 @@ pub fn read_page(pool: &[u8], page: usize) -> [u8; PAGE_BYTES]
 }
 
 // Fills the part of the pool that the page writer is lent.
-fn fill_page(part: &mut [u8], image: [u8; PAGE_BYTES])
+fn fill_page(part: &mut [u8], image: &[u8; PAGE_BYTES])
     requires { ⌜ length (now part) ≡ pageBytes ⌝ }
-    ensures { λ _. ⌜ now (part .exit) ≡ image ⌝ }
+    ensures { λ _. ⌜ now (part .exit) ≡ now (image .entry) ⌝ }
 {
-    lay_bytes(part, 0, &image);
+    lay_bytes(part, 0, image);
 }
 
 // Writes an image as a page of the pool.
-pub fn put_page(pool: &mut [u8], page: usize, image: [u8; PAGE_BYTES])
+pub fn put_page(pool: &mut [u8], page: usize, image: &[u8; PAGE_BYTES])
     requires { ⌜ pageBytes * page + pageBytes ≤ length (now pool) ⌝ }
-    ensures { λ _. ⌜ (pagesOf (now (pool .exit)) ≡ set (pagesOf (now (pool .entry))) page image)
-        × (now (pool .exit) ≡ lay (now (pool .entry)) (pageBytes * page) image) ⌝ }
+    ensures { λ _. ⌜ (pagesOf (now (pool .exit)) ≡ set (pagesOf (now (pool .entry))) page (now (image .entry)))
+        × (now (pool .exit) ≡ lay (now (pool .entry)) (pageBytes * page) (now (image .entry))) ⌝ }
 {
     let from = PAGE_BYTES * page;
     fill_page(&mut pool[from..from + PAGE_BYTES], image);
@@ -63,7 +63,7 @@ pub fn copy_page(pool: &mut [u8], from: usize, to: usize)
     ensures { λ _. ⌜ pagesOf (now (pool .exit)) ≡ copied from to (pagesOf (now (pool .entry))) ⌝ }
 {
     let bytes = read_page(pool, from);
-    put_page(pool, to, bytes);
+    put_page(pool, to, &bytes);
 }
 
 // All pages of a block blank.

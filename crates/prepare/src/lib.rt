@@ -48,9 +48,14 @@ fn erase_all(pool: &mut [u8], blocks: usize)
 }
 
 // All blocks erased, then the two pages.
-fn write_first(pool: &mut [u8], blocks: usize, root: [u8; PAGE_BYTES], checkpoint: [u8; PAGE_BYTES])
+fn write_first(
+    pool: &mut [u8],
+    blocks: usize,
+    root: &[u8; PAGE_BYTES],
+    checkpoint: &[u8; PAGE_BYTES],
+)
     requires { ⌜ (length (now pool) ≡ blockBytes * blocks) × (1 ≤ blocks) ⌝ }
-    ensures { λ _. ⌜ now (pool .exit) ≡ firstBytes (length (now (pool .entry))) root checkpoint ⌝ }
+    ensures { λ _. ⌜ now (pool .exit) ≡ firstBytes (length (now (pool .entry))) (now (root .entry)) (now (checkpoint .entry)) ⌝ }
 {
     erase_all(pool, blocks);
     put_page(pool, 0, root);
@@ -70,6 +75,6 @@ pub fn prepare(pool: &mut [u8], tariff: Tariff) -> u32
     }
     let root = root_page();
     let checkpoint = checkpoint_page(tariff);
-    write_first(pool, blocks, root, checkpoint);
+    write_first(pool, blocks, &root, &checkpoint);
     0
 }

@@ -27,7 +27,7 @@ returns c =
     let erased = c10 .erase-all in
     let one = c6 .put-page in
     let two = c2 .put-page2 in
-    first-written (length (a .pool .now)) (a .root) (a .checkpoint) (erased .last .0) (one .last .0) (two .last .0)
+    first-written (length (a .pool .now)) (a .root .now) (a .checkpoint .now) (erased .last .0) (one .last .0) (two .last .0)
     (erased .ensures) (one .ensures .1) (two .ensures .1)
 
 pub write-first-spec : {M : Type 1} → statement M
