@@ -17,7 +17,7 @@ use Rattle.node.specs.Narrow.{Narrow}
 use Rattle.store_laws.specs.Numbers.{last}
 use Rattle.store_laws.specs.Closing.{close-closed}
 use Rattle.book.specs.Book.{Book}
-use Rattle.book.specs.Command.{requests}
+use Rattle.book.specs.Command.{mostRequests, requests}
 use Rattle.book.specs.Batch.{runBook, requestsBook}
 use Rattle.book.specs.OrderedMap.{mapRun}
 use Rattle.book.specs.Bound.{Scored, scored-all}
@@ -31,7 +31,7 @@ use Rattle.store_laws.specs.StoreFits.{RunFits}
 use Rattle.demands.specs.NodesNarrow.{book-narrow}
 use Rattle.store_laws.specs.CloseFits.{close-fits}
 use Rattle.demands.specs.CommandFits.{ValueFits, ValuesFit, command-narrow}
-use Rattle.demands.specs.RequestCount.{mostRequests, command-length}
+use Rattle.demands.specs.RequestCount.{command-length}
 use Rattle.demands.specs.RequestFits.{Took, took-more, took-then, serveAll-took}
 
 -- What a command takes at most: four numbers for each of its requests.

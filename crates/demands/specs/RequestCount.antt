@@ -20,13 +20,9 @@ use Rattle.tree_laws.specs.GetLaws.{path-count}
 use Rattle.tree_laws.specs.PutLaws.{put-length}
 use Rattle.tree_laws.specs.ScanLaws.{scan-length}
 use Rattle.book.specs.Book.{Book}
-use Rattle.book.specs.Command.{requests}
+use Rattle.book.specs.Command.{mostRequests, requests}
 use Rattle.tree_laws.specs.Levels.{fewestNodes, stands-fewest}
 use Rattle.demands.specs.Commands.{Valid}
-
--- What a command on so many nodes asks at most.
-abbrev pub mostRequests : ℕ → ℕ
-mostRequests nodes = 32 + nodes
 
 -- The fewest nodes of a tree are three at least for each level below its root.
 fewestNodes-above : (d : ℕ) → suc d ≤ fewestNodes d
