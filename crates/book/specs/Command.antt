@@ -3,7 +3,7 @@
 use mathlib.Core.Bool.{Bool, true, false}
 use mathlib.Core.List.{List, [], _∷_, _++_}
 use mathlib.Core.Option.{Option}
-use Prim.Native.Nat.{ℕ}
+use Prim.Native.Nat.{ℕ, _+_}
 use Rattle.command.specs.declared.Command.{Command}
 use Rattle.command.specs.declared.Command.the-variants.{Get, Put, Delete, Scan}
 use Rattle.pairs.specs.Pairs.{Pair}
@@ -16,6 +16,10 @@ use Rattle.tree.specs.Put.{putRequests, putRefused}
 use Rattle.tree.specs.Delete.{deleteRequests}
 use Rattle.tree.specs.Scan.{scanRequests, scanAnswer}
 use Rattle.book.specs.Book.{Book}
+
+-- What a command asks at most of a tree of so many nodes, each read at most once, with room for what it writes and for commands to come.
+abbrev pub mostRequests : ℕ → ℕ
+mostRequests nodes = 32 + nodes
 
 -- "In an accepted one each command makes its node requests .. none for a hang with 9."
 unfoldable pub requests : ℕ → Command → Book → List NodeRequest

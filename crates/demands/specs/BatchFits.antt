@@ -1,11 +1,12 @@
--- A whole batch leaves a fitting store: a command makes at most four requests more than there are nodes, each takes at most four sequence
--- numbers, and the checkpoint thirteen, so from a number at which a pool opens 32 bits are never used up. Assumes nothing.
+-- A whole batch leaves a fitting store. The count is of commands, whatever they are: each takes three bytes of the batch or more, makes at most
+-- 32 requests more than there are nodes, and a request takes at most four sequence numbers; the checkpoint takes thirteen. So from a number
+-- at which a pool opens 32 bits are never used up. Assumes nothing.
 use mathlib.Core.Path.{_≡_, refl, sym, _∙_, subst}
 use mathlib.Core.List.{List, [], _∷_}
 use Prim.Native.Nat.{ℕ, _+_, _*_, _/_, _≤_, _<_}
 use native.Mathlib.Omega.{arith}
 use lib.ListN.{length}
-use Rattle.layout.specs.Layout.{nodeLimit, mostBlocks, mostBatchBytes, bound32, lastSequence}
+use Rattle.layout.specs.Layout.{nodeLimit, mostBlocks, mostNodes, mostBatchBytes, bound32, lastSequence}
 use Rattle.account.specs.declared.Tariff.{Tariff}
 use Rattle.account.specs.Range.{Ranged, limit-some, limit-le}
 use Rattle.pairs.specs.Pairs.{Pair}
@@ -16,7 +17,7 @@ use Rattle.node.specs.Narrow.{Narrow}
 use Rattle.store_laws.specs.Numbers.{last}
 use Rattle.store_laws.specs.Closing.{close-closed}
 use Rattle.book.specs.Book.{Book}
-use Rattle.book.specs.Command.{requests}
+use Rattle.book.specs.Command.{mostRequests, requests}
 use Rattle.book.specs.Batch.{runBook, requestsBook}
 use Rattle.book.specs.OrderedMap.{mapRun}
 use Rattle.book.specs.Bound.{Scored, scored-all}
@@ -33,20 +34,27 @@ use Rattle.demands.specs.CommandFits.{ValueFits, ValuesFit, command-narr
 use Rattle.demands.specs.RequestCount.{command-length}
 use Rattle.demands.specs.RequestFits.{Took, took-more, took-then, serveAll-took}
 
--- What a command takes at most: four numbers for each of its requests, which are at most four more than nodes.
+-- What a command takes at most: four numbers for each of its requests.
 abbrev pub mostNumbers : ℕ
-mostNumbers = 4 * (4 + nodeLimit mostBlocks)
+mostNumbers = 4 * mostRequests mostNodes
 
--- A batch has at most as many commands as seven bytes go into its length: a field of four bytes is the shortest.
+-- What a batch of n commands takes at most, its checkpoint of a buffer's page and twelve pages included.
+abbrev pub numbersOf : ℕ → ℕ
+numbersOf n = mostNumbers * n + 13
+
+-- A command is a field: the tag and the length are three bytes. A batch has at most as many commands as these go into its length.
+abbrev pub fewestBytes : ℕ
+fewestBytes = 3
+
 abbrev pub mostCommands : ℕ
-mostCommands = mostBatchBytes / 7
+mostCommands = mostBatchBytes / fewestBytes
 
--- What a batch takes at most, its checkpoint of a buffer's page and twelve pages included.
-abbrev pub mostBatchNumbers : ℕ
-mostBatchNumbers = mostNumbers * mostCommands + 13
-
-pub batch-numbers : mostBatchNumbers ≡ 11683789
+-- The numbers: 10,922 commands of at most 652 requests, with 4 numbers each; and they are left, from the last with which a pool opens.
+pub batch-numbers : numbersOf mostCommands ≡ 28484589
 batch-numbers = refl
+
+pub numbers-left : numbersOf mostCommands + lastSequence < bound32
+numbers-left = omega arith
 
 module _ (blocks : ℕ) (t : Tariff) (small : blocks ≤ mostBlocks) where
   abbrev nodes : ℕ
@@ -95,10 +103,10 @@ closed-took blocks t small s ps v h r low fits b =
 pub record AfterBatch (s after : State) : Type 0 where
   pub fits : RunFits (after .run)
   pub narrow : (n : ℕ) → Narrow (bookOf after .table n)
-  pub number : last (after .run) ≤ mostBatchNumbers + last (s .run)
+  pub number : last (after .run) ≤ numbersOf mostCommands + last (s .run)
   pub below : last (after .run) < bound32
 
-after-batch : {s after : State} → Took mostBatchNumbers (s .run) (after .run) → AfterBatch s after
+after-batch : {s after : State} → Took (numbersOf mostCommands) (s .run) (after .run) → AfterBatch s after
 after-batch {after = after} took =
     record {
       fits = took .fits;

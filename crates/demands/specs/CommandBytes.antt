@@ -1,4 +1,4 @@
--- The commands that the bytes of a batch spell: keys and values have 32 bits, and each takes seven bytes or more, so there are at most 4,681
+-- The commands that the bytes of a batch spell: keys and values have 32 bits, and each takes three bytes or more, so there are at most 10,922
 -- of them. Assumes nothing.
 use mathlib.Core.Path.{_≡_, refl, ap, _∙_, subst}
 use mathlib.Core.Bool.{Bool, true, false, _&&_}
@@ -26,11 +26,11 @@ use Rattle.command.specs.CommandLaws.{commandAt-onward, field-bounds, payload-g
 use Rattle.command.specs.Batch.{before, run, commandsFrom, commandsOf}
 use Rattle.demands.specs.Commands.{Valid, ValidAll}
 use Rattle.demands.specs.CommandFits.{ValueFits, ValuesFit}
-use Rattle.demands.specs.BatchFits.{mostCommands}
+use Rattle.demands.specs.BatchFits.{fewestBytes, mostCommands}
 
 -- A command read at a place.
 abbrev Reads : ℕ → Step → Type 0
-Reads at (Next c next) = (at + 7 ≤ next) × Valid c × ValueFits c
+Reads at (Next c next) = (at + fewestBytes ≤ next) × Valid c × ValueFits c
 Reads at Invalid = Unit {0}
 
 module _ (at n tag : ℕ) (p : List ℕ) (bytes : Bytes p) (size : length p ≡ n) (may : allowed (lengthOf tag) n ≡ true) where
@@ -81,7 +81,7 @@ commandAt-reads s bytes at = go (fieldAt s at (getD s at 0)) refl
 pub record Spelled (s : List ℕ) (at : ℕ) (cs : List Command) : Type 0 where
   pub valid : ValidAll cs
   pub values : ValuesFit cs
-  pub few : 7 * length cs ≤ length s - at
+  pub few : fewestBytes * length cs ≤ length s - at
 
 module _ (s : List ℕ) (bytes : Bytes s) where
   run-spelled : (fuel at : ℕ) (cs : List Command) → run fuel s at ≡ some cs → Spelled s at cs
@@ -93,7 +93,7 @@ module _ (s : List ℕ) (bytes : Bytes s) where
       stop [] f = record { valid = tt; values = tt; few = omega arith }
       stop (c ∷ cs) f = let z : _≡_ {A = ℕ} 0 1 = cc in absurd (omega arith)
 
-      next-one : (c : Command) (next : ℕ) (o : Option (List Command)) → (at + 7 ≤ next) × Valid c × ValueFits c → next ≤ length s →
+      next-one : (c : Command) (next : ℕ) (o : Option (List Command)) → (at + fewestBytes ≤ next) × Valid c × ValueFits c → next ≤ length s →
           ((ds : List Command) → o ≡ some ds → Spelled s next ds) → (cs : List Command) → before c o ≡ some cs → Spelled s at cs
       next-one c next none r w rest cs f = let z : _≡_ {A = ℕ} 0 1 = cc in absurd (omega arith)
       next-one c next (some ds) r w rest [] f = let z : _≡_ {A = ℕ} 0 1 = cc in absurd (omega arith)
@@ -114,7 +114,7 @@ module _ (s : List ℕ) (bytes : Bytes s) where
           next-one c next (run fuel s next) (rw g at reads) (rw g at on .1) (rest next) cs (rw (f, run, g) at e)
       go false f Invalid g reads on rest = let h : none ≡ some cs = rw (f, run, g) at e in let z : _≡_ {A = ℕ} 0 1 = cc in absurd (omega arith)
 
-  -- THE COMMANDS OF A BATCH: valid, of 32 bits, and at most 4,681.
+  -- THE COMMANDS OF A BATCH: valid, of 32 bits, and at most 10,922.
   pub record Batch (cs : List Command) : Type 0 where
     pub valid : ValidAll cs
     pub values : ValuesFit cs

@@ -1,5 +1,6 @@
--- How many node requests a command makes: at most four more than there are nodes. A branch has two children or more, so a tree has at
--- least three times as many nodes as levels below the root, and a put's way down and up again is no longer than that. Assumes nothing.
+-- How many node requests a command makes: at most 32 more than there are nodes. A command reads each node at most once, and what it writes
+-- goes along its way up: a branch has two children or more, so a tree has at least three times as many nodes as levels below the root, and a
+-- put's way down and up again is no longer than that and four. Assumes nothing.
 use mathlib.Core.List.{List}
 use mathlib.Core.Option.{Option, none, some}
 use Prim.Native.Nat.{ℕ, zero, suc, _+_, _*_, _≤_, _<_}
@@ -19,7 +20,7 @@ use Rattle.tree_laws.specs.GetLaws.{path-count}
 use Rattle.tree_laws.specs.PutLaws.{put-length}
 use Rattle.tree_laws.specs.ScanLaws.{scan-length}
 use Rattle.book.specs.Book.{Book}
-use Rattle.book.specs.Command.{requests}
+use Rattle.book.specs.Command.{mostRequests, requests}
 use Rattle.tree_laws.specs.Levels.{fewestNodes, stands-fewest}
 use Rattle.demands.specs.Commands.{Valid}
 
@@ -63,7 +64,7 @@ module _ (table : Table) (count : ℕ) (pairs : List Pair) (s : Spells table cou
 
 -- ANY COMMAND
 pub command-length : (limit : ℕ) (c : Command) (b : Book) (ps : List Pair) → Spells (b .table) (b .count) ps → b .count ≤ noLeaf → Valid c →
-    length (requests limit c b) ≤ 4 + b .count
+    length (requests limit c b) ≤ mostRequests (b .count)
 unfolding requests
 command-length limit (Get k) b ps s l valid = omega (arith, reads-length (b .table) (b .count) ps s k valid)
 command-length limit (Put k v) b ps s l valid =

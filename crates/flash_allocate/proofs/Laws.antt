@@ -11,22 +11,26 @@ use Rattle.flash_blocks.specs.Pages.{erased}
 use Rattle.flash_blocks.specs.Blank.{blankBlocks, nextBlank}
 use Rattle.flash_live.specs.Live.{liveMap}
 use Rattle.flash_live.specs.Choose.{victim}
-use Rattle.flash_allocate.specs.Compact.{copying, copyBlock, renameRows, compacted, emptied, compactBlock, compact}
+use Rattle.flash_allocate.specs.Compact.{copying, copyBlock, renameRows, compacted, emptied, moveBlock, compact}
 use Rattle.flash_allocate.specs.World.{World, world, used, Good}
 use Rattle.flash_allocate.specs.Allocate.{behind, nextBlock, allocate}
 use Rattle.flash_allocate.specs.declared.state.State.{State}
 use Rattle.flash_allocate.specs.State.{inBlock}
 
--- Live map, choice, copies, new names, erasure: in this order they are the compaction.
-pub compact-steps : (n blocks to : ℕ) (pages : List (List ℕ)) (rows : List Row) (live : List ℕ) (block : ℕ) →
-    live ≡ liveMap n rows → block ≡ victim blocks pages live →
-    (pages₁ : List (List ℕ)) (places : List ℕ) (fill : ℕ) → copying pages₁ places fill ≡ copyBlock live (32 * block)
-    (32 * to) (copying pages (replicate 32 0) 0) →
+-- Copies, new names, erasure: in this order they move a block.
+pub move-steps : (live : List ℕ) (n block to : ℕ) (pages : List (List ℕ)) (rows : List Row)
+    (pages₁ : List (List ℕ)) (places : List ℕ) (fill : ℕ) →
+    copying pages₁ places fill ≡ copyBlock live (32 * block) (32 * to) (copying pages (replicate 32 0) 0) →
     (rows₂ : List Row) → rows₂ ≡ renameRows n (32 * block) places rows →
-    (pages₃ : List (List ℕ)) → pages₃ ≡ erased block pages₁ → compacted pages₃ rows₂ fill ≡ compact n blocks to pages rows
-unfolding compact compactBlock emptied
-compact-steps n blocks to pages rows live block l b pages₁ places fill c rows₂ r pages₃ e =
-    rw (← l, ← b, e, r) (ap (emptied block n rows) c)
+    (pages₃ : List (List ℕ)) → pages₃ ≡ erased block pages₁ → compacted pages₃ rows₂ fill ≡ moveBlock live n block to pages rows
+unfolding moveBlock emptied
+move-steps live n block to pages rows pages₁ places fill c rows₂ r pages₃ e = rw (e, r) (ap (emptied n block rows) c)
+
+-- The live map and the choice, then the move: the compaction.
+pub compact-steps : (n blocks to : ℕ) (pages : List (List ℕ)) (rows : List Row) (live : List ℕ) (block : ℕ) →
+    live ≡ liveMap n rows → block ≡ victim blocks pages live → moveBlock live n block to pages rows ≡ compact n blocks to pages rows
+unfolding compact
+compact-steps n blocks to pages rows live block l b = rw (← l, ← b) refl
 
 -- Room in the current block.
 pub allocate-room : (w : World) → w .state .fill < 32 → w ≡ allocate w

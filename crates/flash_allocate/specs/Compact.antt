@@ -55,15 +55,15 @@ compacted pages rows fill = record { pages = pages; rows = rows; fill = fill }
 
 -- The rows renamed after the copies, and the old block erased last.
 unfoldable pub emptied : ℕ → ℕ → List Row → Copying → Compacted
-emptied block used rows w =
+emptied used block rows w =
     compacted (erased block (w .pages)) (renameRows used (pagesInBlock * block) (w .places) rows) (w .fill)
 
--- A block compacted into another, with the live pages known.
-unfoldable pub compactBlock : ℕ → List ℕ → ℕ → ℕ → List (List ℕ) → List Row → Compacted
-compactBlock block live used to pages rows =
-    emptied block used rows (copyBlock live (pagesInBlock * block) (pagesInBlock * to) (copying pages (replicate 32 0) 0))
+-- A block moved to the blank block `to`, with the live pages known.
+unfoldable pub moveBlock : List ℕ → ℕ → ℕ → ℕ → List (List ℕ) → List Row → Compacted
+moveBlock live used block to pages rows =
+    emptied used block rows (copyBlock live (pagesInBlock * block) (pagesInBlock * to) (copying pages (replicate 32 0) 0))
 
--- The block with fewest live pages compacted into the blank block `to`.
+-- The block with fewest live pages moved to the blank block `to`.
 unfoldable pub compact : ℕ → ℕ → ℕ → List (List ℕ) → List Row → Compacted
 compact used blocks to pages rows =
-    compactBlock (victim blocks pages (liveMap used rows)) (liveMap used rows) used to pages rows
+    moveBlock (liveMap used rows) used (victim blocks pages (liveMap used rows)) to pages rows

@@ -1,10 +1,10 @@
-// Compaction: the live pages of a block copied into a blank one, the rows renamed in one pass, the block erased last.
+// Compaction: a block is chosen, and moved to a blank one: its live pages copied by place, the rows renamed in one pass, the block erased last.
 ghost use mathlib.Core.Path.{_≡_};
 ghost use Prim.Native.Nat.{_+_, _*_, _≤_, _<_};
 ghost use lib.ListN.{length};
 ghost use Rattle.flash_rows.specs.Row.{rowsOf, rowBytes};
 ghost use Rattle.flash_blocks.specs.Pages.{pagesOf};
-ghost use Rattle.flash_allocate.specs.Compact.{copying, copyLive, copyBlock, renameRows, compacted};
+ghost use Rattle.flash_allocate.specs.Compact.{copying, copyLive, copyBlock, renameRows, compacted, moveBlock};
 ghost use Rattle.flash_allocate.specs.Compact as def;
 ghost use Rattle.layout.specs.Layout.{blockBytes, mostBlocks, mostPages, pageBytes, pagesInBlock};
 use layout::MOST_PAGES;
@@ -73,7 +73,35 @@ fn rename_rows(table: &mut [u8], used: usize, base: usize, places: &[u16; PAGES_
     }
 }
 
-// The block with fewest live pages compacted into the blank block `to`: how many pages are there then.
+// The live pages of a block moved to the blank block `to`, and the block erased last: how many pages went. Every store of a compaction is here.
+fn move_block(
+    pool: &mut [u8],
+    table: &mut [u8],
+    live: &[u8; MOST_PAGES],
+    used: usize,
+    block: usize,
+    to: usize,
+) -> usize
+    requires { ⌜ (rowBytes * used ≤ length (now table)) × (block < mostBlocks) × (to < mostBlocks)
+        × (blockBytes * block + blockBytes ≤ length (now pool)) × (blockBytes * to + blockBytes ≤ length (now pool)) ⌝ }
+    ensures { λ r. ⌜ (compacted (pagesOf (now (pool .exit))) (rowsOf (now (table .exit))) r
+        ≡ moveBlock (now (live .entry)) used block to (pagesOf (now (pool .entry))) (rowsOf (now (table .entry))))
+        × (r ≤ pagesInBlock) ⌝ }
+{
+    let mut places = [0u16; PAGES_IN_BLOCK];
+    let fill = copy_block(
+        pool,
+        &mut places,
+        live,
+        PAGES_IN_BLOCK * block,
+        PAGES_IN_BLOCK * to,
+    );
+    rename_rows(table, used, PAGES_IN_BLOCK * block, &places);
+    flash_blocks::page::erase_block(pool, block);
+    fill
+}
+
+// The block with fewest live pages moved to the blank block `to`: how many pages are there then.
 pub fn compact(pool: &mut [u8], table: &mut [u8], used: usize, blocks: usize, to: usize) -> usize
     requires { ⌜ (rowBytes * used ≤ length (now table)) × (to < blocks) × (blocks ≤ mostBlocks)
         × (blockBytes * blocks ≤ length (now pool)) ⌝ }
@@ -83,15 +111,5 @@ pub fn compact(pool: &mut [u8], table: &mut [u8], used: usize, blocks: usize, to
 {
     let live = flash_live::live_map(table, used);
     let block = flash_live::victim(pool, &live, blocks);
-    let mut places = [0u16; PAGES_IN_BLOCK];
-    let fill = copy_block(
-        pool,
-        &mut places,
-        &live,
-        PAGES_IN_BLOCK * block,
-        PAGES_IN_BLOCK * to,
-    );
-    rename_rows(table, used, PAGES_IN_BLOCK * block, &places);
-    flash_blocks::page::erase_block(pool, block);
-    fill
+    move_block(pool, table, &live, used, block, to)
 }

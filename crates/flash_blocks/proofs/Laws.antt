@@ -10,7 +10,7 @@ use borrow.Author.Tests.{lt-ltb, le-ltb, ltb-true}
 use borrow.Rule.Slice.PartMut.{putMid}
 use Rattle.laws.specs.Lay.{lay, part, length-part, lay-lent}
 use Rattle.laws.specs.Chunks.{chunks, length-chunks, get-chunks, lay-chunks, lay-run}
-use Rattle.flash_blocks.specs.Pages.{pagesOf, blankPage, pageAt, erased}
+use Rattle.flash_blocks.specs.Pages.{pagesOf, blankPage, pageAt, erasedBytes, erased}
 use Rattle.flash_blocks.specs.Blank.{blankFrom, nextBlank}
 
 pub length-pages : (pool : List ℕ) → length (pagesOf pool) ≡ length pool / 512
@@ -44,20 +44,26 @@ module _ (pool : List ℕ) (q : ℕ) (h : 512 * q + 512 ≤ length pool) where
       putMid (512 * q) (to - 512 * q) pool bytes ≡ lay pool (512 * q) image
   lent-page bytes image is e to f = rw is (lay-lent (512 * q) to pool image (omega arith) (omega arith))
 
--- A block filled with FF.
-pub erase-pages : (pool : List ℕ) (block to : ℕ) → to ≡ 16384 * block + 16384 → to ≤ length pool →
-    pagesOf (lay pool (16384 * block) (replicate (to - 16384 * block) 255)) ≡ erased block (pagesOf pool)
-unfolding pagesOf erased blankPage
-erase-pages pool block to e h =
-    ap (λ (k : ℕ). chunks 512 (lay pool (16384 * block) (replicate k 255))) pages ∙
-    ap (λ (k : ℕ). chunks 512 (lay pool k (replicate (512 * 32) 255))) at ∙
-    lay-run 512 32 pool (32 * block) 255 (omega arith) (omega arith)
-  where
-    pages : to - 16384 * block ≡ 512 * 32
-    pages = omega arith
+-- A block filled with FF: its bytes, and its pages.
+module _ (pool : List ℕ) (block to : ℕ) (e : to ≡ 16384 * block + 16384) where
+  pub erase-bytes : lay pool (16384 * block) (replicate (to - 16384 * block) 255) ≡ lay pool (16384 * block) erasedBytes
+  unfolding erasedBytes
+  erase-bytes =
+      let whole : to - 16384 * block ≡ 16384 = omega arith in
+      ap (λ (k : ℕ). lay pool (16384 * block) (replicate k 255)) whole
 
-    at : 16384 * block ≡ 512 * (32 * block)
-    at = omega arith
+  pub erase-pages : to ≤ length pool → pagesOf (lay pool (16384 * block) (replicate (to - 16384 * block) 255)) ≡ erased block (pagesOf pool)
+  unfolding pagesOf erased blankPage
+  erase-pages h =
+      ap (λ (k : ℕ). chunks 512 (lay pool (16384 * block) (replicate k 255))) pages ∙
+      ap (λ (k : ℕ). chunks 512 (lay pool k (replicate (512 * 32) 255))) at ∙
+      lay-run 512 32 pool (32 * block) 255 (omega arith) (omega arith)
+    where
+      pages : to - 16384 * block ≡ 512 * 32
+      pages = omega arith
+
+      at : 16384 * block ≡ 512 * (32 * block)
+      at = omega arith
 
 -- The next blank block: above the current one, else the lowest, else none.
 module _ (blocks current : ℕ) (pages : List (List ℕ)) (above : ℕ) (e : above ≡ blankFrom blocks (current + 1) pages) where

@@ -5,7 +5,7 @@ use Prim.Native.Nat.{ℕ, _*_}
 use lib.Dec.{eqb}
 use lib.ListN.{getD, set, replicate}
 use Rattle.laws.specs.Chunks.{chunks, setRun}
-use Rattle.layout.specs.Layout.{pageBytes, pagesInBlock}
+use Rattle.layout.specs.Layout.{blockBytes, pageBytes, pagesInBlock}
 
 -- The pages of a pool, 512 bytes each.
 unfoldable pub pagesOf : List ℕ → List (List ℕ)
@@ -22,6 +22,10 @@ pageAt pages q = getD pages q blankPage
 -- The pages with one copied, unchanged, to another place.
 unfoldable pub copied : ℕ → ℕ → List (List ℕ) → List (List ℕ)
 copied from to pages = set pages to (pageAt pages from)
+
+-- The bytes of an erased block.
+unfoldable pub erasedBytes : List ℕ
+erasedBytes = replicate blockBytes 255
 
 -- The pages with a block erased.
 unfoldable pub erased : ℕ → List (List ℕ) → List (List ℕ)

@@ -1,10 +1,11 @@
-// Whole pages, and a block erased. Here alone the number of a page becomes its place in bytes.
+// Whole pages, and a block erased. Here alone the number of a page becomes its place in bytes, and here alone the pool is written: every
+// page through put_page, every erasure through erase_block, of prepare and of compaction too. All other code hands the pool on.
 ghost use mathlib.Core.Path.{_≡_};
 ghost use Prim.Native.Nat.{_+_, _*_, _≤_};
 ghost use lib.Dec.{ltb};
 ghost use lib.ListN.{length, set};
 ghost use Rattle.laws.specs.Lay.{lay};
-ghost use Rattle.flash_blocks.specs.Pages.{pagesOf, pageAt, copied, erased, isBlank};
+ghost use Rattle.flash_blocks.specs.Pages.{pagesOf, pageAt, copied, erasedBytes, erased, isBlank};
 ghost use Rattle.layout.specs.Layout.{blockBytes, pageBytes};
 use layout::BLOCK_BYTES;
 use layout::PAGE_BYTES;
@@ -39,18 +40,18 @@ pub fn read_page(pool: &[u8], page: usize) -> [u8; PAGE_BYTES]
 }
 
 // Fills the part of the pool that the page writer is lent.
-fn fill_page(part: &mut [u8], image: [u8; PAGE_BYTES])
+fn fill_page(part: &mut [u8], image: &[u8; PAGE_BYTES])
     requires { ⌜ length (now part) ≡ pageBytes ⌝ }
-    ensures { λ _. ⌜ now (part .exit) ≡ image ⌝ }
+    ensures { λ _. ⌜ now (part .exit) ≡ now (image .entry) ⌝ }
 {
-    lay_bytes(part, 0, &image);
+    lay_bytes(part, 0, image);
 }
 
 // Writes an image as a page of the pool.
-pub fn put_page(pool: &mut [u8], page: usize, image: [u8; PAGE_BYTES])
+pub fn put_page(pool: &mut [u8], page: usize, image: &[u8; PAGE_BYTES])
     requires { ⌜ pageBytes * page + pageBytes ≤ length (now pool) ⌝ }
-    ensures { λ _. ⌜ (pagesOf (now (pool .exit)) ≡ set (pagesOf (now (pool .entry))) page image)
-        × (now (pool .exit) ≡ lay (now (pool .entry)) (pageBytes * page) image) ⌝ }
+    ensures { λ _. ⌜ (pagesOf (now (pool .exit)) ≡ set (pagesOf (now (pool .entry))) page (now (image .entry)))
+        × (now (pool .exit) ≡ lay (now (pool .entry)) (pageBytes * page) (now (image .entry))) ⌝ }
 {
     let from = PAGE_BYTES * page;
     fill_page(&mut pool[from..from + PAGE_BYTES], image);
@@ -62,13 +63,14 @@ pub fn copy_page(pool: &mut [u8], from: usize, to: usize)
     ensures { λ _. ⌜ pagesOf (now (pool .exit)) ≡ copied from to (pagesOf (now (pool .entry))) ⌝ }
 {
     let bytes = read_page(pool, from);
-    put_page(pool, to, bytes);
+    put_page(pool, to, &bytes);
 }
 
 // All pages of a block blank.
 pub fn erase_block(pool: &mut [u8], block: usize)
     requires { ⌜ blockBytes * block + blockBytes ≤ length (now pool) ⌝ }
-    ensures { λ _. ⌜ pagesOf (now (pool .exit)) ≡ erased block (pagesOf (now (pool .entry))) ⌝ }
+    ensures { λ _. ⌜ (pagesOf (now (pool .exit)) ≡ erased block (pagesOf (now (pool .entry))))
+        × (now (pool .exit) ≡ lay (now (pool .entry)) (blockBytes * block) erasedBytes) ⌝ }
 {
     let from = BLOCK_BYTES * block;
     fill_part(pool, from, from + BLOCK_BYTES, 255);

@@ -99,7 +99,7 @@ fn put_checkpoint_page(
     let records = score_records(table, from, n);
     let last = k + 1 == page_count(nodes);
     let image = checkpoint_image(number, k == 0, tariff, &records, n, last, nodes as u32);
-    put_page(pool, page, image);
+    put_page(pool, page, &image);
 }
 
 // The row of a checkpoint page, behind the nodes' rows.

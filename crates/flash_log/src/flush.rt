@@ -29,7 +29,7 @@ fn put_log(pool: &mut [u8], page: usize, number: u32, buffer: &[u8], n: usize)
         (logImage number n (now (buffer .entry))) ⌝ }
 {
     let image = log_image(number, buffer, n);
-    put_page(pool, page, image);
+    put_page(pool, page, &image);
 }
 
 // The buffer as the next page, in a block that has room.

@@ -34,7 +34,7 @@ fn put_node(pool: &mut [u8], page: usize, number: u32, id: usize, v: NodeValue)
     let keys = v.keys;
     let pointers = v.pointers;
     let bytes = node_image(number, id as u32, shape, &keys, &pointers, v.count, v.link);
-    put_page(pool, page, bytes);
+    put_page(pool, page, &bytes);
 }
 
 // The row of a node that has this page for its version, alone.

@@ -1,5 +1,6 @@
 pub mod Asked
 pub mod View
 pub mod Payload
+pub mod Blank
 pub mod Steps
 pub mod Value

@@ -1,14 +1,12 @@
 -- The reader's loops and tests, a step at a time. Assumes nothing.
 use mathlib.Core.Path.{_≡_, sym, ap, _∙_}
 use mathlib.Core.Bool.{Bool, true, false, _||_}
-use mathlib.Core.List.{List, _∷_, map}
+use mathlib.Core.List.{List, map}
 use Prim.Native.Nat.{ℕ, suc, _+_, _-_, _*_, _≤_, _<_}
 use native.Mathlib.Nat.{add-zero}
-use native.Mathlib.Numerals.{add-one}
 use native.Mathlib.Omega.{arith}
 use lib.Dec.{eqb}
-use lib.ListN.{length, getD, take, drop, drop-of-length-le, length-map}
-use lib.Seq.{drop-cons}
+use lib.ListN.{length, getD, take, drop, length-map}
 use borrow.Author.Tests.{eq-eqb, ne-eqb, le-leb, lt-leb, lt-ltb, le-ltb}
 use Rattle.laws.specs.BigEndian.{number, numberAt}
 use Rattle.wire.specs.Sum.{sumsOf}
@@ -24,23 +22,6 @@ use Rattle.page.specs.Cases.{when-true, when-false}
 use Rattle.page_read.specs.View.{view, nodesOf}
 use Rattle.page_read.specs.declared.view.Nodes.the-variants.{Count, Open}
 use Rattle.page_read.specs.declared.view.PageView.the-variants.{Log, NodePage, Checkpoint, Bad}
-
--- ---- FF to the end
-
-module _ (s : List ℕ) (i : ℕ) where
-  pub blank-next : i < length s → getD s i 0 ≡ 255 → allBlank (drop (i + 1) s) ≡ allBlank (drop i s)
-  unfolding allBlank
-  blank-next h e =
-      let d : drop i s ≡ getD s i 0 ∷ drop (i + 1) s = rw add-one (drop-cons s i 0 h) in
-      rw (d, eq-eqb _ _ e)
-
-  pub blank-stop : i < length s → (getD s i 0 ≡ 255 → ⊥) → false ≡ allBlank (drop i s)
-  unfolding allBlank
-  blank-stop h e = rw (drop-cons s i 0 h, ne-eqb _ _ e)
-
-  pub blank-end : length s ≤ i → true ≡ allBlank (drop i s)
-  unfolding allBlank
-  blank-end h = rw (drop-of-length-le s {i = i} h)
 
 -- ---- the sums
 

@@ -2,9 +2,10 @@
 use mathlib.Core.Path.{_≡_, refl, sym, ap, _∙_}
 use mathlib.Core.Bool.{true, false}
 use mathlib.Core.List.{List, [], _∷_}
-use Prim.Native.Nat.{ℕ}
-use lib.ListN.{length, replicate}
-use Rattle.laws.specs.Lay.{lay, lay-whole, part, part-whole}
+use Prim.Native.Nat.{ℕ, _+_, _*_}
+use native.Mathlib.Omega.{arith}
+use lib.ListN.{length, replicate, length-replicate, replicate-append-replicate}
+use Rattle.laws.specs.Lay.{lay, lay-next, lay-whole, part, part-whole}
 use Rattle.laws.specs.BigEndian.{number, numberAt}
 use Rattle.layout.specs.Layout.{pageBytes, noLeaf}
 use Rattle.account.specs.declared.Tariff.{Tariff}
@@ -20,6 +21,7 @@ use Rattle.page_write.specs.Pages.{entryRecord, entryRecord-bytes, logBody, log
 use Rattle.page_checkpoint.specs.Checkpoint.{scoresIn}
 use Rattle.page_checkpoint.specs.Checkpoint as Writer
 use Rattle.model.specs.Call.{poolLength, prepareOf}
+use Rattle.flash_blocks.specs.Pages.{erasedBytes}
 use Rattle.prepare.specs.Prepared.{rootPage, checkpointPage, firstBytes, Leaves, IsPool, prepared-bytes}
 
 abbrev root : Entry
@@ -40,6 +42,20 @@ root-image buffer e = ap (λ (p : List ℕ). sealed pageBytes (numbered 2 (field
 pub checkpoint-page : (t : Tariff) → Writer.recordsPage 3 true t 1 (replicate 6 0) true 1 ≡ checkpointPage t
 unfolding Writer.recordsPage scoresIn chunks scoreOf numberAt part
 checkpoint-page t = refl
+
+-- Erased so far, and the next block erased: erased so far and a block more. All erased: FF throughout.
+pub erase-next : (s : List ℕ) (block : ℕ) → lay (lay s 0 (replicate (16384 * block) 255)) (16384 * block) erasedBytes ≡
+    lay s 0 (replicate (16384 * (block + 1)) 255)
+unfolding erasedBytes
+erase-next s block = more (16384 * block) 16384 (16384 * (block + 1)) (omega arith)
+  where
+    more : (m n k : ℕ) → m + n ≡ k → lay (lay s 0 (replicate m 255)) m (replicate n 255) ≡ lay s 0 (replicate k 255)
+    more m n k e =
+        lay-next s 0 (replicate m 255) (replicate n 255) m (omega arith) (omega (arith, length-replicate {A = ℕ} m 255)) ∙
+        ap (lay s 0) (replicate-append-replicate m n 255 ∙ ap (λ (i : ℕ). replicate i 255) e)
+
+pub erase-end : (s : List ℕ) (n : ℕ) → length s ≡ n → lay s 0 (replicate n 255) ≡ replicate (length s) 255
+erase-end s n e = lay-whole s (replicate n 255) (omega (arith, length-replicate {A = ℕ} n 255)) ∙ ap (λ (i : ℕ). replicate i 255) (sym e)
 
 -- The bytes erased, then one page and the other.
 pub first-written : (bytes : ℕ) (a b erased one two : List ℕ) → erased ≡ replicate bytes 255 → one ≡ lay erased 0 a →

@@ -1,12 +1,14 @@
 // Prepare: "it erases all, then writes from the first page of block 0: node 0 as an empty leaf (version 1, page stamp 2), a closing
 // page (stamp 3)".
 ghost use mathlib.Core.Path.{_≡_};
-ghost use Prim.Native.Nat.{_≤_};
-ghost use lib.ListN.{length};
+ghost use Prim.Native.Nat.{_*_, _≤_};
+ghost use lib.ListN.{length, replicate};
+ghost use Rattle.layout.specs.Layout.{blockBytes};
 ghost use Rattle.page.specs.Image.{image};
 ghost use Rattle.model.specs.Call.{prepareOf};
 ghost use Rattle.prepare.specs.Prepared.{rootPage, checkpointPage, firstBytes, Leaves};
 use account::Tariff;
+use flash_blocks::page::erase_block;
 use flash_blocks::page::put_page;
 use layout::ENTRY_BYTES;
 use layout::NO_LEAF;
@@ -15,7 +17,6 @@ use layout::pool_blocks;
 use page_checkpoint::checkpoint_image;
 use page_write::log_page::lay_entry;
 use page_write::log_page::log_image;
-use wire::bytes::fill;
 
 // The first page: node 0 as an empty leaf.
 fn root_page() -> [u8; PAGE_BYTES]
@@ -34,12 +35,29 @@ fn checkpoint_page(tariff: Tariff) -> [u8; PAGE_BYTES]
     checkpoint_image(3, true, tariff, &records, 1, true, 1)
 }
 
-// All bytes erased, then the two pages.
-fn write_first(pool: &mut [u8], root: [u8; PAGE_BYTES], checkpoint: [u8; PAGE_BYTES])
-    requires { ⌜ 1024 ≤ length (now pool) ⌝ }
-    ensures { λ _. ⌜ now (pool .exit) ≡ firstBytes (length (now (pool .entry))) root checkpoint ⌝ }
+// All blocks erased, one after another.
+fn erase_all(pool: &mut [u8], blocks: usize)
+    requires { ⌜ length (now pool) ≡ blockBytes * blocks ⌝ }
+    ensures { λ _. ⌜ now (pool .exit) ≡ replicate (length (now (pool .entry))) 255 ⌝ }
 {
-    fill(pool, 255);
+    let mut block: usize = 0;
+    while block < blocks {
+        erase_block(pool, block);
+        block += 1;
+    }
+}
+
+// All blocks erased, then the two pages.
+fn write_first(
+    pool: &mut [u8],
+    blocks: usize,
+    root: &[u8; PAGE_BYTES],
+    checkpoint: &[u8; PAGE_BYTES],
+)
+    requires { ⌜ (length (now pool) ≡ blockBytes * blocks) × (1 ≤ blocks) ⌝ }
+    ensures { λ _. ⌜ now (pool .exit) ≡ firstBytes (length (now (pool .entry))) (now (root .entry)) (now (checkpoint .entry)) ⌝ }
+{
+    erase_all(pool, blocks);
     put_page(pool, 0, root);
     put_page(pool, 1, checkpoint);
 }
@@ -48,7 +66,8 @@ fn write_first(pool: &mut [u8], root: [u8; PAGE_BYTES], checkpoint: [u8; PAGE_BY
 pub fn prepare(pool: &mut [u8], tariff: Tariff) -> u32
     ensures { λ r. ⌜ Leaves (prepareOf (now (pool .entry)) tariff) r (now (pool .exit)) ⌝ }
 {
-    if pool_blocks(pool.len()) == 0 {
+    let blocks = pool_blocks(pool.len());
+    if blocks == 0 {
         return 1;
     }
     if tariff.in_range() {} else {
@@ -56,6 +75,6 @@ pub fn prepare(pool: &mut [u8], tariff: Tariff) -> u32
     }
     let root = root_page();
     let checkpoint = checkpoint_page(tariff);
-    write_first(pool, root, checkpoint);
+    write_first(pool, blocks, &root, &checkpoint);
     0
 }

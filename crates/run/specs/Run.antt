@@ -5,14 +5,14 @@ use mathlib.Core.List.{List, [], _∷_}
 use Prim.Native.Nat.{ℕ, _+_, _≤_}
 use lib.ListN.{length}
 use Rattle.laws.specs.Lay.{lay}
-use Rattle.layout.specs.Layout.{mostBlocks, nodeLimit}
+use Rattle.layout.specs.Layout.{mostNodes}
 use Rattle.account.specs.declared.Tariff.{Tariff}
 use Rattle.command.specs.declared.Answer.the-variants.{Got, Deleted}
 use Rattle.command.specs.declared.Command.{Command}
 use Rattle.command.specs.declared.Command.the-variants.{Get, Put, Delete, Scan}
 use Rattle.command.specs.Answer.{valueOr}
 use Rattle.command.specs.Command.{mostPairs}
-use Rattle.book.specs.Command.{Reply, short, listed, replyBytes, repliesBytes}
+use Rattle.book.specs.Command.{mostRequests, Reply, short, listed, replyBytes, repliesBytes}
 use Rattle.flash_rows.specs.Worktable.{Worktable}
 use Rattle.flash_allocate.specs.World.{World, world}
 use Rattle.run_serve.specs.Step.{ChargedAs}
@@ -64,14 +64,10 @@ InRange (Put k v) = Unit {0}
 InRange (Delete k) = Unit {0}
 InRange (Scan low high most) = (1 ≤ most) × (most ≤ mostPairs)
 
--- A command makes at most so many requests: the nodes of a path, and every leaf.
-abbrev pub mostRequests : ℕ
-mostRequests = 9 + nodeLimit mostBlocks
-
 -- What the code of one command leaves: this world, this charge, and its reply laid at a place of the answer buffer.
 pub record CommandAs (poolLength tableLength : ℕ) (pages : List (List ℕ)) (table : Worktable) (before after : List ℕ) (r : Progress) (t : Tariff)
     (c : Command) (at : ℕ) (w : World) : Type 0 where
-  pub charged : ChargedAs Grew poolLength tableLength pages table (r .charged) (w .state) mostRequests (commandWorld t c w) (commandCharge t c w)
+  pub charged : ChargedAs Grew poolLength tableLength pages table (r .charged) (w .state) (mostRequests mostNodes) (commandWorld t c w) (commandCharge t c w)
   pub answers : after ≡ lay before at (replyBytes (commandReply t c w))
   pub behind : r .at ≡ at + length (replyBytes (commandReply t c w))
 

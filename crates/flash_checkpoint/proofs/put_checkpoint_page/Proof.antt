@@ -40,18 +40,18 @@ same-length c = search needs
 returns : tie.Need-returns
 returns c =
     let c2 = c .before .before in
-    let c4 = c2 .before .before in
-    let c6 = c4 .before .before in
-    let c7 = c6 .before in
+    let c5 = c2 .before .before .before in
+    let c7 = c5 .before .before in
     let c8 = c7 .before in
     let c9 = c8 .before in
-    let c12 = c9 .before .before .before in
-    let a = c12 .args in
-    let f = c9 .scores-before in
-    let n = c8 .scores-on in
-    let r = c7 .score-records in
-    let m = c6 .page-count in
-    let i = c4 .checkpoint-image in
+    let c10 = c9 .before in
+    let c13 = c10 .before .before .before in
+    let a = c13 .args in
+    let f = c10 .scores-before in
+    let n = c9 .scores-on in
+    let r = c8 .score-records in
+    let m = c7 .page-count in
+    let i = c5 .checkpoint-image in
     let w = c2 .put-page in
     checkpoint-page-put (a .number) (a .tariff) (a .k) (a .nodes) (rowsIn (a .table .now)) (f .result) (n .result)
     (m .result) (r .result) (i .result) (pagesOf (a .pool .now)) (pagesOf (w .last .0)) (a .page) (f .ensures)

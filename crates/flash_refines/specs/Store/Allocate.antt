@@ -30,7 +30,7 @@ use Rattle.flash_blocks.specs.Blank.{blankBlock, blankBlocks, nextBlank}
 use Rattle.flash_live.specs.Live.{liveMap, marked, liveIn}
 use Rattle.flash_live.specs.Choose.{victim}
 use Rattle.flash_allocate.specs.declared.state.State.{State}
-use Rattle.flash_allocate.specs.Compact.{Compacted, compactBlock, compact}
+use Rattle.flash_allocate.specs.Compact.{Compacted, moveBlock, compact}
 use Rattle.flash_allocate.specs.World.{World, world, used}
 use Rattle.flash_allocate.specs.Allocate.{allocate}
 use Rattle.flash_allocate.proofs.Laws.{allocate-room, allocate-next, allocate-compact}
@@ -42,7 +42,7 @@ use Rattle.flash_refines.specs.Store.Blank.{blankBlocks-is, nextBlank-is
 use Rattle.flash_refines.specs.Store.Live.{Owned, mark-live, liveIn-is}
 use Rattle.flash_refines.specs.Store.Choice.{victim-is}
 use Rattle.flash_refines.specs.Store.Names.{mapped}
-use Rattle.flash_refines.specs.Store.Moves.{Compaction, compactBlock-is}
+use Rattle.flash_refines.specs.Store.Moves.{Compaction, moveBlock-is}
 use Rattle.flash_allocate.specs.State.{inBlock}
 
 -- What pages, rows and state say of the blocks, before and after.
@@ -137,11 +137,11 @@ module _ (image : Page → List ℕ) (written : Images image) (own : ℕ → Pag
             v = moves e .0
 
             z : Compacted
-            z = compactBlock (Model.victim keep bs) (liveMap (s .nodes + s .checkpoint) (t .rows)) (s .nodes + s .checkpoint) (Model.nextBlank bs (s .current)) ps (t .rows)
+            z = moveBlock (liveMap (s .nodes + s .checkpoint) (t .rows)) (s .nodes + s .checkpoint) (Model.victim keep bs) (Model.nextBlank bs (s .current)) ps (t .rows)
 
             c : Compaction (s .blocks) image (used s) own (t .rows) bs keep (Model.victim keep bs) (Model.nextBlank bs (s .current)) z
             c =
-                compactBlock-is keep v (r .pages) (r .names) o (liveMap (s .nodes + s .checkpoint) (t .rows))
+                moveBlock-is keep v (r .pages) (r .names) o (liveMap (s .nodes + s .checkpoint) (t .rows))
                 (λ q lq. mark-is (Model.victim keep bs) q (omega (arith, v .from, r .pages .size)) lq)
 
             chosen : victim (s .blocks) ps (liveMap (s .nodes + s .checkpoint) (t .rows)) ≡ Model.victim keep bs
@@ -152,7 +152,7 @@ module _ (image : Page → List ℕ) (written : Images image) (own : ℕ → Pag
             whole : z ≡ compact (used s) (s .blocks) (Model.nextBlank bs (s .current)) ps (t .rows)
             whole =
                 sym
-                (ap (λ (x : ℕ). compactBlock x (liveMap (s .nodes + s .checkpoint) (t .rows)) (s .nodes + s .checkpoint) (Model.nextBlank bs (s .current)) ps (t .rows)) chosen)
+                (ap (λ (x : ℕ). moveBlock (liveMap (s .nodes + s .checkpoint) (t .rows)) (s .nodes + s .checkpoint) x (Model.nextBlank bs (s .current)) ps (t .rows)) chosen)
 
 -- A live page carries a node below the count, or is of the checkpoint being written.
 live-cases : (w : View) (closing : Page → Bool) (N : ℕ) (p : Page) → live w closing N p ≡ true →

@@ -20,7 +20,7 @@ use Rattle.store_laws.specs.PoolLaws.{Moves, compact-to, compact-from, compact-
 use Rattle.flash_rows.specs.Step.{names, newPlace}
 use Rattle.flash_rows.specs.declared.Row.{Row}
 use Rattle.flash_live.specs.Live.{marked}
-use Rattle.flash_allocate.specs.Compact.{Copying, copying, copyBlock, renameRows, Compacted, emptied, compactBlock}
+use Rattle.flash_allocate.specs.Compact.{Copying, copying, copyBlock, renameRows, Compacted, emptied, moveBlock}
 use Rattle.flash_refines.specs.Store.Mirror.{rowAt, test, PagesAre, RowsName}
 use Rattle.flash_refines.specs.Store.Pages.{place-apart, pages-erased}
 use Rattle.flash_refines.specs.Store.Names.{mapped, names-mapped, names-unmapped, length-renameRows, rowAt-renameRows}
@@ -158,9 +158,9 @@ module _ {B rowsUsed : ℕ} {image : Page → List ℕ} {own : ℕ → Page → 
     {i j : ℕ} (v : Moves bs i j)
     (pages : PagesAre B image ps bs) (named : RowsName B rowsUsed own rows bs) (o : Owned live own rowsUsed bs) (m : List ℕ)
     (mark : (q : ℕ) → q < 32 → marked (getD m (32 * i + q) 0) ≡ test live (getElem? (block bs i) q)) where
-  pub compactBlock-is : Compaction B image rowsUsed own rows bs live i j (compactBlock i m rowsUsed j ps rows)
-  unfolding compactBlock emptied
-  compactBlock-is =
+  pub moveBlock-is : Compaction B image rowsUsed own rows bs live i j (moveBlock m rowsUsed i j ps rows)
+  unfolding moveBlock emptied
+  moveBlock-is =
       record {
         pages =
             pages-erased (subst (λ (b : List Page). PagesAre B image (w .pages) (set bs j (filter live b))) whole (c .pages)) i

@@ -36,29 +36,31 @@ checkpoint-page-requires c κs = search needs
 
 write-first-requires : tie.Need-write-first-requires
 write-first-requires c κs =
-    let c5 = c .before .before .before .before .before in
-    let c6 = c5 .before in
-    let c8 = c6 .before .before in
-    let a = c8 .args in
-    let p = a-pool (a .pool .now) (c6 .pool-blocks .result) (c6 .pool-blocks .ensures) (c5 .if1 .left) in
-    omega (arith, p .whole, p .least)
+    let c7 = c .before .before .before .before .before .before .before in
+    let c8 = c7 .before in
+    let a = c8 .before .before .args in
+    let p = a-pool (a .pool .now) (c8 .pool-blocks .result) (c8 .pool-blocks .ensures) (c7 .if1 .left) in
+    omega (arith, p .whole, p .least, p .blocks, c8 .pool-blocks .ensures)
 
 same-length : tie.Need-same-length
 same-length c = search needs
 
 returns-3 : tie.Need-returns-3
-returns-3 c = let a = c .before .before .before .before .before .before .before .before .before .before .before .args in
-    prepared-pool (a .pool .now) (a .tariff)
-    (a-pool (a .pool .now) (c .before .before .before .before .before .before .before .before .before .pool-blocks .result)
-    (c .before .before .before .before .before .before .before .before .before .pool-blocks .ensures)
-    (c .before .before .before .before .before .before .before .before .if1 .left))
-    (sym (c .before .before .before .before .before .before .before .in-range .ensures) ∙
-    c .before .before .before .before .before .before .if2 .taken)
-    (c .before .before .before .before .before .root-page .result)
-    (c .before .before .before .before .checkpoint-page .result) (c .before .before .write-first .last .0)
-    (c .before .before .before .before .before .root-page .ensures)
-    (c .before .before .before .before .checkpoint-page .ensures) (search needs) (search needs)
-    (c .before .before .write-first .ensures)
+returns-3 c =
+    let c2 = c .before .before in
+    let c6 = c2 .before .before .before .before in
+    let c7 = c6 .before in
+    let c8 = c7 .before in
+    let c9 = c8 .before in
+    let c10 = c9 .before in
+    let c11 = c10 .before in
+    let a = c11 .before .before .args in
+    let b = c11 .pool-blocks in
+    let root = c7 .root-page in
+    let checkpoint = c6 .checkpoint-page in
+    prepared-pool (a .pool .now) (a .tariff) (a-pool (a .pool .now) (b .result) (b .ensures) (c10 .if1 .left))
+    (sym (c9 .in-range .ensures) ∙ c8 .if2 .taken) (root .result) (checkpoint .result) (c2 .write-first .last .0) (root .ensures)
+    (checkpoint .ensures) (search needs) (search needs) (c2 .write-first .ensures)
 
 pub prepare-spec : {M : Type 1} → statement M
 prepare-spec =

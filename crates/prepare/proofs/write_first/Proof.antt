@@ -5,8 +5,8 @@ use borrow.Author.Needs.{needs}
 use Rattle.prepare.proofs.write_first.Statement.{statement}
 use Rattle.prepare.proofs.write_first.Tie as tie
 
-fill-requires : tie.Need-fill-requires
-fill-requires c κs = search needs
+erase-all-requires : tie.Need-erase-all-requires
+erase-all-requires c κs = search needs
 
 put-page-requires : tie.Need-put-page-requires
 put-page-requires c κs = search needs
@@ -24,13 +24,13 @@ returns c =
     let c10 = c6 .before .before .before .before in
     let c13 = c10 .before .before .before in
     let a = c13 .args in
-    let erased = c10 .fill in
+    let erased = c10 .erase-all in
     let one = c6 .put-page in
     let two = c2 .put-page2 in
-    first-written (length (a .pool .now)) (a .root) (a .checkpoint) (erased .last .0) (one .last .0) (two .last .0)
+    first-written (length (a .pool .now)) (a .root .now) (a .checkpoint .now) (erased .last .0) (one .last .0) (two .last .0)
     (erased .ensures) (one .ensures .1) (two .ensures .1)
 
 pub write-first-spec : {M : Type 1} → statement M
 write-first-spec =
     tie.close
-    (tie.spec fill-requires put-page-requires put-page-requires-2 same-length returns)
+    (tie.spec erase-all-requires put-page-requires put-page-requires-2 same-length returns)

@@ -1,4 +1,5 @@
--- `compact::compact` meets its contract: its five calls are the five steps of the definition. Assumes nothing.
+-- `compact::compact` meets its contract: the live map and the choice, then the move. Assumes nothing.
+use mathlib.Core.Path.{_∙_}
 use Rattle.flash_rows.specs.Row.{rowsOf}
 use Rattle.flash_blocks.specs.Pages.{pagesOf}
 use Rattle.flash_allocate.proofs.Laws.{compact-steps}
@@ -12,23 +13,8 @@ live-map-requires c κs = search needs
 victim-requires : tie.Need-victim-requires
 victim-requires c κs = search needs
 
-mul-copy-block : tie.Need-mul-copy-block
-mul-copy-block c = search needs
-
-mul-copy-block-2 : tie.Need-mul-copy-block-2
-mul-copy-block-2 c = search needs
-
-copy-block-requires : tie.Need-copy-block-requires
-copy-block-requires c κs = search needs
-
-mul-rename-rows : tie.Need-mul-rename-rows
-mul-rename-rows c = search needs
-
-rename-rows-requires : tie.Need-rename-rows-requires
-rename-rows-requires c κs = search needs
-
-erase-block-requires : tie.Need-erase-block-requires
-erase-block-requires c κs = search needs
+move-block-requires : tie.Need-move-block-requires
+move-block-requires c κs = search needs
 
 same-length : tie.Need-same-length
 same-length c = search needs
@@ -38,36 +24,21 @@ same-length-2 c = search needs
 
 returns : tie.Need-returns
 returns c =
-    let c2 = c .before .before in
-    let c6 = c2 .before .before .before .before in
-    let c11 = c6 .before .before .before .before .before in
+    let c4 = c .before .before .before .before in
+    let c8 = c4 .before .before .before .before in
+    let c11 = c8 .before .before .before in
     let c15 = c11 .before .before .before .before in
-    let c18 = c15 .before .before .before in
-    let c22 = c18 .before .before .before .before in
-    let a = c22 .args in
-    let m = c18 .live-map in
-    let v = c15 .victim in
-    let k = c11 .copy-block in
-    let r = c6 .rename-rows in
-    let e = c2 .erase-block in (
-      compact-steps (a .used) (a .blocks) (a .to) (pagesOf (a .pool .now)) (rowsOf (a .table .now)) (m .result)
-          (v .result) (m .ensures) (v .ensures .0) (pagesOf (k .last .0)) (k .last .1 .0) (k .result) (k .ensures .0)
-          (rowsOf (r .last .0)) (r .ensures) (pagesOf (e .last .0)) (e .ensures),
-      k .ensures .1,
+    let a = c15 .args in
+    let m = c11 .live-map in
+    let v = c8 .victim in
+    let o = c4 .move-block in (
+      o .ensures .0 ∙
+          compact-steps (a .used) (a .blocks) (a .to) (pagesOf (a .pool .now)) (rowsOf (a .table .now)) (m .result) (v .result)
+          (m .ensures) (v .ensures .0),
+      o .ensures .1,
     )
 
 pub compact-spec : {M : Type 1} → statement M
 compact-spec =
     tie.close
-    (tie.spec
-    live-map-requires
-    victim-requires
-    mul-copy-block
-    mul-copy-block-2
-    copy-block-requires
-    mul-rename-rows
-    rename-rows-requires
-    erase-block-requires
-    same-length
-    same-length-2
-    returns)
+    (tie.spec live-map-requires victim-requires move-block-requires same-length same-length-2 returns)

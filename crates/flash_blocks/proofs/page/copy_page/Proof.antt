@@ -21,9 +21,9 @@ returns : tie.Need-returns
 unfolding copied
 returns c =
     let c2 = c .before .before in
-    let c4 = c2 .before .before in
-    let a = c4 .before .before .before .args in
-    c2 .put-page .ensures .0 ∙ ap (λ (p : List ℕ). set (pagesOf (a .pool .now)) (a .to) p) (c4 .read-page .ensures)
+    let c5 = c2 .before .before .before in
+    let a = c5 .before .before .before .args in
+    c2 .put-page .ensures .0 ∙ ap (λ (p : List ℕ). set (pagesOf (a .pool .now)) (a .to) p) (c5 .read-page .ensures)
 
 pub copy-page-spec : {M : Type 1} → statement M
 copy-page-spec = tie.close (tie.spec read-page-requires put-page-requires same-length returns)

@@ -3,7 +3,7 @@ use mathlib.Core.Path.{refl, ap, _∙_}
 use Prim.Native.Nat.{_+_, _*_}
 use native.Mathlib.Omega.{arith}
 use Rattle.flash_blocks.specs.Pages.{pagesOf}
-use Rattle.flash_blocks.proofs.Laws.{erase-pages}
+use Rattle.flash_blocks.proofs.Laws.{erase-bytes, erase-pages}
 use borrow.Author.Needs.{needs}
 use Rattle.flash_blocks.proofs.page.erase_block.Statement.{statement}
 use Rattle.flash_blocks.proofs.page.erase_block.Tie as tie
@@ -24,7 +24,10 @@ returns : tie.Need-returns
 returns c =
     let c2 = c .before .before in
     let a = c2 .before .before .before .args in
-    ap pagesOf (c2 .fill-part .ensures) ∙ erase-pages (a .pool .now) (a .block) (16384 * a .block + 16384) refl (omega arith)
+    let to = 16384 * a .block + 16384 in (
+      ap pagesOf (c2 .fill-part .ensures) ∙ erase-pages (a .pool .now) (a .block) to refl (omega arith),
+      c2 .fill-part .ensures ∙ erase-bytes (a .pool .now) (a .block) to refl,
+    )
 
 pub erase-block-spec : {M : Type 1} → statement M
 erase-block-spec =

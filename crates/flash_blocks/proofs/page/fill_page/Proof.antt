@@ -5,9 +5,6 @@ use borrow.Author.Needs.{needs}
 use Rattle.flash_blocks.proofs.page.fill_page.Statement.{statement}
 use Rattle.flash_blocks.proofs.page.fill_page.Tie as tie
 
-slice-aggregate-lay-bytes : tie.Need-slice-aggregate-lay-bytes
-slice-aggregate-lay-bytes c = search needs
-
 lay-bytes-requires : tie.Need-lay-bytes-requires
 lay-bytes-requires c κs = search needs
 
@@ -17,8 +14,8 @@ same-length c = search needs
 returns : tie.Need-returns
 returns c =
     let a = c .before .before .before .before .before .before .args in
-    c .before .before .lay-bytes .ensures ∙ lay-whole (a .part .now) (a .t2) (search needs)
+    c .before .before .lay-bytes .ensures ∙ lay-whole (a .part .now) (a .image .now) (search needs)
 
 pub fill-page-spec : {M : Type 1} → statement M
 fill-page-spec =
-    tie.close (tie.spec slice-aggregate-lay-bytes lay-bytes-requires same-length returns)
+    tie.close (tie.spec lay-bytes-requires same-length returns)

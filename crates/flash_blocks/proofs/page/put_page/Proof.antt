@@ -1,6 +1,8 @@
 -- `page::put_page` meets its contract: the part that was lent comes back as the image, which is a page set. Assumes nothing.
-use mathlib.Core.Path.{refl, ap, _∙_}
+use mathlib.Core.Path.{_≡_, refl, ap, _∙_}
 use Prim.Native.Nat.{_+_, _*_}
+use native.Mathlib.Omega.{arith}
+use lib.ListN.{length}
 use Rattle.flash_blocks.specs.Pages.{pagesOf}
 use Rattle.flash_blocks.proofs.Laws.{lay-pages, lent-page}
 use borrow.Author.Needs.{needs}
@@ -33,9 +35,10 @@ returns c =
     let c2 = c .before .before in
     let c5 = c2 .before .before .before in
     let a = c5 .args in
-    let is = lent-page (a .pool .now) (a .page) (c5 .pre) (c2 .fill-page .last .0) (a .image) (c2 .fill-page .ensures) (search needs)
-    (512 * a .page + 512) refl in
-    (ap pagesOf is ∙ lay-pages (a .pool .now) (a .page) (c5 .pre) (a .image) (search needs), is)
+    let p = c2 .fill-page in
+    let whole : length (a .image .now) ≡ 512 = omega (arith, ap length (p .ensures)) in
+    let is = lent-page (a .pool .now) (a .page) (c5 .pre) (p .last .0) (a .image .now) (p .ensures) whole (512 * a .page + 512) refl in
+    (ap pagesOf is ∙ lay-pages (a .pool .now) (a .page) (c5 .pre) (a .image .now) whole, is)
 
 pub put-page-spec : {M : Type 1} → statement M
 put-page-spec =

@@ -13,7 +13,7 @@ same-length : tie.Need-same-length
 same-length c = search needs
 
 returns : tie.Need-returns
-returns c = rw (← c .before .before .before .before .log-image .ensures) (c .before .before .put-page .ensures .0)
+returns c = rw (← c .before .before .before .before .before .log-image .ensures) (c .before .before .put-page .ensures .0)
 
 pub put-log-spec : {M : Type 1} → statement M
 put-log-spec = tie.close (tie.spec log-image-requires put-page-requires same-length returns)

@@ -34,12 +34,12 @@ returns : tie.Need-returns
 unfolding nodePage
 returns c =
     let c2 = c .before .before in
-    let c4 = c2 .before .before in
-    let c10 = c4 .before .before .before .before .before .before in
-    let a = c10 .args in
-    let i : c4 .node-image .result ≡ image (page (a .number) (whole (a .id) (nodeOf (a .v)))) =
-    c4 .node-image .ensures ∙
-    ap (λ (ps : List Pair). image (page (a .number) (whole (a .id) (node (a .v .shape) ps (a .v .link))))) (pairs-first (a .v) (c10 .pre .2)) in
+    let c5 = c2 .before .before .before in
+    let c11 = c5 .before .before .before .before .before .before in
+    let a = c11 .args in
+    let i : c5 .node-image .result ≡ image (page (a .number) (whole (a .id) (nodeOf (a .v)))) =
+    c5 .node-image .ensures ∙
+    ap (λ (ps : List Pair). image (page (a .number) (whole (a .id) (node (a .v .shape) ps (a .v .link))))) (pairs-first (a .v) (c11 .pre .2)) in
     rw (← i) (c2 .put-page .ensures .0)
 
 pub put-node-spec : {M : Type 1} → statement M

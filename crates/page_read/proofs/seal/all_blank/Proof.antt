@@ -1,11 +1,11 @@
 -- `page_read::seal::all_blank` meets its contract. The invariant: whether the bytes that are left are FF is whether all are.
 -- Assumes nothing.
-use mathlib.Core.Path.{_≡_, refl, _∙_}
+use mathlib.Core.Path.{_≡_, refl, sym, _∙_}
 use Prim.Native.Nat.{_-_, _≤_}
 use native.Mathlib.Omega.{arith}
 use lib.ListN.{length, drop}
 use Rattle.page.specs.Decode.{allBlank}
-use Rattle.page_read.specs.Steps.{blank-next, blank-stop, blank-end}
+use Rattle.page_read.specs.Blank.{part-next, part-stop}
 use Rattle.page_read.proofs.seal.all_blank.Statement.{statement}
 use Rattle.page_read.proofs.seal.all_blank.Tie as tie
 
@@ -18,12 +18,18 @@ abbrev μ-loop : tie.MeasureT-loop
 loop-holds : tie.Need-loop-holds Inv-loop μ-loop
 loop-holds c = (omega arith, refl)
 
-shared-slice-read-if1 : tie.Need-shared-slice-read-if1 Inv-loop μ-loop
-shared-slice-read-if1 c = omega arith
+add-loop : tie.Need-add-loop Inv-loop μ-loop
+add-loop c = omega arith
+
+sixteen-blank-requires : tie.Need-sixteen-blank-requires Inv-loop μ-loop
+sixteen-blank-requires c κs = omega arith
 
 returns : tie.Need-returns Inv-loop μ-loop
-returns c = let l = c .before .before .before .loop in
-    blank-stop (c .before .before .before .before .args .s .now) (l .i) (omega arith) (c .if1 .taken) ∙ l .inv .1
+returns c =
+    let c1 = c .before in
+    let c3 = c1 .before .before in
+    let s = c3 .before .before .args .s .now in
+    part-stop s (c3 .loop .i) 16 (sym (c .if1 .left) ∙ c1 .sixteen-blank .ensures) ∙ c3 .loop .inv .1
 
 add-i : tie.Need-add-i Inv-loop μ-loop
 add-i c = omega arith
@@ -32,12 +38,17 @@ loop-less : tie.Need-loop-less Inv-loop μ-loop
 loop-less c = omega arith
 
 loop-again : tie.Need-loop-again Inv-loop μ-loop
-loop-again c = let l = c .before .before .before .loop in
-    (omega arith, blank-next (c .before .before .before .before .args .s .now) (l .i) (omega arith) (c .if1 .left) ∙ l .inv .1)
+loop-again c =
+    let c1 = c .before in
+    let c3 = c1 .before .before in
+    let s = c3 .before .before .args .s .now in
+    (omega arith, part-next s (c3 .loop .i) 16 (sym (c .if1 .taken) ∙ c1 .sixteen-blank .ensures) ∙ c3 .loop .inv .1)
+
+rest-blank-requires : tie.Need-rest-blank-requires Inv-loop μ-loop
+rest-blank-requires c κs = omega arith
 
 returns-2 : tie.Need-returns-2 Inv-loop μ-loop
-returns-2 c = let l = c .before .loop in
-    blank-end (c .before .before .args .s .now) (l .i) (omega arith) ∙ l .inv .1
+returns-2 c = c .rest-blank .ensures ∙ c .before .before .loop .inv .1
 
 pub all-blank-spec : {M : Type 1} → statement M
 all-blank-spec =
@@ -46,9 +57,11 @@ all-blank-spec =
     Inv-loop
     μ-loop
     loop-holds
-    shared-slice-read-if1
+    add-loop
+    sixteen-blank-requires
     returns
     add-i
     loop-less
     loop-again
+    rest-blank-requires
     returns-2)
