@@ -25,16 +25,16 @@ pub mod outline;
 pub fn redo_put(
     keys: &mut [u32; MOST_KEYS],
     pointers: &mut [u32; MOST_KEYS],
-    o: Outline,
+    outline: Outline,
     key: u32,
     pointer: u32,
 ) -> Outline
-    requires { ⌜ HeldIn o (now keys) (now pointers) ⌝ }
+    requires { ⌜ HeldIn outline (now keys) (now pointers) ⌝ }
     ensures { λ r. ⌜ RedoneIn r (now (keys .exit)) (now (pointers .exit))
-        (redo (draftIn o (now (keys .entry)) (now (pointers .entry))) (put key pointer)) ⌝ }
+        (redo (draftIn outline (now (keys .entry)) (now (pointers .entry))) (put key pointer)) ⌝ }
 {
-    let mut r = o;
-    let count = o.count;
+    let mut r = outline;
+    let count = outline.count;
     let found = find_from_end(keys, count, key);
     match found {
         Found::At(i) => {
@@ -48,7 +48,7 @@ pub fn redo_put(
                 r.count = count + 1;
                 return r;
             }
-            return broken(o);
+            return broken(outline);
         }
     }
 }
@@ -57,15 +57,15 @@ pub fn redo_put(
 pub fn redo_delete(
     keys: &mut [u32; MOST_KEYS],
     pointers: &mut [u32; MOST_KEYS],
-    o: Outline,
+    outline: Outline,
     key: u32,
 ) -> Outline
-    requires { ⌜ HeldIn o (now keys) (now pointers) ⌝ }
+    requires { ⌜ HeldIn outline (now keys) (now pointers) ⌝ }
     ensures { λ r. ⌜ RedoneIn r (now (keys .exit)) (now (pointers .exit))
-        (redo (draftIn o (now (keys .entry)) (now (pointers .entry))) (remove key)) ⌝ }
+        (redo (draftIn outline (now (keys .entry)) (now (pointers .entry))) (remove key)) ⌝ }
 {
-    let mut r = o;
-    let count = o.count;
+    let mut r = outline;
+    let count = outline.count;
     let found = find_from_end(keys, count, key);
     match found {
         Found::At(i) => {
@@ -81,23 +81,23 @@ pub fn redo_delete(
 }
 
 // One link more, whatever the keys and pointers: the first makes the node, one of the other shape breaks it.
-pub fn redo_link(o: Outline, shape: Shape, to: u32) -> Outline
-    ensures { λ r. ⌜ Links o shape to r ⌝ }
+pub fn redo_link(outline: Outline, shape: Shape, to: u32) -> Outline
+    ensures { λ r. ⌜ Links outline shape to r ⌝ }
 {
-    let state = o.state;
-    let own = o.shape;
+    let state = outline.state;
+    let own = outline.shape;
     match state {
         DraftState::Unlinked => {
-            return linked(o, shape, to);
+            return linked(outline, shape, to);
         }
         DraftState::Made => {
             if same_shape(own, shape) {
-                return linked(o, own, to);
+                return linked(outline, own, to);
             }
-            return broken(o);
+            return broken(outline);
         }
         DraftState::Broken => {
-            return o;
+            return outline;
         }
     }
 }
@@ -106,17 +106,17 @@ pub fn redo_link(o: Outline, shape: Shape, to: u32) -> Outline
 fn redo_change(
     keys: &mut [u32; MOST_KEYS],
     pointers: &mut [u32; MOST_KEYS],
-    o: Outline,
+    outline: Outline,
     change: ChangeValue,
 ) -> Outline
-    requires { ⌜ HeldIn o (now keys) (now pointers) ⌝ }
+    requires { ⌜ HeldIn outline (now keys) (now pointers) ⌝ }
     ensures { λ r. ⌜ RedoneIn r (now (keys .exit)) (now (pointers .exit))
-        (redo (draftIn o (now (keys .entry)) (now (pointers .entry))) (changeOf change)) ⌝ }
+        (redo (draftIn outline (now (keys .entry)) (now (pointers .entry))) (changeOf change)) ⌝ }
 {
     match change {
-        ChangeValue::Put { key, pointer } => redo_put(keys, pointers, o, key, pointer),
-        ChangeValue::Delete { key } => redo_delete(keys, pointers, o, key),
-        ChangeValue::Link { shape, link } => redo_link(o, shape, link),
+        ChangeValue::Put { key, pointer } => redo_put(keys, pointers, outline, key, pointer),
+        ChangeValue::Delete { key } => redo_delete(keys, pointers, outline, key),
+        ChangeValue::Link { shape, link } => redo_link(outline, shape, link),
     }
 }
 
@@ -128,6 +128,6 @@ pub fn redo(d: DraftValue, change: ChangeValue) -> DraftValue
     let v = d.node;
     let mut keys = v.keys;
     let mut pointers = v.pointers;
-    let o = redo_change(&mut keys, &mut pointers, outline_of(d), change);
-    draft_from(o, keys, pointers)
+    let outline = redo_change(&mut keys, &mut pointers, outline_of(d), change);
+    draft_from(outline, keys, pointers)
 }

@@ -43,42 +43,46 @@ pub fn outline_of(d: DraftValue) -> Outline
 }
 
 // The outline of a broken draft.
-pub fn broken(o: Outline) -> Outline
-    ensures { λ r. ⌜ r ≡ brokenAt o ⌝ }
+pub fn broken(outline: Outline) -> Outline
+    ensures { λ r. ⌜ r ≡ brokenAt outline ⌝ }
 {
-    let shape = o.shape;
+    let shape = outline.shape;
     Outline {
         state: DraftState::Broken,
         shape,
-        count: o.count,
-        link: o.link,
+        count: outline.count,
+        link: outline.link,
     }
 }
 
 // The outline of a draft that is made, with a shape and a link.
-pub fn linked(o: Outline, shape: Shape, to: u32) -> Outline
-    ensures { λ r. ⌜ r ≡ linkedAt o shape to ⌝ }
+pub fn linked(outline: Outline, shape: Shape, to: u32) -> Outline
+    ensures { λ r. ⌜ r ≡ linkedAt outline shape to ⌝ }
 {
     Outline {
         state: DraftState::Made,
         shape,
-        count: o.count,
+        count: outline.count,
         link: to,
     }
 }
 
 // The draft put together.
-pub fn draft_from(o: Outline, keys: [u32; MOST_KEYS], pointers: [u32; MOST_KEYS]) -> DraftValue
-    ensures { λ r. ⌜ r ≡ draftFrom o keys pointers ⌝ }
+pub fn draft_from(
+    outline: Outline,
+    keys: [u32; MOST_KEYS],
+    pointers: [u32; MOST_KEYS],
+) -> DraftValue
+    ensures { λ r. ⌜ r ≡ draftFrom outline keys pointers ⌝ }
 {
-    let state = o.state;
-    let shape = o.shape;
+    let state = outline.state;
+    let shape = outline.shape;
     let node = NodeValue {
         shape,
-        count: o.count,
+        count: outline.count,
         keys,
         pointers,
-        link: o.link,
+        link: outline.link,
     };
     DraftValue { state, node }
 }

@@ -17,7 +17,7 @@ remove-requires : tie.Need-remove-requires
 remove-requires c κs =
     let entry = c .before .before .before .before .before .before in
     let a = entry .args in
-    let v = nodeFrom (a .o) (a .keys .now) (a .pointers .now) in
+    let v = nodeFrom (a .outline) (a .keys .now) (a .pointers .now) in
     let e = c .before .before .before .before .find-from-end .ensures .is v (entry .pre) refl refl ∙ c .before .before .found .given .1 in
     (at-inside v (entry .pre) (a .key) _ e, entry .pre .sized .size, entry .pre .sized .keyRoom)
 
@@ -25,7 +25,7 @@ remove-requires-2 : tie.Need-remove-requires-2
 remove-requires-2 c κs =
     let entry = c .before .before .before .before .before .before .before .before in
     let a = entry .args in
-    let v = nodeFrom (a .o) (a .keys .now) (a .pointers .now) in
+    let v = nodeFrom (a .outline) (a .keys .now) (a .pointers .now) in
     let e = c .before .before .before .before .before .before .find-from-end .ensures .is v (entry .pre) refl refl ∙ c .before .before .before .before .found .given .1 in
     (at-inside v (entry .pre) (a .key) _ e, entry .pre .sized .size, entry .pre .sized .pointerRoom)
 
@@ -33,7 +33,7 @@ sub-r : tie.Need-sub-r
 sub-r c =
     let entry = c .before .before .before .before .before .before .before .before .before in
     let a = entry .args in
-    let v = nodeFrom (a .o) (a .keys .now) (a .pointers .now) in
+    let v = nodeFrom (a .outline) (a .keys .now) (a .pointers .now) in
     let e = c .before .before .before .before .before .before .before .find-from-end .ensures .is v (entry .pre) refl refl ∙ c .before .before .before .before .before .found .given .1 in
     omega (arith, at-inside v (entry .pre) (a .key) _ e)
 
@@ -41,11 +41,11 @@ returns : tie.Need-returns
 returns c =
     let entry = c .before .before .before .before .before .before .before .before .before in
     let a = entry .args in
-    let v = nodeFrom (a .o) (a .keys .now) (a .pointers .now) in
+    let v = nodeFrom (a .outline) (a .keys .now) (a .pointers .now) in
     let e = c .before .before .before .before .before .before .before .find-from-end .ensures .is v (entry .pre) refl refl ∙ c .before .before .before .before .before .found .given .1 in
     let keys = c .before .before .remove in
     let pointers = c .remove2 in
-    redone-removed (a .o) (a .keys .now) (a .pointers .now) (entry .pre) (a .key) _ e (keys .last .0) (pointers .last .0) (keys .ensures) (pointers .ensures)
+    redone-removed (a .outline) (a .keys .now) (a .pointers .now) (entry .pre) (a .key) _ e (keys .last .0) (pointers .last .0) (keys .ensures) (pointers .ensures)
 
 enum-told : tie.Need-enum-told
 enum-told c = search needs
@@ -54,8 +54,8 @@ returns-2 : tie.Need-returns-2
 returns-2 c =
     let entry = c .before .before .before .before in
     let a = entry .args in
-    let v = nodeFrom (a .o) (a .keys .now) (a .pointers .now) in
-    redone-kept (a .o) (a .keys .now) (a .pointers .now) (entry .pre) (a .key) _ (c .before .before .find-from-end .ensures .is v (entry .pre) refl refl ∙ c .enum-told .given .1)
+    let v = nodeFrom (a .outline) (a .keys .now) (a .pointers .now) in
+    redone-kept (a .outline) (a .keys .now) (a .pointers .now) (entry .pre) (a .key) _ (c .before .before .find-from-end .ensures .is v (entry .pre) refl refl ∙ c .enum-told .given .1)
 
 pub redo-delete-spec : {M : Type 1} → statement M
 redo-delete-spec =

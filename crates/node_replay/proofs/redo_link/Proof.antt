@@ -14,7 +14,7 @@ linked-requires c κs = search needs
 returns : tie.Need-returns
 returns c =
     let a = c .before .before .before .args in
-    rw (c .linked .ensures) (links-first (a .o) (a .shape) (a .to) (c .before .enum-told .given .1))
+    rw (c .linked .ensures) (links-first (a .outline) (a .shape) (a .to) (c .before .enum-told .given .1))
 
 enum-told-2 : tie.Need-enum-told-2
 enum-told-2 c = search needs
@@ -29,7 +29,7 @@ returns-2 : tie.Need-returns-2
 returns-2 c =
     let a = c .before .before .before .before .before .args in
     rw (c .linked2 .ensures)
-    (links-again (a .o) (a .shape) (a .to) (c .before .before .before .enum-told2 .given .1) (sym (c .before .before .same-shape .ensures) ∙ c .before .if1 .taken))
+    (links-again (a .outline) (a .shape) (a .to) (c .before .before .before .enum-told2 .given .1) (sym (c .before .before .same-shape .ensures) ∙ c .before .if1 .taken))
 
 broken-requires : tie.Need-broken-requires
 broken-requires c κs = search needs
@@ -38,7 +38,7 @@ returns-3 : tie.Need-returns-3
 returns-3 c =
     let a = c .before .before .before .before .before .args in
     rw (c .broken .ensures)
-    (links-other (a .o) (a .shape) (a .to) (c .before .before .before .enum-told2 .given .1) (sym (c .before .before .same-shape .ensures) ∙ c .before .if1 .left))
+    (links-other (a .outline) (a .shape) (a .to) (c .before .before .before .enum-told2 .given .1) (sym (c .before .before .same-shape .ensures) ∙ c .before .if1 .left))
 
 enum-told-3 : tie.Need-enum-told-3
 enum-told-3 c = search needs
@@ -46,7 +46,7 @@ enum-told-3 c = search needs
 returns-4 : tie.Need-returns-4
 returns-4 c =
     let a = c .before .before .args in
-    links-broken (a .o) (a .shape) (a .to) (c .enum-told3 .given .1)
+    links-broken (a .outline) (a .shape) (a .to) (c .enum-told3 .given .1)
 
 pub redo-link-spec : {M : Type 1} → statement M
 redo-link-spec =

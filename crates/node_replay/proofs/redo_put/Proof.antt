@@ -17,7 +17,7 @@ mul-pointers : tie.Need-mul-pointers
 mul-pointers c =
     let entry = c .before .before .before .before .before in
     let a = entry .args in
-    let v = nodeFrom (a .o) (a .keys .now) (a .pointers .now) in
+    let v = nodeFrom (a .outline) (a .keys .now) (a .pointers .now) in
     let e = c .before .before .before .find-from-end .ensures .is v (entry .pre) refl refl ∙ c .before .found .given .1 in
     omega (arith, at-inside v (entry .pre) (a .key) _ e, entry .pre .sized .size)
 
@@ -25,7 +25,7 @@ element-write-pointers : tie.Need-element-write-pointers
 element-write-pointers c =
     let entry = c .before .before .before .before .before in
     let a = entry .args in
-    let v = nodeFrom (a .o) (a .keys .now) (a .pointers .now) in
+    let v = nodeFrom (a .outline) (a .keys .now) (a .pointers .now) in
     let e = c .before .before .before .find-from-end .ensures .is v (entry .pre) refl refl ∙ c .before .found .given .1 in
     omega (arith, at-inside v (entry .pre) (a .key) _ e, entry .pre .sized .size)
 
@@ -33,9 +33,9 @@ returns : tie.Need-returns
 returns c =
     let entry = c .before .before .before .before .before in
     let a = entry .args in
-    let v = nodeFrom (a .o) (a .keys .now) (a .pointers .now) in
+    let v = nodeFrom (a .outline) (a .keys .now) (a .pointers .now) in
     let e = c .before .before .before .find-from-end .ensures .is v (entry .pre) refl refl ∙ c .before .found .given .1 in
-    redone-replaced (a .o) (a .keys .now) (a .pointers .now) (entry .pre) (a .key) _ (a .pointer) (search needs) e
+    redone-replaced (a .outline) (a .keys .now) (a .pointers .now) (entry .pre) (a .key) _ (a .pointer) (search needs) e
 
 enum-known-found-2 : tie.Need-enum-known-found-2
 enum-known-found-2 c = search needs
@@ -44,7 +44,7 @@ insert-requires : tie.Need-insert-requires
 insert-requires c κs =
     let entry = c .before .before .before .before .before .before .before in
     let a = entry .args in
-    let v = nodeFrom (a .o) (a .keys .now) (a .pointers .now) in
+    let v = nodeFrom (a .outline) (a .keys .now) (a .pointers .now) in
     let e = c .before .before .before .before .before .find-from-end .ensures .is v (entry .pre) refl refl ∙ c .before .before .before .found2 .given .1 in
     (above-inside v (entry .pre) (a .key) _ e, c .before .if1 .taken, entry .pre .sized .keyRoom)
 
@@ -52,7 +52,7 @@ insert-requires-2 : tie.Need-insert-requires-2
 insert-requires-2 c κs =
     let entry = c .before .before .before .before .before .before .before .before .before in
     let a = entry .args in
-    let v = nodeFrom (a .o) (a .keys .now) (a .pointers .now) in
+    let v = nodeFrom (a .outline) (a .keys .now) (a .pointers .now) in
     let e = c .before .before .before .before .before .before .before .find-from-end .ensures .is v (entry .pre) refl refl ∙ c .before .before .before .before .before .found2 .given .1 in
     (above-inside v (entry .pre) (a .key) _ e, c .before .before .before .if1 .taken, entry .pre .sized .pointerRoom)
 
@@ -63,11 +63,11 @@ returns-2 : tie.Need-returns-2
 returns-2 c =
     let entry = c .before .before .before .before .before .before .before .before .before .before in
     let a = entry .args in
-    let v = nodeFrom (a .o) (a .keys .now) (a .pointers .now) in
+    let v = nodeFrom (a .outline) (a .keys .now) (a .pointers .now) in
     let e = c .before .before .before .before .before .before .before .before .find-from-end .ensures .is v (entry .pre) refl refl ∙ c .before .before .before .before .before .before .found2 .given .1 in
     let keys = c .before .before .insert in
     let pointers = c .insert2 in
-    redone-added (a .o) (a .keys .now) (a .pointers .now) (entry .pre) (a .key) _ (a .pointer) e (search needs) (c .before .before .before .before .if1 .taken) (keys .last .0) (pointers .last .0) (keys .ensures) (pointers .ensures)
+    redone-added (a .outline) (a .keys .now) (a .pointers .now) (entry .pre) (a .key) _ (a .pointer) e (search needs) (c .before .before .before .before .if1 .taken) (keys .last .0) (pointers .last .0) (keys .ensures) (pointers .ensures)
 
 broken-requires : tie.Need-broken-requires
 broken-requires c κs = search needs
@@ -76,9 +76,9 @@ returns-3 : tie.Need-returns-3
 returns-3 c =
     let entry = c .before .before .before .before .before .before .before in
     let a = entry .args in
-    let v = nodeFrom (a .o) (a .keys .now) (a .pointers .now) in
+    let v = nodeFrom (a .outline) (a .keys .now) (a .pointers .now) in
     let e = c .before .before .before .before .before .find-from-end .ensures .is v (entry .pre) refl refl ∙ c .before .before .before .found2 .given .1 in
-    rw (c .broken .ensures) (redone-overfull (a .o) (a .keys .now) (a .pointers .now) (entry .pre) (a .key) _ (a .pointer) e (c .before .if1 .left))
+    rw (c .broken .ensures) (redone-overfull (a .outline) (a .keys .now) (a .pointers .now) (entry .pre) (a .key) _ (a .pointer) e (c .before .if1 .left))
 
 pub redo-put-spec : {M : Type 1} → statement M
 redo-put-spec =
