@@ -6,7 +6,7 @@ use Prim.Native.Nat.{ℕ, suc, _+_, _-_, _*_, _≤_, _<_}
 use native.Mathlib.Nat.{sub-zero}
 use native.Mathlib.Numerals.{add-one}
 use native.Mathlib.Omega.{arith}
-use lib.ListN.{length, getD, set, take, drop, replicate, getD-replicate, List·getD-eq-default}
+use lib.ListN.{length, getD, set, take, drop, length-drop, replicate, getD-replicate, List·getD-eq-default}
 use lib.Seq.{take-suc-set, length-take-le}
 use borrow.Author.Tests.{eq-eqb, ne-eqb, lt-ltb, le-ltb}
 use Rattle.laws.specs.Lay.{part}
@@ -78,7 +78,7 @@ module _ (id version : ℕ) (e : Entry) (d : Draft) (test : Bool) (t : test ≡ 
 
 -- The loop over a page's entries.
 module _ (id version : ℕ) (page : List ℕ) where
-  pub run-more : (left at : ℕ) (d : Draft) → 0 < left → length (payloadAt page at 0x12) ≡ 15 →
+  run-more : (left at : ℕ) (d : Draft) → 0 < left → length (payloadAt page at 0x12) ≡ 15 →
       redoRun id version (left - 1) page (at + 18) (redoEntry id version (decode.entryOf (payloadAt page at 0x12)) d) ≡ redoRun id version left page at d
   unfolding redoRun
   run-more left at d h e =
@@ -97,11 +97,38 @@ module _ (id version : ℕ) (page : List ℕ) where
       let over : left ≡ 0 = omega arith in
       ap (λ (k : ℕ). redoRun id version k page at d) over
 
+  -- a turn: an entry of the node's and the version, and another
+  module _ (left at : ℕ) (h : 0 < left) (b : List ℕ) (p : b ≡ payloadAt page at 0x12) (l : length b ≡ 15)
+      (test : Bool) (t : test ≡ isOwn id version (decode.entryOf b)) (d : Draft) where
+    run-turn : (x : Draft) → x ≡ redoEntry id version (decode.entryOf b) d →
+        redoRun id version (left - 1) page (at + 18) x ≡ redoRun id version left page at d
+    run-turn x e =
+        ap (redoRun id version (left - 1) page (at + 18)) (e ∙ ap (λ (b : List ℕ). redoEntry id version (decode.entryOf b) d) p) ∙
+        run-more left at d h (sym (ap length p) ∙ l)
+
+    pub run-own : test ≡ true → (x : Draft) → x ≡ redo d (decode.entryOf b .change) →
+        redoRun id version (left - 1) page (at + 18) x ≡ redoRun id version left page at d
+    run-own o x e = run-turn x (e ∙ entry-own id version (decode.entryOf b) d test t o)
+
+    pub run-other : test ≡ false → redoRun id version (left - 1) page (at + 18) d ≡ redoRun id version left page at d
+    run-other o = run-turn d (entry-other id version (decode.entryOf b) d test t o)
+
 -- Entry k of the buffer, lent as a part of it.
-pub nth-part : (id version : ℕ) (buffer : List ℕ) (k n : ℕ) (d : Draft) → n ≡ 15 →
-    redoEntry id version (decode.entryOf (take n (drop (15 * k) buffer))) d ≡ redoNth id version buffer k d
-unfolding redoNth part
-nth-part id version buffer k n d e = ap (λ (m : ℕ). redoEntry id version (decode.entryOf (take m (drop (15 * k) buffer))) d) e
+pub nth-length : (buffer : List ℕ) (k n : ℕ) → k < n → 15 * n ≤ length buffer → length (take (15 * k + 15 - 15 * k) (drop (15 * k) buffer)) ≡ 15
+nth-length buffer k n l h =
+    length-take-le (15 * k + 15 - 15 * k) (drop (15 * k) buffer) (rw (length-drop (15 * k) buffer) (omega arith)) ∙ omega arith
+
+module _ (id version : ℕ) (buffer : List ℕ) (k n : ℕ) (e : n ≡ 15) (d : Draft) (test : Bool)
+    (t : test ≡ isOwn id version (decode.entryOf (take n (drop (15 * k) buffer)))) where
+  nth-part : redoEntry id version (decode.entryOf (take n (drop (15 * k) buffer))) d ≡ redoNth id version buffer k d
+  unfolding redoNth part
+  nth-part = ap (λ (m : ℕ). redoEntry id version (decode.entryOf (take m (drop (15 * k) buffer))) d) e
+
+  pub nth-own : test ≡ true → redo d (decode.entryOf (take n (drop (15 * k) buffer)) .change) ≡ redoNth id version buffer k d
+  nth-own o = entry-own id version (decode.entryOf (take n (drop (15 * k) buffer))) d test t o ∙ nth-part
+
+  pub nth-other : test ≡ false → d ≡ redoNth id version buffer k d
+  nth-other o = entry-other id version (decode.entryOf (take n (drop (15 * k) buffer))) d test t o ∙ nth-part
 
 pub payload-blank : (at tag : ℕ) → at < 512 → (tag ≡ 255 → ⊥) → payloadAt blankPage at tag ≡ []
 unfolding blankPage

@@ -1,71 +1,103 @@
+-- `replay::redo_entries` meets its contract. The invariant: the entries left, replayed from here, give the buffer's. Assumes nothing.
+use mathlib.Core.Path.{_≡_, sym, ap, _∙_}
+use Prim.Native.Nat.{_+_, _-_, _*_, _≤_}
+use native.Mathlib.Omega.{arith}
+use Rattle.laws.specs.Loops.{steps, steps-begin, steps-more, steps-done}
+use Rattle.node_replay.specs.Outline.{draftIn, HeldIn}
+use Rattle.flash_read.specs.Replay.{redoNth, redoBuffer}
+use Rattle.flash_read.proofs.Laws.{nth-length, nth-own, nth-other}
+use borrow.Author.Needs.{needs}
+use borrow.Author.Needs.{needs}
 use Rattle.flash_read.proofs.replay.redo_entries.Statement.{statement}
 use Rattle.flash_read.proofs.replay.redo_entries.Tie as tie
-use Rattle.flash_read.proofs.replay.redo_entries.Reads as reads
-use Rattle.flash_read.proofs.replay.redo_entries.Lts as lts
-use Rattle.flash_read.proofs.replay.is_own.Reads as is-own-reads
-use Rattle.flash_read.proofs.replay.redo_entry.Reads as redo-entry-reads
 
 abbrev Inv-loop : tie.InvT-loop
-Inv-loop buffer n id version keys₀ pointers₀ r₀ k₀ keys pointers r k = ?
+Inv-loop buffer n id version keys₀ pointers₀ r₀ k₀ keys pointers r k = (k ≤ n) ×
+    ((HeldIn r keys pointers) × (steps (redoNth id version buffer) (n - k) k (draftIn r keys pointers) ≡ steps (redoNth id version buffer)
+    n 0 (draftIn r₀ keys₀ pointers₀)))
 
 abbrev μ-loop : tie.MeasureT-loop
-μ-loop buffer n id version keys₀ pointers₀ r₀ k₀ keys pointers r k = ?
+μ-loop buffer n id version keys₀ pointers₀ r₀ k₀ keys pointers r k = n - k
 
--- src/replay.rt:108:5
 loop-holds : tie.Need-loop-holds Inv-loop μ-loop
-loop-holds c = ?
+loop-holds c =
+    let a = c .before .args in (
+      omega arith,
+      (
+        c .before .pre .2,
+        steps-begin (redoNth (a .id) (a .version) (a .buffer .now)) (a .n) (draftIn (a .outline) (a .keys .now) (a .pointers .now)),
+      ),
+    )
 
--- src/replay.rt:109:20
 mul-from : tie.Need-mul-from Inv-loop μ-loop
-mul-from c = ?
+mul-from c = search needs
 
--- src/replay.rt:110:18
 add-to : tie.Need-add-to Inv-loop μ-loop
-add-to c = ?
+add-to c = search needs
 
--- src/replay.rt:111:21
 sub-entry : tie.Need-sub-entry Inv-loop μ-loop
-sub-entry c = ?
+sub-entry c = search needs
 
--- src/replay.rt:111:21
 part-entry-start : tie.Need-part-entry-start Inv-loop μ-loop
-part-entry-start c = ?
+part-entry-start c = search needs
 
--- src/replay.rt:111:21
 part-entry-end : tie.Need-part-entry-end Inv-loop μ-loop
-part-entry-end c = ?
+part-entry-end c = search needs
 
--- src/replay.rt:112:9
 add-k : tie.Need-add-k Inv-loop μ-loop
-add-k c = ?
+add-k c = search needs
 
--- src/replay.rt:113:12
 is-own-requires : tie.Need-is-own-requires Inv-loop μ-loop
-is-own-requires c κs = ?
+is-own-requires c κs = nth-length (c .before .before .before .before .args .buffer .now) (c .before .before .loop .k) (c .before .before .before .before .args .n) (c .before .loop-test .taken) (c .before .before .before .before .pre .1)
 
--- src/replay.rt:114:13
 redo-entry-requires : tie.Need-redo-entry-requires Inv-loop μ-loop
-redo-entry-requires c κs = ?
+redo-entry-requires c κs =
+    let entry = c .before .before .before .before .before .before .before .before in
+    let l = c .before .before .before .before .before .before .loop in
+    (nth-length (entry .args .buffer .now) (l .k) (entry .args .n) (c .before .before .before .before .before .loop-test .taken) (entry .pre .1), l .inv .1 .0)
 
--- src/replay.rt:108:5
 loop-less : tie.Need-loop-less Inv-loop μ-loop
-loop-less c = ?
+loop-less c = search needs
 
--- src/replay.rt:108:5
 loop-again : tie.Need-loop-again Inv-loop μ-loop
-loop-again c = ?
+loop-again c =
+    let a = c .before .before .before .before .before .before .before .before .before .args in
+    let l = c .before .before .before .before .before .before .before .loop in
+    let o = c .before .before .before .before .is-own in
+    let d = draftIn (l .r) (l .keys) (l .pointers) in
+    let step = redoNth (a .id) (a .version) (a .buffer .now) in
+    let more = steps-more step (a .n) (l .k) d (c .before .before .before .before .before .before .loop-test .taken) in
+    let x = c .redo-entry .ensures in
+    let turn = nth-own (a .id) (a .version) (a .buffer .now) (l .k) (15 * l .k + 15 - 15 * l .k) (omega arith) d (o .result) (o .ensures)
+    (c .before .before .before .if1 .taken) in
+    (omega arith, (x .held, ap (steps step (a .n - (l .k + 1)) (l .k + 1)) (x .is ∙ turn) ∙ more ∙ l .inv .1 .1))
 
--- src/replay.rt:108:5
 loop-less-2 : tie.Need-loop-less-2 Inv-loop μ-loop
-loop-less-2 c = ?
+loop-less-2 c = search needs
 
--- src/replay.rt:108:5
 loop-again-2 : tie.Need-loop-again-2 Inv-loop μ-loop
-loop-again-2 c = ?
+loop-again-2 c =
+    let a = c .before .before .before .before .before .before .args in
+    let l = c .before .before .before .before .loop in
+    let o = c .before .is-own in
+    let d = draftIn (l .r) (l .keys) (l .pointers) in
+    let step = redoNth (a .id) (a .version) (a .buffer .now) in
+    let more = steps-more step (a .n) (l .k) d (c .before .before .before .loop-test .taken) in
+    let turn = nth-other (a .id) (a .version) (a .buffer .now) (l .k) (15 * l .k + 15 - 15 * l .k) (omega arith) d (o .result) (o .ensures)
+    (c .if1 .left) in
+    (omega arith, (l .inv .1 .0, ap (steps step (a .n - (l .k + 1)) (l .k + 1)) turn ∙ more ∙ l .inv .1 .1))
 
--- src/replay.rt:93:1
 returns : tie.Need-returns Inv-loop μ-loop
-returns c = ?
+unfolding redoBuffer
+returns c =
+    let a = c .before .before .before .args in
+    let l = c .before .loop in
+    record {
+      is =
+          sym (steps-done (redoNth (a .id) (a .version) (a .buffer .now)) (a .n) (l .k) (draftIn (l .r) (l .keys) (l .pointers)) (c .loop-test .left)) ∙
+          l .inv .1 .1;
+      held = l .inv .1 .0;
+    }
 
 pub redo-entries-spec : {M : Type 1} → statement M
 redo-entries-spec =

@@ -1,64 +1,97 @@
+-- `replay::redo_page` meets its contract. The invariant: the entries left, replayed from here, give the page's. Assumes nothing.
+use mathlib.Core.Path.{_≡_, refl, sym, ap, _∙_}
+use Prim.Native.Nat.{_+_, _*_}
+use native.Mathlib.Omega.{arith}
+use lib.ListN.{length}
+use Rattle.node_replay.specs.Outline.{draftIn, HeldIn}
+use Rattle.flash_read.specs.Replay.{redoRun}
+use Rattle.flash_read.proofs.Laws.{run-own, run-other, run-stop, run-done}
+use borrow.Author.Needs.{needs}
 use Rattle.flash_read.proofs.replay.redo_page.Statement.{statement}
 use Rattle.flash_read.proofs.replay.redo_page.Tie as tie
-use Rattle.flash_read.proofs.replay.redo_page.Reads as reads
-use Rattle.flash_read.proofs.replay.redo_page.Lts as lts
-use Rattle.flash_read.proofs.replay.is_own.Reads as is-own-reads
-use Rattle.flash_read.proofs.replay.redo_entry.Reads as redo-entry-reads
-use Rattle.wire.proofs.field.payload.Reads as payload-reads
 
 abbrev Inv-loop : tie.InvT-loop
-Inv-loop page id version keys₀ pointers₀ r₀ at₀ left₀ keys pointers r at left = ?
+Inv-loop page id version keys₀ pointers₀ r₀ at₀ left₀ keys pointers r at left = (at + 18 * left ≡ 493) ×
+    ((HeldIn r keys pointers) × (redoRun id version left page at (draftIn r keys pointers) ≡ redoRun id version 27 page 7 (draftIn r₀ keys₀ pointers₀)))
 
 abbrev μ-loop : tie.MeasureT-loop
-μ-loop page id version keys₀ pointers₀ r₀ at₀ left₀ keys pointers r at left = ?
+μ-loop page id version keys₀ pointers₀ r₀ at₀ left₀ keys pointers r at left = left
 
--- src/replay.rt:78:5
 loop-holds : tie.Need-loop-holds Inv-loop μ-loop
-loop-holds c = ?
+loop-holds c = (refl, (c .before .pre, refl))
 
--- src/replay.rt:79:13
 payload-requires : tie.Need-payload-requires Inv-loop μ-loop
-payload-requires c κs = ?
+payload-requires c κs = tt
 
--- src/replay.rt:81:13
 returns : tie.Need-returns Inv-loop μ-loop
-returns c = ?
+returns c =
+    let a = c .before .before .before .before .before .args in
+    let l = c .before .before .before .loop in
+    record {
+      is =
+          sym (run-stop (a .id) (a .version) (a .page .now) (l .left) (l .at) (draftIn (l .r) (l .keys) (l .pointers)) (c .before .before .loop-test .taken)
+          (λ e. c .if1 .taken (ap length (c .before .payload .ensures) ∙ e))) ∙
+          l .inv .1 .1;
+      held = l .inv .1 .0;
+    }
 
--- src/replay.rt:83:9
 add-at : tie.Need-add-at Inv-loop μ-loop
-add-at c = ?
+add-at c = omega arith
 
--- src/replay.rt:84:9
 sub-left : tie.Need-sub-left Inv-loop μ-loop
-sub-left c = ?
+sub-left c = omega arith
 
--- src/replay.rt:85:12
 is-own-requires : tie.Need-is-own-requires Inv-loop μ-loop
-is-own-requires c κs = ?
+is-own-requires c κs = c .if1 .left
 
--- src/replay.rt:86:13
 redo-entry-requires : tie.Need-redo-entry-requires Inv-loop μ-loop
-redo-entry-requires c κs = ?
+redo-entry-requires c κs = (c .before .before .before .before .if1 .left, c .before .before .before .before .before .before .before .loop .inv .1 .0)
 
--- src/replay.rt:78:5
 loop-less : tie.Need-loop-less Inv-loop μ-loop
-loop-less c = ?
+loop-less c = omega arith
 
--- src/replay.rt:78:5
 loop-again : tie.Need-loop-again Inv-loop μ-loop
-loop-again c = ?
+loop-again c =
+    let a = c .before .before .before .before .before .before .before .before .before .before .args in
+    let l = c .before .before .before .before .before .before .before .before .loop in
+    let p = c .before .before .before .before .before .before .payload in
+    let o = c .before .before .before .before .is-own in
+    let d = draftIn (l .r) (l .keys) (l .pointers) in
+    let x = c .redo-entry .ensures in (
+      omega arith,
+      (
+        x .held,
+        run-own (a .id) (a .version) (a .page .now) (l .left) (l .at) (c .before .before .before .before .before .before .before .loop-test .taken) (p .result .now) (p .ensures) (c .before .before .before .before .before .if1 .left)
+            (o .result) (o .ensures) d (c .before .before .before .if2 .taken) _ (x .is) ∙ l .inv .1 .1,
+      ),
+    )
 
--- src/replay.rt:78:5
 loop-less-2 : tie.Need-loop-less-2 Inv-loop μ-loop
-loop-less-2 c = ?
+loop-less-2 c = omega arith
 
--- src/replay.rt:78:5
 loop-again-2 : tie.Need-loop-again-2 Inv-loop μ-loop
-loop-again-2 c = ?
+loop-again-2 c =
+    let a = c .before .before .before .before .before .before .before .args in
+    let l = c .before .before .before .before .before .loop in
+    let p = c .before .before .before .payload in
+    let o = c .before .is-own in
+    let d = draftIn (l .r) (l .keys) (l .pointers) in (
+      omega arith,
+      (
+        l .inv .1 .0,
+        run-other (a .id) (a .version) (a .page .now) (l .left) (l .at) (c .before .before .before .before .loop-test .taken) (p .result .now) (p .ensures) (c .before .before .if1 .left)
+            (o .result) (o .ensures) d (c .if2 .left) ∙ l .inv .1 .1,
+      ),
+    )
 
--- src/replay.rt:63:1
 returns-2 : tie.Need-returns-2 Inv-loop μ-loop
-returns-2 c = ?
+returns-2 c =
+    let a = c .before .before .before .args in
+    let l = c .before .loop in
+    record {
+      is = sym (run-done (a .id) (a .version) (a .page .now) (l .left) (l .at) (draftIn (l .r) (l .keys) (l .pointers)) (omega arith)) ∙ l .inv .1 .1;
+      held = l .inv .1 .0;
+    }
 
 pub redo-page-spec : {M : Type 1} → statement M
 redo-page-spec =
