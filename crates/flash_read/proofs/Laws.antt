@@ -10,6 +10,7 @@ use lib.ListN.{length, getD, set, take, drop, length-drop, replicate, getD-repli
 use lib.Seq.{take-suc-set, length-take-le}
 use borrow.Author.Tests.{eq-eqb, ne-eqb, lt-ltb, le-ltb}
 use Rattle.laws.specs.Lay.{part}
+use Rattle.laws.specs.Loops.{steps, steps-more}
 use Rattle.laws.specs.BigEndian.{number, numberAt}
 use Rattle.layout.specs.Layout.{mostEntries, bound32}
 use Rattle.pairs.specs.Pairs.{Pair}
@@ -118,17 +119,24 @@ pub nth-length : (buffer : List ℕ) (k n : ℕ) → k < n → 15 * n ≤ length
 nth-length buffer k n l h =
     length-take-le (15 * k + 15 - 15 * k) (drop (15 * k) buffer) (rw (length-drop (15 * k) buffer) (omega arith)) ∙ omega arith
 
-module _ (id version : ℕ) (buffer : List ℕ) (k n : ℕ) (e : n ≡ 15) (d : Draft) (test : Bool)
-    (t : test ≡ isOwn id version (decode.entryOf (take n (drop (15 * k) buffer)))) where
-  nth-part : redoEntry id version (decode.entryOf (take n (drop (15 * k) buffer))) d ≡ redoNth id version buffer k d
+-- The loop over the buffer's entries: a turn at an entry of the node's and the version, and at another.
+module _ (id version : ℕ) (buffer : List ℕ) (n k : ℕ) (l : k < n) (d : Draft) (test : Bool)
+    (t : test ≡ isOwn id version (decode.entryOf (take (15 * k + 15 - 15 * k) (drop (15 * k) buffer)))) where
+  nth-turn : (x : Draft) → x ≡ redoEntry id version (decode.entryOf (take (15 * k + 15 - 15 * k) (drop (15 * k) buffer))) d →
+      steps (redoNth id version buffer) (n - (k + 1)) (k + 1) x ≡ steps (redoNth id version buffer) (n - k) k d
   unfolding redoNth part
-  nth-part = ap (λ (m : ℕ). redoEntry id version (decode.entryOf (take m (drop (15 * k) buffer))) d) e
+  nth-turn x e =
+      let size : 15 * k + 15 - 15 * k ≡ 15 = omega arith in
+      ap (steps (redoNth id version buffer) (n - (k + 1)) (k + 1))
+      (e ∙ ap (λ (m : ℕ). redoEntry id version (decode.entryOf (take m (drop (15 * k) buffer))) d) size) ∙
+      steps-more (redoNth id version buffer) n k d l
 
-  pub nth-own : test ≡ true → redo d (decode.entryOf (take n (drop (15 * k) buffer)) .change) ≡ redoNth id version buffer k d
-  nth-own o = entry-own id version (decode.entryOf (take n (drop (15 * k) buffer))) d test t o ∙ nth-part
+  pub nth-own : test ≡ true → (x : Draft) → x ≡ redo d (decode.entryOf (take (15 * k + 15 - 15 * k) (drop (15 * k) buffer)) .change) →
+      steps (redoNth id version buffer) (n - (k + 1)) (k + 1) x ≡ steps (redoNth id version buffer) (n - k) k d
+  nth-own o x e = nth-turn x (e ∙ entry-own id version (decode.entryOf (take (15 * k + 15 - 15 * k) (drop (15 * k) buffer))) d test t o)
 
-  pub nth-other : test ≡ false → d ≡ redoNth id version buffer k d
-  nth-other o = entry-other id version (decode.entryOf (take n (drop (15 * k) buffer))) d test t o ∙ nth-part
+  pub nth-other : test ≡ false → steps (redoNth id version buffer) (n - (k + 1)) (k + 1) d ≡ steps (redoNth id version buffer) (n - k) k d
+  nth-other o = nth-turn d (entry-other id version (decode.entryOf (take (15 * k + 15 - 15 * k) (drop (15 * k) buffer))) d test t o)
 
 pub payload-blank : (at tag : ℕ) → at < 512 → (tag ≡ 255 → ⊥) → payloadAt blankPage at tag ≡ []
 unfolding blankPage

@@ -1,5 +1,5 @@
 -- What a search in the keys alone finds, whatever the pointers beside them are. Assumes nothing.
-use mathlib.Core.Path.{_≡_, refl, sym, ap, _∙_}
+use mathlib.Core.Path.{_≡_, sym, ap, _∙_}
 use mathlib.Core.List.{List}
 use mathlib.Core.Logic.{_⊎_, inl, inr}
 use Prim.Native.Nat.{ℕ, _-_, _≤_, _<_}
@@ -11,7 +11,7 @@ use Rattle.node.specs.declared.NodeValue.{NodeValue}
 use Rattle.node.specs.declared.Found.{Found}
 use Rattle.node.specs.declared.Found.the-variants.{At, Above}
 use Rattle.node.specs.Found.{found}
-use Rattle.node.specs.Search.{place, keyAt}
+use Rattle.node.specs.Search.{place}
 use Rattle.node.specs.Value.{pairsIn, Held, length-pairsIn, keyAt-pairsIn, place-value, found-at-value, found-above-value, found-end-value}
 use Rattle.node.specs.Repoint.{place-keyAt}
 

@@ -27,18 +27,20 @@ linked-requires-2 c κs = search needs
 
 returns-2 : tie.Need-returns-2
 returns-2 c =
-    let a = c .before .before .before .before .before .args in
+    let told = c .before .before .before in
+    let a = told .before .before .args in
     rw (c .linked2 .ensures)
-    (links-again (a .outline) (a .shape) (a .to) (c .before .before .before .enum-told2 .given .1) (sym (c .before .before .same-shape .ensures) ∙ c .before .if1 .taken))
+    (links-again (a .outline) (a .shape) (a .to) (told .enum-told2 .given .1) (sym (c .before .before .same-shape .ensures) ∙ c .before .if1 .taken))
 
 broken-requires : tie.Need-broken-requires
 broken-requires c κs = search needs
 
 returns-3 : tie.Need-returns-3
 returns-3 c =
-    let a = c .before .before .before .before .before .args in
+    let told = c .before .before .before in
+    let a = told .before .before .args in
     rw (c .broken .ensures)
-    (links-other (a .outline) (a .shape) (a .to) (c .before .before .before .enum-told2 .given .1) (sym (c .before .before .same-shape .ensures) ∙ c .before .if1 .left))
+    (links-other (a .outline) (a .shape) (a .to) (told .enum-told2 .given .1) (sym (c .before .before .same-shape .ensures) ∙ c .before .if1 .left))
 
 enum-told-3 : tie.Need-enum-told-3
 enum-told-3 c = search needs

@@ -1,11 +1,21 @@
 -- `node_replay::redo_put` meets its contract: the search says whether the key is there; a 25th key breaks the draft. Assumes nothing.
-use mathlib.Core.Path.{refl, _∙_}
+use mathlib.Core.Path.{_≡_, refl, _∙_}
 use native.Mathlib.Omega.{arith}
+use Rattle.node.specs.Found.{found}
+use Rattle.node.specs.Value.{pairsIn}
 use Rattle.node.specs.Edits.{at-inside, above-inside}
 use Rattle.node_replay.specs.Outline.{nodeFrom, redone-replaced, redone-added, redone-overfull}
 use borrow.Author.Needs.{needs}
 use Rattle.node_replay.proofs.redo_put.Statement.{statement}
 use Rattle.node_replay.proofs.redo_put.Tie as tie
+
+-- What the search answers is what is found in the draft's pairs.
+answer :
+    (c : tie.After-find-from-end) →
+    let a = c .before .before .args in
+    found (a .key) (pairsIn (nodeFrom (a .outline) (a .keys .now) (a .pointers .now))) ≡ c .find-from-end .result
+answer c = let a = c .before .before .args in
+    c .find-from-end .ensures .is (nodeFrom (a .outline) (a .keys .now) (a .pointers .now)) (c .before .before .pre) refl refl
 
 find-from-end-requires : tie.Need-find-from-end-requires
 find-from-end-requires c κs = search needs
@@ -15,26 +25,29 @@ enum-known-found c = search needs
 
 mul-pointers : tie.Need-mul-pointers
 mul-pointers c =
-    let entry = c .before .before .before .before .before in
+    let known = c .before in
+    let searched = known .before .before in
+    let entry = searched .before .before in
     let a = entry .args in
-    let v = nodeFrom (a .outline) (a .keys .now) (a .pointers .now) in
-    let e = c .before .before .before .find-from-end .ensures .is v (entry .pre) refl refl ∙ c .before .found .given .1 in
-    omega (arith, at-inside v (entry .pre) (a .key) _ e, entry .pre .sized .size)
+    let e = answer searched ∙ known .found .given .1 in
+    omega (arith, at-inside (nodeFrom (a .outline) (a .keys .now) (a .pointers .now)) (entry .pre) (a .key) _ e, entry .pre .sized .size)
 
 element-write-pointers : tie.Need-element-write-pointers
 element-write-pointers c =
-    let entry = c .before .before .before .before .before in
+    let known = c .before in
+    let searched = known .before .before in
+    let entry = searched .before .before in
     let a = entry .args in
-    let v = nodeFrom (a .outline) (a .keys .now) (a .pointers .now) in
-    let e = c .before .before .before .find-from-end .ensures .is v (entry .pre) refl refl ∙ c .before .found .given .1 in
-    omega (arith, at-inside v (entry .pre) (a .key) _ e, entry .pre .sized .size)
+    let e = answer searched ∙ known .found .given .1 in
+    omega (arith, at-inside (nodeFrom (a .outline) (a .keys .now) (a .pointers .now)) (entry .pre) (a .key) _ e, entry .pre .sized .size)
 
 returns : tie.Need-returns
 returns c =
-    let entry = c .before .before .before .before .before in
+    let known = c .before in
+    let searched = known .before .before in
+    let entry = searched .before .before in
     let a = entry .args in
-    let v = nodeFrom (a .outline) (a .keys .now) (a .pointers .now) in
-    let e = c .before .before .before .find-from-end .ensures .is v (entry .pre) refl refl ∙ c .before .found .given .1 in
+    let e = answer searched ∙ known .found .given .1 in
     redone-replaced (a .outline) (a .keys .now) (a .pointers .now) (entry .pre) (a .key) _ (a .pointer) (search needs) e
 
 enum-known-found-2 : tie.Need-enum-known-found-2
@@ -42,42 +55,47 @@ enum-known-found-2 c = search needs
 
 insert-requires : tie.Need-insert-requires
 insert-requires c κs =
-    let entry = c .before .before .before .before .before .before .before in
+    let known = c .before .before .before in
+    let searched = known .before .before in
+    let entry = searched .before .before in
     let a = entry .args in
-    let v = nodeFrom (a .outline) (a .keys .now) (a .pointers .now) in
-    let e = c .before .before .before .before .before .find-from-end .ensures .is v (entry .pre) refl refl ∙ c .before .before .before .found2 .given .1 in
-    (above-inside v (entry .pre) (a .key) _ e, c .before .if1 .taken, entry .pre .sized .keyRoom)
+    let e = answer searched ∙ known .found2 .given .1 in
+    (above-inside (nodeFrom (a .outline) (a .keys .now) (a .pointers .now)) (entry .pre) (a .key) _ e, c .before .if1 .taken, entry .pre .sized .keyRoom)
 
 insert-requires-2 : tie.Need-insert-requires-2
 insert-requires-2 c κs =
-    let entry = c .before .before .before .before .before .before .before .before .before in
+    let known = c .before .before .before .before .before in
+    let searched = known .before .before in
+    let entry = searched .before .before in
     let a = entry .args in
-    let v = nodeFrom (a .outline) (a .keys .now) (a .pointers .now) in
-    let e = c .before .before .before .before .before .before .before .find-from-end .ensures .is v (entry .pre) refl refl ∙ c .before .before .before .before .before .found2 .given .1 in
-    (above-inside v (entry .pre) (a .key) _ e, c .before .before .before .if1 .taken, entry .pre .sized .pointerRoom)
+    let e = answer searched ∙ known .found2 .given .1 in
+    (above-inside (nodeFrom (a .outline) (a .keys .now) (a .pointers .now)) (entry .pre) (a .key) _ e, c .before .before .before .if1 .taken, entry .pre .sized .pointerRoom)
 
 add-r : tie.Need-add-r
 add-r c = search needs
 
 returns-2 : tie.Need-returns-2
 returns-2 c =
-    let entry = c .before .before .before .before .before .before .before .before .before .before in
+    let known = c .before .before .before .before .before .before in
+    let searched = known .before .before in
+    let entry = searched .before .before in
     let a = entry .args in
-    let v = nodeFrom (a .outline) (a .keys .now) (a .pointers .now) in
-    let e = c .before .before .before .before .before .before .before .before .find-from-end .ensures .is v (entry .pre) refl refl ∙ c .before .before .before .before .before .before .found2 .given .1 in
+    let e = answer searched ∙ known .found2 .given .1 in
     let keys = c .before .before .insert in
     let pointers = c .insert2 in
-    redone-added (a .outline) (a .keys .now) (a .pointers .now) (entry .pre) (a .key) _ (a .pointer) e (search needs) (c .before .before .before .before .if1 .taken) (keys .last .0) (pointers .last .0) (keys .ensures) (pointers .ensures)
+    redone-added (a .outline) (a .keys .now) (a .pointers .now) (entry .pre) (a .key) _ (a .pointer) e (search needs) (c .before .before .before .before .if1 .taken) (keys .last .0) (pointers .last .0)
+    (keys .ensures) (pointers .ensures)
 
 broken-requires : tie.Need-broken-requires
 broken-requires c κs = search needs
 
 returns-3 : tie.Need-returns-3
 returns-3 c =
-    let entry = c .before .before .before .before .before .before .before in
+    let known = c .before .before .before in
+    let searched = known .before .before in
+    let entry = searched .before .before in
     let a = entry .args in
-    let v = nodeFrom (a .outline) (a .keys .now) (a .pointers .now) in
-    let e = c .before .before .before .before .before .find-from-end .ensures .is v (entry .pre) refl refl ∙ c .before .before .before .found2 .given .1 in
+    let e = answer searched ∙ known .found2 .given .1 in
     rw (c .broken .ensures) (redone-overfull (a .outline) (a .keys .now) (a .pointers .now) (entry .pre) (a .key) _ (a .pointer) e (c .before .if1 .left))
 
 pub redo-put-spec : {M : Type 1} → statement M

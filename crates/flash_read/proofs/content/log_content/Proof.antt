@@ -1,32 +1,36 @@
+-- `content::log_content` meets its contract: from nothing, the pages, then the buffer. Assumes nothing.
+use mathlib.Core.List.{[]}
+use Prim.Native.Nat.{ℕ}
+use lib.ListN.{replicate, length-replicate}
+use Rattle.node.specs.Replay.{unlinked}
+use Rattle.node_replay.specs.Outline.{RedoneIn, redone-nothing}
+use Rattle.flash_read.specs.Content.{logContent}
 use borrow.Author.Needs.{needs}
 use Rattle.flash_read.proofs.content.log_content.Statement.{statement}
 use Rattle.flash_read.proofs.content.log_content.Tie as tie
-use Rattle.flash_read.proofs.content.log_content.Reads as reads
-use Rattle.flash_read.proofs.content.log_content.Lts as lts
-use Rattle.flash_read.proofs.content.redo_pages.Reads as redo-pages-reads
-use Rattle.flash_read.proofs.replay.redo_buffer.Reads as redo-buffer-reads
-use Rattle.node_replay.proofs.outline.draft_from.Reads as draft-from-reads
-use Rattle.node_replay.proofs.outline.empty_outline.Reads as empty-outline-reads
 
--- src/content.rt:61:70
 empty-outline-requires : tie.Need-empty-outline-requires
 empty-outline-requires c κs = search needs
 
--- src/content.rt:61:9
-redo-pages-requires : tie.Need-redo-pages-requires
-redo-pages-requires c κs = ?
+begun : (c : tie.After-empty-outline) → RedoneIn (c .empty-outline .result) (replicate 24 0) (replicate 24 0) (unlinked [])
+begun c =
+    rw (c .empty-outline .ensures)
+    (redone-nothing (replicate 24 0) (replicate 24 0) (length-replicate {A = ℕ} 24 0) (length-replicate {A = ℕ} 24 0))
 
--- src/content.rt:63:9
+redo-pages-requires : tie.Need-redo-pages-requires
+redo-pages-requires c κs = begun c .held
+
 redo-buffer-requires : tie.Need-redo-buffer-requires
 redo-buffer-requires c κs = search needs
 
--- src/content.rt:72:5
 draft-from-requires : tie.Need-draft-from-requires
 draft-from-requires c κs = search needs
 
--- src/content.rt:55:1
 returns : tie.Need-returns
-returns c = ?
+unfolding logContent
+returns c =
+    let pages = c .before .before .before .before .before .before in
+    rw (c .draft-from .ensures, ← begun (pages .before) .is, ← pages .redo-pages .ensures .is) (c .before .redo-buffer .ensures)
 
 pub log-content-spec : {M : Type 1} → statement M
 log-content-spec =

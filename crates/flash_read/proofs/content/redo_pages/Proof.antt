@@ -1,52 +1,67 @@
+-- `content::redo_pages` meets its contract: a case for each number of pages. Assumes nothing.
+use Rattle.flash_blocks.specs.Pages.{pagesOf}
+use Rattle.node_replay.specs.Outline.{draftFrom, draftIn}
+use Rattle.flash_read.specs.Slots.{slotAt}
+use Rattle.flash_read.proofs.Laws.{redone-same, pages-none, pages-one, pages-two, pages-three}
 use borrow.Author.Needs.{needs}
 use Rattle.flash_read.proofs.content.redo_pages.Statement.{statement}
 use Rattle.flash_read.proofs.content.redo_pages.Tie as tie
-use Rattle.flash_read.proofs.content.redo_pages.Reads as reads
-use Rattle.flash_read.proofs.content.redo_pages.Lts as lts
-use Rattle.flash_read.proofs.slot.redo_one.Reads as redo-one-reads
-use Rattle.flash_read.proofs.slot.redo_three.Reads as redo-three-reads
-use Rattle.flash_read.proofs.slot.redo_two.Reads as redo-two-reads
-use Rattle.flash_read.proofs.slot.slot_at.Reads as slot-at-reads
 
--- src/content.rt:40:9
 returns : tie.Need-returns
-returns c = ?
+returns c =
+    let entry = c .before .before .before in
+    let a = entry .args in
+    rw (← pages-none (pagesOf (a .pool .now)) (a .row) (a .n) (draftIn (a .outline) (a .keys .now) (a .pointers .now)) (c .if1 .taken))
+    (redone-same (draftFrom (a .outline) (a .keys .now) (a .pointers .now)) (entry .pre))
 
--- src/content.rt:42:9
 slot-at-requires : tie.Need-slot-at-requires
 slot-at-requires c κs = search needs
 
--- src/content.rt:44:9
 redo-one-requires : tie.Need-redo-one-requires
 redo-one-requires c κs = search needs
 
--- src/content.rt:44:9
 returns-2 : tie.Need-returns-2
-returns-2 c = ?
+unfolding slotAt
+returns-2 c =
+    let second = c .before .before .before in
+    let first = second .before .before .before in
+    let a = first .before .before .before .args in
+    rw (← pages-one (pagesOf (a .pool .now)) (a .row) (a .n) (draftIn (a .outline) (a .keys .now) (a .pointers .now))
+    (first .if1 .left) (second .if2 .taken))
+    (rw (second .before .before .slot-at .ensures) at (c .redo-one .ensures))
 
--- src/content.rt:46:9
 slot-at-requires-2 : tie.Need-slot-at-requires-2
 slot-at-requires-2 c κs = search needs
 
--- src/content.rt:48:9
 redo-two-requires : tie.Need-redo-two-requires
 redo-two-requires c κs = search needs
 
--- src/content.rt:48:9
 returns-3 : tie.Need-returns-3
-returns-3 c = ?
+returns-3 c =
+    let third = c .before .before .before in
+    let second = third .before .before .before in
+    let first = second .before .before .before in
+    let a = first .before .before .before .args in
+    rw (← pages-two (pagesOf (a .pool .now)) (a .row) (a .n) (draftIn (a .outline) (a .keys .now) (a .pointers .now))
+    (first .if1 .left) (second .if2 .left) (third .if3 .taken))
+    (rw (second .before .before .slot-at .ensures, third .before .before .slot-at2 .ensures) at (c .redo-two .ensures))
 
--- src/content.rt:50:9
 slot-at-requires-3 : tie.Need-slot-at-requires-3
 slot-at-requires-3 c κs = search needs
 
--- src/content.rt:51:5
 redo-three-requires : tie.Need-redo-three-requires
 redo-three-requires c κs = search needs
 
--- src/content.rt:27:1
 returns-4 : tie.Need-returns-4
-returns-4 c = ?
+returns-4 c =
+    let slot = c .before .before .before in
+    let third = slot .before in
+    let second = third .before .before .before in
+    let first = second .before .before .before in
+    let a = first .before .before .before .args in
+    rw (← pages-three (pagesOf (a .pool .now)) (a .row) (a .n) (draftIn (a .outline) (a .keys .now) (a .pointers .now))
+    (first .if1 .left) (second .if2 .left) (third .if3 .left))
+    (rw (second .before .before .slot-at .ensures, third .before .before .slot-at2 .ensures, slot .slot-at3 .ensures) at (c .redo-three .ensures))
 
 pub redo-pages-spec : {M : Type 1} → statement M
 redo-pages-spec =

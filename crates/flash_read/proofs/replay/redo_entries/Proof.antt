@@ -1,8 +1,8 @@
 -- `replay::redo_entries` meets its contract. The invariant: the entries left, replayed from here, give the buffer's. Assumes nothing.
-use mathlib.Core.Path.{_≡_, sym, ap, _∙_}
-use Prim.Native.Nat.{_+_, _-_, _*_, _≤_}
+use mathlib.Core.Path.{_≡_, sym, _∙_}
+use Prim.Native.Nat.{_-_, _≤_}
 use native.Mathlib.Omega.{arith}
-use Rattle.laws.specs.Loops.{steps, steps-begin, steps-more, steps-done}
+use Rattle.laws.specs.Loops.{steps, steps-begin, steps-done}
 use Rattle.node_replay.specs.Outline.{draftIn, HeldIn}
 use Rattle.flash_read.specs.Replay.{redoNth, redoBuffer}
 use Rattle.flash_read.proofs.Laws.{nth-length, nth-own, nth-other}
@@ -48,44 +48,45 @@ add-k : tie.Need-add-k Inv-loop μ-loop
 add-k c = search needs
 
 is-own-requires : tie.Need-is-own-requires Inv-loop μ-loop
-is-own-requires c κs = nth-length (c .before .before .before .before .args .buffer .now) (c .before .before .loop .k) (c .before .before .before .before .args .n) (c .before .loop-test .taken) (c .before .before .before .before .pre .1)
+is-own-requires c κs =
+    let entry = c .before .before .before .before in
+    nth-length (entry .args .buffer .now) (c .before .before .loop .k) (entry .args .n) (c .before .loop-test .taken) (entry .pre .1)
 
 redo-entry-requires : tie.Need-redo-entry-requires Inv-loop μ-loop
 redo-entry-requires c κs =
-    let entry = c .before .before .before .before .before .before .before .before in
-    let l = c .before .before .before .before .before .before .loop in
-    (nth-length (entry .args .buffer .now) (l .k) (entry .args .n) (c .before .before .before .before .before .loop-test .taken) (entry .pre .1), l .inv .1 .0)
+    let test = c .before .before .before .before .before in
+    let l = test .before .loop in
+    let entry = test .before .before .before in
+    (nth-length (entry .args .buffer .now) (l .k) (entry .args .n) (test .loop-test .taken) (entry .pre .1), l .inv .1 .0)
 
 loop-less : tie.Need-loop-less Inv-loop μ-loop
 loop-less c = search needs
 
 loop-again : tie.Need-loop-again Inv-loop μ-loop
 loop-again c =
-    let a = c .before .before .before .before .before .before .before .before .before .args in
-    let l = c .before .before .before .before .before .before .before .loop in
-    let o = c .before .before .before .before .is-own in
-    let d = draftIn (l .r) (l .keys) (l .pointers) in
-    let step = redoNth (a .id) (a .version) (a .buffer .now) in
-    let more = steps-more step (a .n) (l .k) d (c .before .before .before .before .before .before .loop-test .taken) in
     let x = c .redo-entry .ensures in
-    let turn = nth-own (a .id) (a .version) (a .buffer .now) (l .k) (15 * l .k + 15 - 15 * l .k) (omega arith) d (o .result) (o .ensures)
-    (c .before .before .before .if1 .taken) in
-    (omega arith, (x .held, ap (steps step (a .n - (l .k + 1)) (l .k + 1)) (x .is ∙ turn) ∙ more ∙ l .inv .1 .1))
+    let own = c .before .before .before .before in
+    let test = own .before .before in
+    let l = test .before .loop in
+    let a = test .before .before .before .args in
+    let d = draftIn (l .r) (l .keys) (l .pointers) in
+    let o = own .is-own in
+    let turn = nth-own (a .id) (a .version) (a .buffer .now) (a .n) (l .k) (test .loop-test .taken) d (o .result) (o .ensures) (c .before .before .before .if1 .taken) _ (x .is) in
+    (omega arith, (x .held, turn ∙ l .inv .1 .1))
 
 loop-less-2 : tie.Need-loop-less-2 Inv-loop μ-loop
 loop-less-2 c = search needs
 
 loop-again-2 : tie.Need-loop-again-2 Inv-loop μ-loop
 loop-again-2 c =
-    let a = c .before .before .before .before .before .before .args in
-    let l = c .before .before .before .before .loop in
-    let o = c .before .is-own in
+    let own = c .before in
+    let test = own .before .before in
+    let l = test .before .loop in
+    let a = test .before .before .before .args in
     let d = draftIn (l .r) (l .keys) (l .pointers) in
-    let step = redoNth (a .id) (a .version) (a .buffer .now) in
-    let more = steps-more step (a .n) (l .k) d (c .before .before .before .loop-test .taken) in
-    let turn = nth-other (a .id) (a .version) (a .buffer .now) (l .k) (15 * l .k + 15 - 15 * l .k) (omega arith) d (o .result) (o .ensures)
-    (c .if1 .left) in
-    (omega arith, (l .inv .1 .0, ap (steps step (a .n - (l .k + 1)) (l .k + 1)) turn ∙ more ∙ l .inv .1 .1))
+    let o = own .is-own in
+    let turn = nth-other (a .id) (a .version) (a .buffer .now) (a .n) (l .k) (test .loop-test .taken) d (o .result) (o .ensures) (c .if1 .left) in
+    (omega arith, (l .inv .1 .0, turn ∙ l .inv .1 .1))
 
 returns : tie.Need-returns Inv-loop μ-loop
 unfolding redoBuffer

@@ -23,7 +23,8 @@ returns c =
     let a = entry .args in
     let key = c .before .before .before .before .before .read32 in
     let pointer = c .before .before .before .before .read322 in
-    rw (← change-put (a .entry .now) _ (key .result) (pointer .result) refl (key .ensures .is) (pointer .ensures .is) (c .before .before .before .if1 .taken))
+    rw (← change-put (a .entry .now) _ (key .result) (pointer .result) refl (key .ensures .is) (pointer .ensures .is)
+    (c .before .before .before .if1 .taken))
     (c .redo-put .ensures)
 
 redo-delete-requires : tie.Need-redo-delete-requires
@@ -35,7 +36,8 @@ returns-2 c =
     let a = entry .args in
     let key = c .before .before .before .before .before .before .read32 in
     let pointer = c .before .before .before .before .before .read322 in
-    rw (← change-remove (a .entry .now) _ (key .result) (pointer .result) refl (key .ensures .is) (pointer .ensures .is) (c .before .before .before .before .if1 .left) (c .before .before .before .if2 .taken))
+    rw (← change-remove (a .entry .now) _ (key .result) (pointer .result) refl (key .ensures .is) (pointer .ensures .is)
+    (c .before .before .before .before .if1 .left) (c .before .before .before .if2 .taken))
     (c .redo-delete .ensures)
 
 redo-link-requires : tie.Need-redo-link-requires
@@ -47,7 +49,8 @@ returns-3 c =
     let a = entry .args in
     let key = c .before .before .before .before .before .read32 in
     let pointer = c .before .before .before .before .read322 in
-    rw (← change-leaf (a .entry .now) _ (key .result) (pointer .result) refl (key .ensures .is) (pointer .ensures .is) (c .before .before .before .if1 .left) (c .before .before .if2 .left) (c .before .if3 .taken))
+    rw (← change-leaf (a .entry .now) _ (key .result) (pointer .result) refl (key .ensures .is) (pointer .ensures .is)
+    (c .before .before .before .if1 .left) (c .before .before .if2 .left) (c .before .if3 .taken))
     (c .redo-link .ensures .is (a .keys .now) (a .pointers .now) (entry .pre .1))
 
 redo-link-requires-2 : tie.Need-redo-link-requires-2
@@ -59,7 +62,8 @@ returns-4 c =
     let a = entry .args in
     let key = c .before .before .before .before .before .read32 in
     let pointer = c .before .before .before .before .read322 in
-    rw (← change-branch (a .entry .now) _ (key .result) (pointer .result) refl (key .ensures .is) (pointer .ensures .is) (c .before .before .before .if1 .left) (c .before .before .if2 .left) (c .before .if3 .left))
+    rw (← change-branch (a .entry .now) _ (key .result) (pointer .result) refl (key .ensures .is) (pointer .ensures .is)
+    (c .before .before .before .if1 .left) (c .before .before .if2 .left) (c .before .if3 .left))
     (c .redo-link2 .ensures .is (a .keys .now) (a .pointers .now) (entry .pre .1))
 
 pub redo-entry-spec : {M : Type 1} → statement M

@@ -6,7 +6,6 @@ use lib.ListN.{length}
 use Rattle.node_replay.specs.Outline.{draftIn, HeldIn}
 use Rattle.flash_read.specs.Replay.{redoRun}
 use Rattle.flash_read.proofs.Laws.{run-own, run-other, run-stop, run-done}
-use borrow.Author.Needs.{needs}
 use Rattle.flash_read.proofs.replay.redo_page.Statement.{statement}
 use Rattle.flash_read.proofs.replay.redo_page.Tie as tie
 
@@ -52,37 +51,35 @@ loop-less c = omega arith
 
 loop-again : tie.Need-loop-again Inv-loop μ-loop
 loop-again c =
-    let a = c .before .before .before .before .before .before .before .before .before .before .args in
-    let l = c .before .before .before .before .before .before .before .before .loop in
-    let p = c .before .before .before .before .before .before .payload in
-    let o = c .before .before .before .before .is-own in
+    let x = c .redo-entry .ensures in
+    let own = c .before .before .before .before in
+    let sized = own .before in
+    let p = sized .before .payload in
+    let test = sized .before .before in
+    let l = test .before .loop in
+    let a = test .before .before .before .args in
     let d = draftIn (l .r) (l .keys) (l .pointers) in
-    let x = c .redo-entry .ensures in (
-      omega arith,
-      (
-        x .held,
-        run-own (a .id) (a .version) (a .page .now) (l .left) (l .at) (c .before .before .before .before .before .before .before .loop-test .taken) (p .result .now) (p .ensures) (c .before .before .before .before .before .if1 .left)
-            (o .result) (o .ensures) d (c .before .before .before .if2 .taken) _ (x .is) ∙ l .inv .1 .1,
-      ),
-    )
+    let o = own .is-own in
+    let turn = run-own (a .id) (a .version) (a .page .now) (l .left) (l .at) (test .loop-test .taken) (p .result .now) (p .ensures) (sized .if1 .left)
+    (o .result) (o .ensures) d (c .before .before .before .if2 .taken) _ (x .is) in
+    (omega arith, (x .held, turn ∙ l .inv .1 .1))
 
 loop-less-2 : tie.Need-loop-less-2 Inv-loop μ-loop
 loop-less-2 c = omega arith
 
 loop-again-2 : tie.Need-loop-again-2 Inv-loop μ-loop
 loop-again-2 c =
-    let a = c .before .before .before .before .before .before .before .args in
-    let l = c .before .before .before .before .before .loop in
-    let p = c .before .before .before .payload in
-    let o = c .before .is-own in
-    let d = draftIn (l .r) (l .keys) (l .pointers) in (
-      omega arith,
-      (
-        l .inv .1 .0,
-        run-other (a .id) (a .version) (a .page .now) (l .left) (l .at) (c .before .before .before .before .loop-test .taken) (p .result .now) (p .ensures) (c .before .before .if1 .left)
-            (o .result) (o .ensures) d (c .if2 .left) ∙ l .inv .1 .1,
-      ),
-    )
+    let own = c .before in
+    let sized = own .before in
+    let p = sized .before .payload in
+    let test = sized .before .before in
+    let l = test .before .loop in
+    let a = test .before .before .before .args in
+    let d = draftIn (l .r) (l .keys) (l .pointers) in
+    let o = own .is-own in
+    let turn = run-other (a .id) (a .version) (a .page .now) (l .left) (l .at) (test .loop-test .taken) (p .result .now) (p .ensures) (sized .if1 .left)
+    (o .result) (o .ensures) d (c .if2 .left) in
+    (omega arith, (l .inv .1 .0, turn ∙ l .inv .1 .1))
 
 returns-2 : tie.Need-returns-2 Inv-loop μ-loop
 returns-2 c =

@@ -2,7 +2,6 @@
 use Prim.Native.Nat.{_-_, _≤_, _<_}
 use native.Mathlib.Omega.{arith}
 use lib.ListN.{getD}
-use borrow.Author.Needs.{needs}
 use Rattle.node.specs.FoundIn.{found-in-at, found-in-above}
 use Rattle.node.proofs.search.find_from_end.Statement.{statement}
 use Rattle.node.proofs.search.find_from_end.Tie as tie

@@ -10,7 +10,8 @@ use Rattle.node.proofs.search.place.Statement.{statement}
 use Rattle.node.proofs.search.place.Tie as tie
 
 abbrev Inv-loop : tie.InvT-loop
-Inv-loop wanted keys low₀ high₀ low high = ((low ≤ high) × (high ≤ high₀)) × ((0 < low → getD keys (low - 1) 0 < wanted) × (high < high₀ → wanted ≤ getD keys high 0))
+Inv-loop wanted keys low₀ high₀ low high =
+    ((low ≤ high) × (high ≤ high₀)) × ((0 < low → getD keys (low - 1) 0 < wanted) × (high < high₀ → wanted ≤ getD keys high 0))
 
 abbrev μ-loop : tie.MeasureT-loop
 μ-loop wanted keys low₀ high₀ low high = high - low

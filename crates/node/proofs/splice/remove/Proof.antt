@@ -1,6 +1,6 @@
 -- `node::splice::remove` meets its contract. The invariant: the values behind the place up to `i` have moved down by one, those
 -- from `i` on still stand. Assumes nothing.
-use mathlib.Core.Path.{_≡_, refl, ap, _∙_}
+use mathlib.Core.Path.{_≡_, ap, _∙_}
 use mathlib.Core.List.{List}
 use Prim.Native.Nat.{ℕ, _-_, _≤_, _<_}
 use native.Mathlib.Omega.{arith}
