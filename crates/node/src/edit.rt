@@ -15,7 +15,7 @@ use crate::search;
 use crate::splice;
 
 // The node with a pair more, at a place.
-pub fn added(v: NodeValue, at: usize, key: u32, pointer: u32) -> NodeValue
+fn added(v: NodeValue, at: usize, key: u32, pointer: u32) -> NodeValue
     requires { ⌜ (Sized v) × (at ≤ v .count) × (v .count < mostKeys) ⌝ }
     ensures { λ r. ⌜ Stands r (node (v .shape) (insertAt at (key, pointer) (pairsIn v)) (v .link)) ⌝ }
 {
@@ -35,7 +35,7 @@ pub fn added(v: NodeValue, at: usize, key: u32, pointer: u32) -> NodeValue
 }
 
 // The node with another pointer at a place.
-pub fn repointed(v: NodeValue, at: usize, pointer: u32) -> NodeValue
+fn repointed(v: NodeValue, at: usize, pointer: u32) -> NodeValue
     requires { ⌜ (Sized v) × (at < v .count) ⌝ }
     ensures { λ r. ⌜ Stands r (node (v .shape) (set (pairsIn v) at (keyAt (pairsIn v) at, pointer)) (v .link)) ⌝ }
 {
@@ -47,7 +47,7 @@ pub fn repointed(v: NodeValue, at: usize, pointer: u32) -> NodeValue
 }
 
 // The node with another link.
-pub fn relinked(v: NodeValue, to: u32) -> NodeValue
+fn relinked(v: NodeValue, to: u32) -> NodeValue
     requires { ⌜ Held v ⌝ }
     ensures { λ r. ⌜ Becomes r (change (link (v .shape) to) (nodeOf v)) ⌝ }
 {

@@ -43,7 +43,7 @@ HeldIn o ks ps = Held (nodeFrom o ks ps)
 abbrev pub RedoneIn : Outline → List ℕ → List ℕ → Draft → Type 0
 RedoneIn o ks ps d = Redone (draftFrom o ks ps) d
 
--- The outlines that the replay makes: nothing yet, another count, a link, and none that may be.
+-- The outlines that a replay makes: of nothing yet, with another count, linked, and broken.
 abbrev pub emptyOutline : Outline
 emptyOutline = record { state = Unlinked; shape = Leaf; count = 0; link = 0 }
 
