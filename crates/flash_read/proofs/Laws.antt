@@ -1,15 +1,16 @@
 -- One entry more by cases, a turn of each loop, pages of the pool and none behind its end, and the cases of a row's pages. Assumes nothing.
 use mathlib.Core.Path.{_≡_, refl, sym, ap, ap₂, _∙_}
-use mathlib.Core.Bool.{true, false}
+use mathlib.Core.Bool.{Bool, true, false}
 use mathlib.Core.List.{List, [], _∷_, _++_, append-assoc, append-nil}
 use Prim.Native.Nat.{ℕ, suc, _+_, _-_, _*_, _≤_, _<_}
 use native.Mathlib.Nat.{sub-zero}
 use native.Mathlib.Numerals.{add-one}
 use native.Mathlib.Omega.{arith}
-use lib.ListN.{length, getD, set, take, drop, replicate, getD-replicate, List·getD-eq-default}
+use lib.ListN.{length, getD, set, take, drop, length-drop, replicate, getD-replicate, List·getD-eq-default}
 use lib.Seq.{take-suc-set, length-take-le}
 use borrow.Author.Tests.{eq-eqb, ne-eqb, lt-ltb, le-ltb}
 use Rattle.laws.specs.Lay.{part}
+use Rattle.laws.specs.Loops.{steps, steps-more}
 use Rattle.laws.specs.BigEndian.{number, numberAt}
 use Rattle.layout.specs.Layout.{mostEntries, bound32}
 use Rattle.pairs.specs.Pairs.{Pair}
@@ -20,19 +21,21 @@ use Rattle.account.specs.declared.Mode.{Mode}
 use Rattle.account.specs.declared.Mode.the-variants.{Log, Disk}
 use Rattle.flash_rows.specs.Step.{byMode}
 use Rattle.flash_rows.specs.declared.Row.{Row}
-use Rattle.node.specs.declared.ChangeValue.{ChangeValue}
 use Rattle.node.specs.declared.DraftValue.{DraftValue}
 use Rattle.node.specs.declared.DraftState.the-variants.{Made}
 use Rattle.node.specs.declared.NodeValue.{NodeValue}
 use Rattle.node.specs.declared.Shape.{Shape}
+use Rattle.node.specs.declared.Shape.the-variants.{Leaf, Branch}
 use Rattle.node.specs.Node.{node, pairsOf}
+use Rattle.node.specs.Change.{put, remove, link}
 use Rattle.node.specs.Splice.{zip}
 use Rattle.node.specs.Ascends.{ascends, ascends-within}
 use Rattle.node.specs.Replay.{Draft, made, broken, redo}
 use Rattle.node.specs.Value.{pairsIn, nodeOf, Held, Stands}
-use Rattle.node.specs.Drafts.{draftOf, changeOf, Redone}
+use Rattle.node.specs.Drafts.{draftOf, Redone}
+use Rattle.page.specs.Page.{Entry}
 use Rattle.page.specs.Decode as decode
-use Rattle.flash_read.specs.Replay.{redoEntry, redoRun, redoNth}
+use Rattle.flash_read.specs.Replay.{isOwn, redoEntry, redoRun, redoNth}
 use Rattle.flash_read.specs.Slots.{sequenceAt, slotAt, redoAt, redoTwo, redoThree}
 use Rattle.flash_read.specs.NodePage.{nodeOfPayload, nodePageAt}
 use Rattle.flash_read.specs.Content.{redoPages, logContent, contentBy}
@@ -45,25 +48,37 @@ redone-same d h = record { is = refl; held = h }
 pub redone-is : (r : DraftValue) (a b : Draft) → Redone r a → a ≡ b → Redone r b
 redone-is r a b x e = record { is = x .is ∙ e; held = x .held }
 
--- An entry that is the node's and of the version, of another version, or of another node.
-module _ (id version : ℕ) (b : List ℕ) (d : DraftValue) (own of : ℕ) (i : own ≡ numberAt 2 b 0) (v : of ≡ numberAt 4 b 2) where
-  pub entry-own : own ≡ id → of ≡ version → (change : ChangeValue) (r : DraftValue) →
-      changeOf change ≡ decode.changeOf (getD b 6 0) (numberAt 4 b 7) (numberAt 4 b 11) → Redone r (redo (draftOf d) (changeOf change)) →
-      Redone r (redoEntry id version (decode.entryOf b) (draftOf d))
-  unfolding redoEntry decode.entryOf
-  entry-own e f change r c x = rw (← i, ← v, eq-eqb own id e, eq-eqb of version f, ← c) x
+-- The change that an entry says, by its kind.
+module _ (b : List ℕ) (kind key pointer : ℕ) (n : kind ≡ getD b 6 0) (k : key ≡ numberAt 4 b 7) (p : pointer ≡ numberAt 4 b 11) where
+  pub change-put : kind ≡ 1 → put key pointer ≡ decode.entryOf b .change
+  unfolding decode.entryOf decode.changeOf
+  change-put e = rw (← n, ← k, ← p, eq-eqb kind 1 e) refl
 
-  pub entry-older : own ≡ id → (of ≡ version → ⊥) → Held (d .node) → Redone d (redoEntry id version (decode.entryOf b) (draftOf d))
-  unfolding redoEntry decode.entryOf
-  entry-older e f h = rw (← i, ← v, eq-eqb own id e, ne-eqb of version f) (redone-same d h)
+  pub change-remove : (kind ≡ 1 → ⊥) → kind ≡ 2 → remove key ≡ decode.entryOf b .change
+  unfolding decode.entryOf decode.changeOf
+  change-remove e f = rw (← n, ← k, ← p, ne-eqb kind 1 e, eq-eqb kind 2 f) refl
 
-  pub entry-other : (own ≡ id → ⊥) → Held (d .node) → Redone d (redoEntry id version (decode.entryOf b) (draftOf d))
-  unfolding redoEntry decode.entryOf
-  entry-other e h = rw (← i, ne-eqb own id e) (redone-same d h)
+  pub change-leaf : (kind ≡ 1 → ⊥) → (kind ≡ 2 → ⊥) → kind ≡ 3 → link Leaf pointer ≡ decode.entryOf b .change
+  unfolding decode.entryOf decode.changeOf
+  change-leaf e f g = rw (← n, ← k, ← p, ne-eqb kind 1 e, ne-eqb kind 2 f, eq-eqb kind 3 g) refl
+
+  pub change-branch : (kind ≡ 1 → ⊥) → (kind ≡ 2 → ⊥) → (kind ≡ 3 → ⊥) → link Branch pointer ≡ decode.entryOf b .change
+  unfolding decode.entryOf decode.changeOf
+  change-branch e f g = rw (← n, ← k, ← p, ne-eqb kind 1 e, ne-eqb kind 2 f, ne-eqb kind 3 g) refl
+
+-- An entry more, where it is the node's and of the version, and where it is not.
+module _ (id version : ℕ) (e : Entry) (d : Draft) (test : Bool) (t : test ≡ isOwn id version e) where
+  pub entry-own : test ≡ true → redo d (e .change) ≡ redoEntry id version e d
+  unfolding redoEntry
+  entry-own o = rw (sym t ∙ o) refl
+
+  pub entry-other : test ≡ false → d ≡ redoEntry id version e d
+  unfolding redoEntry
+  entry-other o = rw (sym t ∙ o) refl
 
 -- The loop over a page's entries.
 module _ (id version : ℕ) (page : List ℕ) where
-  pub run-more : (left at : ℕ) (d : Draft) → 0 < left → length (payloadAt page at 0x12) ≡ 15 →
+  run-more : (left at : ℕ) (d : Draft) → 0 < left → length (payloadAt page at 0x12) ≡ 15 →
       redoRun id version (left - 1) page (at + 18) (redoEntry id version (decode.entryOf (payloadAt page at 0x12)) d) ≡ redoRun id version left page at d
   unfolding redoRun
   run-more left at d h e =
@@ -82,11 +97,45 @@ module _ (id version : ℕ) (page : List ℕ) where
       let over : left ≡ 0 = omega arith in
       ap (λ (k : ℕ). redoRun id version k page at d) over
 
+  -- a turn: an entry of the node's and the version, and another
+  module _ (left at : ℕ) (h : 0 < left) (b : List ℕ) (p : b ≡ payloadAt page at 0x12) (l : length b ≡ 15)
+      (test : Bool) (t : test ≡ isOwn id version (decode.entryOf b)) (d : Draft) where
+    run-turn : (x : Draft) → x ≡ redoEntry id version (decode.entryOf b) d →
+        redoRun id version (left - 1) page (at + 18) x ≡ redoRun id version left page at d
+    run-turn x e =
+        ap (redoRun id version (left - 1) page (at + 18)) (e ∙ ap (λ (b : List ℕ). redoEntry id version (decode.entryOf b) d) p) ∙
+        run-more left at d h (sym (ap length p) ∙ l)
+
+    pub run-own : test ≡ true → (x : Draft) → x ≡ redo d (decode.entryOf b .change) →
+        redoRun id version (left - 1) page (at + 18) x ≡ redoRun id version left page at d
+    run-own o x e = run-turn x (e ∙ entry-own id version (decode.entryOf b) d test t o)
+
+    pub run-other : test ≡ false → redoRun id version (left - 1) page (at + 18) d ≡ redoRun id version left page at d
+    run-other o = run-turn d (entry-other id version (decode.entryOf b) d test t o)
+
 -- Entry k of the buffer, lent as a part of it.
-pub nth-part : (id version : ℕ) (buffer : List ℕ) (k n : ℕ) (d : Draft) → n ≡ 15 →
-    redoEntry id version (decode.entryOf (take n (drop (15 * k) buffer))) d ≡ redoNth id version buffer k d
-unfolding redoNth part
-nth-part id version buffer k n d e = ap (λ (m : ℕ). redoEntry id version (decode.entryOf (take m (drop (15 * k) buffer))) d) e
+pub nth-length : (buffer : List ℕ) (k n : ℕ) → k < n → 15 * n ≤ length buffer → length (take (15 * k + 15 - 15 * k) (drop (15 * k) buffer)) ≡ 15
+nth-length buffer k n l h =
+    length-take-le (15 * k + 15 - 15 * k) (drop (15 * k) buffer) (rw (length-drop (15 * k) buffer) (omega arith)) ∙ omega arith
+
+-- The loop over the buffer's entries: a turn at an entry of the node's and the version, and at another.
+module _ (id version : ℕ) (buffer : List ℕ) (n k : ℕ) (l : k < n) (d : Draft) (test : Bool)
+    (t : test ≡ isOwn id version (decode.entryOf (take (15 * k + 15 - 15 * k) (drop (15 * k) buffer)))) where
+  nth-turn : (x : Draft) → x ≡ redoEntry id version (decode.entryOf (take (15 * k + 15 - 15 * k) (drop (15 * k) buffer))) d →
+      steps (redoNth id version buffer) (n - (k + 1)) (k + 1) x ≡ steps (redoNth id version buffer) (n - k) k d
+  unfolding redoNth part
+  nth-turn x e =
+      let size : 15 * k + 15 - 15 * k ≡ 15 = omega arith in
+      ap (steps (redoNth id version buffer) (n - (k + 1)) (k + 1))
+      (e ∙ ap (λ (m : ℕ). redoEntry id version (decode.entryOf (take m (drop (15 * k) buffer))) d) size) ∙
+      steps-more (redoNth id version buffer) n k d l
+
+  pub nth-own : test ≡ true → (x : Draft) → x ≡ redo d (decode.entryOf (take (15 * k + 15 - 15 * k) (drop (15 * k) buffer)) .change) →
+      steps (redoNth id version buffer) (n - (k + 1)) (k + 1) x ≡ steps (redoNth id version buffer) (n - k) k d
+  nth-own o x e = nth-turn x (e ∙ entry-own id version (decode.entryOf (take (15 * k + 15 - 15 * k) (drop (15 * k) buffer))) d test t o)
+
+  pub nth-other : test ≡ false → steps (redoNth id version buffer) (n - (k + 1)) (k + 1) d ≡ steps (redoNth id version buffer) (n - k) k d
+  nth-other o = nth-turn d (entry-other id version (decode.entryOf (take (15 * k + 15 - 15 * k) (drop (15 * k) buffer))) d test t o)
 
 pub payload-blank : (at tag : ℕ) → at < 512 → (tag ≡ 255 → ⊥) → payloadAt blankPage at tag ≡ []
 unfolding blankPage

@@ -1,5 +1,5 @@
 -- The entries of one node and one version, taken from a page or the buffer one by one (document 01, "Pages": "entries taken by page stamp, then by position").
-use mathlib.Core.Bool.{true, false, _&&_}
+use mathlib.Core.Bool.{Bool, true, false, _&&_}
 use mathlib.Core.List.{List}
 use Prim.Native.Nat.{ℕ, zero, suc, _+_, _*_}
 use lib.Dec.{eqb}
@@ -12,9 +12,13 @@ use Rattle.wire.specs.Field.{payloadAt}
 use Rattle.page.specs.Page.{Entry}
 use Rattle.page.specs.Decode.{entryOf}
 
+-- Whether an entry is the node's and of the version.
+abbrev pub isOwn : ℕ → ℕ → Entry → Bool
+isOwn id version e = eqb (e .id) id && eqb (e .version) version
+
 -- One entry more, where it is the node's and of the version.
 unfoldable pub redoEntry : ℕ → ℕ → Entry → Draft → Draft
-redoEntry id version e d = choose (eqb (e .id) id && eqb (e .version) version) (redo d (e .change)) d
+redoEntry id version e d = choose (isOwn id version e) (redo d (e .change)) d
 
 -- The fields 12 that stand one behind another on a page from a place on, at most so many.
 unfoldable pub redoRun : ℕ → ℕ → ℕ → List ℕ → ℕ → Draft → Draft

@@ -5,13 +5,13 @@ ghost use lib.ListN.{length};
 ghost use Rattle.flash_rows.specs.Row.{rowBytes};
 ghost use Rattle.flash_rows.specs.Worktable.{rowsAt, bufferBytes, tableFrom};
 ghost use Rattle.flash_blocks.specs.Pages.{pagesOf};
-ghost use Rattle.node.specs.Value.{Held};
-ghost use Rattle.node.specs.Drafts.{draftOf, Redone};
+ghost use Rattle.node.specs.Drafts.{Redone};
+ghost use Rattle.node_replay.specs.Outline.{draftIn, HeldIn, RedoneIn};
 ghost use Rattle.flash_read.specs.Content as def;
 ghost use Rattle.flash_read.specs.Content.{redoPages, logContent, contentBy};
 ghost use Rattle.layout.specs.Layout.{mostEntries};
 use super::node_page::node_page_at;
-use super::replay::redo_buffer;
+use super::replay::redo_entries;
 use super::slot::redo_one;
 use super::slot::redo_three;
 use super::slot::redo_two;
@@ -21,27 +21,38 @@ use flash_allocate::state::State;
 use flash_rows::Row;
 use flash_rows::table::buffer_part;
 use flash_rows::table::row_at;
+use layout::MOST_KEYS;
 use node::DraftValue;
-use node::empty_draft;
+use node_replay::outline::Outline;
+use node_replay::outline::draft_from;
+use node_replay::outline::empty_outline;
 
 // The entries of a version on the pages that a row names, by sequence number.
-fn redo_pages(pool: &[u8], row: Row, n: usize, d: DraftValue) -> DraftValue
-    requires { ⌜ Held (d .node) ⌝ }
-    ensures { λ r. ⌜ Redone r (redoPages (pagesOf (now (pool .entry))) row n (draftOf d)) ⌝ }
+fn redo_pages(
+    pool: &[u8],
+    row: Row,
+    n: usize,
+    keys: &mut [u32; MOST_KEYS],
+    pointers: &mut [u32; MOST_KEYS],
+    outline: Outline,
+) -> Outline
+    requires { ⌜ HeldIn outline (now keys) (now pointers) ⌝ }
+    ensures { λ r. ⌜ RedoneIn r (now (keys .exit)) (now (pointers .exit))
+        (redoPages (pagesOf (now (pool .entry))) row n (draftIn outline (now (keys .entry)) (now (pointers .entry)))) ⌝ }
 {
     if row.pages == 0 {
-        return d;
+        return outline;
     }
     let a = slot_at(pool, row.first);
     if row.pages == 1 {
-        return redo_one(pool, a, n, row.version, d);
+        return redo_one(pool, a, n, row.version, keys, pointers, outline);
     }
     let b = slot_at(pool, row.second);
     if row.pages == 2 {
-        return redo_two(pool, a, b, n, row.version, d);
+        return redo_two(pool, a, b, n, row.version, keys, pointers, outline);
     }
     let c = slot_at(pool, row.third);
-    redo_three(pool, a, b, c, n, row.version, d)
+    redo_three(pool, a, b, c, n, row.version, keys, pointers, outline)
 }
 
 // The content of node n, whose row this is: its entries on pages, then those in the buffer.
@@ -55,8 +66,19 @@ fn log_content<'a>(
     requires { ⌜ (entries ≤ mostEntries) × (length (now buffer) ≡ bufferBytes) ⌝ }
     ensures { λ r. ⌜ Redone r (logContent (pagesOf (now (pool .entry))) (now (buffer .entry)) entries row n) ⌝ }
 {
-    let d = redo_pages(pool, row, n, empty_draft());
-    redo_buffer(buffer, entries, n, row.version, d)
+    let mut keys = [0u32; MOST_KEYS];
+    let mut pointers = [0u32; MOST_KEYS];
+    let written = redo_pages(pool, row, n, &mut keys, &mut pointers, empty_outline());
+    let all = redo_entries(
+        buffer,
+        entries,
+        n,
+        row.version,
+        &mut keys,
+        &mut pointers,
+        written,
+    );
+    draft_from(all, keys, pointers)
 }
 
 // The content of node n, whose row this is.

@@ -1,70 +1,77 @@
-// The entries of a page and of the buffer, replayed for one node and one version.
+// The entries of a page and of the buffer, replayed in place for one node and one version.
 ghost use mathlib.Core.Path.{_≡_};
 ghost use Prim.Native.Nat.{_*_, _≤_};
 ghost use lib.ListN.{length};
 ghost use Rattle.layout.specs.Layout.{mostEntries, entrySize};
-ghost use Rattle.flash_rows.specs.Worktable.{bufferBytes};
-ghost use Rattle.node.specs.Value.{Held};
-ghost use Rattle.node.specs.Drafts.{draftOf, changeOf, Redone};
-ghost use Rattle.page.specs.Decode as decode;
-ghost use Rattle.flash_read.specs.Replay.{redoEntry, redoRun, redoBuffer};
+ghost use Rattle.node.specs.Replay.{redo};
+ghost use Rattle.node_replay.specs.Outline.{draftIn, HeldIn, RedoneIn};
+ghost use Rattle.page.specs.Decode.{entryOf};
+ghost use Rattle.flash_read.specs.Replay.{isOwn, redoRun, redoBuffer};
 use layout::ENTRY_BYTES;
 use layout::MOST_ENTRIES;
-use node::ChangeValue;
-use node::DraftValue;
+use layout::MOST_KEYS;
 use node::Shape;
-use node_replay::redo;
+use node_replay::outline::Outline;
+use node_replay::redo_delete;
+use node_replay::redo_link;
+use node_replay::redo_put;
 use wire::field::payload;
 use wire::number::read16;
 use wire::number::read32;
 
-// The change that an entry's kind, key and pointer say.
-fn change_of(number: u8, key: u32, pointer: u32) -> ChangeValue
-    ensures { λ r. ⌜ changeOf r ≡ decode.changeOf number key pointer ⌝ }
-{
-    if number == 1 {
-        return ChangeValue::Put { key, pointer };
-    }
-    if number == 2 {
-        return ChangeValue::Delete { key };
-    }
-    if number == 3 {
-        return ChangeValue::Link {
-            shape: Shape::Leaf,
-            link: pointer,
-        };
-    }
-    ChangeValue::Link {
-        shape: Shape::Branch,
-        link: pointer,
-    }
-}
-
-// One entry more, where it is the node's and of the version.
-fn redo_entry(entry: &[u8], id: usize, version: u32, d: DraftValue) -> DraftValue
-    requires { ⌜ (length (now entry) ≡ entrySize) × (Held (d .node)) ⌝ }
-    ensures { λ r. ⌜ Redone r (redoEntry id version (decode.entryOf (now (entry .entry))) (draftOf d)) ⌝ }
+// Whether an entry is the node's and of the version; most entries that are looked at have another id.
+fn is_own(entry: &[u8], id: usize, version: u32) -> bool
+    requires { ⌜ length (now entry) ≡ entrySize ⌝ }
+    ensures { λ r. ⌜ r ≡ isOwn id version (entryOf (now (entry .entry))) ⌝ }
 {
     let own = read16(entry, 0) as usize;
-    let of = read32(entry, 2);
     if own == id {
-        if of == version {
-            let key = read32(entry, 7);
-            let pointer = read32(entry, 11);
-            let change = change_of(entry[6], key, pointer);
-            return redo(d, change);
-        }
-        return d;
+        let of = read32(entry, 2);
+        return of == version;
     }
-    d
+    false
+}
+
+// The change that an entry says, by its kind.
+fn redo_entry(
+    entry: &[u8],
+    keys: &mut [u32; MOST_KEYS],
+    pointers: &mut [u32; MOST_KEYS],
+    outline: Outline,
+) -> Outline
+    requires { ⌜ (length (now entry) ≡ entrySize) × (HeldIn outline (now keys) (now pointers)) ⌝ }
+    ensures { λ r. ⌜ RedoneIn r (now (keys .exit)) (now (pointers .exit))
+        (redo (draftIn outline (now (keys .entry)) (now (pointers .entry))) (entryOf (now (entry .entry)) .change)) ⌝ }
+{
+    let kind = entry[6];
+    let key = read32(entry, 7);
+    let pointer = read32(entry, 11);
+    if kind == 1 {
+        return redo_put(keys, pointers, outline, key, pointer);
+    }
+    if kind == 2 {
+        return redo_delete(keys, pointers, outline, key);
+    }
+    if kind == 3 {
+        return redo_link(outline, Shape::Leaf, pointer);
+    }
+    redo_link(outline, Shape::Branch, pointer)
 }
 
 // The entries of a log page, in order.
-pub fn redo_page(page: &[u8], id: usize, version: u32, d: DraftValue) -> DraftValue
-    requires { ⌜ Held (d .node) ⌝ }
-    ensures { λ r. ⌜ Redone r (redoRun id version mostEntries (now (page .entry)) 7 (draftOf d)) ⌝ }
+pub fn redo_page(
+    page: &[u8],
+    id: usize,
+    version: u32,
+    keys: &mut [u32; MOST_KEYS],
+    pointers: &mut [u32; MOST_KEYS],
+    outline: Outline,
+) -> Outline
+    requires { ⌜ HeldIn outline (now keys) (now pointers) ⌝ }
+    ensures { λ r. ⌜ RedoneIn r (now (keys .exit)) (now (pointers .exit))
+        (redoRun id version mostEntries (now (page .entry)) 7 (draftIn outline (now (keys .entry)) (now (pointers .entry)))) ⌝ }
 {
-    let mut r = d;
+    let mut r = outline;
     let mut at: usize = 7;
     let mut left: usize = MOST_ENTRIES;
     while 0 < left {
@@ -72,33 +79,39 @@ pub fn redo_page(page: &[u8], id: usize, version: u32, d: DraftValue) -> DraftVa
         if entry.len() != ENTRY_BYTES {
             return r;
         }
-        r = redo_entry(entry, id, version, r);
         at += 18;
         left -= 1;
+        if is_own(entry, id, version) {
+            r = redo_entry(entry, keys, pointers, r);
+        }
     }
     r
 }
 
 // The first n entries of some bytes, in order.
-fn redo_entries(buffer: &[u8], n: usize, id: usize, version: u32, d: DraftValue) -> DraftValue
-    requires { ⌜ (n ≤ mostEntries) × (entrySize * n ≤ length (now buffer)) × (Held (d .node)) ⌝ }
-    ensures { λ r. ⌜ Redone r (redoBuffer id version (now (buffer .entry)) n (draftOf d)) ⌝ }
+pub fn redo_entries(
+    buffer: &[u8],
+    n: usize,
+    id: usize,
+    version: u32,
+    keys: &mut [u32; MOST_KEYS],
+    pointers: &mut [u32; MOST_KEYS],
+    outline: Outline,
+) -> Outline
+    requires { ⌜ (n ≤ mostEntries) × (entrySize * n ≤ length (now buffer)) × (HeldIn outline (now keys) (now pointers)) ⌝ }
+    ensures { λ r. ⌜ RedoneIn r (now (keys .exit)) (now (pointers .exit))
+        (redoBuffer id version (now (buffer .entry)) n (draftIn outline (now (keys .entry)) (now (pointers .entry)))) ⌝ }
 {
-    let mut r = d;
+    let mut r = outline;
     let mut k: usize = 0;
     while k < n {
         let from = ENTRY_BYTES * k;
         let to = from + ENTRY_BYTES;
-        r = redo_entry(&buffer[from..to], id, version, r);
+        let entry = &buffer[from..to];
         k += 1;
+        if is_own(entry, id, version) {
+            r = redo_entry(entry, keys, pointers, r);
+        }
     }
     r
-}
-
-// The first n entries of the buffer, in order.
-pub fn redo_buffer(buffer: &[u8], n: usize, id: usize, version: u32, d: DraftValue) -> DraftValue
-    requires { ⌜ (n ≤ mostEntries) × (length (now buffer) ≡ bufferBytes) × (Held (d .node)) ⌝ }
-    ensures { λ r. ⌜ Redone r (redoBuffer id version (now (buffer .entry)) n (draftOf d)) ⌝ }
-{
-    redo_entries(buffer, n, id, version, d)
 }

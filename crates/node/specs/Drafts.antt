@@ -26,9 +26,6 @@ draftAs Broken v = broken
 abbrev pub draftOf : DraftValue → Draft
 draftOf d = draftAs (d .state) (d .node)
 
-abbrev pub brokenAt : NodeValue → DraftValue
-brokenAt v = record { state = Broken; node = v }
-
 abbrev pub changeOf : ChangeValue → Change
 changeOf (Put k p) = put k p
 changeOf (Delete k) = remove k

@@ -13,4 +13,5 @@ pub mod Halves
 pub mod ReplayLaws
 pub mod Drafts
 pub mod Repoint
+pub mod FoundIn
 pub mod BothEdits

@@ -1,31 +1,30 @@
-// The edits of a node: a pair added, its pointer replaced, a pair taken out, the link set.
+// The edits of a node by value: a pair added, its pointer replaced, the link set.
 ghost use Prim.Native.Nat.{_≤_, _<_};
 ghost use lib.ListN.{length, set};
 ghost use Rattle.layout.specs.Layout.{mostKeys};
 ghost use Rattle.pairs.specs.Pairs.{insert};
 ghost use Rattle.node.specs.Node.{node};
-ghost use Rattle.node.specs.Change.{change, put, remove, link};
+ghost use Rattle.node.specs.Change.{change, put, link};
 ghost use Rattle.node.specs.Repoint.{repoint};
-ghost use Rattle.node.specs.Splice.{insertAt, removeAt};
+ghost use Rattle.node.specs.Splice.{insertAt};
 ghost use Rattle.node.specs.Search.{keyAt};
 ghost use Rattle.node.specs.Value.{pairsIn, nodeOf, Sized, Held, Stands, Becomes};
 use crate::Found;
 use crate::NodeValue;
-use crate::Shape;
 use crate::search;
 use crate::splice;
 
 // The node with a pair more, at a place.
-pub fn added(v: NodeValue, at: usize, key: u32, pointer: u32) -> NodeValue
+fn added(v: NodeValue, at: usize, key: u32, pointer: u32) -> NodeValue
     requires { ⌜ (Sized v) × (at ≤ v .count) × (v .count < mostKeys) ⌝ }
     ensures { λ r. ⌜ Stands r (node (v .shape) (insertAt at (key, pointer) (pairsIn v)) (v .link)) ⌝ }
 {
     let shape = v.shape;
     let count = v.count;
-    let old_keys = v.keys;
-    let old_pointers = v.pointers;
-    let keys = splice::insert(old_keys, count, at, key);
-    let pointers = splice::insert(old_pointers, count, at, pointer);
+    let mut keys = v.keys;
+    let mut pointers = v.pointers;
+    splice::insert(&mut keys, count, at, key);
+    splice::insert(&mut pointers, count, at, pointer);
     NodeValue {
         shape,
         count: count + 1,
@@ -36,7 +35,7 @@ pub fn added(v: NodeValue, at: usize, key: u32, pointer: u32) -> NodeValue
 }
 
 // The node with another pointer at a place.
-pub fn repointed(v: NodeValue, at: usize, pointer: u32) -> NodeValue
+fn repointed(v: NodeValue, at: usize, pointer: u32) -> NodeValue
     requires { ⌜ (Sized v) × (at < v .count) ⌝ }
     ensures { λ r. ⌜ Stands r (node (v .shape) (set (pairsIn v) at (keyAt (pairsIn v) at, pointer)) (v .link)) ⌝ }
 {
@@ -47,28 +46,8 @@ pub fn repointed(v: NodeValue, at: usize, pointer: u32) -> NodeValue
     w
 }
 
-// The node without the pair at a place.
-pub fn removed(v: NodeValue, at: usize) -> NodeValue
-    requires { ⌜ (Sized v) × (at < v .count) ⌝ }
-    ensures { λ r. ⌜ Stands r (node (v .shape) (removeAt at (pairsIn v)) (v .link)) ⌝ }
-{
-    let shape = v.shape;
-    let count = v.count;
-    let old_keys = v.keys;
-    let old_pointers = v.pointers;
-    let keys = splice::remove(old_keys, count, at);
-    let pointers = splice::remove(old_pointers, count, at);
-    NodeValue {
-        shape,
-        count: count - 1,
-        keys,
-        pointers,
-        link: v.link,
-    }
-}
-
 // The node with another link.
-pub fn relinked(v: NodeValue, to: u32) -> NodeValue
+fn relinked(v: NodeValue, to: u32) -> NodeValue
     requires { ⌜ Held v ⌝ }
     ensures { λ r. ⌜ Becomes r (change (link (v .shape) to) (nodeOf v)) ⌝ }
 {
@@ -86,34 +65,6 @@ pub fn put(v: NodeValue, key: u32, pointer: u32) -> NodeValue
     match found {
         Found::At(i) => repointed(v, i, pointer),
         Found::Above(i) => added(v, i, key, pointer),
-    }
-}
-
-// The node without a key, the same where the key is absent.
-pub fn delete(v: NodeValue, key: u32) -> NodeValue
-    requires { ⌜ Held v ⌝ }
-    ensures { λ r. ⌜ Becomes r (change (remove key) (nodeOf v)) ⌝ }
-{
-    let found = search::find(v, key);
-    match found {
-        Found::At(i) => removed(v, i),
-        Found::Above(_) => v,
-    }
-}
-
-// The node with its pairs, as another shape and with another link.
-pub fn linked(v: NodeValue, shape: Shape, to: u32) -> NodeValue
-    requires { ⌜ Held v ⌝ }
-    ensures { λ r. ⌜ Becomes r (node shape (pairsIn v) to) ⌝ }
-{
-    let keys = v.keys;
-    let pointers = v.pointers;
-    NodeValue {
-        shape,
-        count: v.count,
-        keys,
-        pointers,
-        link: to,
     }
 }
 

@@ -2,9 +2,8 @@
 ghost use mathlib.Core.Path.{_≡_};
 ghost use mathlib.Core.List.{[]};
 ghost use Rattle.node.specs.Node.{node};
-ghost use Rattle.node.specs.Replay.{unlinked, sameShape};
+ghost use Rattle.node.specs.Replay.{sameShape};
 ghost use Rattle.node.specs.Value.{Becomes};
-ghost use Rattle.node.specs.Drafts.{Redone};
 use layout::MOST_KEYS;
 
 pub mod edit;
@@ -64,17 +63,6 @@ pub fn empty_node(shape: Shape, to: u32) -> NodeValue
         keys: [0u32; MOST_KEYS],
         pointers: [0u32; MOST_KEYS],
         link: to,
-    }
-}
-
-// A node of which no entry was taken yet.
-pub fn empty_draft() -> DraftValue
-    ensures { λ r. ⌜ Redone r (unlinked []) ⌝ }
-{
-    let node = empty_node(Shape::Leaf, 0);
-    DraftValue {
-        state: DraftState::Unlinked,
-        node,
     }
 }
 

@@ -1,12 +1,15 @@
 // The search in a node, and what stands at a place.
 ghost use mathlib.Core.Path.{_≡_};
 ghost use Prim.Native.Nat.{_≤_, _<_};
+ghost use Rattle.layout.specs.Layout.{mostKeys};
 ghost use Rattle.node.specs.Search.{place, childPlace, keyAt, pointerAt};
 ghost use Rattle.node.specs.Ascends.{ascends};
 ghost use Rattle.node.specs.Found.{found};
+ghost use Rattle.node.specs.FoundIn.{FoundIn};
 ghost use Rattle.node.specs.Value.{pairsIn, Sized, Held};
 use crate::Found;
 use crate::NodeValue;
+use layout::MOST_KEYS;
 
 // A key widened, so that one more than the greatest key is a number too.
 fn wide(x: u32) -> u64
@@ -15,21 +18,44 @@ fn wide(x: u32) -> u64
     x as u64
 }
 
-// The place of the first key at or above the wanted one, from the last key down, since keys most often come in ascending.
-pub fn place(v: NodeValue, wanted: u64) -> usize
+// The place of a key among the first `count` keys and whether it is there, from the last key down, since a node's entries most often come
+// with keys ascending.
+pub fn find_from_end(keys: &[u32; MOST_KEYS], count: usize, key: u32) -> Found
+    requires { ⌜ count ≤ mostKeys ⌝ }
+    ensures { λ r. ⌜ FoundIn (now (keys .entry)) count key r ⌝ }
+{
+    let mut i = count;
+    while 0 < i {
+        let below = i - 1;
+        let other = keys[below];
+        if other < key {
+            return Found::Above(i);
+        }
+        if other == key {
+            return Found::At(below);
+        }
+        i = below;
+    }
+    Found::Above(i)
+}
+
+// The place of the first key at or above the wanted one, by halves.
+fn place(v: NodeValue, wanted: u64) -> usize
     requires { ⌜ Held v ⌝ }
     ensures { λ r. ⌜ (r ≡ place wanted (pairsIn v)) × (r ≤ v .count) ⌝ }
 {
     let keys = v.keys;
-    let mut i = v.count;
-    while 0 < i {
-        let below = i - 1;
-        if wide(keys[below]) < wanted {
-            return i;
+    let mut low: usize = 0;
+    let mut high = v.count;
+    while low < high {
+        let middle = (low + high) / 2;
+        if wide(keys[middle]) < wanted {
+            low = middle + 1;
+        } else {
+            high = middle;
         }
-        i = below;
     }
-    i
+    low
 }
 
 // The place of a key and whether it is there.

@@ -1,104 +1,133 @@
-// The replay of a node from the changes of its log entries, one by one.
-ghost use mathlib.Core.Path.{_≡_};
-ghost use Rattle.node.specs.Change.{put, remove, link};
+// The replay of a node from the changes of its log entries, one by one and in place.
+ghost use Rattle.node.specs.Change.{put, remove};
 ghost use Rattle.node.specs.Replay.{redo};
 ghost use Rattle.node.specs.Value.{Held};
-ghost use Rattle.node.specs.Drafts.{draftOf, changeOf, brokenAt, Redone};
+ghost use Rattle.node.specs.Drafts.{draftOf, changeOf, Redone};
+ghost use Rattle.node_replay.specs.Outline.{draftIn, HeldIn, RedoneIn, Links};
 use layout::MOST_KEYS;
 use node::ChangeValue;
 use node::DraftState;
 use node::DraftValue;
 use node::Found;
-use node::NodeValue;
 use node::Shape;
-use node::edit;
 use node::same_shape;
-use node::search;
+use node::search::find_from_end;
+use node::splice;
+use outline::Outline;
+use outline::broken;
+use outline::draft_from;
+use outline::linked;
+use outline::outline_of;
 
-// The draft broken.
-fn broken(v: NodeValue) -> DraftValue
-    ensures { λ r. ⌜ r ≡ brokenAt v ⌝ }
-{
-    DraftValue {
-        state: DraftState::Broken,
-        node: v,
-    }
-}
+pub mod outline;
 
 // One put more: a 25th key breaks the draft.
-fn redo_put(d: DraftValue, key: u32, pointer: u32) -> DraftValue
-    requires { ⌜ Held (d .node) ⌝ }
-    ensures { λ r. ⌜ Redone r (redo (draftOf d) (put key pointer)) ⌝ }
+pub fn redo_put(
+    keys: &mut [u32; MOST_KEYS],
+    pointers: &mut [u32; MOST_KEYS],
+    outline: Outline,
+    key: u32,
+    pointer: u32,
+) -> Outline
+    requires { ⌜ HeldIn outline (now keys) (now pointers) ⌝ }
+    ensures { λ r. ⌜ RedoneIn r (now (keys .exit)) (now (pointers .exit))
+        (redo (draftIn outline (now (keys .entry)) (now (pointers .entry))) (put key pointer)) ⌝ }
 {
-    let state = d.state;
-    let v = d.node;
-    let found = search::find(v, key);
+    let mut r = outline;
+    let count = outline.count;
+    let found = find_from_end(keys, count, key);
     match found {
         Found::At(i) => {
-            let node = edit::repointed(v, i, pointer);
-            return DraftValue { state, node };
+            pointers[i] = pointer;
+            return r;
         }
         Found::Above(i) => {
-            if v.count < MOST_KEYS {
-                let node = edit::added(v, i, key, pointer);
-                return DraftValue { state, node };
+            if count < MOST_KEYS {
+                splice::insert(keys, count, i, key);
+                splice::insert(pointers, count, i, pointer);
+                r.count = count + 1;
+                return r;
             }
-            return broken(v);
+            return broken(outline);
         }
     }
 }
 
 // One removal more.
-fn redo_delete(d: DraftValue, key: u32) -> DraftValue
-    requires { ⌜ Held (d .node) ⌝ }
-    ensures { λ r. ⌜ Redone r (redo (draftOf d) (remove key)) ⌝ }
+pub fn redo_delete(
+    keys: &mut [u32; MOST_KEYS],
+    pointers: &mut [u32; MOST_KEYS],
+    outline: Outline,
+    key: u32,
+) -> Outline
+    requires { ⌜ HeldIn outline (now keys) (now pointers) ⌝ }
+    ensures { λ r. ⌜ RedoneIn r (now (keys .exit)) (now (pointers .exit))
+        (redo (draftIn outline (now (keys .entry)) (now (pointers .entry))) (remove key)) ⌝ }
 {
-    let state = d.state;
-    let v = d.node;
-    let node = edit::delete(v, key);
-    DraftValue { state, node }
+    let mut r = outline;
+    let count = outline.count;
+    let found = find_from_end(keys, count, key);
+    match found {
+        Found::At(i) => {
+            splice::remove(keys, count, i);
+            splice::remove(pointers, count, i);
+            r.count = count - 1;
+            return r;
+        }
+        Found::Above(_) => {
+            return r;
+        }
+    }
 }
 
-// One link more: the first makes the node, one of the other shape breaks it.
-fn redo_link(d: DraftValue, shape: Shape, to: u32) -> DraftValue
-    requires { ⌜ Held (d .node) ⌝ }
-    ensures { λ r. ⌜ Redone r (redo (draftOf d) (link shape to)) ⌝ }
+// One link more, whatever the keys and pointers: the first makes the node, one of the other shape breaks it.
+pub fn redo_link(outline: Outline, shape: Shape, to: u32) -> Outline
+    ensures { λ r. ⌜ Links outline shape to r ⌝ }
 {
-    let state = d.state;
-    let v = d.node;
+    let state = outline.state;
+    let own = outline.shape;
     match state {
         DraftState::Unlinked => {
-            let node = edit::linked(v, shape, to);
-            return DraftValue {
-                state: DraftState::Made,
-                node,
-            };
+            return linked(outline, shape, to);
         }
         DraftState::Made => {
-            let own = v.shape;
             if same_shape(own, shape) {
-                let node = edit::relinked(v, to);
-                return DraftValue {
-                    state: DraftState::Made,
-                    node,
-                };
+                return linked(outline, own, to);
             }
-            return broken(v);
+            return broken(outline);
         }
         DraftState::Broken => {
-            return d;
+            return outline;
         }
     }
 }
 
 // One change more.
+fn redo_change(
+    keys: &mut [u32; MOST_KEYS],
+    pointers: &mut [u32; MOST_KEYS],
+    outline: Outline,
+    change: ChangeValue,
+) -> Outline
+    requires { ⌜ HeldIn outline (now keys) (now pointers) ⌝ }
+    ensures { λ r. ⌜ RedoneIn r (now (keys .exit)) (now (pointers .exit))
+        (redo (draftIn outline (now (keys .entry)) (now (pointers .entry))) (changeOf change)) ⌝ }
+{
+    match change {
+        ChangeValue::Put { key, pointer } => redo_put(keys, pointers, outline, key, pointer),
+        ChangeValue::Delete { key } => redo_delete(keys, pointers, outline, key),
+        ChangeValue::Link { shape, link } => redo_link(outline, shape, link),
+    }
+}
+
+// One change more of a draft by value.
 pub fn redo(d: DraftValue, change: ChangeValue) -> DraftValue
     requires { ⌜ Held (d .node) ⌝ }
     ensures { λ r. ⌜ Redone r (redo (draftOf d) (changeOf change)) ⌝ }
 {
-    match change {
-        ChangeValue::Put { key, pointer } => redo_put(d, key, pointer),
-        ChangeValue::Delete { key } => redo_delete(d, key),
-        ChangeValue::Link { shape, link } => redo_link(d, shape, link),
-    }
+    let v = d.node;
+    let mut keys = v.keys;
+    let mut pointers = v.pointers;
+    let outline = redo_change(&mut keys, &mut pointers, outline_of(d), change);
+    draft_from(outline, keys, pointers)
 }

@@ -1,45 +1,20 @@
--- `node_replay::redo` meets its contract: each kind of change has its own function. Assumes nothing.
+-- `node_replay::redo` meets its contract: the draft taken apart, changed in place, and put together. Assumes nothing.
 use borrow.Author.Needs.{needs}
 use Rattle.node_replay.proofs.redo.Statement.{statement}
 use Rattle.node_replay.proofs.redo.Tie as tie
 
-enum-known-change : tie.Need-enum-known-change
-enum-known-change c = search needs
+outline-of-requires : tie.Need-outline-of-requires
+outline-of-requires c κs = search needs
 
-redo-put-requires : tie.Need-redo-put-requires
-redo-put-requires c κs = search needs
+redo-change-requires : tie.Need-redo-change-requires
+redo-change-requires c κs = rw (c .outline-of .ensures) (c .before .before .before .before .before .before .pre)
 
-enum-known-change-2 : tie.Need-enum-known-change-2
-enum-known-change-2 c = search needs
-
-redo-delete-requires : tie.Need-redo-delete-requires
-redo-delete-requires c κs = search needs
-
-enum-known-change-3 : tie.Need-enum-known-change-3
-enum-known-change-3 c = search needs
-
-redo-link-requires : tie.Need-redo-link-requires
-redo-link-requires c κs = search needs
+draft-from-requires : tie.Need-draft-from-requires
+draft-from-requires c κs = search needs
 
 returns : tie.Need-returns
-returns c = rw (c .before .before .change .given .1) (c .redo-put .ensures)
-
-returns-2 : tie.Need-returns-2
-returns-2 c = rw (c .before .before .change2 .given .1) (c .redo-delete .ensures)
-
-returns-3 : tie.Need-returns-3
-returns-3 c = rw (c .before .before .change3 .given .1) (c .redo-link .ensures)
+returns c = rw (c .draft-from .ensures) (rw (c .before .before .outline-of .ensures) at (c .before .redo-change .ensures))
 
 pub redo-spec : {M : Type 1} → statement M
 redo-spec =
-    tie.close
-    (tie.spec
-    enum-known-change
-    redo-put-requires
-    enum-known-change-2
-    redo-delete-requires
-    enum-known-change-3
-    redo-link-requires
-    returns
-    returns-2
-    returns-3)
+    tie.close (tie.spec outline-of-requires redo-change-requires draft-from-requires returns)

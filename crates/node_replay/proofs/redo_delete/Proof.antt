@@ -1,16 +1,85 @@
--- `node_replay::redo_delete` meets its contract: the key is taken out, in whatever state the draft is. Assumes nothing.
+-- `node_replay::redo_delete` meets its contract: the search says whether the key is there, and the pair at its place goes. Assumes nothing.
+use mathlib.Core.Path.{_≡_, refl, _∙_}
+use native.Mathlib.Omega.{arith}
+use Rattle.node.specs.Found.{found}
+use Rattle.node.specs.Value.{pairsIn}
+use Rattle.node.specs.Edits.{at-inside}
+use Rattle.node_replay.specs.Outline.{nodeFrom, redone-removed, redone-kept}
 use borrow.Author.Needs.{needs}
-use Rattle.node.specs.Drafts.{redone-delete}
 use Rattle.node_replay.proofs.redo_delete.Statement.{statement}
 use Rattle.node_replay.proofs.redo_delete.Tie as tie
 
-delete-requires : tie.Need-delete-requires
-delete-requires c κs = search needs
+-- What the search answers is what is found in the draft's pairs.
+answer :
+    (c : tie.After-find-from-end) →
+    let a = c .before .before .args in
+    found (a .key) (pairsIn (nodeFrom (a .outline) (a .keys .now) (a .pointers .now))) ≡ c .find-from-end .result
+answer c = let a = c .before .before .args in
+    c .find-from-end .ensures .is (nodeFrom (a .outline) (a .keys .now) (a .pointers .now)) (c .before .before .pre) refl refl
+
+find-from-end-requires : tie.Need-find-from-end-requires
+find-from-end-requires c κs = search needs
+
+enum-known-found : tie.Need-enum-known-found
+enum-known-found c = search needs
+
+remove-requires : tie.Need-remove-requires
+remove-requires c κs =
+    let known = c .before .before in
+    let searched = known .before .before in
+    let entry = searched .before .before in
+    let a = entry .args in
+    let e = answer searched ∙ known .found .given .1 in
+    (at-inside (nodeFrom (a .outline) (a .keys .now) (a .pointers .now)) (entry .pre) (a .key) _ e, entry .pre .sized .size, entry .pre .sized .keyRoom)
+
+remove-requires-2 : tie.Need-remove-requires-2
+remove-requires-2 c κs =
+    let known = c .before .before .before .before in
+    let searched = known .before .before in
+    let entry = searched .before .before in
+    let a = entry .args in
+    let e = answer searched ∙ known .found .given .1 in
+    (at-inside (nodeFrom (a .outline) (a .keys .now) (a .pointers .now)) (entry .pre) (a .key) _ e, entry .pre .sized .size, entry .pre .sized .pointerRoom)
+
+sub-r : tie.Need-sub-r
+sub-r c =
+    let known = c .before .before .before .before .before in
+    let searched = known .before .before in
+    let entry = searched .before .before in
+    let a = entry .args in
+    let e = answer searched ∙ known .found .given .1 in
+    omega (arith, at-inside (nodeFrom (a .outline) (a .keys .now) (a .pointers .now)) (entry .pre) (a .key) _ e)
 
 returns : tie.Need-returns
 returns c =
-    let a = c .before .before .args in
-    redone-delete (a .d .node) (c .delete .result) (a .key) 0 (a .d .state) (c .delete .ensures)
+    let known = c .before .before .before .before .before in
+    let searched = known .before .before in
+    let entry = searched .before .before in
+    let a = entry .args in
+    let e = answer searched ∙ known .found .given .1 in
+    let keys = c .before .before .remove in
+    let pointers = c .remove2 in
+    redone-removed (a .outline) (a .keys .now) (a .pointers .now) (entry .pre) (a .key) _ e (keys .last .0) (pointers .last .0) (keys .ensures) (pointers .ensures)
+
+enum-told : tie.Need-enum-told
+enum-told c = search needs
+
+returns-2 : tie.Need-returns-2
+returns-2 c =
+    let searched = c .before .before in
+    let entry = searched .before .before in
+    let a = entry .args in
+    redone-kept (a .outline) (a .keys .now) (a .pointers .now) (entry .pre) (a .key) _ (answer searched ∙ c .enum-told .given .1)
 
 pub redo-delete-spec : {M : Type 1} → statement M
-redo-delete-spec = tie.close (tie.spec delete-requires returns)
+redo-delete-spec =
+    tie.close
+    (tie.spec
+    find-from-end-requires
+    enum-known-found
+    remove-requires
+    remove-requires-2
+    sub-r
+    returns
+    enum-told
+    returns-2)

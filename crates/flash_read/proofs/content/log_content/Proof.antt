@@ -1,22 +1,43 @@
 -- `content::log_content` meets its contract: from nothing, the pages, then the buffer. Assumes nothing.
+use mathlib.Core.List.{[]}
+use Prim.Native.Nat.{ℕ}
+use lib.ListN.{replicate, length-replicate}
+use Rattle.node.specs.Replay.{unlinked}
+use Rattle.node_replay.specs.Outline.{RedoneIn, redone-nothing}
 use Rattle.flash_read.specs.Content.{logContent}
 use borrow.Author.Needs.{needs}
 use Rattle.flash_read.proofs.content.log_content.Statement.{statement}
 use Rattle.flash_read.proofs.content.log_content.Tie as tie
 
-empty-draft-requires : tie.Need-empty-draft-requires
-empty-draft-requires c κs = search needs
+empty-outline-requires : tie.Need-empty-outline-requires
+empty-outline-requires c κs = search needs
+
+begun : (c : tie.After-empty-outline) → RedoneIn (c .empty-outline .result) (replicate 24 0) (replicate 24 0) (unlinked [])
+begun c =
+    rw (c .empty-outline .ensures)
+    (redone-nothing (replicate 24 0) (replicate 24 0) (length-replicate {A = ℕ} 24 0) (length-replicate {A = ℕ} 24 0))
 
 redo-pages-requires : tie.Need-redo-pages-requires
-redo-pages-requires c κs = search needs
+redo-pages-requires c κs = begun c .held
 
-redo-buffer-requires : tie.Need-redo-buffer-requires
-redo-buffer-requires c κs = search needs
+redo-entries-requires : tie.Need-redo-entries-requires
+redo-entries-requires c κs = search needs
+
+draft-from-requires : tie.Need-draft-from-requires
+draft-from-requires c κs = search needs
 
 returns : tie.Need-returns
 unfolding logContent
-returns c = rw (← c .before .before .empty-draft .ensures .is, ← c .before .redo-pages .ensures .is) (c .redo-buffer .ensures)
+returns c =
+    let pages = c .before .before .before .before .before .before in
+    rw (c .draft-from .ensures, ← begun (pages .before) .is, ← pages .redo-pages .ensures .is) (c .before .redo-entries .ensures)
 
 pub log-content-spec : {M : Type 1} → statement M
 log-content-spec =
-    tie.close (tie.spec empty-draft-requires redo-pages-requires redo-buffer-requires returns)
+    tie.close
+    (tie.spec
+    empty-outline-requires
+    redo-pages-requires
+    redo-entries-requires
+    draft-from-requires
+    returns)

@@ -10,20 +10,20 @@ insert-requires c κs = search needs
 insert-requires-2 : tie.Need-insert-requires-2
 insert-requires-2 c κs = search needs
 
-add-t11 : tie.Need-add-t11
-add-t11 c = search needs
+add-t12 : tie.Need-add-t12
+add-t12 c = search needs
 
 returns : tie.Need-returns
 returns c =
-    let entry = c .before .before .before .before in
+    let entry = c .before .before .before .before .before .before in
     let a = entry .args in
-    let keys = c .before .insert in
+    let keys = c .before .before .insert in
     let pointers = c .insert2 in
-    stands-added (a .v) (entry .pre .0) (a .at) (a .key) (a .pointer) (keys .result) (pointers .result) (entry .pre .2)
+    stands-added (a .v) (entry .pre .0) (a .at) (a .key) (a .pointer) (keys .last .0) (pointers .last .0) (entry .pre .2)
     (keys .ensures .0)
     (pointers .ensures .0)
     (keys .ensures .1)
     (pointers .ensures .1)
 
 pub added-spec : {M : Type 1} → statement M
-added-spec = tie.close (tie.spec insert-requires insert-requires-2 add-t11 returns)
+added-spec = tie.close (tie.spec insert-requires insert-requires-2 add-t12 returns)

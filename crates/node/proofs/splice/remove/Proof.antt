@@ -1,23 +1,22 @@
 -- `node::splice::remove` meets its contract. The invariant: the values behind the place up to `i` have moved down by one, those
 -- from `i` on still stand. Assumes nothing.
-use mathlib.Core.Path.{_≡_, refl, ap, _∙_}
+use mathlib.Core.Path.{_≡_, ap, _∙_}
 use mathlib.Core.List.{List}
 use Prim.Native.Nat.{ℕ, _-_, _≤_, _<_}
 use native.Mathlib.Omega.{arith}
 use lib.ListN.{length, take, length-set}
-use borrow.Author.Needs.{needs}
 use Rattle.node.specs.Splice.{closed, closed-start, closed-turn, closed-done}
 use Rattle.node.proofs.splice.remove.Statement.{statement}
 use Rattle.node.proofs.splice.remove.Tie as tie
 
 abbrev Inv-loop : tie.InvT-loop
-Inv-loop count at b₀ i₀ b i = (at ≤ i) × (i < count) × (b ≡ closed 0 b₀ at i) × (length b ≡ length b₀)
+Inv-loop a₀ count at i₀ a i = (at ≤ i) × (i < count) × (a ≡ closed 0 a₀ at i) × (length a ≡ 24)
 
 abbrev μ-loop : tie.MeasureT-loop
-μ-loop count at b₀ i₀ b i = count - i
+μ-loop a₀ count at i₀ a i = count - i
 
 loop-holds : tie.Need-loop-holds Inv-loop μ-loop
-loop-holds c = (omega arith, omega arith, closed-start 0 (c .args .a) (c .args .at), refl)
+loop-holds c = (omega arith, omega arith, closed-start 0 (c .args .a .now) (c .args .at), c .pre .2)
 
 add-loop : tie.Need-add-loop Inv-loop μ-loop
 add-loop c = omega arith
@@ -28,14 +27,14 @@ add-y c = omega arith
 mul-y : tie.Need-mul-y Inv-loop μ-loop
 mul-y c = omega arith
 
-array-read-y : tie.Need-array-read-y Inv-loop μ-loop
-array-read-y c = omega arith
+element-copy-out-y : tie.Need-element-copy-out-y Inv-loop μ-loop
+element-copy-out-y c = omega arith
 
-mul-b : tie.Need-mul-b Inv-loop μ-loop
-mul-b c = omega arith
+mul-a : tie.Need-mul-a Inv-loop μ-loop
+mul-a c = omega arith
 
-array-write-b : tie.Need-array-write-b Inv-loop μ-loop
-array-write-b c = omega arith
+element-write-a : tie.Need-element-write-a Inv-loop μ-loop
+element-write-a c = omega arith
 
 add-i : tie.Need-add-i Inv-loop μ-loop
 add-i c = omega arith
@@ -45,24 +44,22 @@ loop-less c = omega arith
 
 loop-again : tie.Need-loop-again Inv-loop μ-loop
 loop-again c =
-    let a = c .before .before .args in
-    let room : length (a .a) ≡ 24 = search needs in
-    let turn = c .before .loop in (
+    let a = c .before .before .before .args in
+    let turn = c .before .before .loop in (
       omega arith,
       omega arith,
-      closed-turn 0 (a .a) (turn .b) (a .at) (turn .i) (turn .inv .0) (omega arith) (turn .inv .2),
+      closed-turn 0 (a .a .now) (turn .a) (a .at) (turn .i) (turn .inv .0) (omega arith) (turn .inv .2),
       simp length-set (turn .inv .3),
     )
 
 returns : tie.Need-returns Inv-loop μ-loop
 returns c =
     let a = c .before .before .args in
-    let room : length (a .a) ≡ 24 = search needs in
     let turn = c .before .loop in
     let e : turn .i ≡ a .count - 1 = omega arith in (
-      ap (λ (b : List ℕ). take (a .count - 1) b) (turn .inv .2 ∙ ap (λ (i : ℕ). closed 0 (a .a) (a .at) i) e) ∙
-          closed-done 0 (a .a) (a .at) (a .count) (omega arith) (omega arith),
-      turn .inv .3 ∙ room,
+      ap (λ (b : List ℕ). take (a .count - 1) b) (turn .inv .2 ∙ ap (λ (i : ℕ). closed 0 (a .a .now) (a .at) i) e) ∙
+          closed-done 0 (a .a .now) (a .at) (a .count) (omega arith) (omega arith),
+      turn .inv .3,
     )
 
 pub remove-spec : {M : Type 1} → statement M
@@ -75,9 +72,9 @@ remove-spec =
     add-loop
     add-y
     mul-y
-    array-read-y
-    mul-b
-    array-write-b
+    element-copy-out-y
+    mul-a
+    element-write-a
     add-i
     loop-less
     loop-again
