@@ -29,7 +29,7 @@ draft-from-requires c κs = search needs
 returns : tie.Need-returns
 unfolding logContent
 returns c =
-    let pages = c .before .before .before .before .before .before in
+    let pages = c .before .before .before .before in
     rw (c .draft-from .ensures, ← begun (pages .before) .is, ← pages .redo-pages .ensures .is) (c .before .redo-entries .ensures)
 
 pub log-content-spec : {M : Type 1} → statement M
