@@ -5,5 +5,12 @@ pub mod Stack
 pub mod Steps
 pub mod Pending
 pub mod Reached
+-- Both in the work table.
+pub mod Area
+pub mod AreaLaws
+pub mod Step
+pub mod Whole
+pub mod FirstLeaf
+pub mod Verdict
 -- What stands for a node that is none leaves the tree unsound.
 pub mod Unsound

@@ -28,6 +28,14 @@ pub all-none : (table : Table) (low : ℕ) (w : Walk) → visitAll table [] low 
 unfolding visitAll
 all-none table low w = refl
 
+pub all-one : (table : Table) (d : Due) (low : ℕ) (w : Walk) → visitAll table (d ∷ []) low w ≡ visit (d .depth) table (d .id) low (d .high) w
+unfolding visitAll
+all-one table d low w = go (visit (d .depth) table (d .id) low (d .high) w)
+  where
+    go : (o : Option Walk) → andThen o (visitAll table [] (d .high)) ≡ o
+    go none = refl
+    go (some v) = refl
+
 -- The children of a branch in front of the rest: the children visited, then the rest.
 all-children : (table : Table) (d : ℕ) (ds : List Due) (ps : List Pair) (last high low : ℕ) (w : Walk) →
     visitAll table (childrenOf d ps last high ++ ds) low w ≡ andThen (visitChildren (visit d table) ps last low high w) (visitAll table ds high)

@@ -47,6 +47,26 @@ ofKind zero id awaited (node Branch ks last) = false
 ofKind (suc d) id awaited (node Leaf ps next) = false
 ofKind (suc d) id awaited (node Branch ks last) = leb 1 (length ks)
 
+-- The kind, by each way that the code takes.
+module _ (id awaited : ℕ) (ps : List Pair) (link : ℕ) where
+  pub kind-awaited : (depth : ℕ) (n : Node) → n ≡ node Leaf ps link → depth ≡ 0 → eqb awaited id ≡ ofKind depth id awaited n
+  unfolding ofKind
+  kind-awaited depth n e z = rw (e, z) refl
+
+  pub kind-bottom : (depth : ℕ) (n : Node) → n ≡ node Branch ps link → depth ≡ 0 → false ≡ ofKind depth id awaited n
+  unfolding ofKind
+  kind-bottom depth n e z = rw (e, z) refl
+
+  pub kind-above : (depth : ℕ) (n : Node) → n ≡ node Leaf ps link → (depth ≡ 0 → ⊥) → false ≡ ofKind depth id awaited n
+  unfolding ofKind
+  kind-above zero n e z = absurd (z refl)
+  kind-above (suc d) n e z = rw e refl
+
+  pub kind-keyed : (depth : ℕ) (n : Node) → n ≡ node Branch ps link → (depth ≡ 0 → ⊥) → leb 1 (length ps) ≡ ofKind depth id awaited n
+  unfolding ofKind
+  kind-keyed zero n e z = absurd (z refl)
+  kind-keyed (suc d) n e z = rw e refl
+
 -- It passes: in order, and of that kind.
 unfoldable pub passes : ℕ → ℕ → ℕ → ℕ → Walk → Node → Bool
 passes depth id low high w n = inOrder id low high (pairsOf n) (w .marks) && ofKind depth id (w .awaited) n
@@ -54,6 +74,16 @@ passes depth id low high w n = inOrder id low high (pairsOf n) (w .marks) && ofK
 -- The walk once it has reached an id and awaits a leaf.
 abbrev pub marked : Walk → ℕ → ℕ → Walk
 marked w id awaited = record { awaited = awaited; marks = set (w .marks) id 1 }
+
+pub pass-disorder : (depth id low high : ℕ) (w : Walk) (n : Node) → inOrder id low high (pairsOf n) (w .marks) ≡ false →
+    false ≡ passes depth id low high w n
+unfolding passes
+pass-disorder depth id low high w n e = rw e refl
+
+pub pass-kind : (depth id low high : ℕ) (w : Walk) (n : Node) → inOrder id low high (pairsOf n) (w .marks) ≡ true →
+    ofKind depth id (w .awaited) n ≡ passes depth id low high w n
+unfolding passes
+pass-kind depth id low high w n e = rw e refl
 
 pub pass-inside : (depth id low high : ℕ) (w : Walk) (n : Node) → passes depth id low high w n ≡ true → id < length (w .marks)
 unfolding passes
