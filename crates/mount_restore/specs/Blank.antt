@@ -8,13 +8,13 @@ use Prim.Native.Nat.{ℕ, zero, suc, _+_, _-_, _*_, _≤_, _<_}
 use native.Mathlib.Omega.{arith}
 use borrow.Author.Tests.{ltb-true}
 use lib.Dec.{ltb, eqb}
-use lib.ListN.{length, getD, set, take, drop, replicate, length-replicate, List·getD-eq-default}
+use lib.ListN.{length, getD, set, take, replicate, length-replicate, List·getD-eq-default}
 use lib.Seq.{getD-set-other, ext-getD, length-take-le}
 use Rattle.laws.specs.Order.{le-or}
 use Rattle.laws.specs.Tests.{choose}
 use Rattle.laws.specs.Lay.{lay, part, drop-replicate, part-lay, part-lay-before, part-part, part-take, length-lay}
 use Rattle.laws.specs.BigEndian.{numberAt}
-use Rattle.laws.specs.Loops.{steps, steps-keep}
+use Rattle.laws.specs.Loops.{steps-keep}
 use Rattle.layout.specs.Layout.{tableBytes, pagesInBlock, mostEntries}
 use Rattle.wire.specs.Field.{payloadAt}
 use Rattle.account.specs.declared.Mode.{Mode}

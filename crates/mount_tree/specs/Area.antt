@@ -18,7 +18,7 @@ use Rattle.flash_read.specs.NodeTable.{Readable}
 use Rattle.mount_tree.specs.declared.due.Due.{Due}
 use Rattle.mount_tree.specs.declared.walk.WalkValue.{WalkValue}
 use Rattle.mount_tree.specs.Due.{dueBytes, duesOf, noDue}
-use Rattle.mount_tree.specs.Steps.{passes}
+use Rattle.mount_tree.specs.Passes.{passes}
 use Rattle.mount_tree.specs.Pending.{visitAll}
 use Rattle.mount_tree.specs.Reached.{reachedIn}
 
@@ -90,8 +90,8 @@ pub record NextDue (kept nodes : ℕ) (table : List ℕ) (v : NodeValue) (due : 
   pub sized : Sized v
   pub pass : passes (due .depth) (due .id) (w .low) (due .high) (walkIn kept nodes table w) (nodeOf v) ≡ true
 
-abbrev pub Steps : ℕ → ℕ → List ℕ → NodeValue → Due → WalkValue → List ℕ → WalkValue → Type 0
-Steps kept nodes before v due w after r = (tree : Table) → nodeOf v ≡ tree (due .id) → Stepped tree kept nodes before w after r
+abbrev pub Visits : ℕ → ℕ → List ℕ → NodeValue → Due → WalkValue → List ℕ → WalkValue → Type 0
+Visits kept nodes before v due w after r = (tree : Table) → nodeOf v ≡ tree (due .id) → Stepped tree kept nodes before w after r
 
 -- The answer of a whole walk.
 pub record Walked (tree : Table) (kept nodes : ℕ) (before : List ℕ) (w : WalkValue) (after : List ℕ) (answer : Bool) : Type 0 where

@@ -1,19 +1,17 @@
 -- The nodes due, visited from left to right: the keys of each begin where those of the one before it end, so one bound runs along. A branch that is
 -- due can be entered and its children put in front of the rest: so the walk needs no recursion. Assumes nothing.
-use mathlib.Core.Path.{_≡_, refl, sym, ap, _∙_}
-use mathlib.Core.Bool.{Bool, true, false, _&&_}
+use mathlib.Core.Path.{_≡_, refl, sym}
+use mathlib.Core.Bool.{true, false}
 use mathlib.Core.List.{List, [], _∷_, _++_}
 use mathlib.Core.Option.{Option, none, some}
-use Prim.Native.Nat.{ℕ, zero, suc, _+_, _≤_, _<_}
-use native.Mathlib.Omega.{arith}
-use lib.ListN.{length, set}
+use Prim.Native.Nat.{ℕ, suc, _+_}
 use Rattle.pairs.specs.Pairs.{Pair}
 use Rattle.node.specs.Node.{Node, pairsOf, linkOf}
 use Rattle.tree.specs.Table.{Table}
 use Rattle.tree.specs.Sound.{Walk, visitChildren, visit}
 use Rattle.mount_tree.specs.declared.due.Due.{Due}
 use Rattle.mount_tree.specs.Due.{childrenOf}
-use Rattle.mount_tree.specs.Steps.{passes, marked, visit-fails, visit-leaf, visit-branch}
+use Rattle.mount_tree.specs.Passes.{passes, marked, visit-fails, visit-leaf, visit-branch}
 
 -- A walk that passed goes on.
 abbrev pub andThen : Option Walk → (Walk → Option Walk) → Option Walk

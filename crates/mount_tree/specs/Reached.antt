@@ -1,12 +1,12 @@
 -- Every visit that passes reaches at least one id more, and there are no more ids than marks: so a walk on which more nodes are due than ids are not
 -- reached does not pass. Assumes nothing.
-use mathlib.Core.Path.{_≡_, refl, sym, ap, _∙_}
-use mathlib.Core.Bool.{Bool, true, false, _&&_}
+use mathlib.Core.Path.{_≡_, refl, sym, _∙_}
+use mathlib.Core.Bool.{Bool, true, false}
 use mathlib.Core.List.{List, [], _∷_}
 use mathlib.Core.Option.{Option, none, some}
 use Prim.Native.Nat.{ℕ, zero, suc, _+_, _≤_, _<_, compare·suc-suc}
 use native.Mathlib.Omega.{arith}
-use borrow.Author.Tests.{eq-eqb, ne-eqb}
+use borrow.Author.Tests.{ne-eqb}
 use lib.Dec.{eqb}
 use lib.ListN.{length, getD, set, replicate, length-set}
 use Rattle.laws.specs.Options.{none-some, some-same}
@@ -16,7 +16,7 @@ use Rattle.node.specs.Node.{pairsOf, linkOf}
 use Rattle.tree.specs.Table.{Table}
 use Rattle.tree.specs.Sound.{Walk, visitChildren, visit, allMarked}
 use Rattle.mount_tree.specs.declared.due.Due.{Due}
-use Rattle.mount_tree.specs.Steps.{passes, marked, visit-fails, visit-leaf, visit-branch, pass-inside, pass-fresh}
+use Rattle.mount_tree.specs.Passes.{passes, marked, visit-fails, visit-leaf, visit-branch, pass-inside, pass-fresh}
 use Rattle.mount_tree.specs.Pending.{andThen, visitAll}
 
 -- How many ids were reached.

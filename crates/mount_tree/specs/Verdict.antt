@@ -12,7 +12,7 @@ use Rattle.node.specs.Node.{pairsOf}
 use Rattle.tree.specs.Table.{Table}
 use Rattle.tree.specs.Sound.{Walk, Leftmost, leftmost, visit, noMarks, complete, walkFrom, sound}
 use Rattle.mount_tree.specs.declared.walk.WalkValue.{WalkValue}
-use Rattle.mount_tree.specs.Steps.{visit-fails, pass-disorder, order-behind}
+use Rattle.mount_tree.specs.Passes.{visit-fails, pass-disorder, order-behind}
 use Rattle.mount_tree.specs.Pending.{all-one}
 use Rattle.mount_tree.specs.Reached.{reachedIn, reached-zero}
 use Rattle.mount_tree.specs.Area.{Standing, comesTo, rootDue, Begun, Walked}

@@ -7,7 +7,7 @@ use Prim.Native.Nat.{ℕ, _≤_, _+_}
 use native.Mathlib.Omega.{arith}
 use borrow.Author.Tests.{eq-eqb, ne-eqb}
 use lib.Dec.{eqb}
-use lib.ListN.{length, take, drop, drop-of-length-le}
+use lib.ListN.{length, take, drop-of-length-le}
 use Rattle.laws.specs.Tests.{choose}
 use Rattle.layout.specs.Layout.{noLeaf}
 use Rattle.tree.specs.Table.{Table}
@@ -17,7 +17,7 @@ use Rattle.flash_read.specs.NodeTable.{Readable}
 use Rattle.mount_tree.specs.declared.due.Due.{Due}
 use Rattle.mount_tree.specs.declared.walk.WalkValue.{WalkValue}
 use Rattle.mount_tree.specs.Pending.{visitAll, all-none}
-use Rattle.mount_tree.specs.Reached.{reachedIn, all-reached}
+use Rattle.mount_tree.specs.Reached.{all-reached}
 use Rattle.mount_tree.specs.Area.{workBytes, duesIn, marksIn, Checkable, Standing, walkIn, comesTo, Stepped}
 use Rattle.mount_tree.specs.AreaLaws.{length-duesIn, length-marksIn}
 

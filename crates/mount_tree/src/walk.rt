@@ -7,8 +7,8 @@ ghost use Rattle.flash_rows.specs.Row.{rowsOf};
 ghost use Rattle.node.specs.Value.{pairsIn, nodeOf, Sized};
 ghost use Rattle.tree.specs.Sound.{inOrder};
 ghost use Rattle.flash_read.specs.NodeTable.{tableOf};
-ghost use Rattle.mount_tree.specs.Steps.{ofKind, passes};
-ghost use Rattle.mount_tree.specs.Area.{workBytes, Checkable, Standing, walkIn, failedAt, NextDue, Steps, Stepped, Walked};
+ghost use Rattle.mount_tree.specs.Passes.{ofKind, passes};
+ghost use Rattle.mount_tree.specs.Area.{workBytes, Checkable, Standing, walkIn, failedAt, NextDue, Visits, Stepped, Walked};
 use super::area::due_at;
 use super::area::mark;
 use super::area::push;
@@ -96,7 +96,7 @@ fn pass_leaf(
     w: WalkValue,
 ) -> WalkValue
     requires { ⌜ (NextDue kept nodes (now table) v due w) × (due .depth ≡ 0) ⌝ }
-    ensures { λ r. ⌜ Steps kept nodes (now (table .entry)) v due w (now (table .exit)) r ⌝ }
+    ensures { λ r. ⌜ Visits kept nodes (now (table .entry)) v due w (now (table .exit)) r ⌝ }
 {
     mark(table, kept, nodes, due.id);
     WalkValue {
@@ -118,7 +118,7 @@ fn enter_branch(
     w: WalkValue,
 ) -> WalkValue
     requires { ⌜ (NextDue kept nodes (now table) v due w) × (1 ≤ due .depth) ⌝ }
-    ensures { λ r. ⌜ Steps kept nodes (now (table .entry)) v due w (now (table .exit)) r ⌝ }
+    ensures { λ r. ⌜ Visits kept nodes (now (table .entry)) v due w (now (table .exit)) r ⌝ }
 {
     if w.top < v.count + (w.reached + 1) {
         return failed(w);

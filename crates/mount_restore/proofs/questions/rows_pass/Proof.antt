@@ -1,61 +1,64 @@
+-- `questions::rows_pass` meets its contract: the tariff, the scores, the tree. Assumes nothing.
 use mathlib.Core.Path.{refl, sym, _∙_}
+use borrow.Author.Needs.{needs}
 use Rattle.flash_blocks.specs.Pages.{pagesOf}
 use Rattle.flash_rows.specs.Row.{rowsOf}
 use Rattle.mount_restore.proofs.Laws.{out-of-range, score-too-great, tree-decides}
-use borrow.Author.Needs.{needs}
 use Rattle.mount_restore.proofs.questions.rows_pass.Statement.{statement}
 use Rattle.mount_restore.proofs.questions.rows_pass.Tie as tie
-use Rattle.mount_restore.proofs.questions.rows_pass.Reads as reads
-use Rattle.mount_restore.proofs.questions.rows_pass.Lts as lts
-use Rattle.account.proofs.Tariff.in_range.Reads as in-range-reads
-use Rattle.account.proofs.Tariff.limit.Reads as limit-reads
-use Rattle.mount_restore.proofs.questions.tree_sound.Reads as tree-sound-reads
-use Rattle.mount_restore.proofs.scores.scores_below.Reads as scores-below-reads
 
--- src/questions.rt:47:8
 in-range-requires : tie.Need-in-range-requires
 in-range-requires c κs = search needs
 
--- src/questions.rt:48:9
 returns : tie.Need-returns
-returns c = let a = c .before .before .before .before .args in
-    (out-of-range (a .tariff) (a .state) (pagesOf (a .pool .now)) (rowsOf (a .table .now)) (sym (c .before .in-range .ensures) ∙ c .if1 .left), refl)
+returns c =
+    let c1 = c .before in
+    let c4 = c1 .before .before .before in
+    let a = c4 .args in
+    (out-of-range (a .tariff) (a .state) (pagesOf (a .pool .now)) (rowsOf (a .table .now)) (sym (c1 .in-range .ensures) ∙ c .if1 .left), refl)
 
--- src/questions.rt:50:41
 limit-requires : tie.Need-limit-requires
 limit-requires c κs = search needs
 
--- src/questions.rt:50:8
 scores-below-requires : tie.Need-scores-below-requires
 scores-below-requires c κs = search needs
 
--- src/questions.rt:51:9
 same-length : tie.Need-same-length
 same-length c = search needs
 
--- src/questions.rt:51:9
 returns-2 : tie.Need-returns-2
-returns-2 c = let a = c .before .before .before .before .before .before .before .before .args in (
-  score-too-great (a .tariff) (a .state) (pagesOf (a .pool .now)) (rowsOf (a .table .now)) (sym (c .before .before .before .before .before .in-range .ensures) ∙ c .before .before .before .before .if1 .taken)
-      (c .before .before .limit .result) (c .before .before .limit .ensures) (sym (c .before .scores-below .ensures) ∙ c .if2 .left),
-  refl,
-)
+returns-2 c =
+    let c1 = c .before in
+    let c2 = c1 .before in
+    let c4 = c2 .before .before in
+    let c5 = c4 .before in
+    let c8 = c5 .before .before .before in
+    let a = c8 .args in (
+      score-too-great (a .tariff) (a .state) (pagesOf (a .pool .now)) (rowsOf (a .table .now)) (sym (c5 .in-range .ensures) ∙ c4 .if1 .taken)
+          (c2 .limit .result) (c2 .limit .ensures) (sym (c1 .scores-below .ensures) ∙ c .if2 .left),
+      refl,
+    )
 
--- src/questions.rt:53:5
 tree-sound-requires : tie.Need-tree-sound-requires
 tree-sound-requires c κs = search needs
 
--- src/questions.rt:40:1
 same-length-2 : tie.Need-same-length-2
 same-length-2 c = search needs
 
--- src/questions.rt:40:1
 returns-3 : tie.Need-returns-3
-returns-3 c = let a = c .before .before .before .before .before .before .before .before .before .before .before .before .args in
-    let s = c .before .before .tree-sound in (
+returns-3 c =
+    let c2 = c .before .before in
+    let c4 = c2 .before .before in
+    let c5 = c4 .before in
+    let c6 = c5 .before in
+    let c8 = c6 .before .before in
+    let c9 = c8 .before in
+    let c12 = c9 .before .before .before in
+    let a = c12 .args in
+    let s = c2 .tree-sound in (
       s .ensures .0 ∙
-          tree-decides (a .tariff) (a .state) (pagesOf (a .pool .now)) (rowsOf (a .table .now)) (sym (c .before .before .before .before .before .before .before .before .before .in-range .ensures) ∙ c .before .before .before .before .before .before .before .before .if1 .taken)
-          (c .before .before .before .before .before .before .limit .result) (c .before .before .before .before .before .before .limit .ensures) (sym (c .before .before .before .before .before .scores-below .ensures) ∙ c .before .before .before .before .if2 .taken),
+          tree-decides (a .tariff) (a .state) (pagesOf (a .pool .now)) (rowsOf (a .table .now)) (sym (c9 .in-range .ensures) ∙ c8 .if1 .taken)
+          (c6 .limit .result) (c6 .limit .ensures) (sym (c5 .scores-below .ensures) ∙ c4 .if2 .taken),
       s .ensures .1,
     )
 

@@ -1,32 +1,25 @@
+-- `area::mark` meets its contract: one byte set behind the stack. Assumes nothing.
 use mathlib.Core.Path.{refl}
-use Rattle.mount_tree.specs.AreaLaws.{mark-leaves}
 use borrow.Author.Needs.{needs}
+use Rattle.mount_tree.specs.AreaLaws.{mark-leaves}
 use Rattle.mount_tree.proofs.area.mark.Statement.{statement}
 use Rattle.mount_tree.proofs.area.mark.Tie as tie
-use Rattle.mount_tree.proofs.area.mark.Reads as reads
-use Rattle.mount_tree.proofs.area.mark.Lts as lts
 
--- src/area.rt:31:21
 mul-at : tie.Need-mul-at
 mul-at c = search needs
 
--- src/area.rt:31:14
 add-at : tie.Need-add-at
 add-at c = search needs
 
--- src/area.rt:31:14
 add-at-2 : tie.Need-add-at-2
 add-at-2 c = search needs
 
--- src/area.rt:32:5
 slice-write-table : tie.Need-slice-write-table
 slice-write-table c = search needs
 
--- src/area.rt:27:1
 same-length : tie.Need-same-length
 same-length c = search needs
 
--- src/area.rt:27:1
 returns : tie.Need-returns
 returns c = let a = c .args in mark-leaves (a .kept) (a .nodes) (a .table .now) (c .pre .0) (a .id) _ (c .pre .1) refl
 

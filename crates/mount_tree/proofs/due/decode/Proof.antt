@@ -1,44 +1,33 @@
-use Rattle.mount_tree.specs.Due.{decode}
+-- `due::decode` meets its contract: each field is read at its place. Assumes nothing.
 use borrow.Author.Needs.{needs}
+use Rattle.mount_tree.specs.Due.{decode}
 use Rattle.mount_tree.proofs.due.decode.Statement.{statement}
 use Rattle.mount_tree.proofs.due.decode.Tie as tie
-use Rattle.mount_tree.proofs.due.decode.Reads as reads
-use Rattle.mount_tree.proofs.due.decode.Lts as lts
-use Rattle.wire.proofs.number.read32.Reads as read32-reads
 
--- src/due.rt:29:9
 read32-requires : tie.Need-read32-requires
 read32-requires c κs = search needs
 
--- src/due.rt:30:9
 read32-requires-2 : tie.Need-read32-requires-2
 read32-requires-2 c κs = search needs
 
--- src/due.rt:31:17
 read32-requires-3 : tie.Need-read32-requires-3
 read32-requires-3 c κs = search needs
 
--- src/due.rt:31:17
 cast-upper : tie.Need-cast-upper
 cast-upper c = search needs
 
--- src/due.rt:32:17
 read32-requires-4 : tie.Need-read32-requires-4
 read32-requires-4 c κs = search needs
 
--- src/due.rt:32:17
 cast-lower : tie.Need-cast-lower
 cast-lower c = search needs
 
--- src/due.rt:36:15
 mul-t7 : tie.Need-mul-t7
 mul-t7 c = search needs
 
--- src/due.rt:36:15
 add-t8 : tie.Need-add-t8
 add-t8 c = search needs
 
--- src/due.rt:25:1
 returns : tie.Need-returns
 unfolding decode
 returns c = cc

@@ -1,39 +1,30 @@
+-- `due::read_due` meets its contract: the part of the stack is the chunk of the slot. Assumes nothing.
 use mathlib.Core.Path.{_∙_}
 use Prim.Native.Nat.{_+_, _-_, _*_}
 use native.Mathlib.Omega.{arith}
-use Rattle.mount_tree.specs.Stack.{part-dues}
 use borrow.Author.Needs.{needs}
+use Rattle.mount_tree.specs.Stack.{part-dues}
 use Rattle.mount_tree.proofs.due.read_due.Statement.{statement}
 use Rattle.mount_tree.proofs.due.read_due.Tie as tie
-use Rattle.mount_tree.proofs.due.read_due.Reads as reads
-use Rattle.mount_tree.proofs.due.read_due.Lts as lts
-use Rattle.mount_tree.proofs.due.decode.Reads as decode-reads
 
--- src/due.rt:71:16
 mul-from : tie.Need-mul-from
 mul-from c = search needs
 
--- src/due.rt:72:14
 add-to : tie.Need-add-to
 add-to c = search needs
 
--- src/due.rt:73:12
 sub-decode : tie.Need-sub-decode
 sub-decode c = search needs
 
--- src/due.rt:73:12
 part-decode-start : tie.Need-part-decode-start
 part-decode-start c = search needs
 
--- src/due.rt:73:12
 part-decode-end : tie.Need-part-decode-end
 part-decode-end c = search needs
 
--- src/due.rt:73:5
 decode-requires : tie.Need-decode-requires
 decode-requires c κs = search needs
 
--- src/due.rt:67:1
 returns : tie.Need-returns
 returns c = let a = c .before .before .before .args in
     c .decode .ensures ∙ part-dues (a .stack .now) (a .slot) (16 * a .slot + 16 - 16 * a .slot) (omega arith) (omega arith)

@@ -56,11 +56,14 @@ pointer-requires c κs = search needs
 add-depth : tie.Need-add-depth Inv-loop μ-loop
 add-depth c =
     let c4 = c .before .before .before .before in
+    let c4 = c4 in
     let c9 = c4 .before .before .before .before .before in
     omega (arith, c4 .if1 .taken, c9 .pre .0 .nodes)
 
 loop-less : tie.Need-loop-less Inv-loop μ-loop
-loop-less c = omega (arith, c .before .before .before .before .if1 .taken)
+loop-less c =
+    let c4 = c .before .before .before .before in
+    omega (arith, c4 .if1 .taken)
 
 loop-again : tie.Need-loop-again Inv-loop μ-loop
 loop-again c =

@@ -2,7 +2,7 @@
 use mathlib.Core.Path.{_≡_, refl, sym, ap, _∙_}
 use mathlib.Core.Bool.{true, false, true≢false}
 use mathlib.Core.List.{List, _∷_, _++_}
-use mathlib.Core.Option.{Option, none}
+use mathlib.Core.Option.{none}
 use Prim.Native.Nat.{ℕ, suc, _+_, _-_, _≤_, _<_}
 use native.Mathlib.Numerals.{add-one}
 use native.Mathlib.Omega.{arith}
@@ -11,12 +11,11 @@ use lib.Seq.{drop-cons}
 use Rattle.node.specs.declared.NodeValue.{NodeValue}
 use Rattle.node.specs.Value.{pairsIn, nodeOf, length-pairsIn}
 use Rattle.tree.specs.Table.{Table}
-use Rattle.tree.specs.Sound.{Walk}
 use Rattle.mount_tree.specs.declared.due.Due.{Due}
 use Rattle.mount_tree.specs.declared.walk.WalkValue.{WalkValue}
 use Rattle.mount_tree.specs.Due.{noDue, childrenOf}
 use Rattle.mount_tree.specs.Stack.{length-children}
-use Rattle.mount_tree.specs.Steps.{passes, marked, pass-inside, pass-fresh}
+use Rattle.mount_tree.specs.Passes.{passes, marked, pass-inside, pass-fresh}
 use Rattle.mount_tree.specs.Pending.{visitAll, all-fails, all-leaf, all-branch}
 use Rattle.mount_tree.specs.Reached.{reachedIn, reached-set, crowded-none}
 use Rattle.mount_tree.specs.Area.{workBytes, duesIn, marksIn, walkIn, comesTo, failedAt, Marks, Pushes, Stepped, NextDue}
