@@ -1,5 +1,4 @@
--- What the check keeps behind the kept bytes of the work table: a slot for each node due, then a mark for each id. No stack is needed beside it.
--- Assumes nothing.
+-- What the check keeps behind the kept bytes of the work table: a slot for each node due, then a mark for each id. Assumes nothing.
 use mathlib.Core.Path.{_≡_}
 use mathlib.Core.Bool.{Bool, true, false}
 use mathlib.Core.List.{List, [], _∷_, _++_}
@@ -54,7 +53,7 @@ comesTo tree kept nodes table w = visitAll tree (drop (w .top) (duesIn kept node
 abbrev pub failedAt : WalkValue → WalkValue
 failedAt w = record { passed = false; awaited = w .awaited; low = w .low; top = w .top; reached = w .reached }
 
--- What a mark leaves of the table, and what children pushed from a slot on leave, in front of the slot behind them.
+-- What a mark leaves of the table; and what children leave that are pushed from a base slot on, in front of what stands behind them.
 pub record Marks (kept nodes id : ℕ) (before after : List ℕ) : Type 0 where
   pub same : take kept after ≡ take kept before
   pub dues : duesIn kept nodes after ≡ duesIn kept nodes before

@@ -8,6 +8,7 @@ use Rattle.layout.specs.Layout.{bound32}
 use Rattle.pairs.specs.Pairs.{Pair}
 use Rattle.mount_tree.specs.declared.due.Due.{Due}
 
+-- The bytes of a node due.
 abbrev pub dueBytes : ℕ
 dueBytes = 16
 

@@ -4,7 +4,7 @@ use mathlib.Core.Path.{_≡_, refl, sym}
 use mathlib.Core.Bool.{true, false}
 use mathlib.Core.List.{List, [], _∷_, _++_}
 use mathlib.Core.Option.{Option, none, some}
-use Prim.Native.Nat.{ℕ, suc, _+_}
+use Prim.Native.Nat.{ℕ, suc}
 use Rattle.pairs.specs.Pairs.{Pair}
 use Rattle.node.specs.Node.{Node, pairsOf, linkOf}
 use Rattle.tree.specs.Table.{Table}
@@ -18,6 +18,7 @@ abbrev pub andThen : Option Walk → (Walk → Option Walk) → Option Walk
 andThen none next = none
 andThen (some w) next = next w
 
+-- Each node due visited in turn; the number is the lowest key that the next one may have.
 unfoldable pub visitAll : Table → List Due → ℕ → Walk → Option Walk
 visitAll table [] low w = some w
 visitAll table (d ∷ ds) low w = andThen (visit (d .depth) table (d .id) low (d .high) w) (visitAll table ds (d .high))

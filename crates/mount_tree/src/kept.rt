@@ -1,11 +1,10 @@
 // A node of the tree, by the kept bytes of the work table.
-ghost use lib.ListN.{take};
+ghost use Prim.Native.Nat.{_≤_};
+ghost use lib.ListN.{length, take};
 ghost use Rattle.flash_blocks.specs.Pages.{pagesOf};
 ghost use Rattle.flash_rows.specs.Row.{rowsOf};
 ghost use Rattle.node.specs.Value.{Becomes};
 ghost use Rattle.flash_read.specs.NodeTable.{tableOf, Readable};
-ghost use Prim.Native.Nat.{_≤_};
-ghost use lib.ListN.{length};
 use flash_allocate::state::State;
 use flash_read::by_id::node_at;
 use node::NodeValue;
