@@ -2,22 +2,24 @@
 use mathlib.Core.Path.{_≡_, refl, sym, ap, _∙_}
 use mathlib.Core.Bool.{Bool, true, false, true≢false}
 use mathlib.Core.List.{List}
-use Prim.Native.Nat.{ℕ, _*_, _≤_, _<_}
+use Prim.Native.Nat.{ℕ, _+_, _*_, _≤_, _<_}
 use native.Mathlib.Omega.{arith}
 use borrow.Author.Tests.{le-leb, lt-leb}
 use lib.ListN.{length, replicate}
+use lib.Seq.{length-take-le}
 use Rattle.laws.specs.Loops.{allFrom}
-use Rattle.layout.specs.Layout.{nodeLimit, tableBytes, lastSequence}
+use Rattle.layout.specs.Layout.{nodeLimit, mostNodes, tableBytes, lastSequence}
 use Rattle.account.specs.declared.Tariff.{Tariff}
 use Rattle.account.specs.Tariff.{limit}
 use Rattle.account.specs.Range.{inRange}
 use Rattle.tree.specs.Sound.{sound}
-use Rattle.flash_rows.specs.Row.{rowsOf}
+use Rattle.flash_rows.specs.Row.{rowsOf, rowBytes}
 use Rattle.flash_rows.specs.declared.Row.{Row}
 use Rattle.flash_allocate.specs.declared.state.State.{State}
 use Rattle.mount_rows.specs.Fill.{filled, withinThree, Filled}
 use Rattle.mount_checkpoint.specs.Scores.{takePages}
 use Rattle.flash_read.specs.NodeTable.{tableOf}
+use Rattle.mount_tree.specs.Area.{workBytes, Checkable}
 use Rattle.mount_restore.specs.Table.{emptyRows, scoredRows, restoredRows, Restored}
 use Rattle.mount_restore.specs.Questions.{rowsPass, rowsFor, treePasses, refusalOf, Judged, Asked}
 use Rattle.mount_restore.specs.Scores.{isBelow}
@@ -35,6 +37,20 @@ rows-restored blocks nodes since pages table zeros scored after answer size z s 
           f .rows ∙
           ap (filled blocks nodes pages) (s ∙ ap (λ (x : List ℕ). takePages pages (32 * blocks) since nodes (rowsOf x)) e);
       three = f .three;
+    }
+
+-- The check of the tree has room behind the rows of the nodes.
+pub checkable : (s : State) (limit : ℕ) (table : List ℕ) → s .entries ≡ 0 → s .nodes ≤ limit → limit ≤ mostNodes →
+    rowBytes * limit + workBytes limit ≤ length table → Checkable s (rowBytes * limit) table
+checkable s limit table empty few most room =
+    record {
+      readable =
+          record {
+            entries = omega arith;
+            nodes = omega arith;
+            rows = omega (arith, length-take-le (rowBytes * limit) table (omega arith));
+          };
+      room = omega arith;
     }
 
 -- Restored rows.
@@ -70,12 +86,13 @@ module _ (t : Tariff) (s : State) (since : ℕ) (pages : List (List ℕ)) (after
     unfolding treePasses
     too-scattered e = refuses (rw (le-leb (s .nodes) (nodeLimit (s .blocks)) few, sym three-is ∙ e) refl)
 
-    pub rows-decide : three ≡ true → (answer : Bool) → answer ≡ rowsPass t s pages after → Judged t s since pages after answer
+    pub rows-decide : three ≡ true → (answer : Bool) (last : List Row) → answer ≡ rowsPass t s pages after → last ≡ after →
+        Judged t s since pages last answer
     unfolding treePasses
-    rows-decide e answer is =
+    rows-decide e answer last is same =
         record {
           is = is ∙ ap (rowsPass t s pages) (r .rows) ∙ rw (le-leb (s .nodes) (nodeLimit (s .blocks)) few, sym three-is ∙ e) refl;
-          rows = λ yes. r .rows;
+          rows = λ yes. same ∙ r .rows;
         }
 
 -- Questions 7 and 8.

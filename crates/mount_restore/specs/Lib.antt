@@ -1,3 +1,4 @@
 pub mod Scores
 pub mod Table
+pub mod Blank
 pub mod Questions

@@ -5,21 +5,44 @@ ghost use lib.ListN.{length};
 ghost use Rattle.layout.specs.Layout.{blockBytes, fewestBlocks, mostBlocks, nodeLimit, tableBytes};
 ghost use Rattle.flash_rows.specs.Row.{rowsOf};
 ghost use Rattle.flash_blocks.specs.Pages.{pagesOf};
+ghost use Rattle.tree.specs.Sound.{sound};
+ghost use Rattle.flash_read.specs.NodeTable.{tableOf};
+ghost use Rattle.mount_restore.specs.Blank.{BlankFrom};
 ghost use Rattle.mount_restore.specs.Questions.{rowsPass, Judged, Asked};
 use super::scores::scores_below;
 use super::table::restore_rows;
 use account::Tariff;
 use flash_allocate::state::State;
 use layout::LAST_SEQUENCE;
+use layout::ROW_BYTES;
+use layout::TABLE_BYTES;
 use layout::node_limit;
 use mount_tree::is_sound;
+use wire::bytes::fill_part;
 
-// Whether restored rows pass: the tariff in range, the scores below its limit, the tree sound.
-fn rows_pass<'a>(pool: &'a [u8], table: &'a [u8], state: State, tariff: Tariff) -> bool
+// Whether the tree of the rows is sound. The check works behind the rows of the nodes, where no row stands, and leaves no row there.
+fn tree_sound(pool: &[u8], table: &mut [u8], state: State) -> bool
     requires { ⌜ (fewestBlocks ≤ state .blocks) × (state .blocks ≤ mostBlocks)
         × (length (now table) ≡ tableBytes (state .blocks)) × (state .nodes ≤ nodeLimit (state .blocks))
-        × (state .entries ≡ 0) ⌝ }
-    ensures { λ r. ⌜ r ≡ rowsPass tariff state (pagesOf (now (pool .entry))) (rowsOf (now (table .entry))) ⌝ }
+        × (state .entries ≡ 0) × (BlankFrom (state .nodes) (rowsOf (now table))) ⌝ }
+    ensures { λ r. ⌜ (r ≡ sound (nodeLimit (state .blocks)) (state .nodes)
+        (tableOf (pagesOf (now (pool .entry))) (rowsOf (now (table .entry))) state))
+        × (rowsOf (now (table .exit)) ≡ rowsOf (now (table .entry))) ⌝ }
+{
+    let limit = node_limit(state.blocks);
+    let kept = ROW_BYTES * limit;
+    let sound = is_sound(pool, table, kept, state, limit);
+    fill_part(table, kept, TABLE_BYTES * state.blocks, 0);
+    sound
+}
+
+// Whether restored rows pass: the tariff in range, the scores below its limit, the tree sound.
+fn rows_pass(pool: &[u8], table: &mut [u8], state: State, tariff: Tariff) -> bool
+    requires { ⌜ (fewestBlocks ≤ state .blocks) × (state .blocks ≤ mostBlocks)
+        × (length (now table) ≡ tableBytes (state .blocks)) × (state .nodes ≤ nodeLimit (state .blocks))
+        × (state .entries ≡ 0) × (BlankFrom (state .nodes) (rowsOf (now table))) ⌝ }
+    ensures { λ r. ⌜ (r ≡ rowsPass tariff state (pagesOf (now (pool .entry))) (rowsOf (now (table .entry))))
+        × (rowsOf (now (table .exit)) ≡ rowsOf (now (table .entry))) ⌝ }
 {
     if tariff.in_range() {} else {
         return false;
@@ -27,7 +50,7 @@ fn rows_pass<'a>(pool: &'a [u8], table: &'a [u8], state: State, tariff: Tariff) 
     if scores_below(table, state.nodes, tariff.limit()) {} else {
         return false;
     }
-    is_sound(pool, table, state, node_limit(state.blocks))
+    tree_sound(pool, table, state)
 }
 
 // Question 7. A count above the limit has no rows to restore.

@@ -1,4 +1,4 @@
--- The first leaf, looked for with fuel 9, a step at a time: what is left of the search from a node gives the whole. Assumes nothing.
+-- The first leaf, a step at a time: what is left of the search from a node gives the whole. Assumes nothing.
 use mathlib.Core.Path.{_≡_, ap, _∙_}
 use Prim.Native.Nat.{ℕ, suc, _+_, _-_, _≤_, _<_}
 use native.Mathlib.Omega.{arith}
@@ -9,35 +9,34 @@ use Rattle.node.specs.Node.{node}
 use Rattle.node.specs.Search.{pointerAt}
 use Rattle.tree.specs.Table.{Table}
 use Rattle.tree.specs.Sound.{Leftmost, leftmost}
-use Rattle.tree_laws.specs.Levels.{mostDepth}
 use Rattle.tree_laws.specs.SoundLaws.{leftmost-leaf, leftmost-branch}
 use Rattle.mount_tree.specs.declared.first_leaf.FirstLeaf.{FirstLeaf}
 
 abbrev pub leftmostOf : FirstLeaf → Leftmost
 leftmostOf f = record { depth = f .depth; leaf = f .leaf }
 
--- The search from a node at a depth.
-unfoldable pub searchFrom : Table → ℕ → ℕ → Leftmost
-searchFrom table depth id = leftmost (suc mostDepth - depth) table depth id
+-- The search from a node at a depth, where the table has so many nodes.
+unfoldable pub searchFrom : ℕ → Table → ℕ → ℕ → Leftmost
+searchFrom count table depth id = leftmost (count - depth) table depth id
 
-module _ (table : Table) (depth id : ℕ) where
-  pub search-end : suc mostDepth ≤ depth → searchFrom table depth id ≡ record { depth = depth; leaf = id }
+module _ (count : ℕ) (table : Table) (depth id : ℕ) where
+  pub search-end : count ≤ depth → searchFrom count table depth id ≡ record { depth = depth; leaf = id }
   unfolding searchFrom leftmost
-  search-end l = let e : suc mostDepth - depth ≡ 0 = omega arith in rw e
+  search-end l = let e : count - depth ≡ 0 = omega arith in rw e
 
-  pub search-leaf : (ps : List Pair) (next : ℕ) → table id ≡ node Leaf ps next → searchFrom table depth id ≡ record { depth = depth; leaf = id }
+  pub search-leaf : (ps : List Pair) (next : ℕ) → table id ≡ node Leaf ps next → searchFrom count table depth id ≡ record { depth = depth; leaf = id }
   unfolding searchFrom
-  search-leaf ps next e = leftmost-leaf (suc mostDepth - depth) table depth id ps next e
+  search-leaf ps next e = leftmost-leaf (count - depth) table depth id ps next e
 
-  pub search-branch : (ks : List Pair) (last : ℕ) → depth < suc mostDepth → table id ≡ node Branch ks last →
-      searchFrom table depth id ≡ searchFrom table (depth + 1) (pointerAt ks last 0)
+  pub search-branch : (ks : List Pair) (last : ℕ) → depth < count → table id ≡ node Branch ks last →
+      searchFrom count table depth id ≡ searchFrom count table (depth + 1) (pointerAt ks last 0)
   unfolding searchFrom
   search-branch ks last l e =
-      let f : suc mostDepth - depth ≡ suc (suc mostDepth - (depth + 1)) = omega arith in
+      let f : count - depth ≡ suc (count - (depth + 1)) = omega arith in
       rw f
-      (leftmost-branch (suc mostDepth - (depth + 1)) table depth id ks last e ∙
-      ap (λ (d : ℕ). leftmost (suc mostDepth - (depth + 1)) table d (pointerAt ks last 0)) (omega arith))
+      (leftmost-branch (count - (depth + 1)) table depth id ks last e ∙
+      ap (λ (d : ℕ). leftmost (count - (depth + 1)) table d (pointerAt ks last 0)) (omega arith))
 
-pub search-start : (table : Table) → searchFrom table 0 0 ≡ leftmost (suc mostDepth) table 0 0
+pub search-start : (count : ℕ) (table : Table) → searchFrom count table 0 0 ≡ leftmost count table 0 0
 unfolding searchFrom
-search-start table = let e : suc mostDepth - 0 ≡ suc mostDepth = omega arith in rw e
+search-start count table = let e : count - 0 ≡ count = omega arith in rw e

@@ -1,32 +1,61 @@
--- The answer: a count past the limit, a first leaf too deep, or the end of the walk. Assumes nothing.
-use mathlib.Core.Path.{_≡_, sym, ap, _∙_}
-use mathlib.Core.Bool.{false}
-use Prim.Native.Nat.{ℕ, suc, _≤_, _<_}
+-- The answer: a count past the limit, no node, or the end of the walk. Assumes nothing.
+use mathlib.Core.Path.{_≡_, refl, sym, ap, _∙_}
+use mathlib.Core.Bool.{Bool, true, false}
+use mathlib.Core.List.{List, []}
+use mathlib.Core.Option.{none}
+use Prim.Native.Nat.{ℕ, _-_, _≤_, _<_}
+use native.Mathlib.Omega.{arith}
 use borrow.Author.Tests.{le-leb, lt-leb}
-use Rattle.layout.specs.Layout.{bound32, mostNodes}
+use lib.ListN.{take}
+use Rattle.layout.specs.Layout.{bound32}
+use Rattle.node.specs.Node.{pairsOf}
 use Rattle.tree.specs.Table.{Table}
-use Rattle.tree.specs.Sound.{leftmost, visit, complete, walkFrom, sound}
-use Rattle.tree_laws.specs.Levels.{mostDepth, soundBy, sound-shallow}
+use Rattle.tree.specs.Sound.{Walk, Leftmost, leftmost, visit, noMarks, complete, walkFrom, sound}
 use Rattle.mount_tree.specs.declared.walk.WalkValue.{WalkValue}
-use Rattle.mount_tree.specs.declared.first_leaf.FirstLeaf.{FirstLeaf}
-use Rattle.mount_tree.specs.WalkValue.{soFar, andThen, beginAt, begin-soFar, Walked}
-use Rattle.mount_tree.specs.FirstLeaf.{leftmostOf}
+use Rattle.mount_tree.specs.Passes.{visit-fails, pass-disorder, order-behind}
+use Rattle.mount_tree.specs.Pending.{all-one}
+use Rattle.mount_tree.specs.Reached.{reachedIn, reached-zero}
+use Rattle.mount_tree.specs.Area.{Standing, comesTo, rootDue, Begun, Walked}
 
-module _ (limit nodes : ℕ) (table : Table) where
-  pub past-limit : limit < nodes → sound limit nodes table ≡ false
+pub past-limit : (limit nodes : ℕ) (tree : Table) → limit < nodes → sound limit nodes tree ≡ false
+unfolding sound
+past-limit limit nodes tree l = rw (lt-leb nodes limit l)
+
+-- The walk that begins at the root.
+abbrev pub startAt : ℕ → ℕ → WalkValue
+startAt nodes leaf = record { passed = true; awaited = leaf; low = 0; top = nodes - 1; reached = 0 }
+
+module _ (kept nodes depth : ℕ) (before middle : List ℕ) (begun : Begun kept nodes depth before middle) (leaf : ℕ) where
+  pub start-standing : Standing kept nodes middle (startAt nodes leaf)
+  start-standing =
+      record { top = omega arith; free = omega arith; reached = sym (ap reachedIn (begun .marks) ∙ reached-zero nodes) }
+
+  start-comes : (tree : Table) → comesTo tree kept nodes middle (startAt nodes leaf) ≡ walkFrom nodes tree (record { depth = depth; leaf = leaf })
+  unfolding comesTo walkFrom
+  start-comes tree =
+      rw (begun .dues, begun .marks)
+      (all-one tree (rootDue depth) 0 (record { awaited = leaf; marks = noMarks nodes }))
+
+  -- The walk is over the tree that the kept bytes say, and these are as they were.
+  pub by-walk : (treeOf : List ℕ → Table) (limit : ℕ) (after : List ℕ) (answer : Bool) → nodes ≤ limit →
+      record { depth = depth; leaf = leaf } ≡ leftmost nodes (treeOf (take kept before)) 0 0 →
+      Walked (treeOf (take kept middle)) kept nodes middle (startAt nodes leaf) after answer → answer ≡ sound limit nodes (treeOf (take kept before))
   unfolding sound
-  past-limit l = rw (lt-leb nodes limit l)
+  by-walk treeOf limit after answer l first walked =
+      walked .is ∙
+      ap (λ (k : List ℕ). complete (comesTo (treeOf k) kept nodes middle (startAt nodes leaf))) (begun .same) ∙
+      ap complete (start-comes (treeOf (take kept before))) ∙
+      ap (λ (f : Leftmost). complete (walkFrom nodes (treeOf (take kept before)) f)) first ∙
+      rw (le-leb nodes limit l) refl
 
-  module _ (first : FirstLeaf) (keeps : nodes ≤ limit) (few : limit ≤ mostNodes) (is : leftmostOf first ≡ leftmost (suc mostDepth) table 0 0) where
-    by-first : sound limit nodes table ≡ soundBy nodes table (leftmostOf first)
-    by-first = sound-shallow limit nodes table keeps few ∙ ap (soundBy nodes table) (sym is)
+-- No node at all: the root is not there.
+module _ (limit : ℕ) (tree : Table) where
+  no-root : visit 0 tree 0 0 bound32 (record { awaited = 0; marks = [] }) ≡ none
+  no-root =
+      let w : Walk = record { awaited = 0; marks = [] } in
+      visit-fails tree 0 0 0 bound32 w (tree 0) refl
+      (sym (pass-disorder 0 0 0 bound32 w (tree 0) (order-behind 0 0 bound32 (pairsOf (tree 0)) [] (omega arith))))
 
-    pub too-deep : mostDepth < first .depth → sound limit nodes table ≡ false
-    unfolding soundBy
-    too-deep l = by-first ∙ rw (lt-leb (first .depth) mostDepth l)
-
-    pub by-walk : (start end : WalkValue) → first .depth ≤ mostDepth → nodes ≤ mostNodes → start ≡ beginAt (first .leaf) →
-        Walked end nodes (andThen (soFar nodes start) (visit (first .depth) table 0 0 bound32)) → complete (soFar nodes end) ≡ sound limit nodes table
-    unfolding soundBy walkFrom
-    by-walk start end l small b e =
-        rw (e .is, b, begin-soFar nodes (first .leaf) small) (sym (by-first ∙ rw (le-leb (first .depth) mostDepth l)))
+  pub no-nodes : (nodes : ℕ) → nodes ≡ 0 → sound limit nodes tree ≡ false
+  unfolding sound walkFrom leftmost complete
+  no-nodes nodes e = rw (e, le-leb 0 limit (omega arith), no-root) refl

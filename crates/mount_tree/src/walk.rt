@@ -1,44 +1,80 @@
-// The walk from the root: each node in order, leaves awaited by their links, and every id reached once.
+// The walk from the root, from one node due to the next: leaves awaited by their links, and every id reached once.
 ghost use mathlib.Core.Path.{_≡_};
-ghost use Prim.Native.Nat.{_≤_, _<_};
-ghost use lib.ListN.{take};
+ghost use Prim.Native.Nat.{_+_, _≤_, _<_};
+ghost use lib.ListN.{length, take};
 ghost use Rattle.flash_blocks.specs.Pages.{pagesOf};
 ghost use Rattle.flash_rows.specs.Row.{rowsOf};
-ghost use Rattle.node.specs.Value.{pairsIn, nodeOf};
-ghost use Rattle.tree.specs.Sound as def;
-ghost use Rattle.tree.specs.Sound.{inOrder, visitLeaf, allMarked};
-ghost use Rattle.flash_read.specs.NodeTable.{tableOf, Readable};
-ghost use Rattle.mount_tree.specs.WalkValue.{walkOf, soFar, andThen, failedAt, markedAt, beginAt, Room, Walked};
-ghost use Rattle.mount_tree.specs.Steps.{enterBranch};
-ghost use Rattle.mount_tree.specs.Nodes.{Visit};
-ghost use Rattle.layout.specs.Layout.{mostNodes};
+ghost use Rattle.node.specs.Value.{pairsIn, nodeOf, Sized};
+ghost use Rattle.tree.specs.Sound.{inOrder};
+ghost use Rattle.flash_read.specs.NodeTable.{tableOf};
+ghost use Rattle.mount_tree.specs.Passes.{ofKind, passes};
+ghost use Rattle.mount_tree.specs.Area.{workBytes, Checkable, Standing, walkIn, failedAt, NextDue, Visits, Stepped, Walked};
+use super::area::due_at;
+use super::area::mark;
+use super::area::push;
+use super::due::DUE_BYTES;
+use super::due::Due;
+use super::kept::node_of;
 use flash_allocate::state::State;
-use flash_read::by_id::node_at;
-use layout::MOST_NODES;
 use layout::NO_LEAF;
 use node::NodeValue;
 use node::Shape;
 use node::same_shape;
 use node::search::ascends;
-use node::search::key;
-use node::search::pointer;
 
-// Whether every node was in order so far, the leaf that must come next, and a mark for each id, 1 once it was reached.
+// Whether every node was in order so far, the leaf that must come next, the lowest key of the next node due, its slot, and how many ids were reached.
 pub struct WalkValue {
     pub passed: bool,
-    pub awaited: usize,
-    pub marks: [u8; MOST_NODES],
+    pub awaited: u32,
+    pub low: u64,
+    pub top: usize,
+    pub reached: usize,
 }
 
-// A walk that awaits the first leaf.
-pub fn begin(leaf: usize) -> WalkValue
-    ensures { λ r. ⌜ r ≡ beginAt leaf ⌝ }
+// A node is in order: its id below the count and not reached before, keys ascending and in bounds.
+fn in_order(marks: &[u8], v: NodeValue, id: u32, low: u64, high: u64) -> bool
+    requires { ⌜ Sized v ⌝ }
+    ensures { λ r. ⌜ r ≡ inOrder id low high (pairsIn v) (now (marks .entry)) ⌝ }
 {
-    WalkValue {
-        passed: true,
-        awaited: leaf,
-        marks: [0u8; MOST_NODES],
+    let at = id as usize;
+    if at < marks.len() {
+        if marks[at] == 0 {
+            return ascends(v, low, high);
+        }
+        return false;
     }
+    false
+}
+
+// A node is of the kind that its depth says: the leaf awaited, or a branch with a key.
+fn of_kind(v: NodeValue, due: Due, awaited: u32) -> bool
+    requires { ⌜ Sized v ⌝ }
+    ensures { λ r. ⌜ r ≡ ofKind (due .depth) (due .id) awaited (nodeOf v) ⌝ }
+{
+    let shape = v.shape;
+    if same_shape(shape, Shape::Leaf) {
+        if due.depth == 0 {
+            return awaited == due.id;
+        }
+        return false;
+    }
+    if due.depth == 0 {
+        return false;
+    }
+    1 <= v.count
+}
+
+// Whether a node that is due passes by itself.
+fn passes(table: &[u8], kept: usize, nodes: usize, v: NodeValue, due: Due, w: WalkValue) -> bool
+    requires { ⌜ (kept + workBytes nodes ≤ length (now table)) × (Sized v) ⌝ }
+    ensures { λ r. ⌜ r ≡ passes (due .depth) (due .id) (w .low) (due .high) (walkIn kept nodes (now (table .entry)) w) (nodeOf v) ⌝ }
+{
+    let from = kept + DUE_BYTES * nodes;
+    let to = from + nodes;
+    if in_order(&table[from..to], v, due.id, w.low, due.high) {} else {
+        return false;
+    }
+    of_kind(v, due, w.awaited)
 }
 
 // The walk, which did not pass.
@@ -50,142 +86,87 @@ fn failed(w: WalkValue) -> WalkValue
     f
 }
 
-// The walk that has reached an id and awaits a leaf.
-fn marked(w: WalkValue, id: usize, awaited: usize) -> WalkValue
-    requires { ⌜ (Room w) × (id < mostNodes) ⌝ }
-    ensures { λ r. ⌜ r ≡ markedAt w id awaited ⌝ }
+// Behind a leaf that passes the next node is due, and the leaf awaited is the one that its link names.
+fn pass_leaf(
+    table: &mut [u8],
+    kept: usize,
+    nodes: usize,
+    v: NodeValue,
+    due: Due,
+    w: WalkValue,
+) -> WalkValue
+    requires { ⌜ (NextDue kept nodes (now table) v due w) × (due .depth ≡ 0) ⌝ }
+    ensures { λ r. ⌜ Visits kept nodes (now (table .entry)) v due w (now (table .exit)) r ⌝ }
 {
-    let mut marks = w.marks;
-    marks[id] = 1;
+    mark(table, kept, nodes, due.id);
     WalkValue {
         passed: true,
-        awaited,
-        marks,
+        awaited: v.link,
+        low: due.high,
+        top: w.top + 1,
+        reached: w.reached + 1,
     }
 }
 
-// A node is in order: its id below the count and not reached before, keys ascending and in bounds.
-fn in_order(v: NodeValue, id: usize, nodes: usize, low: u64, high: u64, w: WalkValue) -> bool
-    requires { ⌜ Visit v nodes w ⌝ }
-    ensures { λ r. ⌜ r ≡ inOrder id low high (pairsIn v) (take nodes (w .marks)) ⌝ }
-{
-    let marks = w.marks;
-    if id < nodes {
-        if marks[id] == 0 {
-            return ascends(v, low, high);
-        }
-        return false;
-    }
-    false
-}
-
-// A leaf is the one awaited, and its link says which is awaited next.
-fn visit_leaf(v: NodeValue, id: usize, nodes: usize, low: u64, high: u64, w: WalkValue) -> WalkValue
-    requires { ⌜ Visit v nodes w ⌝ }
-    ensures { λ r. ⌜ Walked r nodes (visitLeaf id low high (walkOf nodes w) (nodeOf v)) ⌝ }
-{
-    let shape = v.shape;
-    if same_shape(shape, Shape::Leaf) {
-        if in_order(v, id, nodes, low, high, w) {
-            if w.awaited == id {
-                return marked(w, id, v.link as usize);
-            }
-            return failed(w);
-        }
-        return failed(w);
-    }
-    failed(w)
-}
-
-// A branch has at least one key; its children are still to come.
+// In place of a branch that passes its children are due. More nodes due than ids not reached would reach some id twice.
 fn enter_branch(
-    v: NodeValue,
-    id: usize,
+    table: &mut [u8],
+    kept: usize,
     nodes: usize,
-    low: u64,
-    high: u64,
+    v: NodeValue,
+    due: Due,
     w: WalkValue,
 ) -> WalkValue
-    requires { ⌜ Visit v nodes w ⌝ }
-    ensures { λ r. ⌜ Walked r nodes (enterBranch id low high (walkOf nodes w) (nodeOf v)) ⌝ }
+    requires { ⌜ (NextDue kept nodes (now table) v due w) × (1 ≤ due .depth) ⌝ }
+    ensures { λ r. ⌜ Visits kept nodes (now (table .entry)) v due w (now (table .exit)) r ⌝ }
 {
-    let shape = v.shape;
-    if same_shape(shape, Shape::Leaf) {
+    if w.top < v.count + (w.reached + 1) {
         return failed(w);
     }
-    if in_order(v, id, nodes, low, high, w) {
-        if v.count == 0 {
-            return failed(w);
-        }
-        return marked(w, id, w.awaited);
+    let base = w.top - v.count;
+    mark(table, kept, nodes, due.id);
+    push(table, kept, nodes, base, v, due.depth - 1, due.high);
+    WalkValue {
+        passed: true,
+        awaited: w.awaited,
+        low: w.low,
+        top: base,
+        reached: w.reached + 1,
     }
-    failed(w)
 }
 
-// The walk through a node whose leaves stand so deep below it: a leaf, or a branch and its children, each between the keys beside it.
-pub fn visit<'a>(
-    pool: &'a [u8],
-    table: &'a [u8],
-    state: State,
-    depth: usize,
-    id: usize,
-    low: u64,
-    high: u64,
-    w: WalkValue,
-) -> WalkValue
-    requires { ⌜ (Readable state (now table)) × (Room w) ⌝ }
-    ensures { λ r. ⌜ Walked r (state .nodes)
-        (andThen (soFar (state .nodes) w)
-        (def.visit depth (tableOf (pagesOf (now (pool .entry))) (rowsOf (now (table .entry))) state) id low
-        high)) ⌝ }
+// Visits the next node due.
+fn visit_next(pool: &[u8], table: &mut [u8], kept: usize, state: State, w: WalkValue) -> WalkValue
+    requires { ⌜ (Checkable state kept (now table)) × (Standing kept (state .nodes) (now table) w) × (w .top < state .nodes) ⌝ }
+    ensures { λ r. ⌜ Stepped (tableOf (pagesOf (now (pool .entry))) (rowsOf (take kept (now (table .entry)))) state) kept
+        (state .nodes) (now (table .entry)) w (now (table .exit)) r ⌝ }
 {
-    if w.passed {} else {
-        return w;
+    let due = due_at(table, kept, state.nodes, w.top);
+    let v = node_of(pool, table, kept, state, due.id);
+    if passes(table, kept, state.nodes, v, due, w) {} else {
+        return failed(w);
     }
-    let v = node_at(pool, table, state, id);
-    if depth == 0 {
-        return visit_leaf(v, id, state.nodes, low, high, w);
+    if due.depth == 0 {
+        return pass_leaf(table, kept, state.nodes, v, due, w);
     }
-    let mut walked = enter_branch(v, id, state.nodes, low, high, w);
-    let mut least = low;
-    let mut i: usize = 0;
-    while i < v.count {
-        let child = pointer(v, i) as usize;
-        let above = key(v, i) as u64;
-        walked = visit(pool, table, state, depth - 1, child, least, above, walked);
-        least = above;
-        i += 1;
-    }
-    let last = v.link as usize;
-    visit(pool, table, state, depth - 1, last, least, high, walked)
+    enter_branch(table, kept, state.nodes, v, due, w)
 }
 
-// Whether every id was reached.
-fn all_marked(w: WalkValue, nodes: usize) -> bool
-    requires { ⌜ (nodes ≤ mostNodes) × (Room w) ⌝ }
-    ensures { λ r. ⌜ r ≡ allMarked (take nodes (w .marks)) ⌝ }
+// Visits all nodes due: whether the walk passes, the links end in FFFFFFFF, and every id is reached.
+pub fn walk(pool: &[u8], table: &mut [u8], kept: usize, state: State, start: WalkValue) -> bool
+    requires { ⌜ (Checkable state kept (now table)) × (Standing kept (state .nodes) (now table) start) ⌝ }
+    ensures { λ r. ⌜ Walked (tableOf (pagesOf (now (pool .entry))) (rowsOf (take kept (now (table .entry)))) state) kept
+        (state .nodes) (now (table .entry)) start (now (table .exit)) r ⌝ }
 {
-    let marks = w.marks;
-    let mut i: usize = 0;
-    while i < nodes {
-        if marks[i] != 1 {
+    let mut w = start;
+    while w.top < state.nodes {
+        w = visit_next(pool, table, kept, state, w);
+        if w.passed {} else {
             return false;
         }
-        i += 1;
     }
-    true
-}
-
-// The walk passed, the links ended in FFFFFFFF, and every id was reached.
-pub fn complete(w: WalkValue, nodes: usize) -> bool
-    requires { ⌜ (nodes ≤ mostNodes) × (Room w) ⌝ }
-    ensures { λ r. ⌜ r ≡ def.complete (soFar nodes w) ⌝ }
-{
-    if w.passed {
-        if w.awaited == NO_LEAF as usize {
-            return all_marked(w, nodes);
-        }
-        return false;
+    if w.awaited == NO_LEAF {
+        return w.reached == state.nodes;
     }
     false
 }

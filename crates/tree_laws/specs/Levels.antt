@@ -1,27 +1,24 @@
 -- A sound tree has few levels: every branch has at least two children, so leaves at depth d take 2^(d+1) − 1 nodes, and 620, the node limit
 -- of the largest pool, is below the 1,023 of depth 9. A path has at most 9 nodes, and fuel 8 is enough for every walk down. Assumes nothing.
-use mathlib.Core.Path.{_≡_, refl, sym, ap, _∙_}
-use mathlib.Core.Bool.{Bool, true, _&&_}
+use mathlib.Core.Path.{_≡_, ap}
+use mathlib.Core.Bool.{true}
 use mathlib.Core.List.{List, [], _∷_}
 use mathlib.Core.Logic.{_⊎_, inl, inr}
 use Prim.Native.Nat.{ℕ, zero, suc, _*_, _≤_, _<_}
 use native.Mathlib.Nat.{zero-add}
 use native.Mathlib.Omega.{arith}
-use borrow.Author.Tests.{le-leb}
-use lib.Dec.{leb}
 use lib.ListN.{length}
 use Rattle.laws.specs.Order.{le-or}
-use Rattle.laws.specs.Tests.{and-right, and-both, test-same}
 use Rattle.layout.specs.Layout.{mostKeys, noLeaf, bound32, mostNodes}
 use Rattle.pairs.specs.Pairs.{Pair}
 use Rattle.tree.specs.Table.{Table, slot, path, leafFor}
 use Rattle.tree.specs.Tree.{keysOf, firstOf, sumOf, EachChild, Tree, rootOf, firstLeaf, Holds, Stands}
 use Rattle.tree.specs.Spells.{Spells, mapOf}
-use Rattle.tree.specs.Sound.{Leftmost, leftmost, complete, walkFrom, sound}
+use Rattle.tree.specs.Sound.{leftmost, sound}
 use Rattle.tree_laws.specs.Children.{each-childAt}
 use Rattle.tree_laws.specs.LeafOfKey.{childOf, childFor-branch, path-leaf, path-step, leafFor-leaf, leafFor-step}
 use Rattle.tree_laws.specs.Size.{size, size-count, depth-count}
-use Rattle.tree_laws.specs.SoundLaws.{leftmost-is, walk-spells, sound-limit, sound-spells, spells-sound}
+use Rattle.tree_laws.specs.SoundLaws.{leftmost-is, sound-limit, sound-spells}
 
 -- The greatest depth of a leaf, and the node limit of the largest pool.
 abbrev pub mostDepth : ℕ
@@ -138,12 +135,9 @@ module _ (limit count : ℕ) (table : Table) (s : sound limit count table ≡ tr
       rw zero-add at
       (rw (spelled .root) at (leftmost-is (spelled .depth) fuel table (spelled .tree) 0 bound32 noLeaf 0 l (spelled .stands)))
 
-  -- Leaves stand at depth 8 at most, and fuel 8 is enough to find the first.
+  -- Leaves stand at depth 8 at most.
   pub depth-most : leftmost count table 0 0 .depth ≤ mostDepth
   depth-most = rw (leftmost-sound count (omega (arith, below))) shallow
-
-  pub leftmost-fuel : (fuel : ℕ) → mostDepth ≤ fuel → leftmost fuel table 0 0 ≡ leftmost count table 0 0
-  leftmost-fuel fuel l = leftmost-sound fuel (omega (arith, shallow)) ∙ sym (leftmost-sound count (omega (arith, below)))
 
   -- A path has at most 9 nodes, and fuel 8 is enough to follow it.
   pub path-most : (k : ℕ) → length (path count table k 0) ≤ suc mostDepth
@@ -164,24 +158,3 @@ module _ (limit count : ℕ) (table : Table) (s : sound limit count table ≡ tr
   leafFor-any k fuel l =
       rw (spelled .root) at
       (leafFor-fuel table k (spelled .depth) fuel count (spelled .tree) 0 bound32 noLeaf (omega (arith, shallow)) (omega (arith, below)) (spelled .stands))
-
--- So the test may look for the first leaf with fuel 9, refuse a depth above 8, and walk: it says the same.
-unfoldable pub soundBy : ℕ → Table → Leftmost → Bool
-soundBy count table l = leb (l .depth) mostDepth && complete (walkFrom count table l)
-
-module _ (limit count : ℕ) (table : Table) (keeps : count ≤ limit) (few : limit ≤ mostNodes) where
-  pub sound-shallow : sound limit count table ≡ soundBy count table (leftmost (suc mostDepth) table 0 0)
-  unfolding soundBy sound
-  sound-shallow = test-same _ _ to from
-    where
-      to : sound limit count table ≡ true → soundBy count table (leftmost (suc mostDepth) table 0 0) ≡ true
-      to s =
-          rw (leftmost-fuel limit count table s few (suc mostDepth) (omega arith))
-          (and-both (leb (leftmost count table 0 0 .depth) mostDepth) _ (le-leb _ mostDepth (depth-most limit count table s few))
-          (and-right (leb count limit) _ s))
-
-      from : soundBy count table (leftmost (suc mostDepth) table 0 0) ≡ true → sound limit count table ≡ true
-      from e =
-          let first = leftmost (suc mostDepth) table 0 0 in
-          let w = walk-spells table count first (walkFrom count table first) refl (and-right (leb (first .depth) mostDepth) _ e) in
-          spells-sound limit count table (w .pairs) (w .spells) keeps

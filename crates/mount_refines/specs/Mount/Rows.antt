@@ -15,7 +15,7 @@ use Rattle.flash_rows.specs.declared.Row.{Row}
 use Rattle.flash_rows.proofs.Laws.{length-rows, get-rows}
 use Rattle.flash_blocks.specs.Pages.{pagesOf}
 use Rattle.flash_refines.specs.Store.Mirror.{rowAt}
-use Rattle.mount_tree.specs.WalkValue.{take-replicate}
+use Rattle.mount_restore.specs.Blank.{take-replicate}
 use Rattle.mount_refines.specs.Checkpoint.Scores.{Scored, scores-taken}
 use Rattle.mount_refines.specs.Rows.Cells.{Unmet}
 use Rattle.mount_refines.specs.Rows.Given.{Given}

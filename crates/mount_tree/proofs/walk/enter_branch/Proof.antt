@@ -1,105 +1,79 @@
--- `walk::enter_branch` meets its contract: each test is one case. Assumes nothing.
+-- `walk::enter_branch` meets its contract: too many nodes are due, or the branch is marked and its children are due. Assumes nothing.
+use Prim.Native.Nat.{_-_}
 use native.Mathlib.Omega.{arith}
 use borrow.Author.Needs.{needs}
-use Rattle.mount_tree.specs.Nodes.{no-branch, branch-out, inside, branch-keyless, branch-keyed}
+use Rattle.mount_tree.specs.Visit.{next-inside, step-crowded, step-branch}
 use Rattle.mount_tree.proofs.walk.enter_branch.Statement.{statement}
 use Rattle.mount_tree.proofs.walk.enter_branch.Tie as tie
 
-same-shape-requires : tie.Need-same-shape-requires
-same-shape-requires c κs = search needs
+add-if1 : tie.Need-add-if1
+add-if1 c = search needs
+
+add-if1-2 : tie.Need-add-if1-2
+add-if1-2 c = search needs
 
 failed-requires : tie.Need-failed-requires
 failed-requires c κs = search needs
 
 returns : tie.Need-returns
 returns c =
-    let entry = c .before .before .before in
-    let a = entry .args in
-    let shape = c .before .before .same-shape in
-    no-branch (a .v) (a .id) (a .nodes) (a .low) (a .high) (a .w) (entry .pre) (shape .result) (shape .ensures) (c .failed .result)
-    (c .before .if1 .taken) (c .failed .ensures)
+    let c1 = c .before in
+    let c6 = c1 .before .before .before .before .before in
+    λ tree is.
+    let a = c6 .args in
+    step-crowded tree (a .kept) (a .nodes) (a .table .now) (a .w) (a .v) (a .due) is (c6 .pre .0) (a .due .depth - 1)
+    (omega (arith, c6 .pre .1)) (c1 .if1 .taken) (c .failed .result) (c .failed .ensures)
 
-in-order-requires : tie.Need-in-order-requires
-in-order-requires c κs = search needs
+sub-base : tie.Need-sub-base
+sub-base c = search needs
 
-failed-requires-2 : tie.Need-failed-requires-2
-failed-requires-2 c κs = search needs
+mark-requires : tie.Need-mark-requires
+mark-requires c κs =
+    let c8 = c .before .before .before .before .before .before .before .before in
+    let a = c8 .args in
+    let given = c8 .pre .0 in
+    (given .room, next-inside (a .kept) (a .nodes) (a .table .now) (a .v) (a .due) (a .w) given)
+
+sub-push : tie.Need-sub-push
+sub-push c = search needs
+
+push-requires : tie.Need-push-requires
+push-requires c κs =
+    let c4 = c .before .before .before .before in
+    let c8 = c4 .before .before .before .before in
+    let c13 = c8 .before .before .before .before .before in
+    let given = c13 .pre .0 in
+    (omega (arith, given .room, c4 .mark .kept .0), given .sized, omega (arith, given .inside, c8 .if1 .left))
+
+add-t8 : tie.Need-add-t8
+add-t8 c = search needs
+
+same-length : tie.Need-same-length
+same-length c = search needs
 
 returns-2 : tie.Need-returns-2
 returns-2 c =
-    let c1 = c .before in
-    let c3 = c1 .before .before in
-    let c4 = c3 .before in
-    let c5 = c4 .before in
-    let c6 = c5 .before in
-    let c7 = c6 .before in
-    let entry = c7 in
-    let a = entry .args in
-    let shape = c6 .same-shape in
-    let order = c4 .in-order in
-    branch-keyless (a .v) (a .id) (a .nodes) (a .low) (a .high) (a .w) (entry .pre) (shape .result) (shape .ensures) (c .failed2 .result)
-    (order .result) (order .ensures) (c3 .if2 .taken) (c5 .if1 .left)
-    (c1 .if3 .taken) (c .failed2 .ensures)
-
-marked-requires : tie.Need-marked-requires
-marked-requires c κs =
-    let c2 = c .before .before in
-    let c3 = c2 .before in
-    let c5 = c3 .before .before in
-    let c6 = c5 .before in
-    let entry = c6 in
-    let a = entry .args in
-    let shape = c5 .same-shape in
-    let order = c3 .in-order in
-    let reached =
-    inside (a .v) (a .id) (a .nodes) (a .low) (a .high) (a .w) (entry .pre) (shape .result) (shape .ensures) (a .w)
-    (order .result) (order .ensures) (c2 .if2 .taken) in
-    (entry .pre .kept, omega (arith, entry .pre .few))
-
-returns-3 : tie.Need-returns-3
-returns-3 c =
-    let c1 = c .before in
-    let c3 = c1 .before .before in
-    let c4 = c3 .before in
-    let c5 = c4 .before in
-    let c6 = c5 .before in
-    let c7 = c6 .before in
-    let entry = c7 in
-    let a = entry .args in
-    let shape = c6 .same-shape in
-    let order = c4 .in-order in
-    branch-keyed (a .v) (a .id) (a .nodes) (a .low) (a .high) (a .w) (entry .pre) (shape .result) (shape .ensures) (c .marked .result)
-    (order .result) (order .ensures) (c3 .if2 .taken) (c5 .if1 .left)
-    (c1 .if3 .left) (c .marked .ensures)
-
-failed-requires-3 : tie.Need-failed-requires-3
-failed-requires-3 c κs = search needs
-
-returns-4 : tie.Need-returns-4
-returns-4 c =
-    let c1 = c .before in
-    let c2 = c1 .before in
-    let c3 = c2 .before in
-    let c4 = c3 .before in
-    let c5 = c4 .before in
-    let entry = c5 in
-    let a = entry .args in
-    let shape = c4 .same-shape in
-    let order = c2 .in-order in
-    branch-out (a .v) (a .id) (a .nodes) (a .low) (a .high) (a .w) (entry .pre) (shape .result) (shape .ensures) (c .failed3 .result)
-    (order .result) (order .ensures) (c3 .if1 .left) (c1 .if2 .left) (c .failed3 .ensures)
+    let c3 = c .before .before .before in
+    let c8 = c3 .before .before .before .before .before in
+    let c12 = c8 .before .before .before .before in
+    let c17 = c12 .before .before .before .before .before in
+    λ tree is.
+    let a = c17 .args in
+    step-branch tree (a .kept) (a .nodes) (a .table .now) (a .w) (a .v) (a .due) is (c17 .pre .0) (a .due .depth - 1)
+    (omega (arith, c17 .pre .1)) (c12 .if1 .left) (c8 .mark .last .0) (c3 .push .last .0) (c8 .mark .ensures) (c3 .push .ensures)
 
 pub enter-branch-spec : {M : Type 1} → statement M
 enter-branch-spec =
     tie.close
     (tie.spec
-    same-shape-requires
+    add-if1
+    add-if1-2
     failed-requires
     returns
-    in-order-requires
-    failed-requires-2
-    returns-2
-    marked-requires
-    returns-3
-    failed-requires-3
-    returns-4)
+    sub-base
+    mark-requires
+    sub-push
+    push-requires
+    add-t8
+    same-length
+    returns-2)
