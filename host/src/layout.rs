@@ -62,6 +62,11 @@ pub fn page_range(page: usize) -> std::ops::Range<usize> {
     page * PAGE_BYTES..(page + 1) * PAGE_BYTES
 }
 
+/// The bytes of a page, if the pool has so many pages; any number may be asked for.
+pub fn page_at(pool: &[u8], page: usize) -> Option<&[u8]> {
+    pool.chunks_exact(PAGE_BYTES).nth(page)
+}
+
 /// The bytes of a pool that a block takes.
 pub fn block_range(block: usize) -> std::ops::Range<usize> {
     block * BLOCK_BYTES..(block + 1) * BLOCK_BYTES
