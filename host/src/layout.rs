@@ -21,6 +21,8 @@ pub const MAX_SCAN_PAIRS: usize = 32;
 
 /// Most keys of a node.
 pub const MAX_KEYS: usize = 24;
+/// Most levels of a sound tree: every branch has two children or more, and a pool at most 620 nodes.
+pub const MAX_LEVELS: usize = 9;
 /// Keys that stay in the lower half when a node of `MAX_KEYS + 1` splits.
 pub const LOWER_KEYS: usize = 12;
 /// The link of the last leaf.

@@ -30,6 +30,7 @@ pub mod reference;
 pub mod refusal;
 pub mod report;
 pub mod shell;
+pub mod stack;
 pub mod tree;
 pub mod wire;
 pub mod workload;
