@@ -12,7 +12,7 @@ mod times;
 
 pub use copies::{Copies, Counter, Moved};
 
-use crate::markdown;
+use crate::{books, markdown};
 
 /// How a measurement is made.
 pub struct Setup {
@@ -22,6 +22,18 @@ pub struct Setup {
     pub count_copies: Counter,
     /// Tells a person who waits what is being done.
     pub say: fn(&str),
+}
+
+impl Setup {
+    /// What a reader of the figures has to know; or why there will be none.
+    pub fn preface(&self) -> Result<String, String> {
+        let place = books::proved_code()? % 64;
+        Ok(format!(
+            "The shortest of {} rounds. The proved book's code stands at {place} modulo 64; its place alone moves an \
+             empty batch by up to a third, and each link of this program has another.",
+            self.rounds
+        ))
+    }
 }
 
 /// A table of a measurement: its first row is the head.

@@ -9,7 +9,7 @@ pub use cases::{Case, CASES};
 use std::thread;
 
 /// The stack of the thread that a call is made on.
-const STACK_BYTES: usize = 1 << 20;
+const THREAD_BYTES: usize = 1 << 20;
 /// The part of it below the call that is painted.
 const PAINTED_BYTES: usize = 1 << 18;
 /// The part between that is not: the painter's own frame and what it calls.
@@ -29,7 +29,7 @@ pub fn deepest<T: Send>(call: impl FnOnce() -> T + Send) -> Result<(T, usize), S
         (result, unpainted(top))
     };
     let joined = thread::scope(|scope| {
-        let thread = thread::Builder::new().stack_size(STACK_BYTES).spawn_scoped(scope, measured);
+        let thread = thread::Builder::new().stack_size(THREAD_BYTES).spawn_scoped(scope, measured);
         thread.map(|thread| thread.join()).map_err(|error| format!("no thread for a call: {error}"))
     })?;
     match joined {

@@ -9,6 +9,9 @@ use crate::book::Book;
 use crate::books::by_name;
 use crate::both::Call;
 
+/// Calls in a row on one book: the first finds other data in the caches.
+const REPEATS: usize = 2;
+
 /// A time of the proved book, and one of the second.
 pub type Times = [Duration; 2];
 
@@ -23,9 +26,11 @@ pub fn shortest(setup: &Setup, calls: &[Call], rounds: usize) -> Result<Vec<Time
         }
         for (call, times) in calls.iter().zip(&mut shortest) {
             for (book, least) in books.iter_mut().zip(times) {
-                let mut lent = call.clone();
-                let time = at_place(round, &mut || time(book.as_mut(), &mut lent))?;
-                *least = time.min(*least);
+                for _ in 0..REPEATS {
+                    let mut lent = call.clone();
+                    let time = at_place(round, &mut || time(book.as_mut(), &mut lent))?;
+                    *least = time.min(*least);
+                }
             }
         }
     }

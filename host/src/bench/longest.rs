@@ -14,7 +14,7 @@ const LEAVES: usize = 566;
 /// Scans that fit a batch.
 const SCANS: usize = MAX_BATCH_BYTES / (FIELD_HEAD + SCAN_BYTES);
 /// Such a call is so much longer than others that it is made as many times less often.
-const ROUNDS_DIVISOR: usize = 70;
+const ROUNDS_DIVISOR: usize = 50;
 
 pub fn rows(setup: &Setup) -> Rows {
     let mut names = Vec::new();

@@ -5,10 +5,9 @@ mod copies;
 use std::process::ExitCode;
 
 use yokehour_host::bench::{Section, Setup, SECTIONS};
-use yokehour_host::books::by_name;
 
 /// Rounds where none are asked for: about a minute and a half on one core.
-const ROUNDS: usize = 200;
+const ROUNDS: usize = 100;
 
 fn usage() -> String {
     let mut text = format!(
@@ -63,9 +62,8 @@ fn parse(words: &[String]) -> Result<(usize, Vec<&'static Section>), String> {
 }
 
 fn run(rounds: usize, sections: &[&Section]) -> Result<(), String> {
-    // Asked before the first pool is built.
-    by_name("proved")?;
     let setup = Setup { rounds, count_copies: copies::count, say: |line| eprintln!("bench: {line}") };
+    println!("{}\n", setup.preface()?);
     for section in sections {
         let text = section.text(&setup).map_err(|why| format!("{}: {why}", section.name))?;
         println!("{text}");
