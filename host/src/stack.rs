@@ -39,7 +39,7 @@ pub fn deepest<T: Send>(call: impl FnOnce() -> T + Send) -> Result<(T, usize), S
     }
 }
 
-/// Paints the stack below its own frame, and gives the address that the next call of its caller begins at.
+/// Paints the stack below its own frame, and gives the address at which its caller's next call begins, near enough.
 #[inline(never)]
 fn paint() -> usize {
     let here = PAINT;

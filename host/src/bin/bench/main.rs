@@ -12,8 +12,9 @@ const ROUNDS: usize = 100;
 fn usage() -> String {
     let mut text = format!(
         "usage: bench [--rounds N] [MEASUREMENT ..]\n\n\
-         Prints all measurements, or those named; progress goes to standard error. Times are the shortest of N rounds,\n\
-         {ROUNDS} if not given. Needs the proved book: `rt staticlib wall_book`. Build with --release.\n"
+         Prints all measurements, or those named; progress goes to standard error.\n\
+         Times are the shortest of N rounds, {ROUNDS} if not given; build with --release.\n\
+         Needs the proved book, which `rt staticlib wall_book` makes.\n"
     );
     for section in SECTIONS {
         text.push_str(&format!("\n  {:<8} {}", section.name, section.title));
