@@ -1,6 +1,6 @@
-//! Links the proved book where `rt staticlib wall_book` has made its library.
+//! Links the proved book where `rt staticlib wall_book` has made its library, and lets `bench` count copies.
 //!
-//! Without it the package has the second book alone.
+//! Without the library the package has the second book alone.
 
 use std::path::Path;
 
@@ -14,5 +14,9 @@ fn main() {
         println!("cargo:rustc-cfg=proved_book");
         println!("cargo:rustc-link-search=native={}", folder.display());
         println!("cargo:rustc-link-lib=static=wall_book");
+    }
+    // Calls of these go through src/bin/bench/copies.rs in that program alone, also those of the proved book.
+    for function in ["memcpy", "memmove", "memset"] {
+        println!("cargo:rustc-link-arg-bin=bench=-Wl,--wrap={function}");
     }
 }

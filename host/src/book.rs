@@ -20,8 +20,8 @@ pub struct Outcome {
     pub charge: u64,
 }
 
-/// A book: the two entry points over the caller's buffers.
-pub trait Book {
+/// A book: the two entry points over the caller's buffers, which may be called from any thread.
+pub trait Book: Send {
     /// Makes the pool an empty book, and returns 0 or the number of the refusal.
     fn prepare(&mut self, pool: &mut [u8], tariff: [u32; 8]) -> u8;
 

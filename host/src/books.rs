@@ -11,6 +11,10 @@ pub const BOOK_NAMES: &str = "second, proved";
 /// The variable that makes a missing proved book an error where both books are compared.
 pub const REQUIRED: &str = "WALL_BOOK_REQUIRED";
 
+/// Why there is no proved book in a build without it.
+#[cfg(not(proved_book))]
+const MISSING: &str = "this build has no proved book; make it with `rt staticlib wall_book`, and build again";
+
 /// The book of a name, or why there is none.
 ///
 /// A book from elsewhere needs a type that implements [`Book`] and a line here.
@@ -20,11 +24,17 @@ pub fn by_name(name: &str) -> Result<Box<dyn Book>, String> {
         #[cfg(proved_book)]
         "proved" => Ok(Box::new(crate::proved::ProvedBook)),
         #[cfg(not(proved_book))]
-        "proved" => {
-            Err("this build has no proved book; make it with `rt staticlib wall_book`, and build again".to_string())
-        }
+        "proved" => Err(MISSING.to_string()),
         _ => Err(format!("no book is called {name:?}; there are: {BOOK_NAMES}")),
     }
+}
+
+/// The place of the proved book's code in memory, or why it has none.
+pub fn proved_code() -> Result<usize, String> {
+    #[cfg(proved_book)]
+    return Ok(crate::proved::code_address());
+    #[cfg(not(proved_book))]
+    Err(MISSING.to_string())
 }
 
 /// The proved book, to be compared with the second one.

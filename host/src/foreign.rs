@@ -30,14 +30,25 @@ pub enum Build {
     Tight,
     /// A full root over full branches with hardly an id to spare; from [`BRINK_BLOCKS`] blocks on.
     Brink,
+    /// As many levels as may be, each node in log mode; one full branch stands over another. From [`DEEP_BLOCKS`]
+    /// blocks on.
+    Deep,
 }
 
 /// Blocks of the smallest pool whose limit a full root over a full branch comes near.
 pub const BRINK_BLOCKS: usize = 12;
 
+/// Blocks of the smallest pool that holds a deep tree and the nodes of a split of its full branches.
+pub const DEEP_BLOCKS: usize = 63;
+
 impl PoolStyle {
     fn is_tight(&self) -> bool {
         self.build == Build::Tight
+    }
+
+    /// Whether no node has a page of its own.
+    fn is_log_only(&self) -> bool {
+        matches!(self.build, Build::Tight | Build::Deep)
     }
 }
 

@@ -10,9 +10,11 @@ mod call;
 mod charges;
 mod checked_pool;
 mod commands;
+mod script;
 mod style;
 mod tally;
 
+pub use script::Script;
 pub use tally::Tally;
 
 use crate::damage;

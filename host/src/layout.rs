@@ -21,6 +21,8 @@ pub const MAX_SCAN_PAIRS: usize = 32;
 
 /// Most keys of a node.
 pub const MAX_KEYS: usize = 24;
+/// Most levels of a sound tree: every branch has two children or more, and a pool at most 620 nodes.
+pub const MAX_LEVELS: usize = 9;
 /// Keys that stay in the lower half when a node of `MAX_KEYS + 1` splits.
 pub const LOWER_KEYS: usize = 12;
 /// The link of the last leaf.
@@ -60,6 +62,11 @@ pub fn node_limit(blocks: usize) -> usize {
 /// The bytes of a pool that a page takes.
 pub fn page_range(page: usize) -> std::ops::Range<usize> {
     page * PAGE_BYTES..(page + 1) * PAGE_BYTES
+}
+
+/// The bytes of a page, if the pool has so many pages; any number may be asked for.
+pub fn page_at(pool: &[u8], page: usize) -> Option<&[u8]> {
+    pool.chunks_exact(PAGE_BYTES).nth(page)
 }
 
 /// The bytes of a pool that a block takes.

@@ -7,6 +7,7 @@
 
 pub mod account;
 pub mod audit;
+pub mod bench;
 pub mod book;
 pub mod books;
 pub mod both;
@@ -16,7 +17,9 @@ pub mod flash;
 pub mod foreign;
 pub mod fuzz;
 pub mod layout;
+pub mod markdown;
 pub mod meter;
+pub mod metered;
 pub mod mount;
 pub mod node;
 pub mod observe;
@@ -30,6 +33,7 @@ pub mod reference;
 pub mod refusal;
 pub mod report;
 pub mod shell;
+pub mod stack;
 pub mod tree;
 pub mod wire;
 pub mod workload;

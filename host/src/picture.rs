@@ -3,7 +3,7 @@
 use std::fmt::Write;
 
 use crate::account::Mode;
-use crate::layout::{block_count, page_range, BLOCK_PAGES, PAGE_BYTES};
+use crate::layout::{block_count, page_at, BLOCK_PAGES, PAGE_BYTES};
 use crate::mount::{mount, Mounted};
 use crate::node::{Change, Node, Shape};
 use crate::page::{decode, used, Content, Page};
@@ -125,9 +125,9 @@ fn newest_page(bytes: &[u8]) -> Option<usize> {
     written.max().map(|(_, page)| page)
 }
 
-/// One page in full; nothing if there is no such page.
-pub fn page(bytes: &[u8], page: usize) -> Option<String> {
-    let page_bytes = bytes.get(page_range(page))?;
+/// One page in full, or which pages there are.
+pub fn page(bytes: &[u8], page: usize) -> Result<String, String> {
+    let page_bytes = page_at(bytes, page).ok_or_else(|| no_page(bytes, page))?;
     let mut out = format!("page {page}: block {}, place {}\n", page / BLOCK_PAGES, page % BLOCK_PAGES);
     match decode(page_bytes) {
         Ok(None) => out.push_str("blank\n"),
@@ -144,7 +144,15 @@ pub fn page(bytes: &[u8], page: usize) -> Option<String> {
         }
     }
     let _ = writeln!(out, "{}", to_hex(used(page_bytes)));
-    Some(out)
+    Ok(out)
+}
+
+fn no_page(bytes: &[u8], page: usize) -> String {
+    let length = bytes.len();
+    match (length / PAGE_BYTES).checked_sub(1) {
+        Some(last) => format!("no page {page}; {length} bytes have pages 0 to {last}"),
+        None => format!("no page {page}; {length} bytes are less than a page"),
+    }
 }
 
 fn describe_page(out: &mut String, page: &Page, lives: impl Fn(u16, u32) -> &'static str) {
@@ -228,5 +236,25 @@ fn mode_name(mode: Mode) -> &'static str {
     match mode {
         Mode::Log => "log",
         Mode::Disk => "disk",
+    }
+}
+
+#[cfg(test)]
+mod tests {
+    use super::*;
+    use crate::book::{Book, SecondBook};
+    use crate::layout::{BLANK, BLOCK_BYTES, MIN_BLOCKS};
+
+    #[test]
+    fn a_page_is_shown_or_there_is_none() {
+        let mut pool = vec![BLANK; MIN_BLOCKS * BLOCK_BYTES];
+        assert_eq!(SecondBook.prepare(&mut pool, [0, 0, 0, 0, 0, 0, 1, 1]), 0);
+        let text = page(&pool, 0).expect("a page");
+        assert!(text.contains("live node 0 version 1: leaf link 4294967295"), "{text}");
+        assert_eq!(page(&pool, 127), Ok("page 127: block 3, place 31\nblank\n\n".to_string()));
+        for beyond in [128, usize::MAX / PAGE_BYTES, usize::MAX / PAGE_BYTES + 1, usize::MAX] {
+            assert_eq!(page(&pool, beyond), Err(format!("no page {beyond}; 65536 bytes have pages 0 to 127")));
+        }
+        assert_eq!(page(&pool[..511], 0), Err("no page 0; 511 bytes are less than a page".to_string()));
     }
 }

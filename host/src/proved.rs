@@ -62,6 +62,11 @@ impl Book for ProvedBook {
     }
 }
 
+/// The place of the book's code in memory.
+pub fn code_address() -> usize {
+    wall_book_batch as *const () as usize
+}
+
 /// Refusals are 1 to 10; anything else shows as 255.
 fn number(refused: u32) -> u8 {
     u8::try_from(refused).unwrap_or(u8::MAX)

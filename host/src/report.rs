@@ -5,29 +5,25 @@
 
 use std::time::Instant;
 
-use crate::account::Tariff;
 use crate::book::{self, Book};
 use crate::books::by_name;
-use crate::command::{answer_room, encode, split_answers, Answer, Command};
+use crate::command::{answer_room, encode, Command};
 use crate::flash::Store;
-use crate::layout::{node_limit, table_bytes, BLANK, BLOCK_BYTES, LOG_PAGE_ENTRIES, PAGE_BYTES};
-use crate::meter::{Meter, Totals};
+use crate::layout::{node_limit, table_bytes, LOG_PAGE_ENTRIES, PAGE_BYTES};
+use crate::markdown;
+use crate::meter::Totals;
+use crate::metered::{Metered, BATCH};
 use crate::mount::mount;
 use crate::observe::Unobserved;
 use crate::random::Random;
 use crate::wire::page_sum;
-use crate::workload::{build_then_reads, build_with_reads, Device, Stream, CAPSULE, DEVICES, FLASHCHIP, SLC, STREAMS};
+use crate::workload::{build_then_reads, build_with_reads, Device, Stream};
+use crate::workload::{CAPSULE, DEVICES, DISK_ONLY, FLASHCHIP, LOG_ONLY, SLC, STREAMS};
 
 /// Items of a stream: 620 nodes hold some 6,900 ascending keys.
 const ITEMS: usize = 6_000;
-/// Commands of a batch: a batch closes, and closing writes pages.
-const BATCH: usize = 2_000;
 /// Blocks of the pool that the workloads run on, unless they say otherwise.
 const BLOCKS: usize = 64;
-
-/// A tariff that stays in log mode, and one that moves every node to disk at its first request.
-const LOG_ONLY: [u32; 8] = [0, 0, 0, 0, 0, 0, 1, 1];
-const DISK_ONLY: [u32; 8] = [2, 2, 2, 0, 0, 0, 1, 1];
 
 /// A workload: its name, what the papers report, and the table that it prints.
 pub struct Section {
@@ -110,64 +106,8 @@ impl Section {
     /// Runs the workload and gives it as a table in Markdown.
     pub fn text(&self) -> Result<String, String> {
         let rows = (self.table)()?;
-        let mut out = format!("## {}. {}\n\n{}\n\n", self.name, self.title, self.papers);
-        for (at, row) in rows.iter().enumerate() {
-            out.push_str(&format!("| {} |\n", row.join(" | ")));
-            if at == 0 {
-                out.push_str(&format!("|{}\n", "---|".repeat(row.len())));
-            }
-        }
-        Ok(out)
+        Ok(format!("## {}. {}\n\n{}\n\n{}", self.name, self.title, self.papers, markdown::table(&rows)))
     }
-}
-
-/// A book on a pool of its own, metered.
-struct Bench {
-    pool: Vec<u8>,
-    meter: Meter,
-}
-
-impl Bench {
-    fn new(blocks: usize, numbers: [u32; 8]) -> Result<Bench, String> {
-        let tariff = Tariff::from_numbers(numbers).ok_or_else(|| format!("the tariff {numbers:?} is out of range"))?;
-        let mut pool = vec![BLANK; blocks * BLOCK_BYTES];
-        match book::prepare(&mut pool, numbers, &mut Unobserved) {
-            0 => Ok(Bench { pool, meter: Meter::new(tariff, blocks) }),
-            number => Err(format!("prepare was refused with {number}")),
-        }
-    }
-
-    /// Runs commands in batches; a workload must fit its pool.
-    fn run(&mut self, commands: &[Command]) -> Result<(), String> {
-        let refused = encode_refused();
-        let mut table = vec![0; table_bytes(self.pool.len())];
-        for batch in commands.chunks(BATCH) {
-            let mut answers = vec![0; answer_room(batch)];
-            let outcome = book::batch(&mut self.pool, &mut table, &encode(batch), &mut answers, &mut self.meter);
-            if outcome.number != 0 {
-                return Err(format!("a batch was refused with {}", outcome.number));
-            }
-            let answers = &answers[..outcome.length];
-            let full = split_answers(answers).is_none_or(|pieces| pieces.contains(&&refused[..]));
-            if full {
-                return Err("the pool is too small for the workload".to_string());
-            }
-        }
-        Ok(())
-    }
-
-    /// The totals of commands on a fresh pool.
-    fn measured(blocks: usize, tariff: [u32; 8], commands: &[Command]) -> Result<Totals, String> {
-        let mut bench = Bench::new(blocks, tariff)?;
-        bench.run(commands)?;
-        Ok(bench.meter.totals())
-    }
-}
-
-fn encode_refused() -> Vec<u8> {
-    let mut out = Vec::new();
-    Answer::Refused(crate::tree::IDS_USED_UP).encode(&mut out);
-    out
 }
 
 fn header(first: &[&str], rest: &[&str]) -> Vec<String> {
@@ -211,7 +151,7 @@ fn builds_by_device() -> Result<Vec<Vec<String>>, String> {
     let commands = build_with_reads(&Stream::SyntheticLab.keys(ITEMS), 0);
     let mut rows = vec![header(&["device", "unit (of 1/27 page)"], &[CHARGES.as_slice(), &PHYSICAL].concat())];
     for device in DEVICES {
-        rows.push(row(&[device.name, device.unit], &Bench::measured(BLOCKS, device.tariff(), &commands)?));
+        rows.push(row(&[device.name, device.unit], &Metered::measured(BLOCKS, device.tariff(), &commands)?));
     }
     Ok(rows)
 }
@@ -221,7 +161,7 @@ fn streams_on_flashchip() -> Result<Vec<Vec<String>>, String> {
     for stream in STREAMS {
         for reads in [0, 10] {
             let commands = build_then_reads(&stream.keys(ITEMS), reads);
-            let totals = Bench::measured(BLOCKS, FLASHCHIP.tariff(), &commands)?;
+            let totals = Metered::measured(BLOCKS, FLASHCHIP.tariff(), &commands)?;
             rows.push(row(&[stream.name(), &reads.to_string()], &totals));
         }
     }
@@ -240,7 +180,7 @@ fn ratio_grid() -> Result<Vec<Vec<String>>, String> {
         let mut cells = vec![reads.to_string()];
         for write in WRITE_COSTS {
             let device = Device { name: "", unit: "", read: 10, write };
-            let Totals { charge, log, disk, optimum, .. } = Bench::measured(BLOCKS, device.tariff(), &commands)?;
+            let Totals { charge, log, disk, optimum, .. } = Metered::measured(BLOCKS, device.tariff(), &commands)?;
             let [log, disk, optimum] = [log, disk, optimum].map(|other| ratio(other, charge));
             cells.push(format!("log {log}, disk {disk}, optimum {optimum}"));
         }
@@ -254,7 +194,7 @@ fn against_optimum() -> Result<Vec<Vec<String>>, String> {
     let mut rows =
         vec![header(&["device", "book / optimum", "listing / optimum", "switches", "listing's switches"], &[])];
     for device in DEVICES {
-        let totals = Bench::measured(BLOCKS, device.tariff(), &commands)?;
+        let totals = Metered::measured(BLOCKS, device.tariff(), &commands)?;
         rows.push(vec![
             device.name.to_string(),
             ratio(totals.charge, totals.optimum),
@@ -275,12 +215,12 @@ fn list_against_index() -> Result<Vec<Vec<String>>, String> {
         &[],
     )];
     for device in DEVICES {
-        let mut bench = Bench::new(BLOCKS, device.tariff())?;
-        bench.run(&build_with_reads(&keys, 0))?;
-        let build = bench.meter.totals().charge;
+        let mut metered = Metered::new(BLOCKS, device.tariff())?;
+        metered.run(&build_with_reads(&keys, 0))?;
+        let build = metered.meter.totals().charge;
         let mut random = Random::new(9);
-        bench.run(&(0..queries).map(|_| Command::Get { key: random.pick(&keys) }).collect::<Vec<_>>())?;
-        let query = (bench.meter.totals().charge - build) as f64 / queries as f64;
+        metered.run(&(0..queries).map(|_| Command::Get { key: random.pick(&keys) }).collect::<Vec<_>>())?;
+        let query = (metered.meter.totals().charge - build) as f64 / queries as f64;
         let list_build = ITEMS as f64 * f64::from(device.write);
         let list_query = (ITEMS.div_ceil(LOG_PAGE_ENTRIES) * LOG_PAGE_ENTRIES) as f64 * f64::from(device.read);
         let same = (build as f64 - list_build) / (list_query - query);
@@ -301,9 +241,9 @@ fn lookups_per_insert() -> Result<Vec<Vec<String>>, String> {
     let keys = Stream::Random.keys(5_000);
     let mut rows = vec![header(&["lookups per insert"], &[CHARGES.as_slice(), &PHYSICAL].concat())];
     for share in [0.01, 0.1, 0.5, 1.0, 2.0] {
-        let mut bench = Bench::new(BLOCKS, CAPSULE.tariff())?;
-        bench.run(&build_with_reads(&keys, 0))?;
-        let built = bench.meter.totals();
+        let mut metered = Metered::new(BLOCKS, CAPSULE.tariff())?;
+        metered.run(&build_with_reads(&keys, 0))?;
+        let built = metered.meter.totals();
         let mut random = Random::new(4);
         let mut one = || {
             let lookup = (random.next_u32() as f64 / 2f64.powi(32)) * (1.0 + share) < share;
@@ -313,8 +253,8 @@ fn lookups_per_insert() -> Result<Vec<Vec<String>>, String> {
                 Command::Put { key: random.next_u32(), value: 1 }
             }
         };
-        bench.run(&(0..3_000).map(|_| one()).collect::<Vec<_>>())?;
-        rows.push(row(&[&share.to_string()], &bench.meter.totals().since(&built)));
+        metered.run(&(0..3_000).map(|_| one()).collect::<Vec<_>>())?;
+        rows.push(row(&[&share.to_string()], &metered.meter.totals().since(&built)));
     }
     Ok(rows)
 }
@@ -330,7 +270,7 @@ fn small_block_pages() -> Result<Vec<Vec<String>>, String> {
     for (name, tariff) in
         [("every node on disk pages", DISK_ONLY), ("every node in the log", LOG_ONLY), ("self-tuning", SLC.tariff())]
     {
-        let totals = Bench::measured(BLOCKS, tariff, &commands)?;
+        let totals = Metered::measured(BLOCKS, tariff, &commands)?;
         if tariff == DISK_ONLY {
             disk_pages = totals.pages_written;
         }
@@ -353,7 +293,7 @@ fn phases() -> Result<Vec<Vec<String>>, String> {
                 _ => Command::Get { key: at % 20 },
             }));
         }
-        let totals = Bench::measured(4, SLC.tariff(), &commands)?;
+        let totals = Metered::measured(4, SLC.tariff(), &commands)?;
         let mut cells = vec![length.to_string(), totals.switches.to_string(), totals.listing_switches.to_string()];
         cells.extend(charges(&totals));
         rows.push(cells);
@@ -366,11 +306,11 @@ fn wear() -> Result<Vec<Vec<String>>, String> {
         vec![header(&["keys overwritten", "pages written", "copied", "erases", "erases of each block"], &[])];
     for (name, hot) in [("uniform", false), ("9 of 10 on 20 keys", true)] {
         let mut random = Random::new(6);
-        let mut bench = Bench::new(12, FLASHCHIP.tariff())?;
-        bench.run(&(0..1000).map(|key| Command::Put { key: key * 7 % 1000, value: 0 }).collect::<Vec<_>>())?;
+        let mut metered = Metered::new(12, FLASHCHIP.tariff())?;
+        metered.run(&(0..1000).map(|key| Command::Put { key: key * 7 % 1000, value: 0 }).collect::<Vec<_>>())?;
         let mut key = || if hot && !random.once_in(10) { random.below(20) } else { random.below(1000) };
-        bench.run(&(0..60_000).map(|value| Command::Put { key: key() as u32, value }).collect::<Vec<_>>())?;
-        let totals = bench.meter.totals();
+        metered.run(&(0..60_000).map(|value| Command::Put { key: key() as u32, value }).collect::<Vec<_>>())?;
+        let totals = metered.meter.totals();
         let each: Vec<String> = totals.erases.iter().map(u64::to_string).collect();
         rows.push(vec![
             name.to_string(),
@@ -424,22 +364,22 @@ fn batch_time(book: &mut dyn Book, pool: &[u8], commands: &[Command]) -> f64 {
 
 fn times() -> Result<Vec<Vec<String>>, String> {
     let keys = Stream::SyntheticLab.keys(ITEMS);
-    let mut bench = Bench::new(BLOCKS, FLASHCHIP.tariff())?;
+    let mut metered = Metered::new(BLOCKS, FLASHCHIP.tariff())?;
     let mut random = Random::new(8);
-    bench.run(&build_with_reads(&keys, 0))?;
-    bench
+    metered.run(&build_with_reads(&keys, 0))?;
+    metered
         .run(&(0..8 * BATCH as u32).map(|value| Command::Put { key: random.pick(&keys), value }).collect::<Vec<_>>())?;
-    let written: usize = mount(&bench.pool).map_err(|fault| fault.to_string())?.written.iter().sum();
+    let written: usize = mount(&metered.pool).map_err(|fault| fault.to_string())?.written.iter().sum();
     let mount_time = shortest(|| {
-        std::hint::black_box(mount(std::hint::black_box(&bench.pool)).is_ok());
+        std::hint::black_box(mount(std::hint::black_box(&metered.pool)).is_ok());
     });
     let sum_time = shortest(|| {
-        let pages = bench.pool.chunks_exact(PAGE_BYTES);
+        let pages = metered.pool.chunks_exact(PAGE_BYTES);
         std::hint::black_box(pages.map(page_sum).fold(0, |all, sum| all ^ sum[3]));
     });
     let gets: Vec<Command> = (0..BATCH).map(|_| Command::Get { key: random.pick(&keys) }).collect();
     let puts: Vec<Command> = (0..BATCH as u32).map(|value| Command::Put { key: random.pick(&keys), value }).collect();
-    let (get, put) = (command_time(&bench.pool, &gets)?, command_time(&bench.pool, &puts)?);
+    let (get, put) = (command_time(&metered.pool, &gets)?, command_time(&metered.pool, &puts)?);
     let mut rows = vec![
         header(&["what", "microseconds"], &[]),
         vec![format!("mount, {written} of 2,048 pages written"), format!("{mount_time:.0}")],
@@ -448,7 +388,7 @@ fn times() -> Result<Vec<Vec<String>>, String> {
         vec!["a put of a key that is there, on the mounted pool".to_string(), format!("{put:.3}")],
     ];
     for name in ["second", "proved"] {
-        rows.extend(batch_rows(name, &bench.pool, &gets, &puts));
+        rows.extend(batch_rows(name, &metered.pool, &gets, &puts));
     }
     Ok(rows)
 }

@@ -4,7 +4,7 @@ use std::fs;
 use std::str::SplitWhitespace;
 
 use crate::book::Book;
-use crate::layout::{page_range, table_bytes, BLANK, BLOCK_BYTES, PAGE_BYTES};
+use crate::layout::{page_at, table_bytes, BLANK, BLOCK_BYTES};
 use crate::mount::mount;
 use crate::page::used;
 use crate::picture;
@@ -127,10 +127,7 @@ impl Shell {
     fn dump(&self, mut words: SplitWhitespace<'_>) -> Result<String, String> {
         let page: usize = number(&mut words, "a page")?;
         ended(words)?;
-        if page >= self.pool.len() / PAGE_BYTES {
-            return Err(format!("no page {page}"));
-        }
-        let bytes = used(&self.pool[page_range(page)]);
+        let bytes = used(page_at(&self.pool, page).ok_or_else(|| format!("no page {page}"))?);
         Ok(if bytes.is_empty() { "-".to_string() } else { to_hex(bytes) })
     }
 

@@ -1,4 +1,4 @@
-//! Devices and streams of the source papers.
+//! Devices and streams of the source papers, and tariffs that keep all nodes in one mode.
 
 use crate::command::Command;
 use crate::layout::LOG_PAGE_ENTRIES;
@@ -45,6 +45,10 @@ impl Device {
         ]
     }
 }
+
+/// A tariff that stays in log mode, and one that moves every node to disk at its first request.
+pub const LOG_ONLY: [u32; 8] = [0, 0, 0, 0, 0, 0, 1, 1];
+pub const DISK_ONLY: [u32; 8] = [2, 2, 2, 0, 0, 0, 1, 1];
 
 /// The order in which keys come.
 #[derive(Clone, Copy, PartialEq, Eq, Debug)]

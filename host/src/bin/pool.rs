@@ -39,10 +39,7 @@ fn run() -> Result<String, String> {
     let bytes = std::fs::read(file).map_err(|error| format!("{file}: {error}"))?;
     match words[1..] {
         [] => Ok(picture::pool(&bytes)),
-        ["page", page] => {
-            let page = number(page)?;
-            picture::page(&bytes, page).ok_or_else(|| format!("no page {page} in {} bytes", bytes.len()))
-        }
+        ["page", page] => picture::page(&bytes, number(page)?),
         ["node", id] => {
             opened(&bytes)?;
             let id = number(id)?;
@@ -62,5 +59,5 @@ fn opened(bytes: &[u8]) -> Result<yokehour_host::mount::Mounted, String> {
 }
 
 fn number(word: &str) -> Result<usize, String> {
-    word.parse().map_err(|_| format!("a number expected, not {word:?}"))
+    word.parse().map_err(|_| format!("a number from 0 to {} expected, not {word:?}", usize::MAX))
 }

@@ -29,6 +29,9 @@ enum Damage {
     Bytes(fn(&mut Random, &Draft, &mut [u8]) -> bool),
 }
 
+/// A path of first pointers as long as a sound tree's longest, with a leaf alone beside each of its branches.
+pub const LEFT_PATH: Flaw = flaw(7, "a leftmost path longer than the others", Spelled(tree::left_path));
+
 /// All flaws.
 pub const FLAWS: &[Flaw] = &[
     flaw(5, "a sequence number twice", Pages(sequence::twice)),
@@ -67,6 +70,7 @@ pub const FLAWS: &[Flaw] = &[
     flaw(7, "a pointer above 16 bits", Spelled(tree::pointer_of_17_bits)),
     flaw(7, "a node that is not reached", Spelled(tree::not_reached)),
     flaw(7, "a leaf deeper than the others", Spelled(tree::deeper_leaf)),
+    LEFT_PATH,
     flaw(7, "keys that descend", Spelled(node::keys_descend)),
     flaw(7, "a key twice", Spelled(node::key_twice)),
     flaw(7, "a branch without a key", Spelled(tree::branch_without_key)),

@@ -25,7 +25,7 @@ impl Spelling {
         let accounts = nodes
             .iter()
             .map(|_| Account {
-                mode: if style.is_tight() || random.below(100) < in_log { Mode::Log } else { Mode::Disk },
+                mode: if style.is_log_only() || random.below(100) < in_log { Mode::Log } else { Mode::Disk },
                 score: random.below(score_end) as u32,
             })
             .collect();

@@ -3,26 +3,35 @@
 use std::collections::BTreeSet;
 
 use super::{Build, PoolStyle};
-use crate::layout::{node_limit, MAX_KEYS, NO_LINK};
+use crate::layout::{node_limit, MAX_KEYS, MAX_LEVELS, NO_LINK};
 use crate::node::{Node, Pair, Shape};
 use crate::random::Random;
 
 /// A random sound tree within the limit: thin or fat branches, empty leaves, ids in any order.
 pub(super) fn random_tree(random: &mut Random, style: PoolStyle) -> Vec<Node> {
     let limit = node_limit(style.blocks);
-    if style.build == Build::Brink {
-        let levels = brink_levels(random, limit);
-        return tree_of_levels(random, &levels);
-    }
+    let levels = match style.build {
+        Build::Any => {
+            let most = if random.once_in(2) { limit } else { limit.min(30) };
+            let leaves = random.between(1, most);
+            levels_within(random, limit, leaves)
+        }
+        Build::Tight => levels_within(random, limit, limit),
+        Build::Brink => brink_levels(random, limit),
+        Build::Deep => deep_levels(),
+    };
+    tree_of_levels(random, &levels)
+}
+
+/// Levels over so many leaves, or as few fewer as keep to the limit.
+fn levels_within(random: &mut Random, limit: usize, mut leaves: usize) -> Vec<Vec<usize>> {
     let fanout = random.pick(&[2, 3, 6, MAX_KEYS + 1]);
-    let most = if random.once_in(2) { limit } else { limit.min(30) };
-    let mut leaves = if style.is_tight() { limit } else { random.between(1, most) };
     let mut levels = random_levels(random, leaves, fanout);
     while node_count(&levels) > limit {
         leaves -= 1 + leaves / 20;
         levels = random_levels(random, leaves, fanout);
     }
-    tree_of_levels(random, &levels)
+    levels
 }
 
 fn tree_of_levels(random: &mut Random, levels: &[Vec<usize>]) -> Vec<Node> {
@@ -48,6 +57,19 @@ fn brink_levels(random: &mut Random, limit: usize) -> Vec<Vec<usize>> {
     random.shuffle(&mut branches);
     let leaves = branches.iter().sum();
     vec![vec![0; leaves], branches, vec![fanout]]
+}
+
+/// Nine levels: every branch has two children, but that the first one two levels above the leaves is full, and so is
+/// the first below it.
+fn deep_levels() -> Vec<Vec<usize>> {
+    let fanout = MAX_KEYS + 1;
+    let mut levels: Vec<Vec<usize>> = (0..MAX_LEVELS - 1).rev().map(|height| vec![2; 1 << height]).collect();
+    levels[1][0] = fanout;
+    levels[0].extend(vec![2; fanout - 2]);
+    levels[0][0] = fanout;
+    let leaves = levels[0].iter().sum();
+    levels.insert(0, vec![0; leaves]);
+    levels
 }
 
 /// The children of each branch, level by level from the one above the leaves; a leaf alone has none.

@@ -112,7 +112,8 @@ impl CheckedPool {
         Ok(())
     }
 
-    fn random_commands(&mut self, random: &mut Random, style: &CommandStyle) -> Vec<Command> {
+    /// Commands that the pool's keys make likely to matter.
+    pub fn random_commands(&mut self, random: &mut Random, style: &CommandStyle) -> Vec<Command> {
         // A pool that was not built by the style's keys has its own.
         let near = if self.charges.is_some() { 8 } else { 2 };
         Chooser { style, map: &self.map, puts: &mut self.puts, near }.commands(random)

@@ -3,9 +3,10 @@
 use crate::common::number_of;
 use yokehour_host::account::Mode;
 use yokehour_host::damage;
-use yokehour_host::foreign::{self, flaw::FLAWS, Build, PoolStyle, BRINK_BLOCKS};
-use yokehour_host::layout::{BLOCK_PAGES, MAX_BLOCKS, MAX_LOG_PAGES, MIN_BLOCKS};
+use yokehour_host::foreign::{self, flaw::FLAWS, Build, PoolStyle, BRINK_BLOCKS, DEEP_BLOCKS};
+use yokehour_host::layout::{node_limit, BLOCK_PAGES, MAX_BLOCKS, MAX_LEVELS, MAX_LOG_PAGES, MIN_BLOCKS};
 use yokehour_host::mount::mount;
+use yokehour_host::node::Node;
 use yokehour_host::random::Random;
 use yokehour_host::refusal::Refusal;
 
@@ -37,6 +38,26 @@ fn tight_pools_have_one_blank_block_and_many_nodes_on_three_pages() {
     assert!(mounted.rows.iter().all(|row| row.account.mode == Mode::Log));
     assert!(mounted.rows.iter().filter(|row| row.pages.len() == MAX_LOG_PAGES).count() > 10);
     assert_eq!(number_of(foreign.pool), 0);
+}
+
+#[test]
+fn deep_pools_have_nine_levels_in_log_mode_and_room_for_a_split() {
+    for blocks in [DEEP_BLOCKS, MAX_BLOCKS] {
+        let foreign = foreign::make(&mut Random::new(5), PoolStyle { blocks, build: Build::Deep });
+        let mounted = mount(&foreign.pool).expect("opens");
+        assert_eq!(leftmost_path(&mounted.nodes).len(), MAX_LEVELS);
+        assert!(mounted.rows.iter().all(|row| row.account.mode == Mode::Log));
+        let full = leftmost_path(&mounted.nodes).into_iter().filter(|node| !node.is_leaf() && node.is_full());
+        assert_eq!((full.count(), mounted.nodes.len()), (2, 603));
+        assert!(mounted.nodes.len() + 3 <= node_limit(blocks), "the two and a leaf can split");
+        assert_eq!(number_of(foreign.pool), 0);
+    }
+}
+
+/// The nodes from the root to the first leaf.
+fn leftmost_path(nodes: &[Node]) -> Vec<&Node> {
+    let below = |node: &&Node| (!node.is_leaf()).then(|| &nodes[node.child(0) as usize]);
+    std::iter::successors(nodes.first(), below).collect()
 }
 
 #[test]

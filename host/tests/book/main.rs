@@ -5,5 +5,6 @@ mod foreign;
 mod fuzz;
 mod library;
 mod refusals;
+mod stack;
 mod traces;
 mod worked;

@@ -1,7 +1,7 @@
 //! Flaws in the tree of nodes that a pool spells.
 
 use crate::foreign::spelling::Spelling;
-use crate::layout::{node_limit, MAX_KEYS, NO_LINK};
+use crate::layout::{node_limit, MAX_KEYS, MAX_LEVELS, NO_LINK};
 use crate::node::{Change, Node, Pair, Shape};
 use crate::random::Random;
 
@@ -139,6 +139,24 @@ pub(super) fn deeper_leaf(random: &mut Random, spelling: &mut Spelling, blocks: 
     spelling.nodes[id] = Node { shape: Shape::Branch, pairs, link: right };
     spelling.nodes.push(Node { link: right, ..Node::empty_leaf() });
     spelling.nodes.push(Node { link: leaf.link, ..Node::empty_leaf() });
+    spelling.rebuild_histories();
+    true
+}
+
+/// Eight branches, each the first child of the one above, and nine leaves in key order: the last branch has two of
+/// them, the others one. All but the leaves' depths is as it should be.
+pub(super) fn left_path(_: &mut Random, spelling: &mut Spelling, _: usize) -> bool {
+    let branches = MAX_LEVELS as u32 - 1;
+    let last = 2 * branches;
+    let branch = |id: u32| {
+        let pair = Pair { key: 10 * (branches - id), pointer: id + 1 };
+        Node { shape: Shape::Branch, pairs: vec![pair], link: last - id }
+    };
+    let leaf = |id: u32| {
+        let pair = Pair { key: 10 * (id - branches), pointer: 0 };
+        Node { shape: Shape::Leaf, pairs: vec![pair], link: if id == last { NO_LINK } else { id + 1 } }
+    };
+    spelling.nodes = (0..branches).map(branch).chain((branches..=last).map(leaf)).collect();
     spelling.rebuild_histories();
     true
 }

@@ -1,0 +1,138 @@
+//! Calls that bring a book's stack deep: a hostile pool, a deep tree, and random batches.
+
+use super::deepest;
+use crate::book::{Book, Outcome};
+use crate::both::Call;
+use crate::command::Command;
+use crate::foreign::{self, flaw::LEFT_PATH, Build, Foreign, PoolStyle};
+use crate::fuzz::Script;
+use crate::layout::{BLOCK_BYTES, MAX_BLOCKS, MAX_SCAN_PAIRS, MIN_BLOCKS};
+use crate::random::Random;
+use crate::reference::Ledger;
+use crate::refusal::Refusal;
+use crate::tree::{self, Work};
+
+/// Calls on a book, and the deepest stack that one of them took.
+pub struct Case {
+    pub name: &'static str,
+    run: fn(&mut dyn Book) -> Result<usize, String>,
+}
+
+/// All cases.
+pub const CASES: [Case; 4] = [
+    Case { name: "prepare, 4 and 64 blocks", run: prepares },
+    Case { name: "batch refused with 7: 4 blocks, a leftmost path of eight branches", run: left_paths },
+    Case { name: "batch of gets, puts, deletes and scans: 64 blocks, nine levels in log mode", run: deep_trees },
+    Case { name: "batches at random: 2,000 on 200 pools", run: random_batches },
+];
+
+impl Case {
+    /// The deepest stack of the case's calls, in bytes; or what was not as the case should be.
+    pub fn deepest(&self, book: &mut dyn Book) -> Result<usize, String> {
+        (self.run)(book).map_err(|why| format!("{}: {why}", self.name))
+    }
+}
+
+/// Makes a batch, and gives what it came to and the stack that it took.
+fn batch(book: &mut dyn Book, call: &mut Call) -> Result<(Outcome, usize), String> {
+    let Call { pool, table, batch, answers } = call;
+    deepest(|| book.batch(pool, table, batch, answers))
+}
+
+fn prepares(book: &mut dyn Book) -> Result<usize, String> {
+    let mut most = 0;
+    for blocks in [MIN_BLOCKS, MAX_BLOCKS] {
+        let mut pool = vec![0; blocks * BLOCK_BYTES];
+        let (number, bytes) = deepest(|| book.prepare(&mut pool, [3, 1, 2, 1, 4, 4, 3, 2]))?;
+        expect(number, 0)?;
+        most = most.max(bytes);
+    }
+    Ok(most)
+}
+
+/// Pools of 17 nodes whose tree is walked as deep as any before it is found unsound.
+fn left_paths(book: &mut dyn Book) -> Result<usize, String> {
+    let mut random = Random::new(17);
+    let mut most = 0;
+    for build in [Build::Tight, Build::Any].repeat(10) {
+        let pool = LEFT_PATH.make(&mut random, PoolStyle { blocks: MIN_BLOCKS, build }).ok_or("no such pool")?;
+        let (outcome, bytes) = batch(book, &mut Call::new(pool, &[]))?;
+        expect(outcome.number, LEFT_PATH.number)?;
+        most = most.max(bytes);
+    }
+    Ok(most)
+}
+
+/// Pools of nine levels; in one of them at least, a put splits a leaf and two branches.
+fn deep_trees(book: &mut dyn Book) -> Result<usize, String> {
+    let mut random = Random::new(9);
+    let (mut most, mut most_created) = (0, 0);
+    for _ in 0..6 {
+        let style = PoolStyle { blocks: MAX_BLOCKS, build: Build::Deep };
+        let Foreign { pool, ledger } = foreign::make(&mut random, style);
+        let (created, put) = splitting_put(&ledger).ok_or("a deep tree has keys")?;
+        let mut call = Call::new(pool, &deep_commands(&ledger, put));
+        let (outcome, bytes) = batch(book, &mut call)?;
+        expect(outcome.number, 0)?;
+        (most, most_created) = (most.max(bytes), most_created.max(created));
+    }
+    match most_created {
+        3.. => Ok(most),
+        created => Err(format!("no put creates three nodes, the most are {created}")),
+    }
+}
+
+/// The put beside a key of the tree that creates the most nodes, and how many those are.
+fn splitting_put(ledger: &Ledger) -> Option<(usize, Command)> {
+    let pairs = tree::pairs(&ledger.nodes).into_iter();
+    let puts = pairs.map(|pair| Command::Put { key: pair.key.wrapping_add(1), value: 1 });
+    puts.map(|put| (nodes_created(ledger, &put), put)).max_by_key(|&(created, _)| created)
+}
+
+fn nodes_created(ledger: &Ledger, command: &Command) -> usize {
+    let mut steps = Vec::new();
+    tree::plan(&ledger.nodes, ledger.limit, command, &mut steps);
+    steps.iter().filter(|step| matches!(step.work, Work::Create(_))).count()
+}
+
+/// The put first; then at every twentieth key a get, a put beside it, a delete and a scan to the next.
+fn deep_commands(ledger: &Ledger, put: Command) -> Vec<Command> {
+    let pairs = tree::pairs(&ledger.nodes);
+    let commands = |keys: &[u32]| {
+        let (key, high) = (keys[0], keys[1]);
+        [
+            Command::Get { key },
+            Command::Put { key: key.wrapping_add(1), value: 2 },
+            Command::Delete { key },
+            Command::Scan { low: key, high, most: MAX_SCAN_PAIRS },
+        ]
+    };
+    let keys: Vec<u32> = pairs.iter().step_by(20).map(|pair| pair.key).collect();
+    std::iter::once(put).chain(keys.windows(2).flat_map(commands)).collect()
+}
+
+/// Batches one after another on random pools; above the greatest sequence number a pool opens no more.
+fn random_batches(book: &mut dyn Book) -> Result<usize, String> {
+    let mut random = Random::new(2000);
+    let mut most = 0;
+    for _ in 0..200 {
+        let Script { mut pool, batches } = Script::random(&mut random, 10)?;
+        for commands in batches {
+            let mut call = Call::new(pool, &commands);
+            let (outcome, bytes) = batch(book, &mut call)?;
+            if outcome.number != Refusal::SequenceNumbers.number() {
+                expect(outcome.number, 0)?;
+            }
+            most = most.max(bytes);
+            pool = call.pool;
+        }
+    }
+    Ok(most)
+}
+
+fn expect(number: u8, expected: u8) -> Result<(), String> {
+    match number == expected {
+        true => Ok(()),
+        false => Err(format!("a call came to number {number}, not {expected}")),
+    }
+}
