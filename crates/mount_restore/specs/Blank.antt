@@ -1,18 +1,20 @@
 -- No row stands behind the node count: restoring begins with an empty table and sets the rows of nodes alone. So the place behind the rows of the
 -- nodes is free for the check of the tree, and zeros there give the restored rows again. Assumes nothing.
-use mathlib.Core.Path.{_≡_, refl, sym, ap, _∙_, fun-ext}
+use mathlib.Core.Path.{_≡_, refl, sym, ap, ap₂, _∙_, fun-ext}
 use mathlib.Core.Bool.{Bool, true, false}
-use mathlib.Core.List.{List, _∷_}
+use mathlib.Core.List.{List, [], _∷_}
 use mathlib.Core.Logic.{_⊎_, inl, inr}
 use Prim.Native.Nat.{ℕ, zero, suc, _+_, _-_, _*_, _≤_, _<_}
+use native.Mathlib.Nat.{zero-add}
 use native.Mathlib.Omega.{arith}
 use borrow.Author.Tests.{ltb-true}
 use lib.Dec.{ltb, eqb}
-use lib.ListN.{length, getD, set, take, replicate, length-replicate, List·getD-eq-default}
-use lib.Seq.{getD-set-other, ext-getD, length-take-le}
+use lib.ListN.{length, getD, set, take, drop, replicate, length-drop, length-replicate, List·getD-eq-default}
+use lib.Seq.{getD-set-other, ext-getD, length-take-le, take-take, take-nil}
 use Rattle.laws.specs.Order.{le-or}
 use Rattle.laws.specs.Tests.{choose}
 use Rattle.laws.specs.Lay.{lay, part, drop-replicate, part-lay, part-lay-before, part-part, part-take, length-lay}
+use Rattle.laws.specs.Chunks.{drop-lay-front}
 use Rattle.laws.specs.BigEndian.{numberAt}
 use Rattle.laws.specs.Loops.{steps-keep}
 use Rattle.layout.specs.Layout.{tableBytes, pagesInBlock, mostEntries}
@@ -21,6 +23,7 @@ use Rattle.account.specs.declared.Mode.{Mode}
 use Rattle.store.specs.Store.{nodeIn}
 use Rattle.flash_rows.specs.Row.{modeFrom, decode, rowsOf, noRow, rowBytes}
 use Rattle.flash_rows.specs.declared.Row.{Row}
+use Rattle.flash_rows.specs.Worktable.{worktable, bufferBytes, rowsAt, bufferOf, rowsIn, tableFrom}
 use Rattle.flash_rows.proofs.Laws.{length-rows, get-rows}
 use Rattle.flash_blocks.specs.Pages.{pageAt}
 use Rattle.flash_allocate.specs.declared.state.State.{State}
@@ -53,6 +56,14 @@ zero-row : decode (replicate rowBytes 0) ≡ noRow
 unfolding decode noRow numberAt part modeFrom
 zero-row = refl
 
+-- Of the first bytes, those from a place on.
+drop-take : (k n : ℕ) (l : List ℕ) → drop k (take (k + n) l) ≡ take n (drop k l)
+drop-take zero n l = ap (λ (m : ℕ). take m l) (zero-add n)
+drop-take (suc k) n [] = ap (drop (suc k)) (take-nil (suc k + n)) ∙ sym (take-nil n)
+drop-take (suc k) n (x ∷ l) =
+    let e : suc k + n ≡ suc (k + n) = omega arith in
+    ap (λ (m : ℕ). drop (suc k) (take m (x ∷ l))) e ∙ drop-take k n l
+
 -- A row whose bytes are zeros, and one that the table does not reach to.
 blank-row : (table : List ℕ) (n : ℕ) → (rowBytes * n + rowBytes ≤ length table → part table (rowBytes * n) rowBytes ≡ replicate rowBytes 0) →
     getD (rowsOf table) n noRow ≡ noRow
@@ -67,8 +78,8 @@ blank-row table n z = go (le-or (rowBytes * n + rowBytes) (length table))
 empty-blank : (blocks count : ℕ) → BlankFrom count (emptyRows blocks)
 unfolding emptyRows
 empty-blank blocks count n l =
-    blank-row (replicate (tableBytes blocks) 0) n
-    (λ h. part-zeros (tableBytes blocks) (rowBytes * n) rowBytes (omega (arith, length-replicate {A = ℕ} (tableBytes blocks) 0)))
+    let size = tableBytes blocks - rowsAt in
+    blank-row (replicate size 0) n (λ h. part-zeros size (rowBytes * n) rowBytes (omega (arith, length-replicate {A = ℕ} size 0)))
 
 -- A row of a node set, or none.
 set-blank : (count id : ℕ) (x : Row) (rows : List Row) (b : Bool) → ltb id count ≡ b → BlankFrom count rows →
@@ -148,21 +159,8 @@ module _ (limit : ℕ) (table : List ℕ) (room : rowBytes * limit ≤ length ta
       ap decode (part-take table (rowBytes * limit) (rowBytes * n) rowBytes (omega arith)) ∙
       sym (get-rows table n (omega arith))
 
-  -- The nodes are read by their own rows.
-  pub table-kept : (pages : List (List ℕ)) (s : State) → s .nodes ≤ limit →
-      tableOf pages (rowsOf (take (rowBytes * limit) table)) s ≡ tableOf pages (rowsOf table) s
-  unfolding content
-  table-kept pages s few = fun-ext (λ n. go n (le-or (s .nodes) n))
-    where
-      go : (n : ℕ) → (s .nodes ≤ n) ⊎ (n < s .nodes) → tableOf pages (rowsOf (take (rowBytes * limit) table)) s n ≡ tableOf pages (rowsOf table) s n
-      go n (inl l) = tableOf-out pages _ s n l ∙ sym (tableOf-out pages _ s n l)
-      go n (inr l) =
-          tableOf-in pages _ s n l ∙
-          ap (λ (r : Row). nodeIn (contentBy pages s r n)) (rows-kept n (omega arith)) ∙
-          sym (tableOf-in pages (rowsOf table) s n l)
-
   -- Zeros behind rows that are kept, where no row stood.
-  pub rows-back : (middle : List ℕ) (size : ℕ) → length middle ≡ length table → size ≡ length table - rowBytes * limit →
+  rows-back : (middle : List ℕ) (size : ℕ) → length middle ≡ length table → size ≡ length table - rowBytes * limit →
       take (rowBytes * limit) middle ≡ take (rowBytes * limit) table → BlankFrom limit (rowsOf table) →
       rowsOf (lay middle (rowBytes * limit) (replicate size 0)) ≡ rowsOf table
   rows-back middle size same most kept blank =
@@ -199,3 +197,52 @@ module _ (limit : ℕ) (table : List ℕ) (room : rowBytes * limit ≤ length ta
           ap (λ (s : List ℕ). part s (rowBytes * n) rowBytes) kept ∙
           part-take table (rowBytes * limit) (rowBytes * n) rowBytes (omega arith)) ∙
           sym (get-rows table n (omega arith))
+
+-- ---- the same of a whole work table, with its buffer in front
+
+module _ (limit : ℕ) (table : List ℕ) (room : rowsAt + rowBytes * limit ≤ length table) where
+  abbrev kept : ℕ
+  kept = rowsAt + rowBytes * limit
+
+  rows-room : rowBytes * limit ≤ length (drop rowsAt table)
+  rows-room = omega (arith, length-drop rowsAt table)
+
+  -- the rows of the kept bytes
+  take-kept : (t : List ℕ) → drop rowsAt (take kept t) ≡ take (rowBytes * limit) (drop rowsAt t)
+  take-kept t = drop-take rowsAt (rowBytes * limit) t
+
+  buffer-kept : (t : List ℕ) → take bufferBytes (take kept t) ≡ take bufferBytes t
+  buffer-kept t = take-take bufferBytes kept t (omega arith)
+
+  -- The nodes are read by their own rows.
+  pub table-kept : (pages : List (List ℕ)) (s : State) → s .nodes ≤ limit →
+      tableOf pages (tableFrom (take kept table)) s ≡ tableOf pages (tableFrom table) s
+  unfolding content bufferOf rowsIn
+  table-kept pages s few = fun-ext (λ n. go n (le-or (s .nodes) n))
+    where
+      go : (n : ℕ) → (s .nodes ≤ n) ⊎ (n < s .nodes) → tableOf pages (tableFrom (take kept table)) s n ≡ tableOf pages (tableFrom table) s n
+      go n (inl l) = tableOf-out pages _ s n l ∙ sym (tableOf-out pages _ s n l)
+      go n (inr l) =
+          tableOf-in pages _ s n l ∙
+          ap₂ (λ (b : List ℕ) (r : Row). nodeIn (contentBy pages b (s .entries) r n)) (buffer-kept table)
+          (ap (λ (t : List ℕ). getD (rowsOf t) n noRow) (take-kept table) ∙ rows-kept limit (drop rowsAt table) rows-room n (omega arith)) ∙
+          sym (tableOf-in pages (tableFrom table) s n l)
+
+  -- Zeros behind the kept bytes give the table back.
+  pub table-back : (middle : List ℕ) (size : ℕ) → length middle ≡ length table → size ≡ length table - kept →
+      take kept middle ≡ take kept table → BlankFrom limit (rowsIn table) → tableFrom (lay middle kept (replicate size 0)) ≡ tableFrom table
+  unfolding bufferOf rowsIn part
+  table-back middle size same most e blank = ap₂ worktable buffer rows-same
+    where
+      buffer : take bufferBytes (lay middle kept (replicate size 0)) ≡ take bufferBytes table
+      buffer =
+          part-lay-before middle kept (replicate size 0) (omega arith) 0 bufferBytes (omega arith) ∙
+          sym (buffer-kept middle) ∙ ap (take bufferBytes) e ∙ buffer-kept table
+
+      rows-same : rowsOf (drop rowsAt (lay middle kept (replicate size 0))) ≡ rowsOf (drop rowsAt table)
+      rows-same =
+          ap rowsOf (drop-lay-front middle rowsAt (rowBytes * limit) (replicate size 0) (omega arith)) ∙
+          rows-back limit (drop rowsAt table) rows-room (drop rowsAt middle) size
+          (length-drop rowsAt middle ∙ ap (λ (n : ℕ). n - rowsAt) same ∙ sym (length-drop rowsAt table))
+          (omega (arith, length-drop rowsAt table))
+          (sym (take-kept middle) ∙ ap (drop rowsAt) e ∙ take-kept table) blank

@@ -3,7 +3,7 @@ ghost use mathlib.Core.Path.{_≡_};
 ghost use Prim.Native.Nat.{_*_, _≤_};
 ghost use lib.ListN.{length};
 ghost use Rattle.layout.specs.Layout.{blockBytes, fewestBlocks, mostBlocks, nodeLimit, tableBytes};
-ghost use Rattle.flash_rows.specs.Row.{rowsOf};
+ghost use Rattle.flash_rows.specs.Worktable.{rowsIn, tableFrom};
 ghost use Rattle.flash_blocks.specs.Pages.{pagesOf};
 ghost use Rattle.tree.specs.Sound.{sound};
 ghost use Rattle.flash_read.specs.NodeTable.{tableOf};
@@ -13,6 +13,7 @@ use super::scores::scores_below;
 use super::table::restore_rows;
 use account::Tariff;
 use flash_allocate::state::State;
+use flash_rows::table::ROWS_AT;
 use layout::LAST_SEQUENCE;
 use layout::ROW_BYTES;
 use layout::TABLE_BYTES;
@@ -24,13 +25,13 @@ use wire::bytes::fill_part;
 fn tree_sound(pool: &[u8], table: &mut [u8], state: State) -> bool
     requires { ⌜ (fewestBlocks ≤ state .blocks) × (state .blocks ≤ mostBlocks)
         × (length (now table) ≡ tableBytes (state .blocks)) × (state .nodes ≤ nodeLimit (state .blocks))
-        × (state .entries ≡ 0) × (BlankFrom (state .nodes) (rowsOf (now table))) ⌝ }
+        × (state .entries ≡ 0) × (BlankFrom (state .nodes) (rowsIn (now table))) ⌝ }
     ensures { λ r. ⌜ (r ≡ sound (nodeLimit (state .blocks)) (state .nodes)
-        (tableOf (pagesOf (now (pool .entry))) (rowsOf (now (table .entry))) state))
-        × (rowsOf (now (table .exit)) ≡ rowsOf (now (table .entry))) ⌝ }
+        (tableOf (pagesOf (now (pool .entry))) (tableFrom (now (table .entry))) state))
+        × (tableFrom (now (table .exit)) ≡ tableFrom (now (table .entry))) ⌝ }
 {
     let limit = node_limit(state.blocks);
-    let kept = ROW_BYTES * limit;
+    let kept = ROWS_AT + ROW_BYTES * limit;
     let sound = is_sound(pool, table, kept, state, limit);
     fill_part(table, kept, TABLE_BYTES * state.blocks, 0);
     sound
@@ -40,9 +41,9 @@ fn tree_sound(pool: &[u8], table: &mut [u8], state: State) -> bool
 fn rows_pass(pool: &[u8], table: &mut [u8], state: State, tariff: Tariff) -> bool
     requires { ⌜ (fewestBlocks ≤ state .blocks) × (state .blocks ≤ mostBlocks)
         × (length (now table) ≡ tableBytes (state .blocks)) × (state .nodes ≤ nodeLimit (state .blocks))
-        × (state .entries ≡ 0) × (BlankFrom (state .nodes) (rowsOf (now table))) ⌝ }
-    ensures { λ r. ⌜ (r ≡ rowsPass tariff state (pagesOf (now (pool .entry))) (rowsOf (now (table .entry))))
-        × (rowsOf (now (table .exit)) ≡ rowsOf (now (table .entry))) ⌝ }
+        × (state .entries ≡ 0) × (BlankFrom (state .nodes) (rowsIn (now table))) ⌝ }
+    ensures { λ r. ⌜ (r ≡ rowsPass tariff state (pagesOf (now (pool .entry))) (tableFrom (now (table .entry))))
+        × (tableFrom (now (table .exit)) ≡ tableFrom (now (table .entry))) ⌝ }
 {
     if tariff.in_range() {} else {
         return false;
@@ -58,7 +59,7 @@ fn tree_passes(pool: &[u8], table: &mut [u8], state: State, tariff: Tariff, sinc
     requires { ⌜ (fewestBlocks ≤ state .blocks) × (state .blocks ≤ mostBlocks)
         × (length (now pool) ≡ blockBytes * state .blocks) × (length (now table) ≡ tableBytes (state .blocks))
         × (state .entries ≡ 0) ⌝ }
-    ensures { λ r. ⌜ Judged tariff state since (pagesOf (now (pool .entry))) (rowsOf (now (table .exit))) r ⌝ }
+    ensures { λ r. ⌜ Judged tariff state since (pagesOf (now (pool .entry))) (tableFrom (now (table .exit))) r ⌝ }
 {
     if node_limit(state.blocks) < state.nodes {
         return false;
@@ -74,7 +75,7 @@ pub fn refusal(pool: &[u8], table: &mut [u8], state: State, tariff: Tariff, sinc
     requires { ⌜ (fewestBlocks ≤ state .blocks) × (state .blocks ≤ mostBlocks)
         × (length (now pool) ≡ blockBytes * state .blocks) × (length (now table) ≡ tableBytes (state .blocks))
         × (state .entries ≡ 0) ⌝ }
-    ensures { λ r. ⌜ Asked tariff state since (pagesOf (now (pool .entry))) (rowsOf (now (table .exit))) r ⌝ }
+    ensures { λ r. ⌜ Asked tariff state since (pagesOf (now (pool .entry))) (tableFrom (now (table .exit))) r ⌝ }
 {
     if tree_passes(pool, table, state, tariff, since) {} else {
         return 7;

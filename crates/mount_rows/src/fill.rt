@@ -57,7 +57,7 @@ fn within_three(table: &[u8], nodes: usize) -> bool
 // Fills the rows from the pages; whether no node lies on more than three of them.
 pub fn fill_rows(pool: &[u8], table: &mut [u8], blocks: usize, nodes: usize) -> bool
     requires { ⌜ (blocks ≤ mostBlocks) × (length (now pool) ≡ blockBytes * blocks)
-        × (length (now table) ≡ tableBytes blocks) × (nodes ≤ nodeLimit blocks) ⌝ }
+        × (rowBytes * nodes ≤ length (now table)) ⌝ }
     ensures { λ r. ⌜ Filled blocks nodes (pagesOf (now (pool .entry))) (rowsOf (now (table .entry)))
         (rowsOf (now (table .exit))) r ⌝ }
 {

@@ -3,7 +3,7 @@ ghost use mathlib.Core.Path.{_≡_};
 ghost use Prim.Native.Nat.{_≤_};
 ghost use lib.ListN.{length, take};
 ghost use Rattle.flash_blocks.specs.Pages.{pagesOf};
-ghost use Rattle.flash_rows.specs.Row.{rowsOf};
+ghost use Rattle.flash_rows.specs.Worktable.{tableFrom};
 ghost use Rattle.tree.specs.Sound.{leftmost};
 ghost use Rattle.flash_read.specs.NodeTable.{tableOf, Readable};
 ghost use Rattle.mount_tree.specs.FirstLeaf.{leftmostOf};
@@ -22,7 +22,7 @@ pub struct FirstLeaf {
 pub fn first_leaf<'a>(pool: &'a [u8], table: &'a [u8], kept: usize, state: State) -> FirstLeaf
     requires { ⌜ (Readable state (take kept (now table))) × (kept ≤ length (now table)) ⌝ }
     ensures { λ r. ⌜ leftmostOf r
-        ≡ leftmost (state .nodes) (tableOf (pagesOf (now (pool .entry))) (rowsOf (take kept (now (table .entry)))) state) 0 0 ⌝ }
+        ≡ leftmost (state .nodes) (tableOf (pagesOf (now (pool .entry))) (tableFrom (take kept (now (table .entry)))) state) 0 0 ⌝ }
 {
     let mut depth: u32 = 0;
     let mut leaf: u32 = 0;

@@ -2,7 +2,7 @@
 ghost use Prim.Native.Nat.{_≤_};
 ghost use lib.ListN.{length, take};
 ghost use Rattle.flash_blocks.specs.Pages.{pagesOf};
-ghost use Rattle.flash_rows.specs.Row.{rowsOf};
+ghost use Rattle.flash_rows.specs.Worktable.{tableFrom};
 ghost use Rattle.node.specs.Value.{Becomes};
 ghost use Rattle.flash_read.specs.NodeTable.{tableOf, Readable};
 use flash_allocate::state::State;
@@ -12,7 +12,7 @@ use node::NodeValue;
 // The node of an id.
 pub fn node_of<'a>(pool: &'a [u8], table: &'a [u8], kept: usize, state: State, id: u32) -> NodeValue
     requires { ⌜ (Readable state (take kept (now table))) × (kept ≤ length (now table)) ⌝ }
-    ensures { λ r. ⌜ Becomes r (tableOf (pagesOf (now (pool .entry))) (rowsOf (take kept (now (table .entry)))) state id) ⌝ }
+    ensures { λ r. ⌜ Becomes r (tableOf (pagesOf (now (pool .entry))) (tableFrom (take kept (now (table .entry)))) state id) ⌝ }
 {
     node_at(pool, &table[..kept], state, id as usize)
 }

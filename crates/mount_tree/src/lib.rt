@@ -3,7 +3,7 @@
 ghost use mathlib.Core.Path.{_≡_};
 ghost use lib.ListN.{take};
 ghost use Rattle.flash_blocks.specs.Pages.{pagesOf};
-ghost use Rattle.flash_rows.specs.Row.{rowsOf};
+ghost use Rattle.flash_rows.specs.Worktable.{tableFrom};
 ghost use Rattle.tree.specs.Sound.{sound};
 ghost use Rattle.flash_read.specs.NodeTable.{tableOf};
 ghost use Rattle.mount_tree.specs.Area.{Checkable};
@@ -24,7 +24,7 @@ use walk::walk;
 pub fn is_sound(pool: &[u8], table: &mut [u8], kept: usize, state: State, limit: usize) -> bool
     requires { ⌜ Checkable state kept (now table) ⌝ }
     ensures { λ r. ⌜ (r ≡ sound limit (state .nodes)
-        (tableOf (pagesOf (now (pool .entry))) (rowsOf (take kept (now (table .entry)))) state))
+        (tableOf (pagesOf (now (pool .entry))) (tableFrom (take kept (now (table .entry)))) state))
         × (take kept (now (table .exit)) ≡ take kept (now (table .entry))) ⌝ }
 {
     if limit < state.nodes {

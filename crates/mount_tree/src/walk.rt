@@ -3,7 +3,7 @@ ghost use mathlib.Core.Path.{_≡_};
 ghost use Prim.Native.Nat.{_+_, _≤_, _<_};
 ghost use lib.ListN.{length, take};
 ghost use Rattle.flash_blocks.specs.Pages.{pagesOf};
-ghost use Rattle.flash_rows.specs.Row.{rowsOf};
+ghost use Rattle.flash_rows.specs.Worktable.{tableFrom};
 ghost use Rattle.node.specs.Value.{pairsIn, nodeOf, Sized};
 ghost use Rattle.tree.specs.Sound.{inOrder};
 ghost use Rattle.flash_read.specs.NodeTable.{tableOf};
@@ -138,7 +138,7 @@ fn enter_branch(
 // Visits the next node due.
 fn visit_next(pool: &[u8], table: &mut [u8], kept: usize, state: State, w: WalkValue) -> WalkValue
     requires { ⌜ (Checkable state kept (now table)) × (Standing kept (state .nodes) (now table) w) × (w .top < state .nodes) ⌝ }
-    ensures { λ r. ⌜ Stepped (tableOf (pagesOf (now (pool .entry))) (rowsOf (take kept (now (table .entry)))) state) kept
+    ensures { λ r. ⌜ Stepped (tableOf (pagesOf (now (pool .entry))) (tableFrom (take kept (now (table .entry)))) state) kept
         (state .nodes) (now (table .entry)) w (now (table .exit)) r ⌝ }
 {
     let due = due_at(table, kept, state.nodes, w.top);
@@ -155,7 +155,7 @@ fn visit_next(pool: &[u8], table: &mut [u8], kept: usize, state: State, w: WalkV
 // Visits all nodes due: whether the walk passes, the links end in FFFFFFFF, and every id is reached.
 pub fn walk(pool: &[u8], table: &mut [u8], kept: usize, state: State, start: WalkValue) -> bool
     requires { ⌜ (Checkable state kept (now table)) × (Standing kept (state .nodes) (now table) start) ⌝ }
-    ensures { λ r. ⌜ Walked (tableOf (pagesOf (now (pool .entry))) (rowsOf (take kept (now (table .entry)))) state) kept
+    ensures { λ r. ⌜ Walked (tableOf (pagesOf (now (pool .entry))) (tableFrom (take kept (now (table .entry)))) state) kept
         (state .nodes) (now (table .entry)) start (now (table .exit)) r ⌝ }
 {
     let mut w = start;

@@ -6,7 +6,7 @@ use native.Mathlib.Omega.{arith}
 use borrow.Author.Needs.{needs}
 use lib.ListN.{take}
 use Rattle.flash_blocks.specs.Pages.{pagesOf}
-use Rattle.flash_rows.specs.Row.{rowsOf}
+use Rattle.flash_rows.specs.Worktable.{tableFrom}
 use Rattle.flash_read.specs.NodeTable.{tableOf}
 use Rattle.mount_tree.specs.Whole.{checkable-same}
 use Rattle.mount_tree.specs.Verdict.{past-limit, no-nodes, start-standing, by-walk}
@@ -17,14 +17,14 @@ returns : tie.Need-returns
 returns c =
     let c4 = c .before .before .before .before in
     let a = c4 .args in
-    let tree = tableOf (pagesOf (a .pool .now)) (rowsOf (take (a .kept) (a .table .now))) (a .state) in
+    let tree = tableOf (pagesOf (a .pool .now)) (tableFrom (take (a .kept) (a .table .now))) (a .state) in
     (sym (past-limit (a .limit) (a .state .nodes) tree (c .if1 .taken)), refl)
 
 returns-2 : tie.Need-returns-2
 returns-2 c =
     let c6 = c .before .before .before .before .before .before in
     let a = c6 .args in
-    let tree = tableOf (pagesOf (a .pool .now)) (rowsOf (take (a .kept) (a .table .now))) (a .state) in
+    let tree = tableOf (pagesOf (a .pool .now)) (tableFrom (take (a .kept) (a .table .now))) (a .state) in
     (sym (no-nodes (a .limit) tree (a .state .nodes) (c .if2 .taken)), refl)
 
 first-leaf-requires : tie.Need-first-leaf-requires
@@ -67,7 +67,7 @@ returns-3 c =
     let f = c9 .first-leaf in
     let w = c2 .walk in (
       by-walk (a .kept) (a .state .nodes) (f .result .depth) (a .table .now) (b .last .0) (b .ensures) (f .result .leaf)
-          (λ (k : List ℕ). tableOf (pagesOf (a .pool .now)) (rowsOf k) (a .state)) (a .limit) (w .last .1 .0) (w .result)
+          (λ (k : List ℕ). tableOf (pagesOf (a .pool .now)) (tableFrom k) (a .state)) (a .limit) (w .last .1 .0) (w .result)
           (c13 .if1 .left) (f .ensures) (w .ensures),
       w .ensures .same ∙ b .ensures .same,
     )

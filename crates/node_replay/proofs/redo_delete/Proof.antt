@@ -59,7 +59,8 @@ returns c =
     let e = answer searched ∙ known .found .given .1 in
     let keys = c .before .before .remove in
     let pointers = c .remove2 in
-    redone-removed (a .outline) (a .keys .now) (a .pointers .now) (entry .pre) (a .key) _ e (keys .last .0) (pointers .last .0) (keys .ensures) (pointers .ensures)
+    redone-removed (a .outline) (a .keys .now) (a .pointers .now) (entry .pre) (a .key) _ e (keys .last .0) (pointers .last .0)
+    (keys .ensures) (pointers .ensures)
 
 enum-told : tie.Need-enum-told
 enum-told c = search needs

@@ -68,8 +68,11 @@ insert-requires-2 c κs =
     let searched = known .before .before in
     let entry = searched .before .before in
     let a = entry .args in
-    let e = answer searched ∙ known .found2 .given .1 in
-    (above-inside (nodeFrom (a .outline) (a .keys .now) (a .pointers .now)) (entry .pre) (a .key) _ e, c .before .before .before .if1 .taken, entry .pre .sized .pointerRoom)
+    let e = answer searched ∙ known .found2 .given .1 in (
+      above-inside (nodeFrom (a .outline) (a .keys .now) (a .pointers .now)) (entry .pre) (a .key) _ e,
+      c .before .before .before .if1 .taken,
+      entry .pre .sized .pointerRoom,
+    )
 
 add-r : tie.Need-add-r
 add-r c = search needs
@@ -83,8 +86,8 @@ returns-2 c =
     let e = answer searched ∙ known .found2 .given .1 in
     let keys = c .before .before .insert in
     let pointers = c .insert2 in
-    redone-added (a .outline) (a .keys .now) (a .pointers .now) (entry .pre) (a .key) _ (a .pointer) e (search needs) (c .before .before .before .before .if1 .taken) (keys .last .0) (pointers .last .0)
-    (keys .ensures) (pointers .ensures)
+    redone-added (a .outline) (a .keys .now) (a .pointers .now) (entry .pre) (a .key) _ (a .pointer) e (search needs)
+    (c .before .before .before .before .if1 .taken) (keys .last .0) (pointers .last .0) (keys .ensures) (pointers .ensures)
 
 broken-requires : tie.Need-broken-requires
 broken-requires c κs = search needs

@@ -71,7 +71,8 @@ loop-again c =
     let a = test .before .before .before .args in
     let d = draftIn (l .r) (l .keys) (l .pointers) in
     let o = own .is-own in
-    let turn = nth-own (a .id) (a .version) (a .buffer .now) (a .n) (l .k) (test .loop-test .taken) d (o .result) (o .ensures) (c .before .before .before .if1 .taken) _ (x .is) in
+    let turn = nth-own (a .id) (a .version) (a .buffer .now) (a .n) (l .k) (test .loop-test .taken)
+    d (o .result) (o .ensures) (c .before .before .before .if1 .taken) _ (x .is) in
     (omega arith, (x .held, turn ∙ l .inv .1 .1))
 
 loop-less-2 : tie.Need-loop-less-2 Inv-loop μ-loop

@@ -1,6 +1,6 @@
 -- `questions::refusal` meets its contract: refused with 7, with 8, or not. Assumes nothing.
 use Rattle.flash_blocks.specs.Pages.{pagesOf}
-use Rattle.flash_rows.specs.Row.{rowsOf}
+use Rattle.flash_rows.specs.Worktable.{tableFrom}
 use Rattle.mount_restore.proofs.Laws.{refused-seven, refused-eight, not-refused}
 use borrow.Author.Needs.{needs}
 use Rattle.mount_restore.proofs.questions.refusal.Statement.{statement}
@@ -16,7 +16,7 @@ returns : tie.Need-returns
 returns c =
     let a = c .before .before .before .before .before .before .before .args in
     let j = c .before .before .before .tree-passes in
-    refused-seven (a .tariff) (a .state) (a .since) (pagesOf (a .pool .now)) (rowsOf (j .last .1 .0)) (j .result) (j .ensures) (c .if1 .left)
+    refused-seven (a .tariff) (a .state) (a .since) (pagesOf (a .pool .now)) (tableFrom (j .last .1 .0)) (j .result) (j .ensures) (c .if1 .left)
 
 same-length-2 : tie.Need-same-length-2
 same-length-2 c = search needs
@@ -28,7 +28,7 @@ returns-2 c =
     let c9 = c5 .before .before .before .before in
     let a = c9 .args in
     let j = c5 .tree-passes in
-    not-refused (a .tariff) (a .state) (a .since) (pagesOf (a .pool .now)) (rowsOf (j .last .1 .0)) (j .result) (j .ensures) (c2 .if1 .taken) (c .if2 .taken)
+    not-refused (a .tariff) (a .state) (a .since) (pagesOf (a .pool .now)) (tableFrom (j .last .1 .0)) (j .result) (j .ensures) (c2 .if1 .taken) (c .if2 .taken)
 
 same-length-3 : tie.Need-same-length-3
 same-length-3 c = search needs
@@ -40,7 +40,7 @@ returns-3 c =
     let c9 = c5 .before .before .before .before in
     let a = c9 .args in
     let j = c5 .tree-passes in
-    refused-eight (a .tariff) (a .state) (a .since) (pagesOf (a .pool .now)) (rowsOf (j .last .1 .0)) (j .result) (j .ensures) (c2 .if1 .taken) (c .if2 .left)
+    refused-eight (a .tariff) (a .state) (a .since) (pagesOf (a .pool .now)) (tableFrom (j .last .1 .0)) (j .result) (j .ensures) (c2 .if1 .taken) (c .if2 .left)
 
 pub refusal-spec : {M : Type 1} → statement M
 refusal-spec =

@@ -2,7 +2,7 @@
 use mathlib.Core.Path.{refl, sym, _∙_}
 use borrow.Author.Needs.{needs}
 use Rattle.flash_blocks.specs.Pages.{pagesOf}
-use Rattle.flash_rows.specs.Row.{rowsOf}
+use Rattle.flash_rows.specs.Worktable.{tableFrom}
 use Rattle.mount_restore.proofs.Laws.{out-of-range, score-too-great, tree-decides}
 use Rattle.mount_restore.proofs.questions.rows_pass.Statement.{statement}
 use Rattle.mount_restore.proofs.questions.rows_pass.Tie as tie
@@ -15,7 +15,7 @@ returns c =
     let c1 = c .before in
     let c4 = c1 .before .before .before in
     let a = c4 .args in
-    (out-of-range (a .tariff) (a .state) (pagesOf (a .pool .now)) (rowsOf (a .table .now)) (sym (c1 .in-range .ensures) ∙ c .if1 .left), refl)
+    (out-of-range (a .tariff) (a .state) (pagesOf (a .pool .now)) (tableFrom (a .table .now)) (sym (c1 .in-range .ensures) ∙ c .if1 .left), refl)
 
 limit-requires : tie.Need-limit-requires
 limit-requires c κs = search needs
@@ -34,7 +34,7 @@ returns-2 c =
     let c5 = c4 .before in
     let c8 = c5 .before .before .before in
     let a = c8 .args in (
-      score-too-great (a .tariff) (a .state) (pagesOf (a .pool .now)) (rowsOf (a .table .now)) (sym (c5 .in-range .ensures) ∙ c4 .if1 .taken)
+      score-too-great (a .tariff) (a .state) (pagesOf (a .pool .now)) (tableFrom (a .table .now)) (sym (c5 .in-range .ensures) ∙ c4 .if1 .taken)
           (c2 .limit .result) (c2 .limit .ensures) (sym (c1 .scores-below .ensures) ∙ c .if2 .left),
       refl,
     )
@@ -57,7 +57,7 @@ returns-3 c =
     let a = c12 .args in
     let s = c2 .tree-sound in (
       s .ensures .0 ∙
-          tree-decides (a .tariff) (a .state) (pagesOf (a .pool .now)) (rowsOf (a .table .now)) (sym (c9 .in-range .ensures) ∙ c8 .if1 .taken)
+          tree-decides (a .tariff) (a .state) (pagesOf (a .pool .now)) (tableFrom (a .table .now)) (sym (c9 .in-range .ensures) ∙ c8 .if1 .taken)
           (c6 .limit .result) (c6 .limit .ensures) (sym (c5 .scores-below .ensures) ∙ c4 .if2 .taken),
       s .ensures .1,
     )

@@ -1,9 +1,9 @@
 -- `questions::tree_passes` meets its contract: too many nodes, a node on too many pages, or as the rows pass. Assumes nothing.
-use mathlib.Core.Path.{sym, subst}
+use mathlib.Core.Path.{sym, ap, subst}
 use native.Mathlib.Omega.{arith}
 use borrow.Author.Needs.{needs}
 use Rattle.flash_blocks.specs.Pages.{pagesOf}
-use Rattle.flash_rows.specs.Row.{rowsOf}
+use Rattle.flash_rows.specs.Worktable.{Worktable, tableFrom}
 use Rattle.mount_restore.specs.Blank.{BlankFrom, restored-blank}
 use Rattle.mount_restore.proofs.Laws.{too-many, too-scattered, rows-decide}
 use Rattle.mount_restore.proofs.questions.tree_passes.Statement.{statement}
@@ -17,7 +17,7 @@ returns c =
     let c2 = c .before .before in
     let c5 = c2 .before .before .before in
     let a = c5 .args in
-    too-many (a .tariff) (a .state) (a .since) (pagesOf (a .pool .now)) (rowsOf (a .table .now))
+    too-many (a .tariff) (a .state) (a .since) (pagesOf (a .pool .now)) (tableFrom (a .table .now))
     (omega (arith, c .if1 .taken, c2 .node-limit .ensures .0))
 
 restore-rows-requires : tie.Need-restore-rows-requires
@@ -34,7 +34,7 @@ returns-2 c =
     let c10 = c7 .before .before .before in
     let a = c10 .args in
     let r = c3 .restore-rows in
-    too-scattered (a .tariff) (a .state) (a .since) (pagesOf (a .pool .now)) (rowsOf (r .last .1 .0))
+    too-scattered (a .tariff) (a .state) (a .since) (pagesOf (a .pool .now)) (tableFrom (r .last .1 .0))
     (omega (arith, c5 .if1 .left, c7 .node-limit .ensures .0)) (r .result) (r .ensures) (c .if2 .left)
 
 rows-pass-requires : tie.Need-rows-pass-requires
@@ -51,7 +51,7 @@ rows-pass-requires c κs =
       omega (arith, p .3, r .kept),
       omega (arith, c6 .if1 .left, c8 .node-limit .ensures .0),
       p .4,
-      subst (BlankFrom (a .state .nodes)) (sym (r .ensures .rows))
+      subst (BlankFrom (a .state .nodes)) (sym (ap (λ (t : Worktable). t .rows) (r .ensures .table)))
           (restored-blank (a .state .blocks) (a .state .nodes) (a .since) (pagesOf (a .pool .now))),
     )
 
@@ -69,9 +69,9 @@ returns-3 c =
     let a = c14 .args in
     let r = c7 .restore-rows in
     let w = c2 .rows-pass in
-    rows-decide (a .tariff) (a .state) (a .since) (pagesOf (a .pool .now)) (rowsOf (r .last .1 .0))
+    rows-decide (a .tariff) (a .state) (a .since) (pagesOf (a .pool .now)) (tableFrom (r .last .1 .0))
     (omega (arith, c9 .if1 .left, c11 .node-limit .ensures .0)) (r .result) (r .ensures) (c4 .if2 .taken)
-    (w .result) (rowsOf (w .last .1 .0)) (w .ensures .0) (w .ensures .1)
+    (w .result) (tableFrom (w .last .1 .0)) (w .ensures .0) (w .ensures .1)
 
 pub tree-passes-spec : {M : Type 1} → statement M
 tree-passes-spec =

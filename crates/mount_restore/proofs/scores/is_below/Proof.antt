@@ -5,15 +5,15 @@ use Rattle.mount_restore.proofs.scores.is_below.Statement.{statement}
 use Rattle.mount_restore.proofs.scores.is_below.Tie as tie
 use Rattle.mount_restore.specs.Scores.{isBelow}
 
-read-row-requires : tie.Need-read-row-requires
-read-row-requires c κs = search needs
+row-at-requires : tie.Need-row-at-requires
+row-at-requires c κs = search needs
 
 cast-score : tie.Need-cast-score
 cast-score c = search needs
 
 returns : tie.Need-returns
 unfolding isBelow
-returns c = rw (← c .before .read-row .ensures) refl
+returns c = rw (← c .before .row-at .ensures) refl
 
 pub is-below-spec : {M : Type 1} → statement M
-is-below-spec = tie.close (tie.spec read-row-requires cast-score returns)
+is-below-spec = tie.close (tie.spec row-at-requires cast-score returns)

@@ -5,7 +5,7 @@ use native.Mathlib.Omega.{arith}
 use borrow.Author.Needs.{needs}
 use lib.ListN.{take}
 use Rattle.flash_blocks.specs.Pages.{pagesOf}
-use Rattle.flash_rows.specs.Row.{rowsOf}
+use Rattle.flash_rows.specs.Worktable.{tableFrom}
 use Rattle.node.specs.Value.{pairsIn}
 use Rattle.tree.specs.Sound.{leftmost}
 use Rattle.flash_read.specs.NodeTable.{tableOf}
@@ -17,8 +17,8 @@ use Rattle.mount_tree.proofs.first_leaf.first_leaf.Tie as tie
 abbrev Inv-loop : tie.InvT-loop
 Inv-loop pool table kept state depth₀ leaf₀ depth leaf =
     (depth ≤ state .nodes) ×
-    (searchFrom (state .nodes) (tableOf (pagesOf pool) (rowsOf (take kept table)) state) depth leaf ≡
-    leftmost (state .nodes) (tableOf (pagesOf pool) (rowsOf (take kept table)) state) 0 0)
+    (searchFrom (state .nodes) (tableOf (pagesOf pool) (tableFrom (take kept table)) state) depth leaf ≡
+    leftmost (state .nodes) (tableOf (pagesOf pool) (tableFrom (take kept table)) state) 0 0)
 
 abbrev μ-loop : tie.MeasureT-loop
 μ-loop pool table kept state depth₀ leaf₀ depth leaf = state .nodes - depth
@@ -42,7 +42,7 @@ returns c =
     let c5 = c2 .before .before .before in
     let c8 = c5 .before .before .before in
     let a = c8 .args in
-    let nodes = tableOf (pagesOf (a .pool .now)) (rowsOf (take (a .kept) (a .table .now))) (a .state) in
+    let nodes = tableOf (pagesOf (a .pool .now)) (tableFrom (take (a .kept) (a .table .now))) (a .state) in
     let turn = c5 .loop in
     let read = c2 .node-of in
     sym
@@ -72,7 +72,7 @@ loop-again c =
     let c6 = c4 .before .before in
     let c9 = c6 .before .before .before in
     let a = c9 .args in
-    let nodes = tableOf (pagesOf (a .pool .now)) (rowsOf (take (a .kept) (a .table .now))) (a .state) in
+    let nodes = tableOf (pagesOf (a .pool .now)) (tableFrom (take (a .kept) (a .table .now))) (a .state) in
     let turn = c6 .loop in
     let read = c2 .before .node-of in
     let shape = c2 .same-shape in (

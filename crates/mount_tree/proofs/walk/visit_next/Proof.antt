@@ -4,7 +4,7 @@ use native.Mathlib.Omega.{arith}
 use borrow.Author.Needs.{needs}
 use lib.ListN.{take}
 use Rattle.flash_blocks.specs.Pages.{pagesOf}
-use Rattle.flash_rows.specs.Row.{rowsOf}
+use Rattle.flash_rows.specs.Worktable.{tableFrom}
 use Rattle.flash_read.specs.NodeTable.{tableOf}
 use Rattle.mount_tree.specs.Visit.{step-failed}
 use Rattle.mount_tree.proofs.walk.visit_next.Statement.{statement}
@@ -36,7 +36,7 @@ returns c =
     let p = c10 .pre in
     let v = c4 .node-of in
     let d = c6 .due-at in
-    step-failed (tableOf (pagesOf (a .pool .now)) (rowsOf (take (a .kept) (a .table .now))) (a .state)) (a .kept) (a .state .nodes) (a .table .now)
+    step-failed (tableOf (pagesOf (a .pool .now)) (tableFrom (take (a .kept) (a .table .now))) (a .state)) (a .kept) (a .state .nodes) (a .table .now)
     (a .w) (v .result) (d .result) (v .ensures .is) (p .0 .room) (p .2) (d .ensures) (sym (c2 .passes .ensures) ∙ c1 .if1 .left)
     (c .failed .result) (c .failed .ensures)
 
@@ -69,7 +69,7 @@ returns-2 c =
     let c9 = c2 .before .before .before .before .before .before .before in
     let c15 = c9 .before .before .before .before .before .before in
     let a = c15 .args in
-    c2 .pass-leaf .ensures (tableOf (pagesOf (a .pool .now)) (rowsOf (take (a .kept) (a .table .now))) (a .state)) (c9 .node-of .ensures .is)
+    c2 .pass-leaf .ensures (tableOf (pagesOf (a .pool .now)) (tableFrom (take (a .kept) (a .table .now))) (a .state)) (c9 .node-of .ensures .is)
 
 enter-branch-requires : tie.Need-enter-branch-requires
 enter-branch-requires c κs =
@@ -100,7 +100,7 @@ returns-3 c =
     let c9 = c2 .before .before .before .before .before .before .before in
     let c15 = c9 .before .before .before .before .before .before in
     let a = c15 .args in
-    c2 .enter-branch .ensures (tableOf (pagesOf (a .pool .now)) (rowsOf (take (a .kept) (a .table .now))) (a .state)) (c9 .node-of .ensures .is)
+    c2 .enter-branch .ensures (tableOf (pagesOf (a .pool .now)) (tableFrom (take (a .kept) (a .table .now))) (a .state)) (c9 .node-of .ensures .is)
 
 pub visit-next-spec : {M : Type 1} → statement M
 visit-next-spec =

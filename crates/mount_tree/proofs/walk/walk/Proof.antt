@@ -5,7 +5,7 @@ use Prim.Native.Nat.{ℕ, _-_}
 use native.Mathlib.Omega.{arith}
 use lib.ListN.{length, take}
 use Rattle.flash_blocks.specs.Pages.{pagesOf}
-use Rattle.flash_rows.specs.Row.{rowsOf}
+use Rattle.flash_rows.specs.Worktable.{tableFrom}
 use Rattle.flash_read.specs.NodeTable.{tableOf}
 use Rattle.mount_tree.specs.Area.{Standing, comesTo}
 use Rattle.mount_tree.specs.Whole.{checkable-same, turn-passed, turn-failed, ended-linked, ended-unlinked}
@@ -16,8 +16,8 @@ abbrev Inv-loop : tie.InvT-loop
 Inv-loop pool table₀ kept state w₀ table w = (length table ≡ length table₀) ×
     (take kept table ≡ take kept table₀) ×
     Standing kept (state .nodes) table w ×
-    (comesTo (tableOf (pagesOf pool) (rowsOf (take kept table₀)) state) kept (state .nodes) table w ≡
-    comesTo (tableOf (pagesOf pool) (rowsOf (take kept table₀)) state) kept (state .nodes) table₀ w₀)
+    (comesTo (tableOf (pagesOf pool) (tableFrom (take kept table₀)) state) kept (state .nodes) table w ≡
+    comesTo (tableOf (pagesOf pool) (tableFrom (take kept table₀)) state) kept (state .nodes) table₀ w₀)
 
 abbrev μ-loop : tie.MeasureT-loop
 μ-loop pool table₀ kept state w₀ table w = state .nodes - w .reached
@@ -54,12 +54,12 @@ loop-again c =
     let a = c11 .args in
     let turn = c8 .loop in
     let v = c3 .visit-next in
-    let tree = tableOf (pagesOf (a .pool .now)) (rowsOf (take (a .kept) (a .table .now))) (a .state) in
+    let tree = tableOf (pagesOf (a .pool .now)) (tableFrom (take (a .kept) (a .table .now))) (a .state) in
     let all = comesTo tree (a .kept) (a .state .nodes) (a .table .now) (a .start) in (
       omega (arith, v .kept, turn .inv .0),
       v .ensures .same ∙ turn .inv .1,
       v .ensures .standing (c .if2 .taken),
-      turn-passed (λ (k : List ℕ). tableOf (pagesOf (a .pool .now)) (rowsOf k) (a .state)) (a .kept) (a .state .nodes) (a .table .now) (turn .table)
+      turn-passed (λ (k : List ℕ). tableOf (pagesOf (a .pool .now)) (tableFrom k) (a .state)) (a .kept) (a .state .nodes) (a .table .now) (turn .table)
           (v .last .1 .0) (turn .w) (v .result) (turn .inv .1) (v .ensures) all (turn .inv .3) (c .if2 .taken),
     )
 
@@ -74,12 +74,12 @@ returns c =
     let a = c11 .args in
     let turn = c8 .loop in
     let v = c3 .visit-next in
-    let tree = tableOf (pagesOf (a .pool .now)) (rowsOf (take (a .kept) (a .table .now))) (a .state) in
+    let tree = tableOf (pagesOf (a .pool .now)) (tableFrom (take (a .kept) (a .table .now))) (a .state) in
     let all = comesTo tree (a .kept) (a .state .nodes) (a .table .now) (a .start) in
     record {
       same = v .ensures .same ∙ turn .inv .1;
       is =
-          turn-failed (λ (k : List ℕ). tableOf (pagesOf (a .pool .now)) (rowsOf k) (a .state)) (a .kept) (a .state .nodes) (a .table .now) (turn .table)
+          turn-failed (λ (k : List ℕ). tableOf (pagesOf (a .pool .now)) (tableFrom k) (a .state)) (a .kept) (a .state .nodes) (a .table .now) (turn .table)
           (v .last .1 .0) (turn .w) (v .result) (turn .inv .1) (v .ensures) all (turn .inv .3) (c .if2 .left);
     }
 
@@ -94,7 +94,7 @@ returns-2 c =
     let c10 = c7 .before .before .before in
     let a = c10 .args in
     let turn = c7 .loop in
-    let tree = tableOf (pagesOf (a .pool .now)) (rowsOf (take (a .kept) (a .table .now))) (a .state) in
+    let tree = tableOf (pagesOf (a .pool .now)) (tableFrom (take (a .kept) (a .table .now))) (a .state) in
     let kept = checkable-same (a .state) (a .kept) (a .table .now) (turn .table) (turn .inv .0) (turn .inv .1) (c10 .pre .0) in
     record {
       same = turn .inv .1;
@@ -113,7 +113,7 @@ returns-3 c =
     let c8 = c5 .before .before .before in
     let a = c8 .args in
     let turn = c5 .loop in
-    let tree = tableOf (pagesOf (a .pool .now)) (rowsOf (take (a .kept) (a .table .now))) (a .state) in
+    let tree = tableOf (pagesOf (a .pool .now)) (tableFrom (take (a .kept) (a .table .now))) (a .state) in
     let kept = checkable-same (a .state) (a .kept) (a .table .now) (turn .table) (turn .inv .0) (turn .inv .1) (c8 .pre .0) in
     record {
       same = turn .inv .1;
