@@ -13,7 +13,7 @@ use Rattle.command.specs.declared.Command.{Command}
 use Rattle.model.specs.Mount.{Mounted, refused}
 use Rattle.model.specs.Call.{blocksOf, cleared, mountOf, batchMounted, accept}
 use Rattle.demands.specs.OneCall.{blocks-length}
-use Rattle.flash_rows.specs.declared.Row.{Row}
+use Rattle.flash_rows.specs.Worktable.{Worktable}
 use Rattle.flash_blocks.specs.Pages.{pagesOf}
 use Rattle.flash_allocate.specs.declared.state.State.{State}
 use Rattle.flash_allocate.specs.World.{World, world}
@@ -58,14 +58,14 @@ module _ (pool table batch answers : List ℕ) {blocks : ℕ} (a : Accepts (leng
       }
 
   -- One that opens, its commands run and its checkpoint written.
-  module _ (bytes : Bytes batch) {tableLength P T : ℕ} {rows rows₁ rows₂ : List Row} {t : Tariff} {st st₂ : State} (o : Opens pool tableLength blocks rows t st)
-      {pages₁ : List (List ℕ)} {answers₁ : List ℕ} {p : Progress} (ran : RunAs P T pages₁ rows₁ answers answers₁ p t (a .commands) (world (pagesOf pool) rows st))
-      (pool′ : List ℕ) (ended : world (pagesOf pool′) rows₂ st₂ ≡ checkpoint t (world pages₁ rows₁ (p .charged .state)))
+  module _ (bytes : Bytes batch) {tableLength P T : ℕ} {held held₁ held₂ : Worktable} {t : Tariff} {st st₂ : State} (o : Opens pool tableLength blocks held t st)
+      {pages₁ : List (List ℕ)} {answers₁ : List ℕ} {p : Progress} (ran : RunAs P T pages₁ held₁ answers answers₁ p t (a .commands) (world (pagesOf pool) held st))
+      (pool′ : List ℕ) (ended : world (pagesOf pool′) held₂ st₂ ≡ checkpoint t (world pages₁ held₁ (p .charged .state)))
       (kept : st₂ .blocks ≡ p .charged .state .blocks) (size : length pool′ ≡ length pool) where
     abbrev w : World
-    w = world (pagesOf pool) rows st
+    w = world (pagesOf pool) held st
 
-    end : world (pagesOf pool′) rows₂ st₂ ≡ checkpoint t (runWorld t (a .commands) w)
+    end : world (pagesOf pool′) held₂ st₂ ≡ checkpoint t (runWorld t (a .commands) w)
     end = ended ∙ ap (checkpoint t) (ran .kept .is)
 
     blocks-end : checkpoint t (runWorld t (a .commands) w) .state .blocks ≡ blocks
@@ -104,20 +104,20 @@ module _ (pool table batch answers : List ℕ) {blocks : ℕ} (a : Accepts (leng
 
 -- The same, from what the code of each leaves.
 pub worked-by : {pool table batch answers : List ℕ} {blocks : ℕ} (a : Accepts (length pool) (length table) blocks batch (length answers)) (table′ : List ℕ) →
-    table′ ≡ zeros (length table) → Bytes batch → {tableLength P T P₂ T₂ : ℕ} {rows rows₁ rows₂ : List Row} {t : Tariff} {st st₂ : State} →
-    Opens pool tableLength blocks rows t st → {pages₁ : List (List ℕ)} {answers₁ : List ℕ} {p : Progress} →
-    RunAs P T pages₁ rows₁ answers answers₁ p t (commandsIn batch) (world (pagesOf pool) rows st) → (pool′ : List ℕ) →
-    Ended P₂ T₂ (p .charged .state) (world (pagesOf pool′) rows₂ st₂) (checkpoint t (world pages₁ rows₁ (p .charged .state))) →
+    table′ ≡ zeros (length table) → Bytes batch → {tableLength P T P₂ T₂ : ℕ} {held held₁ held₂ : Worktable} {t : Tariff} {st st₂ : State} →
+    Opens pool tableLength blocks held t st → {pages₁ : List (List ℕ)} {answers₁ : List ℕ} {p : Progress} →
+    RunAs P T pages₁ held₁ answers answers₁ p t (commandsIn batch) (world (pagesOf pool) held st) → (pool′ : List ℕ) →
+    Ended P₂ T₂ (p .charged .state) (world (pagesOf pool′) held₂ st₂) (checkpoint t (world pages₁ held₁ (p .charged .state))) →
     length pool′ ≡ length pool → Worked pool pool′ table table′ batch answers answers₁ (doneWith p)
-worked-by {pool} {table} {batch} {answers} a table′ zero bytes {tableLength} {P} {T} {P₂} {T₂} {rows} {rows₁} {rows₂} {t} {st} {st₂} o {pages₁}
+worked-by {pool} {table} {batch} {answers} a table′ zero bytes {tableLength} {P} {T} {P₂} {T₂} {held} {held₁} {held₂} {t} {st} {st₂} o {pages₁}
     {answers₁} {p} ran pool′ ended size =
     worked-done pool table batch answers a table′ zero bytes {P = P} {T = T} o
-    (subst (λ (cs : List Command). RunAs P T pages₁ rows₁ answers answers₁ p t cs (world (pagesOf pool) rows st)) (commandsIn-is batch (a .commands) (a .are)) ran)
+    (subst (λ (cs : List Command). RunAs P T pages₁ held₁ answers answers₁ p t cs (world (pagesOf pool) held st)) (commandsIn-is batch (a .commands) (a .are)) ran)
     pool′ (ended .is) (ended .blocks) size
 
 -- A pool that opens has what the commands and the checkpoint ask for.
-pub grows : {pool : List ℕ} {tableLength blocks : ℕ} {rows : List Row} {t : Tariff} {st : State} → Opens pool tableLength blocks rows t st → Growing
+pub grows : {pool : List ℕ} {tableLength blocks : ℕ} {held : Worktable} {t : Tariff} {st : State} → Opens pool tableLength blocks held t st → Growing
     (length pool) tableLength st
-grows {pool} {tableLength} {blocks} {rows} {t} {st} o =
+grows {pool} {tableLength} {blocks} {held} {t} {st} o =
     let here : st .blocks ≡ blocks = sym (o .runs .agrees .mirrors .pages .size) ∙ o .runs .sound .good .invariant .rules .size in
     record { good = o .good; limited = omega (arith, here, o .runs .agrees .nodes, o .runs .sound .good .invariant .nodes); noCheckpointPage = o .noCheckpointPage }

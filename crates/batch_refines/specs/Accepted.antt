@@ -24,7 +24,7 @@ use Rattle.demands.specs.Mount.{opened-mounts, mounts-ready}
 use Rattle.demands.specs.Run.{Holds}
 use Rattle.demands.specs.CommandBytes.{Batch, commandsOf-batch}
 use Rattle.demands.specs.OneCall.{blocks-length}
-use Rattle.flash_rows.specs.declared.Row.{Row}
+use Rattle.flash_rows.specs.Worktable.{Worktable}
 use Rattle.flash_blocks.specs.Pages.{pagesOf}
 use Rattle.flash_allocate.specs.declared.state.State.{State}
 use Rattle.flash_allocate.specs.World.{World, world}
@@ -59,10 +59,10 @@ module _ {blocks : ℕ} (least : fewestBlocks ≤ blocks) (t : Tariff) (s : Mode
       apart : (m : Mounted) → refused 5 ≡ m → m ≡ opened t s → ⊥
       apart m a b = let z : _≡_ {A = ℕ} 5 0 = ap number (a ∙ b) in omega arith
 
-module _ {pool : List ℕ} {tableLength blocks : ℕ} {rows : List Row} {t : Tariff} {st : State} (o : Opens pool tableLength blocks rows t st) (least : fewestBlocks ≤ blocks)
+module _ {pool : List ℕ} {tableLength blocks : ℕ} {held : Worktable} {t : Tariff} {st : State} (o : Opens pool tableLength blocks held t st) (least : fewestBlocks ≤ blocks)
     (size : length pool ≡ blockBytes * blocks) (batch : List ℕ) (bytes : Bytes batch) (cs : List Command) (are : commandsOf batch ≡ some cs) where
   abbrev w : World
-  w = world (pagesOf pool) rows st
+  w = world (pagesOf pool) held st
 
   abbrev s : Model.State
   s = o .state

@@ -3,7 +3,7 @@ use mathlib.Core.Path.{_≡_, refl, ap, _∙_}
 use mathlib.Core.Bool.{true}
 use mathlib.Core.List.{List}
 use Prim.Native.Nat.{ℕ, _*_, _≤_}
-use lib.ListN.{length, replicate}
+use lib.ListN.{length}
 use Rattle.layout.specs.Layout.{blockBytes, fewestBlocks, mostBlocks, tableBytes}
 use Rattle.store.specs.Pool.{Blocks, block}
 use Rattle.store.specs.Reopen.{Cells, blocksIn, reopened}
@@ -11,14 +11,14 @@ use Rattle.flash_allocate.specs.declared.state.State.{State}
 use Rattle.mount_survey.specs.declared.answer.Survey.{Survey}
 use Rattle.mount_survey.specs.Surveyed.{Surveyed}
 use Rattle.mount_refines.specs.Checkpoint.Pool.{Judged}
-use Rattle.mount_refines.specs.Mount.Tree.{begun}
+use Rattle.mount_refines.specs.Rows.Fill.{beginning}
 
 -- What a mount is asked of: a pool of so many blocks, and a table of its size.
 abbrev pub Sized : ℕ → ℕ → ℕ → Type 0
 Sized poolLength tableLength blocks =
     (poolLength ≡ blockBytes * blocks) × (fewestBlocks ≤ blocks) × (blocks ≤ mostBlocks) × (tableLength ≡ tableBytes blocks)
 
--- No checkpoint being written, and an empty buffer.
+-- No checkpoint being written, and no entry in the buffer.
 unfoldable pub firstState : Survey → ℕ → ℕ → State
 firstState r blocks nodes =
     record {
@@ -29,7 +29,6 @@ firstState r blocks nodes =
       checkpoint = 0;
       last = r .newest;
       entries = 0;
-      buffer = replicate 405 0;
     }
 
 -- What questions 7 and 8 ask of a state holds of it.
@@ -45,14 +44,14 @@ first-asks nodes r sized e = rw e (sized .1, sized .2, sized .0, sized .3, refl)
 
 state-same : (blocks nodes current fill last current′ fill′ last′ : ℕ) → current ≡ current′ → fill ≡ fill′ → last ≡ last′ →
     _≡_ {A = State}
-    (record { blocks = blocks; current = current; fill = fill; nodes = nodes; checkpoint = 0; last = last; entries = 0; buffer = replicate 405 0 })
-    (record { blocks = blocks; current = current′; fill = fill′; nodes = nodes; checkpoint = 0; last = last′; entries = 0; buffer = replicate 405 0 })
+    (record { blocks = blocks; current = current; fill = fill; nodes = nodes; checkpoint = 0; last = last; entries = 0 })
+    (record { blocks = blocks; current = current′; fill = fill′; nodes = nodes; checkpoint = 0; last = last′; entries = 0 })
 state-same blocks nodes current fill last current′ fill′ last′ a b c =
-    λ i. record { blocks = blocks; current = a i; fill = b i; nodes = nodes; checkpoint = 0; last = c i; entries = 0; buffer = replicate 405 0 }
+    λ i. record { blocks = blocks; current = a i; fill = b i; nodes = nodes; checkpoint = 0; last = c i; entries = 0 }
 
 -- It is what the pool's store says.
 pub survey-begins : {pool : List ℕ} {blocks : ℕ} {r : Survey} {c : Cells} → Surveyed pool blocks r → r .ok ≡ true → Judged pool blocks c →
-    (nodes : ℕ) → firstState r blocks nodes ≡ begun blocks nodes (reopened blocks c)
+    (nodes : ℕ) → firstState r blocks nodes ≡ beginning blocks nodes (reopened blocks c)
 unfolding firstState reopened
 survey-begins {pool} {blocks} {r} {c} s ok j nodes =
     let current = s .current c (j .reads) ok in

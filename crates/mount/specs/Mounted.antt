@@ -12,7 +12,7 @@ use Rattle.account.specs.declared.Tariff.{Tariff}
 use Rattle.store.specs.Reopen.{Cells, reopened}
 use Rattle.model.specs.Mount as Model
 use Rattle.model.specs.Call.{mountOf}
-use Rattle.flash_rows.specs.declared.Row.{Row}
+use Rattle.flash_rows.specs.Worktable.{Worktable}
 use Rattle.flash_blocks.specs.Pages.{pagesOf}
 use Rattle.flash_allocate.specs.declared.state.State.{State}
 use Rattle.mount_survey.specs.declared.answer.Survey.{Survey}
@@ -23,37 +23,37 @@ use Rattle.mount_refines.specs.Checkpoint.Pool.{Judged}
 use Rattle.mount_restore.specs.Questions.{Asked}
 use Rattle.mount_refines.specs.Mount.Refusals.{refused-five, passed-five, refused-six}
 use Rattle.mount_refines.specs.Mount.Known.{Known}
-use Rattle.mount_refines.specs.Mount.Tree.{begun}
+use Rattle.mount_refines.specs.Rows.Fill.{beginning}
 use Rattle.mount_refines.specs.Mount.Opens.{Opens, refused-later, opened-later}
 use Rattle.mount.specs.Begin.{Sized, firstState, survey-begins}
 use Rattle.mount.specs.declared.answer.Mount.{Mount}
 
--- What a mount answers, and the rows that it leaves in a table of some length.
-pub record MountedAs (pool : List ℕ) (tableLength blocks : ℕ) (rows : List Row) (r : Mount) : Type 0 where
+-- What a mount answers, and what it leaves in a work table of some length.
+pub record MountedAs (pool : List ℕ) (tableLength blocks : ℕ) (table : Worktable) (r : Mount) : Type 0 where
   pub refused : (r .refused ≡ 0 → ⊥) → mountOf pool ≡ Model.refused (r .refused)
-  pub opened : r .refused ≡ 0 → Opens pool tableLength blocks rows (r .tariff) (r .state)
+  pub opened : r .refused ≡ 0 → Opens pool tableLength blocks table (r .tariff) (r .state)
 
 -- A refusal is all that a refused pool says.
-refuses : (pool : List ℕ) (tableLength blocks : ℕ) (rows : List Row) (r : Mount) (number : ℕ) → r .refused ≡ number → 1 ≤ number →
-    mountOf pool ≡ Model.refused number → MountedAs pool tableLength blocks rows r
-refuses pool tableLength blocks rows r number e l is =
+refuses : (pool : List ℕ) (tableLength blocks : ℕ) (table : Worktable) (r : Mount) (number : ℕ) → r .refused ≡ number → 1 ≤ number →
+    mountOf pool ≡ Model.refused number → MountedAs pool tableLength blocks table r
+refuses pool tableLength blocks table r number e l is =
     record { refused = λ z. is ∙ ap Model.refused (sym e); opened = λ z. absurd (omega arith) }
 
 module _ {pool : List ℕ} {tableLength blocks : ℕ} (sized : Sized (length pool) tableLength blocks) (bytes : Bytes pool) {v : Survey}
-    (surveyed : Surveyed pool blocks v) (rows : List Row) (r : Mount) where
+    (surveyed : Surveyed pool blocks v) (table : Worktable) (r : Mount) where
   -- Question 5 fails.
-  pub mounted-five : v .ok ≡ false → r .refused ≡ 5 → MountedAs pool tableLength blocks rows r
+  pub mounted-five : v .ok ≡ false → r .refused ≡ 5 → MountedAs pool tableLength blocks table r
   mounted-five fails e =
-      refuses pool tableLength blocks rows r 5 e (omega arith) (refused-five pool blocks (sized .0) (sym (surveyed .ok) ∙ fails))
+      refuses pool tableLength blocks table r 5 e (omega arith) (refused-five pool blocks (sized .0) (sym (surveyed .ok) ∙ fails))
 
   module _ (ok : v .ok ≡ true) (width : ℕ) (wide : width ≡ tableBytes blocks) where
     cells : (c : Cells) × Judged pool blocks c
     cells = passed-five pool blocks (sized .0) (sym (surveyed .ok) ∙ ok)
 
     -- Question 6 fails.
-    pub mounted-six : Incomplete ≡ checkpointIn (pagesOf pool) blocks width → r .refused ≡ 6 → MountedAs pool tableLength blocks rows r
+    pub mounted-six : Incomplete ≡ checkpointIn (pagesOf pool) blocks width → r .refused ≡ 6 → MountedAs pool tableLength blocks table r
     mounted-six told e =
-        refuses pool tableLength blocks rows r 6 e (omega arith)
+        refuses pool tableLength blocks table r 6 e (omega arith)
         (refused-six (cells .1) (ap (checkpointIn (pagesOf pool) blocks) (sym wide) ∙ sym told))
 
     -- The other two decide.
@@ -68,20 +68,20 @@ module _ {pool : List ℕ} {tableLength blocks : ℕ} (sized : Sized (length poo
             told = ap (checkpointIn (pagesOf pool) blocks) (sym wide) ∙ sym told;
           }
 
-      pub mounted-by : (s : State) → s ≡ firstState v blocks nodes → (number : ℕ) → Asked t s since (pagesOf pool) rows number →
-          r ≡ record { refused = number; tariff = t; state = s } → MountedAs pool tableLength blocks rows r
-      mounted-by s is number asked e = subst (MountedAs pool tableLength blocks rows) (sym e) (record { refused = refused-as; opened = opened-as })
+      pub mounted-by : (s : State) → s ≡ firstState v blocks nodes → (number : ℕ) → Asked t s since (pagesOf pool) table number →
+          r ≡ record { refused = number; tariff = t; state = s } → MountedAs pool tableLength blocks table r
+      mounted-by s is number asked e = subst (MountedAs pool tableLength blocks table) (sym e) (record { refused = refused-as; opened = opened-as })
         where
-          same : s ≡ begun blocks nodes (reopened blocks (cells .0))
+          same : s ≡ beginning blocks nodes (reopened blocks (cells .0))
           same = is ∙ survey-begins surveyed ok (cells .1) nodes
 
-          asked-begun : Asked t (begun blocks nodes (reopened blocks (cells .0))) since (pagesOf pool) rows number
-          asked-begun = subst (λ (x : State). Asked t x since (pagesOf pool) rows number) same asked
+          asked-begun : Asked t (beginning blocks nodes (reopened blocks (cells .0))) since (pagesOf pool) table number
+          asked-begun = subst (λ (x : State). Asked t x since (pagesOf pool) table number) same asked
 
           refused-as : (number ≡ 0 → ⊥) → mountOf pool ≡ Model.refused number
           refused-as = refused-later known number (asked-begun .is)
 
-          opened-as : number ≡ 0 → Opens pool tableLength blocks rows t s
+          opened-as : number ≡ 0 → Opens pool tableLength blocks table t s
           opened-as z =
-              subst (Opens pool tableLength blocks rows t) (sym same)
-              (opened-later known (sym (asked-begun .is) ∙ z) rows (asked-begun .rows z) tableLength (sized .3))
+              subst (Opens pool tableLength blocks table t) (sym same)
+              (opened-later known (sym (asked-begun .is) ∙ z) table (asked-begun .table z) tableLength (sized .3))

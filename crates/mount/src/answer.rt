@@ -4,7 +4,6 @@ ghost use Rattle.mount.specs.Begin.{firstState};
 use account::Costs;
 use account::Tariff;
 use flash_allocate::state::State;
-use layout::BUFFER_BYTES;
 use mount_survey::answer::Survey;
 
 // The number of the first question that fails, or 0; then the tariff and the state to begin with.
@@ -26,7 +25,6 @@ pub fn first_state(found: Survey, blocks: usize, nodes: usize) -> State
         checkpoint: 0,
         last: found.newest,
         entries: 0,
-        buffer: [0u8; BUFFER_BYTES],
     }
 }
 

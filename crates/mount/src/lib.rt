@@ -2,7 +2,7 @@
 pub mod answer;
 
 ghost use lib.ListN.{length};
-ghost use Rattle.flash_rows.specs.Row.{rowsOf};
+ghost use Rattle.flash_rows.specs.Worktable.{tableFrom};
 ghost use Rattle.mount.specs.Begin.{Sized};
 ghost use Rattle.mount.specs.Mounted.{MountedAs};
 use answer::Mount;
@@ -17,7 +17,7 @@ use mount_survey::survey;
 pub fn mount(pool: &[u8], table: &mut [u8], blocks: usize) -> Mount
     requires { ⌜ Sized (length (now pool)) (length (now table)) blocks ⌝ }
     ensures { λ r. ⌜ MountedAs (now (pool .entry)) (length (now (table .exit))) blocks
-        (rowsOf (now (table .exit))) r ⌝ }
+        (tableFrom (now (table .exit))) r ⌝ }
 {
     let found = survey(pool, table, blocks);
     if found.ok {} else {

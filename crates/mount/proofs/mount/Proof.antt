@@ -3,7 +3,7 @@ use mathlib.Core.Path.{_≡_, refl, sym, _∙_}
 use lib.ListN.{length}
 use Rattle.laws.specs.BigEndian.{bytes-getD}
 use Rattle.layout.specs.Layout.{tableBytes}
-use Rattle.flash_rows.specs.Row.{rowsOf}
+use Rattle.flash_rows.specs.Worktable.{tableFrom}
 use Rattle.mount.specs.Begin.{first-asks}
 use Rattle.mount.specs.Mounted.{mounted-five, mounted-six, mounted-by}
 use borrow.Author.Needs.{needs}
@@ -28,7 +28,7 @@ returns c =
     mounted-five (pre .0, pre .1, pre .2, size)
     (bytes-getD (a .pool .now) (λ i.
     c .before .before .before .before .before .before .before .shared-slice-known .given i .fits)) (v .ensures)
-    (rowsOf (v .last .1 .0)) (c .refuse .result) (c .before .if1 .left) (c .refuse .ensures)
+    (tableFrom (v .last .1 .0)) (c .refuse .result) (c .before .if1 .left) (c .refuse .ensures)
 
 find-checkpoint-requires : tie.Need-find-checkpoint-requires
 find-checkpoint-requires c κs = search needs
@@ -77,7 +77,7 @@ returns-2 c =
     (bytes-getD (a .pool .now) (λ i.
     c18 .shared-slice-known .given
     i .fits)) (v .ensures)
-    (rowsOf (asked .last .1 .0)) _
+    (tableFrom (asked .last .1 .0)) _
     (c12 .if1 .taken)
     (length (v .last .1 .0)) width (found .0 .0) (found .0 .1 .0) (found .0 .1 .1 .0)
     (sym (found .1) ∙ f .ensures .is) (c4 .first-state .result)
@@ -98,7 +98,7 @@ returns-3 c =
     (bytes-getD (a .pool .now) (λ i.
     c .before .before .before .before .before .before .before .before .before .before .before .before .before .shared-slice-known .given
     i .fits)) (v .ensures)
-    (rowsOf (f .last .1 .0)) (c .refuse2 .result) (c .before .before .before .before .before .before .before .if1 .taken) (length (v .last .1 .0)) width
+    (tableFrom (f .last .1 .0)) (c .refuse2 .result) (c .before .before .before .before .before .before .before .if1 .taken) (length (v .last .1 .0)) width
     (sym (c .before .enum-told .given .1) ∙ f .ensures .is) (c .refuse2 .ensures)
 
 pub mount-spec : {M : Type 1} → statement M

@@ -53,7 +53,7 @@ module _ {B : ℕ} {score : ℕ → ℕ} {w : World} {run : Run} (known : Writab
   abbrev read : Draft → Type 0
   read d = (Store.nodeOf (run .now) n ≡ nodeIn d) ⊎ ((Neat (Store.nodeOf (run .now) n) → ⊥) × (nodeIn d ≡ noNode))
 
-  on-page : (o : OnPage (run .now) n) (b : Bool) → ascends 0 bound32 (pairsOf (o .node)) ≡ b → read (nodePageAt (w .pages) (rowAt (w .rows) n .first))
+  on-page : (o : OnPage (run .now) n) (b : Bool) → ascends 0 bound32 (pairsOf (o .node)) ≡ b → read (nodePageAt (w .pages) (rowAt (w .table .rows) n .first))
   unfolding Store.nodeOf
   on-page o true e =
       let neat : Neat (o .node) =
@@ -67,11 +67,11 @@ module _ {B : ℕ} {score : ℕ → ℕ} {w : World} {run : Run} (known : Writab
         ap nodeIn (disk-page known h n l o ∙ page-broken _ n (o .node) (own-page known h n l o) e),
       )
 
-  pub read-as : read (content (w .pages) (w .rows) (w .state) n)
+  pub read-as : read (content (w .pages) (w .table) (w .state) n)
   unfolding content contentBy Store.nodeOf
-  read-as = go (rowAt (w .rows) n .mode) (h .mirrors .rows .mode n (omega (arith, h .nodes)))
+  read-as = go (rowAt (w .table .rows) n .mode) (h .mirrors .rows .mode n (omega (arith, h .nodes)))
     where
       go : (m : Mode) → RowMode m (run .now) n →
-          read (byMode m (logContent (w .pages) (w .state) (rowAt (w .rows) n) n) (nodePageAt (w .pages) (rowAt (w .rows) n .first)))
+          read (byMode m (logContent (w .pages) (w .table .buffer) (w .state .entries) (rowAt (w .table .rows) n) n) (nodePageAt (w .pages) (rowAt (w .table .rows) n .first)))
       go Log i = inl (ap nodeIn (sym (log-content known h n l i)))
       go Disk o = on-page o (ascends 0 bound32 (pairsOf (o .node))) refl

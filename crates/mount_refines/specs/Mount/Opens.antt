@@ -22,24 +22,25 @@ use Rattle.model.specs.Call.{mountOf}
 use Rattle.demands.specs.Mount.{Mounts, mounts-opened, mounts-ready, ranged}
 use Rattle.demands.specs.MountFits.{opened-enters}
 use Rattle.demands.specs.PoolBytes.{cellsOf-is}
-use Rattle.flash_rows.specs.declared.Row.{Row}
+use Rattle.flash_rows.specs.Worktable.{Worktable}
 use Rattle.flash_blocks.specs.Pages.{pagesOf}
 use Rattle.flash_allocate.specs.declared.state.State.{State}
 use Rattle.flash_allocate.specs.World.{Good, world}
 use Rattle.mount_rows.specs.Fill.{withinThree}
 use Rattle.flash_refines.specs.Store.Follows.{Follows}
 use Rattle.run_refines.specs.Commands.Lists.{Runs}
-use Rattle.mount_restore.specs.Table.{restoredRows}
-use Rattle.mount_restore.specs.Questions.{rowsPass, rowsFor, treePasses, refusalOf}
+use Rattle.mount_restore.specs.Table.{restoredTable}
+use Rattle.mount_restore.specs.Questions.{rowsPass, tableFor, treePasses, refusalOf}
+use Rattle.mount_refines.specs.Rows.Fill.{beginning}
 use Rattle.mount_refines.specs.Mount.Refusals.{judged-cells}
 use Rattle.mount_refines.specs.Mount.Known.{Known, completes}
-use Rattle.mount_refines.specs.Mount.Tree.{begun, three-same, tree-is, follows, writable}
+use Rattle.mount_refines.specs.Mount.Tree.{three-same, tree-is, follows, writable}
 
 -- A POOL THAT OPENED: the state that the model opens it with, and everything that a batch needs to go on.
-pub record Opens (pool : List ℕ) (tableLength blocks : ℕ) (rows : List Row) (t : Tariff) (s : State) : Type 0 where
+pub record Opens (pool : List ℕ) (tableLength blocks : ℕ) (table : Worktable) (t : Tariff) (s : State) : Type 0 where
   pub state : Model.State
   pub is : mountOf pool ≡ opened t state
-  pub runs : Runs blocks (world (pagesOf pool) rows s) state
+  pub runs : Runs blocks (world (pagesOf pool) table s) state
   pub good : Good (length pool) tableLength s
   pub noCheckpointPage : s .checkpoint ≡ 0
   pub left : s .last ≤ lastSequence
@@ -50,7 +51,7 @@ module _ {pool : List ℕ} {blocks : ℕ} {c : Cells} {t : Tariff} {nodes since 
   st = reopened blocks c
 
   abbrev s : State
-  s = begun blocks nodes st
+  s = beginning blocks nodes st
 
   abbrev pages : List (List ℕ)
   pages = pagesOf pool
@@ -95,12 +96,12 @@ module _ {pool : List ℕ} {blocks : ℕ} {c : Cells} {t : Tariff} {nodes since 
     sound-tree : treeSound blocks t st ≡ true
     sound-tree = sym (tree-is k) ∙ p .tree
 
-    rows-right : (withinThree nodes (rowsFor s since pages) && rowsPass t s pages (rowsFor s since pages)) ≡ true
+    rows-right : (withinThree nodes (tableFor s since pages .rows) && rowsPass t s pages (tableFor s since pages)) ≡ true
     unfolding treePasses
     rows-right = and-right (leb nodes (nodeLimit blocks)) _ (p .tree)
 
     three : threePages nodes st ≡ true
-    three = sym (three-same k few) ∙ and-left (withinThree nodes (rowsFor s since pages)) _ rows-right
+    three = sym (three-same k few) ∙ and-left (withinThree nodes (tableFor s since pages .rows)) _ rows-right
 
     mounts : Mounts blocks c t
     mounts =
@@ -119,20 +120,20 @@ module _ {pool : List ℕ} {blocks : ℕ} {c : Cells} {t : Tariff} {nodes since 
     unfolding stateOf
     opened-run = ap (λ (n : ℕ). Opening.opened blocks n c) (sym (completes k .nodes-are))
 
-    agrees : Follows (stateOf st .score) (world pages (restoredRows blocks nodes since pages) s) (stateOf st .run)
+    agrees : Follows (stateOf st .score) (world pages (restoredTable blocks nodes since pages) s) (stateOf st .run)
     unfolding stateOf
-    agrees = subst (Follows (stateOf st .score) (world pages (restoredRows blocks nodes since pages) s)) opened-run (follows k few three)
+    agrees = subst (Follows (stateOf st .score) (world pages (restoredTable blocks nodes since pages) s)) opened-run (follows k few three)
 
-    opens : (rows : List Row) → rows ≡ rowsFor s since pages → (tableLength : ℕ) → tableLength ≡ tableBytes blocks →
-        Opens pool tableLength blocks rows t s
-    opens rows e tableLength size =
+    opens : (table : Worktable) → table ≡ tableFor s since pages → (tableLength : ℕ) → tableLength ≡ tableBytes blocks →
+        Opens pool tableLength blocks table t s
+    opens table e tableLength size =
         record {
           state = stateOf st;
           is = judged-cells (k .judged) ∙ opened-cells;
           runs =
               record {
                 few = k .most;
-                agrees = subst (λ (x : List Row). Follows (stateOf st .score) (world pages x s) (stateOf st .run)) (sym e) agrees;
+                agrees = subst (λ (x : Worktable). Follows (stateOf st .score) (world pages x s) (stateOf st .run)) (sym e) agrees;
                 sound = mounts-ready (k .few) mounts .says .sound;
                 fits =
                     opened-enters blocks c t (stateOf st)
@@ -143,7 +144,7 @@ module _ {pool : List ℕ} {blocks : ℕ} {c : Cells} {t : Tariff} {nodes since 
                 few = k .few;
                 most = k .most;
                 pool = k .judged .size;
-                table = size;
+                table = omega (arith, size);
                 inside = writable k few three .good .invariant .rules .inside;
                 full = follows k few three .mirrors .pages .most (st .current);
                 used = omega (arith, few);
@@ -154,6 +155,6 @@ module _ {pool : List ℕ} {blocks : ℕ} {c : Cells} {t : Tariff} {nodes since 
           ranged = ranged (k .few) mounts;
         }
 
-  pub opened-later : refusalOf t s since pages ≡ 0 → (rows : List Row) → rows ≡ rowsFor s since pages → (tableLength : ℕ) →
-      tableLength ≡ tableBytes blocks → Opens pool tableLength blocks rows t s
+  pub opened-later : refusalOf t s since pages ≡ 0 → (table : Worktable) → table ≡ tableFor s since pages → (tableLength : ℕ) →
+      tableLength ≡ tableBytes blocks → Opens pool tableLength blocks table t s
   opened-later e = opens (passed e)

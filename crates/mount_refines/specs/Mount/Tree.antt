@@ -6,7 +6,7 @@ use mathlib.Core.List.{List}
 use Prim.Native.Nat.{ℕ, _≤_, _<_}
 use native.Mathlib.Omega.{arith}
 use borrow.Author.Tests.{le-leb, lt-leb}
-use lib.ListN.{replicate}
+use lib.ListN.{replicate, length-replicate}
 use Rattle.laws.specs.Order.{le-or}
 use Rattle.laws.specs.Loops.{allFrom}
 use Rattle.layout.specs.Layout.{nodeLimit, tableBytes, pagesInBlock}
@@ -21,7 +21,7 @@ use Rattle.store_laws.specs.Opening.{opened}
 use Rattle.model.specs.State.{bookOf}
 use Rattle.model.specs.Mount.{stateOf, threePages, scoresBelow, treeSound}
 use Rattle.demands.specs.Says.{bookOf-table}
-use Rattle.flash_rows.specs.declared.Row.{Row}
+use Rattle.flash_rows.specs.Worktable.{Worktable, bufferBytes}
 use Rattle.flash_blocks.specs.Pages.{pagesOf}
 use Rattle.flash_allocate.specs.declared.state.State.{State}
 use Rattle.flash_allocate.specs.World.{world}
@@ -34,16 +34,12 @@ use Rattle.mount_refines.specs.Checkpoint.Pool.{last-is}
 use Rattle.mount_refines.specs.Checkpoint.Found.{found-set}
 use Rattle.mount_refines.specs.Checkpoint.Scores.{scores-below}
 use Rattle.mount_refines.specs.Rows.Fill.{beginning, three-is, rows-follow, opened-writable}
-use Rattle.mount_restore.specs.Table.{restoredRows}
+use Rattle.mount_restore.specs.Table.{restoredRows, restoredTable}
 use Rattle.mount_restore.specs.Questions.{rowsPass, treePasses}
 use Rattle.mount_refines.specs.Mount.Known.{scoreFrom, Known, completes}
 use Rattle.mount_refines.specs.Mount.Rows.{rows-given}
 use Rattle.mount_refines.specs.Mount.AnyNode.{read-as}
 use Rattle.mount_restore.specs.Scores.{isBelow}
-
--- The state that a batch begins with, its buffer all zeros.
-abbrev pub begun : ℕ → ℕ → Store → State
-begun blocks nodes st = beginning blocks nodes (replicate 405 0) st
 
 -- The tests in the code's order and in the model's.
 reordered : (ranged below tree : Bool) → (ranged && (below && tree)) ≡ (tree && (true && (ranged && below)))
@@ -61,11 +57,11 @@ module _ {pool : List ℕ} {blocks : ℕ} {c : Cells} {t : Tariff} {nodes since 
   abbrev pages : List (List ℕ)
   pages = pagesOf pool
 
-  abbrev rows : List Row
-  rows = restoredRows blocks nodes since pages
+  abbrev table : Worktable
+  table = restoredTable blocks nodes since pages
 
   abbrev s : State
-  s = begun blocks nodes st
+  s = beginning blocks nodes st
 
   -- the model's question, by the count of nodes
   asked : ℕ → Bool
@@ -84,36 +80,36 @@ module _ {pool : List ℕ} {blocks : ℕ} {c : Cells} {t : Tariff} {nodes since 
       omega (arith, last-is (k .judged), found-set (k .judged) (tableBytes blocks) (omega arith) t nodes since (k .told) .end)
 
   module _ (few : nodes ≤ nodeLimit blocks) where
-    pub three-same : withinThree nodes rows ≡ threePages nodes st
+    pub three-same : withinThree nodes (table .rows) ≡ threePages nodes st
     unfolding restoredRows
     three-same = three-is (rows-given k few)
 
     module _ (three : threePages nodes st ≡ true) where
-      pub follows : Follows (scoreFrom blocks c) (world pages rows s) (opened blocks nodes c)
+      pub follows : Follows (scoreFrom blocks c) (world pages table s) (opened blocks nodes c)
       unfolding restoredRows
-      follows = rows-follow (rows-given k few) three (replicate 405 0) refl
+      follows = rows-follow (rows-given k few) three (replicate bufferBytes 0) (length-replicate {A = ℕ} bufferBytes 0)
 
       pub writable : Writable blocks (opened blocks nodes c)
       writable = opened-writable (rows-given k few) (k .few) (k .most) some-page three
 
       -- each node is read as the model says it, or is in no sound tree
-      same-nodes : SameNeat nodes (bookOf (stateOf st) .table) (tableOf pages rows s)
+      same-nodes : SameNeat nodes (bookOf (stateOf st) .table) (tableOf pages table s)
       unfolding stateOf
       same-nodes n l =
-          rw (bookOf-table (stateOf st) n (omega (arith, completes k .nodes-are)), tableOf-in pages rows s n l) (read-as writable follows n l)
+          rw (bookOf-table (stateOf st) n (omega (arith, completes k .nodes-are)), tableOf-in pages table s n l) (read-as writable follows n l)
 
-      tree-same : sound (nodeLimit blocks) nodes (tableOf pages rows s) ≡ sound (nodeLimit blocks) nodes (bookOf (stateOf st) .table)
-      tree-same = sym (sound-neat (nodeLimit blocks) nodes (bookOf (stateOf st) .table) (tableOf pages rows s) same-nodes)
+      tree-same : sound (nodeLimit blocks) nodes (tableOf pages table s) ≡ sound (nodeLimit blocks) nodes (bookOf (stateOf st) .table)
+      tree-same = sym (sound-neat (nodeLimit blocks) nodes (bookOf (stateOf st) .table) (tableOf pages table s) same-nodes)
 
-      below-same : allFrom (isBelow (limit t) rows) nodes 0 ≡ scoresBelow (limit t) (scoresIn (checkpointOf st))
-      below-same = scores-below (k .judged) (tableBytes blocks) (omega arith) t nodes since (k .told) (limit t) rows (follows .scores)
+      below-same : allFrom (isBelow (limit t) (table .rows)) nodes 0 ≡ scoresBelow (limit t) (scoresIn (checkpointOf st))
+      below-same = scores-below (k .judged) (tableBytes blocks) (omega arith) t nodes since (k .told) (limit t) (table .rows) (follows .scores)
 
   -- QUESTION 7, whatever the count.
   pub tree-is : treePasses t s since pages ≡ treeSound blocks t st
   unfolding treePasses rowsPass asked
   tree-is = go (le-or nodes (nodeLimit blocks)) ∙ sym question-is
     where
-      by-three : (few : nodes ≤ nodeLimit blocks) (b : Bool) → threePages nodes st ≡ b → (b && rowsPass t s pages rows) ≡
+      by-three : (few : nodes ≤ nodeLimit blocks) (b : Bool) → threePages nodes st ≡ b → (b && rowsPass t s pages table) ≡
           (sound (nodeLimit blocks) nodes (bookOf (stateOf st) .table) && (b && (inRange t && scoresBelow (limit t) (scoresIn (checkpointOf st)))))
       by-three few true e =
           ap₂ (λ (x y : Bool). inRange t && (x && y)) (below-same few e) (tree-same few e) ∙

@@ -23,21 +23,22 @@ use Rattle.model.specs.Mount.{threePages}
 use Rattle.demands.specs.MountFits.{reopened-fits}
 use Rattle.demands.specs.Mount.{three-each}
 use Rattle.flash_rows.specs.declared.Row.{Row}
+use Rattle.flash_rows.specs.Worktable.{bufferBytes, worktable}
 use Rattle.flash_blocks.specs.Pages.{pagesOf}
 use Rattle.flash_allocate.specs.declared.state.State.{State}
 use Rattle.flash_allocate.specs.World.{world}
 use Rattle.flash_refines.specs.Store.Mirror.{rowAt, PagesAre, RowsName, RowsSay, Mirrors}
 use Rattle.flash_refines.specs.Store.Follows.{Follows, Writable}
 use Rattle.flash_refines.specs.Store.Followed.{owners-open}
-use Rattle.mount_rows.specs.Fill.{filled, withinThree, Filled}
+use Rattle.mount_rows.specs.Fill.{filled, withinThree}
 use Rattle.mount_refines.specs.Rows.Given.{Given, sized, orderly, same-cells, count-blocks, is-pool}
 use Rattle.mount_refines.specs.Rows.Rows.{carried, told, row-version, row-pages, row-names, row-mode}
 use Rattle.mount_refines.specs.Rows.Pieces.{cap}
 use Rattle.mount_refines.specs.Rows.PoolPages.{pages-stand}
 
 -- The state that a batch begins with: what the store says of the blocks, no checkpoint being written, and nothing in the buffer.
-abbrev pub beginning : ℕ → ℕ → List ℕ → Store → State
-beginning blocks nodes buffer st =
+abbrev pub beginning : ℕ → ℕ → Store → State
+beginning blocks nodes st =
     record {
       blocks = blocks;
       current = st .current;
@@ -46,7 +47,6 @@ beginning blocks nodes buffer st =
       checkpoint = 0;
       last = st .last;
       entries = 0;
-      buffer = buffer;
     }
 
 module _ {blocks nodes : ℕ} {score : ℕ → ℕ} {pool : List ℕ} {c : Cells} {rows : List Row} (g : Given blocks nodes score pool c rows) where
@@ -101,7 +101,7 @@ module _ {blocks nodes : ℕ} {score : ℕ → ℕ} {pool : List ℕ} {c : Cells
           pages = λ n l. omega (arith, row-pages g n l, pages-few n l);
         }
 
-    mirrored : (buffer : List ℕ) → Mirrors image (carries (view st)) noCheckpoint (world (pagesOf pool) after (beginning blocks nodes buffer st)) st
+    mirrored : (buffer : List ℕ) → Mirrors image (carries (view st)) noCheckpoint (world (pagesOf pool) (worktable buffer after) (beginning blocks nodes st)) st
     mirrored buffer =
         record {
           pages =
@@ -116,38 +116,18 @@ module _ {blocks nodes : ℕ} {score : ℕ → ℕ} {pool : List ℕ} {c : Cells
         }
 
     -- PAGES AND ROWS FOLLOW THE STORE that the pool spells, whatever the buffer's bytes.
-    pub rows-follow : (buffer : List ℕ) → length buffer ≡ 405 →
-        Follows score (world (pagesOf pool) after (beginning blocks nodes buffer (reopened blocks c))) (opened blocks nodes c)
+    pub rows-follow : (buffer : List ℕ) → length buffer ≡ bufferBytes →
+        Follows score (world (pagesOf pool) (worktable buffer after) (beginning blocks nodes (reopened blocks c))) (opened blocks nodes c)
     unfolding reopened chunks
     rows-follow buffer size =
         record {
-          table = carried g .long ∙ g .table;
+          table = omega (arith, carried g .long, g .table);
           nodes = refl;
           noCheckpointPage = refl;
           mirrors = mirrored buffer;
           buffer = record { size = size; number = refl; bytes = refl };
           scores = λ n l. told g n l .score ∙ g .scores n l;
         }
-
--- WHAT THE CODE LEAVES AND ANSWERS, by its contract: the answer is that of "at most three pages", and where it is yes, the world follows.
-pub record Restored (blocks nodes : ℕ) (score : ℕ → ℕ) (pool : List ℕ) (c : Cells) (after : List Row) (answer : Bool) : Type 0 where
-  pub three : answer ≡ threePages nodes (reopened blocks c)
-  pub follows : answer ≡ true → (buffer : List ℕ) → length buffer ≡ 405 →
-      Follows score (world (pagesOf pool) after (beginning blocks nodes buffer (reopened blocks c))) (opened blocks nodes c)
-
-pub fill-restores : {blocks nodes : ℕ} {score : ℕ → ℕ} {pool : List ℕ} {c : Cells} {rows after : List Row} {answer : Bool} →
-    Given blocks nodes score pool c rows → Filled blocks nodes (pagesOf pool) rows after answer → Restored blocks nodes score pool c after answer
-fill-restores {blocks} {nodes} {score} {pool} {c} {rows} {after} {answer} g f =
-    record {
-      three = three;
-      follows =
-          λ yes buffer size.
-          subst (λ (x : List Row). Follows score (world (pagesOf pool) x (beginning blocks nodes buffer (reopened blocks c))) (opened blocks nodes c))
-          (sym (f .rows)) (rows-follow g (sym three ∙ yes) buffer size);
-    }
-  where
-    three : answer ≡ threePages nodes (reopened blocks c)
-    three = f .three ∙ ap (withinThree nodes) (f .rows) ∙ three-is g
 
 -- THE RUN that such a pool begins is in good order, where it has a page at all (question 6 asks for a checkpoint).
 pub opened-writable : {blocks nodes : ℕ} {score : ℕ → ℕ} {pool : List ℕ} {c : Cells} {rows : List Row} → Given blocks nodes score pool c rows →

@@ -18,6 +18,7 @@ use Rattle.store_laws.specs.PageTests.{passing-numbers}
 use Rattle.model.specs.Bytes.{cellsOf}
 use Rattle.demands.specs.PoolBytes.{IsPool, cellsOf-is}
 use Rattle.flash_rows.specs.declared.Row.{Row}
+use Rattle.flash_rows.specs.Worktable.{rowsFor}
 use Rattle.flash_refines.specs.Store.Mirror.{rowAt}
 use Rattle.mount_refines.specs.Rows.Places.{Orderly}
 use Rattle.mount_refines.specs.Rows.Cells.{Unmet}
@@ -28,7 +29,7 @@ pub record Given (blocks nodes : ℕ) (score : ℕ → ℕ) (pool : List ℕ) (c
   pub size : length pool ≡ blockBytes * blocks
   pub spelled : cellsOf pool ≡ some c
   pub pass : pagesPass blocks c ≡ true
-  pub table : length rows ≡ 64 * blocks
+  pub table : rowsFor blocks ≤ length rows
   pub limit : nodes ≤ nodeLimit blocks
   pub unmet : (n : ℕ) → n < nodes → Unmet (rowAt rows n)
   pub scores : (n : ℕ) → n < nodes → rowAt rows n .score ≡ score n
