@@ -5,7 +5,6 @@
 --   behind them    free: the tree check has its marks and its stack there
 --
 -- The buffer stands first, so that its place is a number and not a product with B.
-use mathlib.Core.Path.{_≡_}
 use mathlib.Core.List.{List}
 use Prim.Native.Nat.{ℕ, _+_, _*_, _≤_}
 use native.Mathlib.Omega.{arith}

@@ -9,7 +9,7 @@ use borrow.Rule.Slice.PartMut.{putMid}
 use Rattle.laws.specs.Lay.{lay, part, lay-lent, lay-sets, lay-whole, drop-lay, length-lay, part-lay-before}
 use Rattle.laws.specs.Chunks.{drop-lay-front}
 use Rattle.flash_rows.specs.Row.{rowsOf}
-use Rattle.flash_rows.specs.Worktable.{bufferBytes, rowsAt, worktable, bufferOf, rowsIn, tableFrom, withRows, withBuffer}
+use Rattle.flash_rows.specs.Worktable.{bufferBytes, rowsAt, bufferOf, rowsIn, tableFrom, withRows, withBuffer}
 
 -- Bytes laid in the first k, and the first k with bytes laid.
 take-sets : (vs s : List ℕ) (k at : ℕ) → at + length vs ≤ k → take k (sets s at vs) ≡ sets (take k s) at vs

@@ -1,7 +1,7 @@
 -- The entries of a whole content one by one, and the steps of a group, a node page and an edit put together. Assumes nothing.
 use mathlib.Core.Path.{_≡_, refl, sym, ap, ap₂, _∙_}
 use mathlib.Core.List.{List, [], _∷_, _++_}
-use Prim.Native.Nat.{ℕ, zero, suc, _+_, _-_, _*_, _≤_, _<_}
+use Prim.Native.Nat.{ℕ, zero, suc, _+_, _-_, _≤_, _<_}
 use native.Mathlib.Nat.{sub-zero}
 use native.Mathlib.Numerals.{add-one}
 use native.Mathlib.Omega.{arith}
@@ -51,7 +51,8 @@ pairs-first v s =
 
 -- A turn of the loop over the pairs, its start and its end.
 module _ (id version : ℕ) (keys pointers : List ℕ) (n : ℕ) where
-  pub entries-begin : (l : Logged) → appendAll id version (puts (firstPairs (n - 0) keys pointers 0)) l ≡ appendAll id version (puts (firstPairs n keys pointers 0)) l
+  pub entries-begin : (l : Logged) →
+      appendAll id version (puts (firstPairs (n - 0) keys pointers 0)) l ≡ appendAll id version (puts (firstPairs n keys pointers 0)) l
   entries-begin l = rw sub-zero refl
 
   pub entries-more : (i : ℕ) (l : Logged) → i < n →

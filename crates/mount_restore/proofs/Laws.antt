@@ -60,7 +60,8 @@ module _ (blocks nodes since : ℕ) (pages : List (List ℕ)) (table zeros : Lis
     unfolding scoredRows
     middle-table =
         lent-rows zeros long scored kept ∙
-        ap (worktable (bufferOf zeros)) (s ∙ ap (takePages pages (32 * blocks) since nodes) (rows-part zeros long ∙ ap (λ (t : Worktable). t .rows) zero-table)) ∙
+        ap (worktable (bufferOf zeros))
+        (s ∙ ap (takePages pages (32 * blocks) since nodes) (rows-part zeros long ∙ ap (λ (t : Worktable). t .rows) zero-table)) ∙
         ap (λ (b : List ℕ). worktable b (takePages pages (32 * blocks) since nodes (emptyRows blocks))) (ap (λ (t : Worktable). t .buffer) zero-table)
 
     pub rows-restored : (after : List ℕ) (answer : Bool) → length after ≡ length (lent middle) →

@@ -2,7 +2,7 @@
 ghost use mathlib.Core.Path.{_≡_};
 ghost use Prim.Native.Nat.{_+_, _*_, _≤_, _<_};
 ghost use lib.ListN.{length};
-ghost use Rattle.layout.specs.Layout.{blockBytes, mostBlocks, nodeLimit, tableBytes, mostPages, pageBytes};
+ghost use Rattle.layout.specs.Layout.{blockBytes, mostBlocks, mostPages, pageBytes};
 ghost use Rattle.flash_rows.specs.Row.{rowsOf, rowBytes};
 ghost use Rattle.flash_blocks.specs.Pages.{pagesOf};
 ghost use Rattle.mount_rows.specs.Fill.{seenPage, filled, withinThree, Filled};

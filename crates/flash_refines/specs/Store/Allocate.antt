@@ -127,7 +127,8 @@ module _ (image : Page → List ℕ) (written : Images image) (own : ℕ → Pag
         go (inl l) false e =
             rw (full l, e)
             (subst (goal false false)
-            (allocate-compact ps t s j (blanks bs) l (sym next-is) (sym blanks-is) (leb-false 2 (blanks bs) e) (z .pages) (z .rows) (z .fill) whole (withRows (z .rows) t) refl (inBlock j (z .fill) s) refl)
+            (allocate-compact ps t s j (blanks bs) l (sym next-is) (sym blanks-is) (leb-false 2 (blanks bs) e) (z .pages) (z .rows) (z .fill) whole
+            (withRows (z .rows) t) refl (inBlock j (z .fill) s) refl)
             (record {
               stands = record { pages = c .pages; names = c .names; current = refl; fill = c .fill };
               kept = record { blocks = refl; nodes = refl; checkpoint = refl; last = refl; entries = refl; buffer = refl; table = c .long; rows = c .same };

@@ -81,10 +81,12 @@ returns-3 c =
     record {
       is = allocate-compact (pagesOf (a .pool .now)) (tableFrom (a .table .now)) (a .state) (n .result) (b .result)
           (c14 .if1 .left) (n .ensures .0) (b .ensures) (c9 .if2 .left) (pagesOf (m .last .0)) (rowsOf (m .last .1 .0)) (m .result)
-          (m .ensures .0 ∙ ap (compact (used (a .state)) (a .state .blocks) (n .result) (pagesOf (a .pool .now))) (rows-part (a .table .now) (omega arith)))
+          (m .ensures .0 ∙
+          ap (compact (used (a .state)) (a .state .blocks) (n .result) (pagesOf (a .pool .now))) (rows-part (a .table .now) (omega arith)))
           _ (lent-rows (a .table .now) (omega arith) (m .last .1 .0) (m .kept .1 .0))
           (c .in-block2 .result) (c .in-block2 .ensures);
-      good = good-in-block (c18 .pre) (m .kept .0) (lent-length (a .table .now) (omega arith) (m .last .1 .0) (m .kept .1 .0)) (n .ensures .1) (m .ensures .1) (c .in-block2 .ensures);
+      good = good-in-block (c18 .pre) (m .kept .0) (lent-length (a .table .now) (omega arith) (m .last .1 .0) (m .kept .1 .0))
+          (n .ensures .1) (m .ensures .1) (c .in-block2 .ensures);
     }
 
 pub allocate-spec : {M : Type 1} → statement M

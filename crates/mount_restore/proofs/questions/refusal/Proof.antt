@@ -40,7 +40,8 @@ returns-3 c =
     let c9 = c5 .before .before .before .before in
     let a = c9 .args in
     let j = c5 .tree-passes in
-    refused-eight (a .tariff) (a .state) (a .since) (pagesOf (a .pool .now)) (tableFrom (j .last .1 .0)) (j .result) (j .ensures) (c2 .if1 .taken) (c .if2 .left)
+    refused-eight (a .tariff) (a .state) (a .since) (pagesOf (a .pool .now)) (tableFrom (j .last .1 .0)) (j .result) (j .ensures)
+    (c2 .if1 .taken) (c .if2 .left)
 
 pub refusal-spec : {M : Type 1} → statement M
 refusal-spec =
