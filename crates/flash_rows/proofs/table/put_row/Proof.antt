@@ -32,7 +32,7 @@ returns c =
     let a = c5 .args in
     lent-rows (a .table .now) (omega arith) (c2 .write-row .last .0) (c2 .write-row .kept .0) ∙
     ap (λ (rows : List Row). withRows rows (tableFrom (a .table .now)))
-        (c2 .write-row .ensures ∙ ap (λ (rows : List Row). set rows (a .n) (a .r)) (rows-part (a .table .now) (omega arith)))
+    (c2 .write-row .ensures ∙ ap (λ (rows : List Row). set rows (a .n) (a .r)) (rows-part (a .table .now) (omega arith)))
 
 pub put-row-spec : {M : Type 1} → statement M
 put-row-spec =
