@@ -39,6 +39,28 @@ pub fn find_from_end(keys: &[u32; MOST_KEYS], count: usize, key: u32) -> Found
     Found::Above(i)
 }
 
+// The same by halves: keys are taken out in any order.
+pub fn find_by_halves(keys: &[u32; MOST_KEYS], count: usize, key: u32) -> Found
+    requires { ⌜ count ≤ mostKeys ⌝ }
+    ensures { λ r. ⌜ FoundIn (now (keys .entry)) count key r ⌝ }
+{
+    let mut low: usize = 0;
+    let mut high = count;
+    while low < high {
+        let middle = (low + high) / 2;
+        let other = keys[middle];
+        if other == key {
+            return Found::At(middle);
+        }
+        if other < key {
+            low = middle + 1;
+        } else {
+            high = middle;
+        }
+    }
+    Found::Above(low)
+}
+
 // The place of the first key at or above the wanted one, by halves.
 fn place(v: NodeValue, wanted: u64) -> usize
     requires { ⌜ Held v ⌝ }

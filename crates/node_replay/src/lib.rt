@@ -11,6 +11,7 @@ use node::DraftValue;
 use node::Found;
 use node::Shape;
 use node::same_shape;
+use node::search::find_by_halves;
 use node::search::find_from_end;
 use node::splice;
 use outline::Outline;
@@ -66,7 +67,7 @@ pub fn redo_delete(
 {
     let mut r = outline;
     let count = outline.count;
-    let found = find_from_end(keys, count, key);
+    let found = find_by_halves(keys, count, key);
     match found {
         Found::At(i) => {
             splice::remove(keys, count, i);

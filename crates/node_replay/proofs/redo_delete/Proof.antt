@@ -11,14 +11,14 @@ use Rattle.node_replay.proofs.redo_delete.Tie as tie
 
 -- What the search answers is what is found in the draft's pairs.
 answer :
-    (c : tie.After-find-from-end) →
+    (c : tie.After-find-by-halves) →
     let a = c .before .before .args in
-    found (a .key) (pairsIn (nodeFrom (a .outline) (a .keys .now) (a .pointers .now))) ≡ c .find-from-end .result
+    found (a .key) (pairsIn (nodeFrom (a .outline) (a .keys .now) (a .pointers .now))) ≡ c .find-by-halves .result
 answer c = let a = c .before .before .args in
-    c .find-from-end .ensures .is (nodeFrom (a .outline) (a .keys .now) (a .pointers .now)) (c .before .before .pre) refl refl
+    c .find-by-halves .ensures .is (nodeFrom (a .outline) (a .keys .now) (a .pointers .now)) (c .before .before .pre) refl refl
 
-find-from-end-requires : tie.Need-find-from-end-requires
-find-from-end-requires c κs = search needs
+find-by-halves-requires : tie.Need-find-by-halves-requires
+find-by-halves-requires c κs = search needs
 
 enum-known-found : tie.Need-enum-known-found
 enum-known-found c = search needs
@@ -76,7 +76,7 @@ pub redo-delete-spec : {M : Type 1} → statement M
 redo-delete-spec =
     tie.close
     (tie.spec
-    find-from-end-requires
+    find-by-halves-requires
     enum-known-found
     remove-requires
     remove-requires-2
