@@ -16,6 +16,7 @@ use run_path::path::path_to;
 use run_path::reads::serve_reads;
 use run_serve::charged::Answered;
 use run_serve::charged::Charged;
+use run_serve::id::wide;
 use run_serve::request::serve_edit;
 
 // The reads to the leaf, then one edit of it where the key is there.
@@ -35,7 +36,7 @@ pub fn delete(pool: &mut [u8], table: &mut [u8], state: State, tariff: Tariff, k
     match value {
         Value::There(old) => {
             let deletion = ChangeValue::Delete { key };
-            let edit = serve_edit(pool, table, s, tariff, ids[last], deletion);
+            let edit = serve_edit(pool, table, s, tariff, wide(ids[last]), deletion);
             let t = edit.state;
             let charged = Charged {
                 state: t,

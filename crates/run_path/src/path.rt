@@ -13,7 +13,7 @@ use node::search::child;
 
 // The nodes of the path, from the root on, and the leaf at its end.
 pub struct Path {
-    pub ids: [usize; MOST_LEVELS],
+    pub ids: [u32; MOST_LEVELS],
     pub length: usize,
     pub leaf: NodeValue,
 }
@@ -23,12 +23,12 @@ pub fn path_to<'a>(pool: &'a [u8], table: &'a [u8], state: State, key: u32) -> P
     requires { ⌜ Readable state (now table) ⌝ }
     ensures { λ r. ⌜ PathTo (tableOf (pagesOf (now (pool .entry))) (tableFrom (now (table .entry))) state) key r ⌝ }
 {
-    let mut ids = [0usize; MOST_LEVELS];
-    let mut id: usize = 0;
+    let mut ids = [0u32; MOST_LEVELS];
+    let mut id: u32 = 0;
     let mut i: usize = 0;
     while i < 8 {
         ids[i] = id;
-        let v = node_at(pool, table, state, id);
+        let v = node_at(pool, table, state, id as usize);
         let shape = v.shape;
         if same_shape(shape, Shape::Leaf) {
             return Path {
@@ -37,11 +37,11 @@ pub fn path_to<'a>(pool: &'a [u8], table: &'a [u8], state: State, key: u32) -> P
                 leaf: v,
             };
         }
-        id = child(v, key) as usize;
+        id = child(v, key);
         i += 1;
     }
     ids[8] = id;
-    let leaf = node_at(pool, table, state, id);
+    let leaf = node_at(pool, table, state, id as usize);
     Path {
         ids,
         length: MOST_LEVELS,

@@ -18,7 +18,7 @@ pub fn read_nodes(
     table: &mut [u8],
     state: State,
     tariff: Tariff,
-    ids: &[usize],
+    ids: &[u32],
 ) -> Charged
     requires { ⌜ (Good (length (now pool)) (length (now table)) state) × (Ranged tariff)
         × (length (now ids) ≤ nodeLimit mostBlocks) ⌝ }
@@ -29,7 +29,7 @@ pub fn read_nodes(
     let mut charge: u64 = 0;
     let mut i: usize = 0;
     while i < ids.len() {
-        let read = serve_read(pool, table, s, tariff, ids[i]);
+        let read = serve_read(pool, table, s, tariff, ids[i] as usize);
         s = read.state;
         charge += read.charge;
         i += 1;
@@ -43,7 +43,7 @@ pub fn serve_reads(
     table: &mut [u8],
     state: State,
     tariff: Tariff,
-    ids: [usize; MOST_LEVELS],
+    ids: [u32; MOST_LEVELS],
     n: usize,
 ) -> Charged
     requires { ⌜ (Good (length (now pool)) (length (now table)) state) × (Ranged tariff) × (n ≤ 9) ⌝ }

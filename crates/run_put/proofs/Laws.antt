@@ -58,12 +58,14 @@ module _ (v : NodeValue) (h : Held v) (key : ℕ) where
 module _ {P₀ T₀ P₁ T₁ : ℕ} (t : Tariff) (key value n : ℕ) (onPath : List ℕ) (w : World) (g : Growing P₀ T₀ (w .state)) (few : n ≤ 9)
     (pages₁ : List (List ℕ)) (held₁ : Worktable) (one : Charged) (r : ReadAs P₁ T₁ pages₁ held₁ one t n onPath w)
     (pages : List (List ℕ)) (held : Worktable) (two : Charged) where
-  pub then-edit : {P T : ℕ} (leaf : ℕ) → ServedAs P T pages held two t leaf (edit (Change.put key value)) (world pages₁ held₁ (one .state)) →
+  pub then-edit : {P T : ℕ} (leaf id : ℕ) → id ≡ leaf →
+      ServedAs P T pages held two t id (edit (Change.put key value)) (world pages₁ held₁ (one .state)) →
       RequestsAs P T pages held (both one two) (w .state) (readAndEdit t onPath leaf key value w)
   unfolding readAndEdit
-  then-edit leaf s =
+  then-edit {P} {T} leaf id e s =
       let step = serve t leaf (edit (Change.put key value)) in
-      charged-is (grew-charged g (then step (charge t leaf (edit (Change.put key value))) (kept-then step) r s)) (omega (arith, few)) refl refl
+      let served = subst (λ (n : ℕ). ServedAs P T pages held two t n (edit (Change.put key value)) (world pages₁ held₁ (one .state))) e s in
+      charged-is (grew-charged g (then step (charge t leaf (edit (Change.put key value))) (kept-then step) r served)) (omega (arith, few)) refl refl
 
   pub then-split : {P T : ℕ} → SplitUpwardsAs P T pages held two t key value onPath (world pages₁ held₁ (one .state)) →
       RequestsAs P T pages held (both one two) (w .state) (readAndSplit t onPath key value w)

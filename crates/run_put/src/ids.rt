@@ -12,6 +12,7 @@ use flash_allocate::state::State;
 use flash_read::by_id::node_at;
 use layout::MOST_KEYS;
 use layout::MOST_LEVELS;
+use run_serve::id::wide;
 
 // The ids that a new key needs whose path of n nodes ends in a full leaf: "one id for each full node counted from that leaf upwards
 // without a gap, and one more if the root is among them".
@@ -19,7 +20,7 @@ pub fn ids_needed<'a>(
     pool: &'a [u8],
     table: &'a [u8],
     state: State,
-    ids: [usize; MOST_LEVELS],
+    ids: [u32; MOST_LEVELS],
     n: usize,
 ) -> usize
     requires { ⌜ (Readable state (now table)) × (1 ≤ n) × (n ≤ 9)
@@ -31,7 +32,7 @@ pub fn ids_needed<'a>(
     let mut i = n - 1;
     while 0 < i {
         let above = i - 1;
-        let v = node_at(pool, table, state, ids[above]);
+        let v = node_at(pool, table, state, wide(ids[above]));
         if v.count < MOST_KEYS {
             return n - i;
         }

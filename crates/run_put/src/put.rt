@@ -34,6 +34,7 @@ use run_path::path::path_to;
 use run_path::reads::serve_reads;
 use run_serve::charged::Answered;
 use run_serve::charged::Charged;
+use run_serve::id::wide;
 use run_serve::request::serve_edit;
 use run_split::split_upwards::split_upwards;
 
@@ -58,7 +59,7 @@ fn read_and_edit(
     table: &mut [u8],
     state: State,
     tariff: Tariff,
-    ids: [usize; MOST_LEVELS],
+    ids: [u32; MOST_LEVELS],
     n: usize,
     key: u32,
     value: u32,
@@ -74,7 +75,7 @@ fn read_and_edit(
         key,
         pointer: value,
     };
-    let edited = serve_edit(pool, table, s, tariff, ids[n - 1], edit);
+    let edited = serve_edit(pool, table, s, tariff, wide(ids[n - 1]), edit);
     let t = edited.state;
     Charged {
         state: t,
@@ -88,7 +89,7 @@ fn read_and_split(
     table: &mut [u8],
     state: State,
     tariff: Tariff,
-    ids: [usize; MOST_LEVELS],
+    ids: [u32; MOST_LEVELS],
     n: usize,
     key: u32,
     value: u32,
@@ -114,7 +115,7 @@ fn put_splitting(
     table: &mut [u8],
     state: State,
     tariff: Tariff,
-    ids: [usize; MOST_LEVELS],
+    ids: [u32; MOST_LEVELS],
     n: usize,
     key: u32,
     value: u32,

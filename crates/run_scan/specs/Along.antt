@@ -125,8 +125,8 @@ module _ {first : ℕ} {table : Table} {nodes low high most : ℕ} {keys values 
   given-is = ap (taken low high (most - count)) (sym (a .here .is))
 
   result : (pairsFrom (nodes - visited) table low high (most - count) (a .id) ≡ given) → (leavesAfter (nodes - visited) table low high (most - count) (a .id) ≡ []) →
-      GatheredFrom first table nodes low high most
-      (record { pairs = record { keys = keys′; values = values′; count = count′ }; leaves = leaves; visited = visited })
+      GatheredFrom first table nodes low high most leaves
+      (record { pairs = record { keys = keys′; values = values′; count = count′ }; visited = visited })
   result e f =
       record {
         pairs = all ∙ ap (λ (ps : List Pair). listed count keys values ++ ps) (sym e) ∙ a .pairs;
@@ -138,15 +138,15 @@ module _ {first : ℕ} {table : Table} {nodes low high most : ℕ} {keys values 
       }
 
   -- the scan stops in the leaf
-  pub along-stop : stopsIn high (most - count) (nodeOf leaf) given ≡ true → GatheredFrom first table nodes low high most
-      (record { pairs = record { keys = keys′; values = values′; count = count′ }; leaves = leaves; visited = visited })
+  pub along-stop : stopsIn high (most - count) (nodeOf leaf) given ≡ true → GatheredFrom first table nodes low high most leaves
+      (record { pairs = record { keys = keys′; values = values′; count = count′ }; visited = visited })
   along-stop e =
       result (pairs-stop table low high (most - count) (a .id) (at-leaf true e) (nodes - visited) ∙ given-is)
       (leaves-stop table low high (most - count) (a .id) (at-leaf true e) (nodes - visited))
 
   -- no link is left
-  pub along-out : visited ≡ nodes → GatheredFrom first table nodes low high most
-      (record { pairs = record { keys = keys′; values = values′; count = count′ }; leaves = leaves; visited = visited })
+  pub along-out : visited ≡ nodes → GatheredFrom first table nodes low high most leaves
+      (record { pairs = record { keys = keys′; values = values′; count = count′ }; visited = visited })
   unfolding pairsFrom leavesAfter
   along-out e =
       let none : nodes - visited ≡ 0 = omega arith in

@@ -1,5 +1,6 @@
 -- What is gathered for a scan from the leaf of the low key on: the pairs, and the leaves behind it by links. Assumes nothing.
 use mathlib.Core.Path.{_≡_}
+use mathlib.Core.List.{List}
 use Prim.Native.Nat.{ℕ, _≤_}
 use lib.ListN.{length, take}
 use Rattle.layout.specs.Layout.{nodeLimit, mostBlocks}
@@ -9,15 +10,15 @@ use Rattle.run_path.specs.Path.{mostSteps}
 use Rattle.run_scan.specs.declared.gather.Gathered.{Gathered}
 use Rattle.run_scan.specs.Pairs.{pairsOf, Sized}
 
--- Of a scan that starts at the leaf `first`.
-pub record GatheredFrom (first : ℕ) (table : Table) (nodes low high most : ℕ) (r : Gathered) : Type 0 where
+-- Of a scan that starts at the leaf `first`: the ids of the leaves behind it stand in front of these ids.
+pub record GatheredFrom (first : ℕ) (table : Table) (nodes low high most : ℕ) (ids : List ℕ) (r : Gathered) : Type 0 where
   pub pairs : pairsOf (r .pairs) ≡ pairsFrom nodes table low high most first
-  pub leaves : take (r .visited) (r .leaves) ≡ leavesAfter nodes table low high most first
+  pub leaves : take (r .visited) ids ≡ leavesAfter nodes table low high most first
   pub sized : Sized (r .pairs)
   pub wanted : r .pairs .count ≤ most
   pub few : r .visited ≤ nodes
-  pub room : length (r .leaves) ≡ nodeLimit mostBlocks
+  pub room : length ids ≡ nodeLimit mostBlocks
 
 -- The leaf of the low key is the first.
-abbrev pub GatheredAs : Table → ℕ → ℕ → ℕ → ℕ → Gathered → Type 0
-GatheredAs table nodes low high most r = GatheredFrom (leafFor mostSteps table low 0) table nodes low high most r
+abbrev pub GatheredAs : Table → ℕ → ℕ → ℕ → ℕ → List ℕ → Gathered → Type 0
+GatheredAs table nodes low high most ids r = GatheredFrom (leafFor mostSteps table low 0) table nodes low high most ids r

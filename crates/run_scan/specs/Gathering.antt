@@ -15,9 +15,8 @@ use Rattle.run_scan.specs.Gathered.{GatheredFrom}
 use Rattle.run_scan.specs.InLeaf.{Taking, taking-high, taking-last, taking-end}
 use Rattle.run_scan.specs.Along.{Along, stops-above, stops-full, stops-last, goes-on, length-given, along-stop, along-out, along-next}
 
-abbrev pub gathered : List ℕ → List ℕ → ℕ → List ℕ → ℕ → Gathered
-gathered keys values count leaves visited =
-    record { pairs = record { keys = keys; values = values; count = count }; leaves = leaves; visited = visited }
+abbrev pub gathered : List ℕ → List ℕ → ℕ → ℕ → Gathered
+gathered keys values count visited = record { pairs = record { keys = keys; values = values; count = count }; visited = visited }
 
 module _ {first : ℕ} {table : Table} {nodes low high most : ℕ} {keys₀ values₀ : List ℕ} {count₀ : ℕ} {leaves : List ℕ} {visited : ℕ} {leaf : NodeValue}
     (order : low ≤ high) (bound : most ≤ mostPairs) (a : Along first table nodes low high most keys₀ values₀ count₀ leaves visited leaf)
@@ -32,7 +31,7 @@ module _ {first : ℕ} {table : Table} {nodes low high most : ℕ} {keys₀ valu
   few = omega (arith, t .wanted)
 
   -- at a key above the high one
-  pub gathered-high : i < leaf .count → high < key → GatheredFrom first table nodes low high most (gathered keys values count leaves visited)
+  pub gathered-high : i < leaf .count → high < key → GatheredFrom first table nodes low high most leaves (gathered keys values count visited)
   gathered-high l h =
       let out = taking-high bound (a .here .held .sized) t l order h in
       along-stop bound a keys values count (t .keyRoom) (t .valueRoom) few (out .0)
@@ -40,7 +39,7 @@ module _ {first : ℕ} {table : Table} {nodes low high most : ℕ} {keys₀ valu
 
   -- with the last pair that is wanted
   pub gathered-last : i < leaf .count → low ≤ key → key ≤ high → count + 1 ≡ most →
-      GatheredFrom first table nodes low high most (gathered (set keys count key) (set values count value) (count + 1) leaves visited)
+      GatheredFrom first table nodes low high most leaves (gathered (set keys count key) (set values count value) (count + 1) visited)
   gathered-last l b h e =
       let all = taking-last bound (a .here .held .sized) t l b h e in
       let keyRoom : length (set keys count key) ≡ mostPairs = length-set keys count key ∙ t .keyRoom in
@@ -51,13 +50,13 @@ module _ {first : ℕ} {table : Table} {nodes low high most : ℕ} {keys₀ valu
 
   -- behind all keys of the leaf
   module _ (l : leaf .count ≤ i) where
-    pub gathered-end : leaf .link ≡ noLeaf → GatheredFrom first table nodes low high most (gathered keys values count leaves visited)
+    pub gathered-end : leaf .link ≡ noLeaf → GatheredFrom first table nodes low high most leaves (gathered keys values count visited)
     gathered-end e =
         let out = taking-end bound (a .here .held .sized) t l in
         along-stop bound a keys values count (t .keyRoom) (t .valueRoom) few (out .0)
         (stops-last high (most - count₀) leaf (range low high (most - count₀) (pairsIn leaf)) e)
 
-    pub gathered-out : visited ≡ nodes → GatheredFrom first table nodes low high most (gathered keys values count leaves visited)
+    pub gathered-out : visited ≡ nodes → GatheredFrom first table nodes low high most leaves (gathered keys values count visited)
     gathered-out e =
         let out = taking-end bound (a .here .held .sized) t l in
         along-out bound a keys values count (t .keyRoom) (t .valueRoom) few (out .0) e

@@ -69,15 +69,15 @@ module _ (t : Tariff) (low high most : ℕ) (w : World) where
       }
 
   -- the path read, then the leaves behind it
-  module _ {P T P′ T′ : ℕ} {pages pages′ : List (List ℕ)} {table table′ : Worktable} {c d : Charged} {onPath : Path} {g : Gathered} where
-    pub scanned : low ≤ high → w .state .nodes ≤ nodeLimit mostBlocks → PathTo (tableIn w) low onPath → GatheredAs (tableIn w) (w .state .nodes) low high most g →
+  module _ {P T P′ T′ : ℕ} {pages pages′ : List (List ℕ)} {table table′ : Worktable} {c d : Charged} {onPath : Path} {ids : List ℕ} {g : Gathered} where
+    pub scanned : low ≤ high → w .state .nodes ≤ nodeLimit mostBlocks → PathTo (tableIn w) low onPath → GatheredAs (tableIn w) (w .state .nodes) low high most ids g →
         ReadAs P T pages table c t (onPath .length) (take (onPath .length) (onPath .ids)) w →
-        ReadAs P′ T′ pages′ table′ d t (g .visited) (take (g .visited) (g .leaves)) (world pages table (c .state)) →
+        ReadAs P′ T′ pages′ table′ d t (g .visited) (take (g .visited) ids) (world pages table (c .state)) →
         ScannedAs P′ T′ pages′ table′ (record { charged = both c d; pairs = g .pairs }) t low high most w
     unfolding scanReads scanPairs
     scanned l limit found gathered down along =
         let ms = take (onPath .length) (onPath .ids) in
-        let ns = take (g .visited) (g .leaves) in
+        let ns = take (g .visited) ids in
         let all =
         reads-are (ms ++ ns)
         (ap₂ (λ (ms ns : List ℕ). ms ++ ns) (found .ids) (gathered .leaves) ∙ sym (rw (le-ltb high low l, scanReads) refl)) in

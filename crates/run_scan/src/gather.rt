@@ -1,11 +1,13 @@
 // The pairs of a scan gathered, leaf after leaf, and the leaves that it goes to by links.
+ghost use mathlib.Core.Path.{_≡_};
 ghost use Prim.Native.Nat.{_≤_};
+ghost use lib.ListN.{length};
 ghost use Rattle.flash_rows.specs.Worktable.{tableFrom};
 ghost use Rattle.flash_blocks.specs.Pages.{pagesOf};
 ghost use Rattle.flash_read.specs.NodeTable.{tableOf, Readable};
 ghost use Rattle.run_path.specs.Path.{PathTo};
 ghost use Rattle.run_scan.specs.Gathered.{GatheredAs};
-ghost use Rattle.layout.specs.Layout.{mostPairs};
+ghost use Rattle.layout.specs.Layout.{nodeLimit, mostBlocks, mostPairs};
 use super::Pairs;
 use flash_allocate::state::State;
 use flash_read::by_id::node_at;
@@ -14,14 +16,14 @@ use layout::MOST_PAIRS;
 use layout::NO_LEAF;
 use run_path::path::Path;
 
-// The pairs, and the ids of the leaves behind the first, in order.
+// The pairs, and how many leaves behind the first were gone to.
 pub struct Gathered {
     pub pairs: Pairs,
-    pub leaves: [usize; MOST_NODES],
     pub visited: usize,
 }
 
-// From the leaf at the end of a path on; as many links are followed as there are nodes at most.
+// From the leaf at the end of a path on; as many links are followed as there are nodes at most. The ids of the leaves behind the first are laid into
+// `leaves`, in order: they are lent, since a stack is small.
 pub fn gather<'a>(
     pool: &'a [u8],
     table: &'a [u8],
@@ -30,17 +32,17 @@ pub fn gather<'a>(
     low: u32,
     high: u32,
     most: usize,
+    leaves: &mut [u32; MOST_NODES],
 ) -> Gathered
     requires { ⌜ (Readable state (now table))
         × (PathTo (tableOf (pagesOf (now pool)) (tableFrom (now table)) state) low path) × (low ≤ high)
-        × (1 ≤ most) × (most ≤ mostPairs) ⌝ }
+        × (1 ≤ most) × (most ≤ mostPairs) × (length (now leaves) ≡ nodeLimit mostBlocks) ⌝ }
     ensures { λ r. ⌜ GatheredAs (tableOf (pagesOf (now (pool .entry))) (tableFrom (now (table .entry))) state)
-        (state .nodes) low high most r ⌝ }
+        (state .nodes) low high most (now (leaves .exit)) r ⌝ }
 {
     let mut keys = [0u32; MOST_PAIRS];
     let mut values = [0u32; MOST_PAIRS];
     let mut count: usize = 0;
-    let mut leaves = [0usize; MOST_NODES];
     let mut visited: usize = 0;
     let mut leaf = path.leaf;
     'leaves: loop {
@@ -69,7 +71,7 @@ pub fn gather<'a>(
         if visited == state.nodes {
             break;
         }
-        leaves[visited] = next as usize;
+        leaves[visited] = next;
         visited += 1;
         leaf = node_at(pool, table, state, next as usize);
     }
@@ -78,9 +80,5 @@ pub fn gather<'a>(
         values,
         count,
     };
-    Gathered {
-        pairs,
-        leaves,
-        visited,
-    }
+    Gathered { pairs, visited }
 }

@@ -10,6 +10,7 @@ use super::Pairs;
 use super::gather::gather;
 use account::Tariff;
 use flash_allocate::state::State;
+use layout::MOST_NODES;
 use layout::MOST_PAIRS;
 use run_path::path::path_to;
 use run_path::reads::read_nodes;
@@ -47,11 +48,20 @@ pub fn scan(
         return Scanned { charged, pairs };
     }
     let path = path_to(pool, table, state, low);
-    let found = gather(pool, table, state, path, low, high, most as usize);
+    let mut leaves = [0u32; MOST_NODES];
+    let found = gather(
+        pool,
+        table,
+        state,
+        path,
+        low,
+        high,
+        most as usize,
+        &mut leaves,
+    );
     let ids = path.ids;
     let down = serve_reads(pool, table, state, tariff, ids, path.length);
     let s = down.state;
-    let leaves = found.leaves;
     let visited = found.visited;
     let along = read_nodes(pool, table, s, tariff, &leaves[0..visited]);
     let after = along.state;

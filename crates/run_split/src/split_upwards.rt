@@ -12,6 +12,7 @@ use account::Tariff;
 use flash_allocate::state::State;
 use layout::MOST_LEVELS;
 use run_serve::charged::Charged;
+use run_serve::id::wide;
 
 // The leaf takes the pair, then each node of the path what the one below it left, and the root last.
 pub fn split_upwards(
@@ -19,7 +20,7 @@ pub fn split_upwards(
     table: &mut [u8],
     state: State,
     tariff: Tariff,
-    ids: [usize; MOST_LEVELS],
+    ids: [u32; MOST_LEVELS],
     n: usize,
     key: u32,
     value: u32,
@@ -34,7 +35,7 @@ pub fn split_upwards(
     let mut i = n;
     while 1 < i {
         i -= 1;
-        let taken = absorb(pool, table, s, tariff, false, ids[i], key, pending);
+        let taken = absorb(pool, table, s, tariff, false, wide(ids[i]), key, pending);
         let paid = taken.charged;
         s = paid.state;
         charge += paid.charge;

@@ -26,24 +26,27 @@ serve-reads-requires c κs = search needs
 enum-known-value : tie.Need-enum-known-value
 enum-known-value c = search needs
 
-mul-serve-edit : tie.Need-mul-serve-edit
-mul-serve-edit c = search needs
+mul-wide : tie.Need-mul-wide
+mul-wide c = search needs
 
-array-read-serve-edit : tie.Need-array-read-serve-edit
-array-read-serve-edit c = search needs
+array-read-wide : tie.Need-array-read-wide
+array-read-wide c = search needs
+
+wide-requires : tie.Need-wide-requires
+wide-requires c κs = search needs
 
 serve-edit-requires : tie.Need-serve-edit-requires
 serve-edit-requires c κs =
-    let c10 = c .before .before .before .before .before .before .before .before .before .before in
-    let c22 = c10 .before .before .before .before .before .before .before .before .before .before .before .before in
-    (c10 .serve-reads .ensures .kept .good, c22 .pre .1)
+    let c11 = c .before .before .before .before .before .before .before .before .before .before .before in
+    let c23 = c11 .before .before .before .before .before .before .before .before .before .before .before .before in
+    (c11 .serve-reads .ensures .kept .good, c23 .pre .1)
 
-add-t38 : tie.Need-add-t38
-add-t38 c =
+add-t39 : tie.Need-add-t39
+add-t39 c =
     let c7 = c .before .before .before .before .before .before .before in
-    let c18 = c7 .before .before .before .before .before .before .before .before .before .before .before in
-    let c25 = c18 .before .before .before .before .before .before .before in
-    omega (arith, c18 .serve-reads .ensures .most, c7 .serve-edit .ensures .most, c25 .path-to .ensures .few)
+    let c19 = c7 .before .before .before .before .before .before .before .before .before .before .before .before in
+    let c26 = c19 .before .before .before .before .before .before .before in
+    omega (arith, c19 .serve-reads .ensures .most, c7 .serve-edit .ensures .most, c26 .path-to .ensures .few)
 
 enum-told : tie.Need-enum-told
 enum-told c = search needs
@@ -57,17 +60,18 @@ same-length-2 c = search needs
 returns : tie.Need-returns
 returns c =
     let c7 = c .before .before .before .before .before .before .before in
-    let c11 = c7 .before .before .before .before in
-    let c18 = c11 .before .before .before .before .before .before .before in
-    let c21 = c18 .before .before .before in
-    let c25 = c21 .before .before .before .before in
-    let c30 = c25 .before .before .before .before .before in
-    let a = c30 .args in
+    let c8 = c7 .before in
+    let c12 = c8 .before .before .before .before in
+    let c19 = c12 .before .before .before .before .before .before .before in
+    let c22 = c19 .before .before .before in
+    let c26 = c22 .before .before .before .before in
+    let c31 = c26 .before .before .before .before .before in
+    let a = c31 .args in
     let w = world (pagesOf (a .pool .now)) (tableFrom (a .table .now)) (a .state) in
-    let path = c25 .path-to .ensures in
-    let value = c21 .value-at in
-    deleted-one (a .tariff) (a .key) w (path-read w path (a .tariff) (c18 .serve-reads .ensures)) _ _ (path .end)
-    (value-in w path (valueOf (value .result)) (value .ensures) ∙ ap valueOf (c11 .value .given .1)) (c7 .serve-edit .ensures)
+    let path = c26 .path-to .ensures in
+    let value = c22 .value-at in
+    deleted-one (a .tariff) (a .key) w (path-read w path (a .tariff) (c19 .serve-reads .ensures)) _ _ (c8 .wide .ensures ∙ path .end)
+    (value-in w path (valueOf (value .result)) (value .ensures) ∙ ap valueOf (c12 .value .given .1)) (c7 .serve-edit .ensures)
 
 same-length-3 : tie.Need-same-length-3
 same-length-3 c = search needs
@@ -97,10 +101,11 @@ delete-spec =
     value-at-requires
     serve-reads-requires
     enum-known-value
-    mul-serve-edit
-    array-read-serve-edit
+    mul-wide
+    array-read-wide
+    wide-requires
     serve-edit-requires
-    add-t38
+    add-t39
     enum-told
     same-length
     same-length-2

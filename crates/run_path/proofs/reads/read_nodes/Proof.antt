@@ -34,6 +34,9 @@ mul-serve-read c = search needs
 shared-slice-read-serve-read : tie.Need-shared-slice-read-serve-read Inv-loop μ-loop
 shared-slice-read-serve-read c = search needs
 
+cast-serve-read : tie.Need-cast-serve-read Inv-loop μ-loop
+cast-serve-read c = omega (arith, c .shared-slice-known2 .given (c .before .before .before .before .loop .i))
+
 serve-read-requires : tie.Need-serve-read-requires Inv-loop μ-loop
 serve-read-requires c κs =
     let c4 = c .before .before .before .before in
@@ -87,6 +90,7 @@ read-nodes-spec =
     loop-holds
     mul-serve-read
     shared-slice-read-serve-read
+    cast-serve-read
     serve-read-requires
     add-charge
     add-i

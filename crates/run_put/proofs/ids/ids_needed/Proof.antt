@@ -1,11 +1,12 @@
 -- `ids::ids_needed` meets its contract: all nodes from a place on are full. Assumes nothing.
-use mathlib.Core.Path.{_≡_}
+use mathlib.Core.Path.{_≡_, ap}
 use mathlib.Core.List.{List}
 use Prim.Native.Nat.{ℕ, _-_, _≤_}
 use native.Mathlib.Omega.{arith}
-use lib.ListN.{length, getD, take, length-take}
+use lib.ListN.{length, take, length-take}
 use Rattle.flash_rows.specs.Worktable.{tableFrom}
 use Rattle.flash_blocks.specs.Pages.{pagesOf}
+use Rattle.tree_laws.specs.IdsNeeded.{sizeAt}
 use Rattle.flash_read.specs.NodeTable.{tableOf}
 use Rattle.run_put.specs.FullRun.{Full, leaf-counted, above-counted, gap-counted, all-counted, size-read}
 use borrow.Author.Needs.{needs}
@@ -36,44 +37,48 @@ loop-holds c =
 sub-above : tie.Need-sub-above Inv-loop μ-loop
 sub-above c = omega arith
 
-mul-node-at : tie.Need-mul-node-at Inv-loop μ-loop
-mul-node-at c =
+mul-wide : tie.Need-mul-wide Inv-loop μ-loop
+mul-wide c =
     let c1 = c .before in
     let c4 = c1 .before .before .before in
     omega (arith, c1 .loop .inv .0, c1 .loop .inv .1 .inside, length-take (c4 .args .n) (c4 .args .t4))
 
-array-read-node-at : tie.Need-array-read-node-at Inv-loop μ-loop
-array-read-node-at c =
+array-read-wide : tie.Need-array-read-wide Inv-loop μ-loop
+array-read-wide c =
     let c1 = c .before in
     let c4 = c1 .before .before .before in
     omega (arith, c1 .loop .inv .0, c1 .loop .inv .1 .inside, length-take (c4 .args .n) (c4 .args .t4))
+
+wide-requires : tie.Need-wide-requires Inv-loop μ-loop
+wide-requires c κs = search needs
 
 node-at-requires : tie.Need-node-at-requires Inv-loop μ-loop
-node-at-requires c κs = c .before .before .before .before .pre .0
+node-at-requires c κs = c .before .before .before .before .before .pre .0
 
 sub-result : tie.Need-sub-result Inv-loop μ-loop
 sub-result c =
-    let c4 = c .before .before .before .before in
-    let c7 = c4 .before .before .before in
-    omega (arith, c4 .loop .inv .1 .inside, length-take (c7 .args .n) (c7 .args .t4))
+    let c5 = c .before .before .before .before .before in
+    let c8 = c5 .before .before .before in
+    omega (arith, c5 .loop .inv .1 .inside, length-take (c8 .args .n) (c8 .args .t4))
 
 returns : tie.Need-returns Inv-loop μ-loop
 returns c =
     let c2 = c .before .before in
     let c3 = c2 .before in
     let c4 = c3 .before in
-    let c7 = c4 .before .before .before in
-    let a = c7 .args in
-    let l = c4 .loop in
+    let c5 = c4 .before in
+    let c8 = c5 .before .before .before in
+    let a = c8 .args in
+    let l = c5 .loop in
     let nodes = tableOf (pagesOf (a .pool .now)) (tableFrom (a .table .now)) (a .state) in (
-      gap-counted nodes (a .t4) (a .n) (few (a .t4) (a .n) (l .inv .0) (c7 .pre .2)) (l .i) (l .inv .1)
-          (c3 .loop-test .taken) (omega (
+      gap-counted nodes (a .t4) (a .n) (few (a .t4) (a .n) (l .inv .0) (c8 .pre .2)) (l .i) (l .inv .1)
+          (c4 .loop-test .taken) (omega (
             arith,
-            size-read nodes (getD (a .t4) (l .i - 1) 0) (c2 .node-at .result)
-                (c2 .node-at .ensures),
+            size-read nodes (c3 .wide .result) (c2 .node-at .result) (c2 .node-at .ensures),
+            ap (sizeAt nodes) (c3 .wide .ensures),
             c .if1 .taken,
           )),
-      omega (arith, c7 .pre .2),
+      omega (arith, c8 .pre .2),
     )
 
 loop-less : tie.Need-loop-less Inv-loop μ-loop
@@ -84,16 +89,17 @@ loop-again c =
     let c2 = c .before .before in
     let c3 = c2 .before in
     let c4 = c3 .before in
-    let c7 = c4 .before .before .before in
-    let a = c7 .args in
-    let l = c4 .loop in
+    let c5 = c4 .before in
+    let c8 = c5 .before .before .before in
+    let a = c8 .args in
+    let l = c5 .loop in
     let nodes = tableOf (pagesOf (a .pool .now)) (tableFrom (a .table .now)) (a .state) in (
       l .inv .0,
-      above-counted nodes (a .t4) (a .n) (few (a .t4) (a .n) (l .inv .0) (c7 .pre .2)) (l .i) (l .inv .1)
-          (c3 .loop-test .taken) (omega (
+      above-counted nodes (a .t4) (a .n) (few (a .t4) (a .n) (l .inv .0) (c8 .pre .2)) (l .i) (l .inv .1)
+          (c4 .loop-test .taken) (omega (
             arith,
-            size-read nodes (getD (a .t4) (l .i - 1) 0) (c2 .node-at .result)
-                (c2 .node-at .ensures),
+            size-read nodes (c3 .wide .result) (c2 .node-at .result) (c2 .node-at .ensures),
+            ap (sizeAt nodes) (c3 .wide .ensures),
             c .if1 .left,
           )),
     )
@@ -113,5 +119,5 @@ returns-2 c =
     )
 
 pub ids-needed-spec : {M : Type 1} → statement M
-ids-needed-spec = tie.close (tie.spec Inv-loop μ-loop sub-i loop-holds sub-above mul-node-at array-read-node-at
-    node-at-requires sub-result returns loop-less loop-again add-result returns-2)
+ids-needed-spec = tie.close (tie.spec Inv-loop μ-loop sub-i loop-holds sub-above mul-wide array-read-wide
+    wide-requires node-at-requires sub-result returns loop-less loop-again add-result returns-2)

@@ -16,23 +16,23 @@ use Rattle.run_scan.proofs.gather.gather.Statement.{statement}
 use Rattle.run_scan.proofs.gather.gather.Tie as tie
 
 abbrev Inv-loop : tie.InvT-loop
-Inv-loop pool table state low high most keys₀ values₀ count₀ leaves visited leaf leaf-keys leaf-values i₀ keys values
+Inv-loop pool table state low high most leaves keys₀ values₀ count₀ visited leaf leaf-keys leaf-values i₀ keys values
     count i = Taking low high most leaf keys₀ values₀ count₀ keys values count i
 
 abbrev μ-loop : tie.MeasureT-loop
-μ-loop pool table state low high most keys₀ values₀ count₀ leaves visited leaf leaf-keys leaf-values i₀ keys values count i = leaf .count - i
+μ-loop pool table state low high most leaves keys₀ values₀ count₀ visited leaf leaf-keys leaf-values i₀ keys values count i = leaf .count - i
 
 abbrev Inv-leaves : tie.InvT-leaves
-Inv-leaves pool table state low high most keys₀ values₀ count₀ leaves₀ visited₀ leaf₀ keys values count leaves
+Inv-leaves pool table state low high most leaves₀ keys₀ values₀ count₀ visited₀ leaf₀ leaves keys values count
     visited leaf = let nodes = tableOf (pagesOf pool) (tableFrom table) state in
     Along (leafFor mostSteps nodes low 0) nodes (state .nodes) low high most keys values count leaves visited leaf
 
 abbrev μ-leaves : tie.MeasureT-leaves
-μ-leaves pool table state low high most keys₀ values₀ count₀ leaves₀ visited₀ leaf₀ keys values count leaves visited leaf = state .nodes - visited
+μ-leaves pool table state low high most leaves₀ keys₀ values₀ count₀ visited₀ leaf₀ leaves keys values count visited leaf = state .nodes - visited
 
 leaves-holds : tie.Need-leaves-holds Inv-loop μ-loop Inv-leaves μ-leaves
 leaves-holds c = let entry = c .before .before .before in
-    along-start _ _ _ _ _ _ _ _ _ _ (entry .pre .1 .leaf) (search needs) (search needs) (search needs) (entry .pre .3)
+    along-start _ _ _ _ _ _ _ _ _ _ (entry .pre .1 .leaf) (entry .pre .5) (search needs) (search needs) (entry .pre .3)
 
 loop-holds : tie.Need-loop-holds Inv-loop μ-loop Inv-leaves μ-leaves
 loop-holds c = let a = c .before .before .leaves .inv in
@@ -104,17 +104,14 @@ loop-again c =
     (λ w. rw (w .1, w .2, w .3) (taking-skip (p .4) s t (c2 .if1 .taken) (p .2) (w .0 .left)))
     (c .if3 .came)
 
-cast-leaves : tie.Need-cast-leaves Inv-loop μ-loop Inv-leaves μ-leaves
-cast-leaves c = search needs
-
 mul-leaves : tie.Need-mul-leaves Inv-loop μ-loop Inv-leaves μ-leaves
 mul-leaves c =
     let c8 = c .before .before .before .before .before .before .before .before in
     let c12 = c8 .before .before .before .before in
     let a = c8 .leaves .inv in omega (arith, a .links, c12 .pre .0 .nodes)
 
-array-write-leaves : tie.Need-array-write-leaves Inv-loop μ-loop Inv-leaves μ-leaves
-array-write-leaves c =
+element-write-leaves : tie.Need-element-write-leaves Inv-loop μ-loop Inv-leaves μ-leaves
+element-write-leaves c =
     let c8 = c .before .before .before .before .before .before .before .before in
     let c12 = c8 .before .before .before .before in
     let a = c8 .leaves .inv in omega (arith, a .links, a .room, c .if6 .left, c12 .pre .0 .nodes)
@@ -206,9 +203,8 @@ gather-spec =
     add-i
     loop-less
     loop-again
-    cast-leaves
     mul-leaves
-    array-write-leaves
+    element-write-leaves
     add-visited
     cast-node-at
     node-at-requires

@@ -38,37 +38,39 @@ part-read-nodes-start c = search needs
 
 part-read-nodes-end : tie.Need-part-read-nodes-end
 part-read-nodes-end c =
-    let c13 = c .before .before .before .before .before .before .before .before .before .before .before .before .before in
-    let c22 = c13 .before .before .before .before .before .before .before .before .before in
-    let found = c13 .gather .ensures in omega (arith, found .few, found .room, c22 .pre .2)
+    let c12 = c .before .before .before .before .before .before .before .before .before .before .before .before in
+    let c22 = c12 .before .before .before .before .before .before .before .before .before .before in
+    let found = c12 .gather .ensures in omega (arith, found .few, found .room, c22 .pre .2)
 
 read-nodes-requires : tie.Need-read-nodes-requires
 read-nodes-requires c κs =
-    let c10 = c .before .before .before .before .before .before .before .before .before .before in
-    let c14 = c10 .before .before .before .before in
-    let c23 = c14 .before .before .before .before .before .before .before .before .before in
+    let c9 = c .before .before .before .before .before .before .before .before .before in
+    let c13 = c9 .before .before .before .before in
+    let c23 = c13 .before .before .before .before .before .before .before .before .before .before in
     let entry = c23 in
-    let found = c14 .gather in
-    let few : found .result .visited ≤ length (found .result .leaves) = omega (arith, found .ensures .few, found .ensures .room, entry .pre .2) in (
-      c10 .serve-reads .ensures .kept .good,
+    let found = c13 .gather in
+    let leaves = found .last .1 .1 .1 .1 .1 .1 .1 .0 in
+    let few : found .result .visited ≤ length leaves = omega (arith, found .ensures .few, found .ensures .room, entry .pre .2) in (
+      c9 .serve-reads .ensures .kept .good,
       entry .pre .1,
       rw
-          (sub-zero, length-take-le (found .result .visited) (found .result .leaves) few)
+          (sub-zero, length-take-le (found .result .visited) leaves few)
           (omega (arith, few, found .ensures .room)),
     )
 
-add-t45 : tie.Need-add-t45
-add-t45 c =
+add-t46 : tie.Need-add-t46
+add-t46 c =
     let c7 = c .before .before .before .before .before .before .before in
-    let c18 = c7 .before .before .before .before .before .before .before .before .before .before .before in
-    let c22 = c18 .before .before .before .before in
-    let c25 = c22 .before .before .before in
+    let c17 = c7 .before .before .before .before .before .before .before .before .before .before in
+    let c21 = c17 .before .before .before .before in
+    let c25 = c21 .before .before .before .before in
     let c31 = c25 .before .before .before .before .before .before in
-    let found = c22 .gather in
-    let few : found .result .visited ≤ length (found .result .leaves) = omega (arith, found .ensures .few, found .ensures .room, c31 .pre .2) in
-    let x = c18 .serve-reads in
+    let found = c21 .gather in
+    let leaves = found .last .1 .1 .1 .1 .1 .1 .1 .0 in
+    let few : found .result .visited ≤ length leaves = omega (arith, found .ensures .few, found .ensures .room, c31 .pre .2) in
+    let x = c17 .serve-reads in
     let left = world (pagesOf (x .last .0)) (tableFrom (x .last .1 .0)) (x .result .state) in
-    let along = reads-part (c31 .args .tariff) left (found .result .visited) (found .result .leaves) few (c7 .read-nodes .ensures) in
+    let along = reads-part (c31 .args .tariff) left (found .result .visited) leaves few (c7 .read-nodes .ensures) in
     omega (arith, x .ensures .most, c25 .path-to .ensures .few, along .most, found .ensures .room)
 
 same-length : tie.Need-same-length
@@ -80,21 +82,22 @@ same-length-2 c = search needs
 returns-2 : tie.Need-returns-2
 returns-2 c =
     let c8 = c .before .before .before .before .before .before .before .before in
-    let c19 = c8 .before .before .before .before .before .before .before .before .before .before .before in
-    let c23 = c19 .before .before .before .before in
-    let c26 = c23 .before .before .before in
+    let c18 = c8 .before .before .before .before .before .before .before .before .before .before in
+    let c22 = c18 .before .before .before .before in
+    let c26 = c22 .before .before .before .before in
     let c29 = c26 .before .before .before in
     let c32 = c29 .before .before .before in
     let entry = c32 in
     let a = entry .args in
-    let found = c23 .gather in
-    let few : found .result .visited ≤ length (found .result .leaves) = omega (arith, found .ensures .few, found .ensures .room, entry .pre .2) in
-    let x = c19 .serve-reads in
+    let found = c22 .gather in
+    let leaves = found .last .1 .1 .1 .1 .1 .1 .1 .0 in
+    let few : found .result .visited ≤ length leaves = omega (arith, found .ensures .few, found .ensures .room, entry .pre .2) in
+    let x = c18 .serve-reads in
     scanned (a .tariff) (a .low) (a .high) (a .most)
     (world (pagesOf (a .pool .now)) (tableFrom (a .table .now)) (a .state)) (c29 .if1 .left) (entry .pre .2)
     (c26 .path-to .ensures) (found .ensures) (x .ensures)
     (reads-part (a .tariff) (world (pagesOf (x .last .0)) (tableFrom (x .last .1 .0)) (x .result .state))
-    (found .result .visited) (found .result .leaves) few (c8 .read-nodes .ensures))
+    (found .result .visited) leaves few (c8 .read-nodes .ensures))
 
 pub scan-spec : {M : Type 1} → statement M
 scan-spec =
@@ -108,7 +111,7 @@ scan-spec =
     part-read-nodes-start
     part-read-nodes-end
     read-nodes-requires
-    add-t45
+    add-t46
     same-length
     same-length-2
     returns-2)

@@ -40,23 +40,29 @@ loop-holds c =
 sub-i : tie.Need-sub-i Inv-loop μ-loop
 sub-i c = omega arith
 
-mul-absorb : tie.Need-mul-absorb Inv-loop μ-loop
-mul-absorb c = search needs
+mul-wide : tie.Need-mul-wide Inv-loop μ-loop
+mul-wide c = search needs
 
-array-read-absorb : tie.Need-array-read-absorb Inv-loop μ-loop
-array-read-absorb c =
+array-read-wide : tie.Need-array-read-wide Inv-loop μ-loop
+array-read-wide c =
     let c3 = c .before .before .before in
     let c6 = c3 .before .before .before in
     let l = c3 .loop in omega (arith, l .inv .0, l .inv .3 .inside, length-take (c6 .args .n) (c6 .args .t5))
 
+wide-requires : tie.Need-wide-requires Inv-loop μ-loop
+wide-requires c κs = search needs
+
 absorb-requires : tie.Need-absorb-requires Inv-loop μ-loop
-absorb-requires c κs = (c .before .before .before .loop .inv .3 .growing, c .before .before .before .before .before .before .pre .1)
+absorb-requires c κs =
+    let c4 = c .before .before .before .before in
+    let c7 = c4 .before .before .before in
+    (c4 .loop .inv .3 .growing, c7 .pre .1)
 
 add-charge : tie.Need-add-charge Inv-loop μ-loop
 add-charge c =
     let c7 = c .before .before .before .before .before .before .before in
-    let c11 = c7 .before .before .before .before in
-    omega (arith, c11 .loop .inv .3 .most, c7 .absorb .ensures .charged .most)
+    let c12 = c7 .before .before .before .before .before in
+    omega (arith, c12 .loop .inv .3 .most, c7 .absorb .ensures .charged .most)
 
 loop-less : tie.Need-loop-less Inv-loop μ-loop
 loop-less c = omega arith
@@ -64,17 +70,18 @@ loop-less c = omega arith
 loop-again : tie.Need-loop-again Inv-loop μ-loop
 loop-again c =
     let c7 = c .before .before .before .before .before .before .before in
-    let c10 = c7 .before .before .before in
-    let c11 = c10 .before in
-    let c14 = c11 .before .before .before in
-    let a = c14 .args in
-    let l = c11 .loop in
+    let c8 = c7 .before in
+    let c11 = c8 .before .before .before in
+    let c12 = c11 .before in
+    let c15 = c12 .before .before .before in
+    let a = c15 .args in
+    let l = c12 .loop in
     let x = c7 .absorb in (
       l .inv .0,
       x .kept .0 ∙ l .inv .1,
       x .kept .1 .0 ∙ l .inv .2,
-      splitting-next (l .inv .3) (pagesOf (x .last .0)) (tableFrom (x .last .1 .0)) (x .result) (c10 .loop-test .taken)
-          (getD (a .t5) (l .i - 1) 0) (sym
+      splitting-next (l .inv .3) (pagesOf (x .last .0)) (tableFrom (x .last .1 .0)) (x .result) (c11 .loop-test .taken)
+          (c8 .wide .result) (c8 .wide .ensures ∙ sym
           (getD-take (a .n) (a .t5) (l .i - 1) 0
           (omega (arith, l .inv .3 .inside, l .inv .3 .some, length-take (a .n) (a .t5))))) (x .ensures),
     )
@@ -82,8 +89,8 @@ loop-again c =
 absorb-requires-2 : tie.Need-absorb-requires-2 Inv-loop μ-loop
 absorb-requires-2 c κs = (c .before .before .before .loop .inv .3 .growing, c .before .before .before .before .before .before .pre .1)
 
-add-t32 : tie.Need-add-t32 Inv-loop μ-loop
-add-t32 c =
+add-t33 : tie.Need-add-t33 Inv-loop μ-loop
+add-t33 c =
     let c7 = c .before .before .before .before .before .before .before in
     let c11 = c7 .before .before .before .before in
     omega (arith, c11 .loop .inv .3 .most, c7 .absorb2 .ensures .charged .most)
@@ -111,5 +118,5 @@ returns c =
 
 pub split-upwards-spec : {M : Type 1} → statement M
 split-upwards-spec = tie.close
-    (tie.spec Inv-loop μ-loop loop-holds sub-i mul-absorb array-read-absorb absorb-requires add-charge loop-less
-    loop-again absorb-requires-2 add-t32 same-length same-length-2 returns)
+    (tie.spec Inv-loop μ-loop loop-holds sub-i mul-wide array-read-wide wide-requires absorb-requires add-charge loop-less
+    loop-again absorb-requires-2 add-t33 same-length same-length-2 returns)
