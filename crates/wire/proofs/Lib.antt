@@ -2,3 +2,4 @@ pub mod Copying
 pub mod Table
 pub mod Lengths
 pub mod Cases
+pub mod Columns
