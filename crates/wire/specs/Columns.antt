@@ -11,7 +11,7 @@ use Rattle.wire.specs.Sum.{total, running}
 abbrev pub columnSums : List ℕ → List ℕ → ℕ → Sums
 columnSums low high rows = record { a = 1 + total low; b = 16 * (rows + total high) + running 0 low }
 
--- The columns of so many rows of bytes are sixteen, and small.
+-- The columns of so many rows are sixteen, and small: a row adds at most 16 * 255 to the lows, and the lows of at most 255 rows to the highs.
 pub record Few (rows : ℕ) (low high : List ℕ) : Type 0 where
   pub lows : length low ≡ 16
   pub highs : length high ≡ 16

@@ -1,7 +1,7 @@
 -- The two sums of a page (document 01, "Pages", field 1F), and the law that lets the remainders wait. Assumes nothing.
 use mathlib.Core.Path.{_≡_, refl, sym, _∙_}
 use mathlib.Core.List.{List, [], _∷_}
-use Prim.Native.Nat.{ℕ, _+_, _%_, _≤_, _<_}
+use Prim.Native.Nat.{ℕ, _+_, _%_, _<_}
 use native.Mathlib.Nat.{add-zero, zero-add, add-assoc}
 use native.Mathlib.Omega.{arith}
 use Rattle.wire.specs.declared.sum.Sums.{Sums}
@@ -31,7 +31,7 @@ sumsFrom-small (x ∷ xs) a b h k = sumsFrom-small xs ((a + x) % 65535) ((b + (a
 pub sumsOf-small : (s : List ℕ) → Small (sumsOf s)
 sumsOf-small s = sumsFrom-small s 1 0 (omega arith) (omega arith)
 
--- The sum of all bytes, and the sum of the running sums that start from a.
+-- The sum of a list, and the sum of its running sums, which start from a.
 abbrev pub total : List ℕ → ℕ
 total [] = 0
 total (x ∷ xs) = x + total xs

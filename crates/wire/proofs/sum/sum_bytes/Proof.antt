@@ -6,7 +6,7 @@ use native.Mathlib.Omega.{arith}
 use lib.ListN.{length, take}
 use Rattle.wire.specs.declared.sum.Sums.{Sums}
 use Rattle.wire.specs.Sum.{plainSums}
-use Rattle.wire.proofs.Columns.{plain-next, plain-end}
+use Rattle.wire.proofs.Running.{plain-next, plain-end}
 use Rattle.wire.proofs.sum.sum_bytes.Statement.{statement}
 use Rattle.wire.proofs.sum.sum_bytes.Tie as tie
 

@@ -1,12 +1,11 @@
 -- `wire::sum::sum_columns` meets its contract. The invariant: each sum so far, taken on over the columns that are left, is that of all.
 -- Assumes nothing.
-use borrow.Author.Needs.{needs}
-use mathlib.Core.Path.{_≡_, refl, sym, ap, _∙_}
+use mathlib.Core.Path.{_≡_}
 use Prim.Native.Nat.{_+_, _*_, _≤_, _-_}
 use native.Mathlib.Omega.{arith}
-use lib.ListN.{length, drop}
+use lib.ListN.{drop}
 use Rattle.wire.specs.Sum.{total, running}
-use Rattle.wire.proofs.Columns.{total-next, total-end, running-next, running-end, most-16, sums-same}
+use Rattle.wire.proofs.Running.{total-next, total-end, running-next, running-end, most-16, sums-same}
 use Rattle.wire.proofs.sum.sum_columns.Statement.{statement}
 use Rattle.wire.proofs.sum.sum_columns.Tie as tie
 

@@ -1,12 +1,10 @@
 -- `wire::sum::sum_rows` meets its contract. The invariants: after so many rows the columns come to the sums of the bytes so far; within a
 -- row, the places that are left, added from here, give the whole row added. Assumes nothing.
-use mathlib.Core.Path.{_≡_, refl, sym, ap, _∙_}
-use Prim.Native.Nat.{_+_, _*_, _≤_, _-_}
+use mathlib.Core.Path.{refl, sym, _∙_}
+use Prim.Native.Nat.{_≤_, _-_}
 use native.Mathlib.Omega.{arith}
-use lib.ListN.{length, take}
-use Rattle.wire.specs.declared.sum.Sums.{Sums}
-use Rattle.wire.specs.Sum.{plainSums}
-use Rattle.wire.proofs.Columns.{row, Columns, columns-none, Adding, adding-none, adding-fits, adding-next, adding-end, length-row, row-at, columns-at, columns-small}
+use Rattle.wire.proofs.Columns.{row, length-row, row-at, Columns, columns-none, columns-at, columns-small}
+use Rattle.wire.proofs.Columns.{Adding, adding-none, adding-fits, adding-next, adding-end}
 use Rattle.wire.proofs.sum.sum_rows.Statement.{statement}
 use Rattle.wire.proofs.sum.sum_rows.Tie as tie
 
