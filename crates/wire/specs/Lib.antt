@@ -1,5 +1,6 @@
 pub mod Read
 pub mod Sum
+pub mod Columns
 pub mod Tag
 pub mod Field
 pub mod FieldLaws

@@ -1,11 +1,9 @@
 -- The two sums of a page (document 01, "Pages", field 1F), and the law that lets the remainders wait. Assumes nothing.
-use mathlib.Core.Path.{_≡_, ap}
+use mathlib.Core.Path.{_≡_, refl, sym, _∙_}
 use mathlib.Core.List.{List, [], _∷_}
-use Prim.Native.Nat.{ℕ, _+_, _%_, _≤_, _<_}
-use native.Mathlib.Numerals.{add-one}
+use Prim.Native.Nat.{ℕ, _+_, _%_, _<_}
+use native.Mathlib.Nat.{add-zero, zero-add, add-assoc}
 use native.Mathlib.Omega.{arith}
-use lib.ListN.{length, getD, drop, drop-of-length-le}
-use lib.Seq.{drop-cons}
 use Rattle.wire.specs.declared.sum.Sums.{Sums}
 
 -- For each byte, a becomes (a + byte) mod 65,535, then b becomes (b + a) mod 65,535.
@@ -33,17 +31,30 @@ sumsFrom-small (x ∷ xs) a b h k = sumsFrom-small xs ((a + x) % 65535) ((b + (a
 pub sumsOf-small : (s : List ℕ) → Small (sumsOf s)
 sumsOf-small s = sumsFrom-small s 1 0 (omega arith) (omega arith)
 
+-- The sum of a list, and the sum of its running sums, which start from a.
+abbrev pub total : List ℕ → ℕ
+total [] = 0
+total (x ∷ xs) = x + total xs
+
+abbrev pub running : ℕ → List ℕ → ℕ
+running a [] = 0
+running a (x ∷ xs) = (a + x) + running (a + x) xs
+
+-- Document 01's a and b before any remainder.
+abbrev pub plainSums : List ℕ → Sums
+plainSums s = record { a = 1 + total s; b = running 1 s }
+
+-- The remainders can wait to the end.
 mod-later : (b c : ℕ) → (b + c) % 65535 ≡ (b % 65535 + c % 65535) % 65535
 mod-later b c = omega arith
 
--- One byte more, the remainders left for later: the sums of the whole are the same.
-pub sumsFrom-next : (s : List ℕ) (i a b x : ℕ) → i < length s → x ≡ getD s i 0 →
-    sumsFrom ((a + x) % 65535) ((b + (a + x)) % 65535) (drop (i + 1) s) ≡ sumsFrom (a % 65535) (b % 65535) (drop i s)
-sumsFrom-next s i a b x h e =
-    let p : (a + x) % 65535 ≡ (a % 65535 + x) % 65535 = omega arith in
-    let q : (b + (a + x)) % 65535 ≡ (b % 65535 + (a + x) % 65535) % 65535 = mod-later b (a + x) in
-    rw (q, p, e, add-one, drop-cons s i 0)
+sumsFrom-plain : (s : List ℕ) (a b : ℕ) →
+    sumsFrom (a % 65535) (b % 65535) s ≡ record { a = (a + total s) % 65535; b = (b + running a s) % 65535 }
+sumsFrom-plain [] a b = rw (add-zero a, add-zero b) refl
+sumsFrom-plain (x ∷ xs) a b =
+    let p : (a % 65535 + x) % 65535 ≡ (a + x) % 65535 = omega arith in
+    let q : (b % 65535 + (a + x) % 65535) % 65535 ≡ (b + (a + x)) % 65535 = sym (mod-later b (a + x)) in
+    rw (p, q, sumsFrom-plain xs (a + x) (b + (a + x)), add-assoc a x (total xs), add-assoc b (a + x) (running (a + x) xs)) refl
 
--- At the end nothing is left to add.
-pub sumsFrom-end : (s : List ℕ) (i a b : ℕ) → length s ≤ i → sumsFrom a b (drop i s) ≡ record { a = a; b = b }
-sumsFrom-end s i a b h = ap (λ (l : List ℕ). sumsFrom a b l) (drop-of-length-le s {i = i} h)
+pub sumsOf-plain : (s : List ℕ) → sumsOf s ≡ record { a = plainSums s .a % 65535; b = plainSums s .b % 65535 }
+sumsOf-plain s = sumsFrom-plain s 1 0 ∙ rw (zero-add (running 1 s)) refl
