@@ -3,10 +3,8 @@
 use yokehour_host::books::proved_to_compare;
 use yokehour_host::stack::CASES;
 
-/// The most bytes of stack that a call may take: what the deepest takes today, up to the next 1,024.
-///
-/// Firmware has little; the aim is 12,288.
-const STACK_BYTES: usize = 52 * 1024;
+/// The most bytes of stack that a call may take, as `include/wall_book.h` says.
+const STACK_BYTES: usize = 13 * 1024;
 
 #[test]
 fn calls_keep_to_their_stack() {
