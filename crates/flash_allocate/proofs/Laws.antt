@@ -1,21 +1,33 @@
 -- The steps of a compaction put together, and the cases of an allocation. Assumes nothing.
 use mathlib.Core.Path.{_≡_, refl, ap, _∙_}
+use mathlib.Core.Bool.{true, false}
 use mathlib.Core.List.{List}
-use Prim.Native.Nat.{ℕ, _*_, _≤_, _<_}
+use Prim.Native.Nat.{ℕ, _+_, _*_, _≤_, _<_}
 use native.Mathlib.Omega.{arith}
-use lib.ListN.{replicate}
-use borrow.Author.Tests.{lt-ltb, le-ltb, le-leb, lt-leb}
+use lib.Dec.{eqb}
+use lib.ListN.{getD, replicate}
+use borrow.Author.Tests.{not-true, not-false, lt-ltb, le-ltb, le-leb, lt-leb}
 use Rattle.flash_rows.specs.declared.Row.{Row}
 use Rattle.flash_rows.specs.Worktable.{Worktable, withRows}
 use Rattle.flash_blocks.specs.Pages.{erased}
 use Rattle.flash_blocks.specs.Blank.{blankBlocks, nextBlank}
-use Rattle.flash_live.specs.Live.{liveMap}
+use Rattle.flash_live.specs.Live.{liveMap, marked}
 use Rattle.flash_live.specs.Choose.{victim}
-use Rattle.flash_allocate.specs.Compact.{copying, copyBlock, renameRows, compacted, emptied, moveBlock, compact}
+use Rattle.flash_allocate.specs.Compact.{Copying, copying, copyPage, copyLive, copyBlock, renameRows, compacted, emptied, moveBlock, compact}
 use Rattle.flash_allocate.specs.World.{World, world, used, Good}
 use Rattle.flash_allocate.specs.Allocate.{behind, nextBlock, allocate}
 use Rattle.flash_allocate.specs.declared.state.State.{State}
 use Rattle.flash_allocate.specs.State.{inBlock}
+
+-- Page k is not live, or it is and is copied.
+module _ (live : List ℕ) (base first k : ℕ) (w : Copying) where
+  pub copy-dead : marked (getD live (base + k) 0) ≡ false → w ≡ copyLive live base first k w
+  unfolding copyLive
+  copy-dead t = rw (not-false (eqb (getD live (base + k) 0) 0) t) refl
+
+  pub copy-live : marked (getD live (base + k) 0) ≡ true → copyPage base first k w ≡ copyLive live base first k w
+  unfolding copyLive
+  copy-live t = rw (not-true (eqb (getD live (base + k) 0) 0) t) refl
 
 -- Copies, new names, erasure: in this order they move a block.
 pub move-steps : (live : List ℕ) (n block to : ℕ) (pages : List (List ℕ)) (rows : List Row)

@@ -4,17 +4,19 @@ ghost use Prim.Native.Nat.{_+_, _*_, _≤_, _<_};
 ghost use lib.ListN.{length};
 ghost use Rattle.flash_rows.specs.Row.{rowsOf, rowBytes};
 ghost use Rattle.flash_blocks.specs.Pages.{pagesOf};
+ghost use Rattle.flash_live.specs.Bits.{marksIn};
 ghost use Rattle.flash_allocate.specs.Compact.{copying, copyLive, copyBlock, renameRows, compacted, moveBlock};
 ghost use Rattle.flash_allocate.specs.Compact as def;
 ghost use Rattle.layout.specs.Layout.{blockBytes, mostBlocks, mostPages, pageBytes, pagesInBlock};
-use layout::MOST_PAGES;
+use flash_live::bits::is_live;
+use layout::LIVE_BYTES;
 use layout::PAGES_IN_BLOCK;
 
 // Page k of the block at `base`, where it is live, copied to the block at `first` behind the pages that went before.
 fn copy_live(
     pool: &mut [u8],
     places: &mut [u16; PAGES_IN_BLOCK],
-    live: &[u8; MOST_PAGES],
+    live: &[u8; LIVE_BYTES],
     base: usize,
     first: usize,
     k: usize,
@@ -23,11 +25,11 @@ fn copy_live(
     requires { ⌜ (k < pagesInBlock) × (fill < pagesInBlock) × (base + k < mostPages) × (first < mostPages)
         × (pageBytes * (base + k) + pageBytes ≤ length (now pool)) × (pageBytes * (first + fill) + pageBytes ≤ length (now pool)) ⌝ }
     ensures { λ r. ⌜ (copying (pagesOf (now (pool .exit))) (now (places .exit)) r
-        ≡ copyLive (now (live .entry)) base first k (copying (pagesOf (now (pool .entry))) (now (places .entry)) fill))
+        ≡ copyLive (marksIn (now (live .entry))) base first k (copying (pagesOf (now (pool .entry))) (now (places .entry)) fill))
         × (r ≤ fill + 1) ⌝ }
 {
     let from = base + k;
-    if live[from] == 0 {
+    if is_live(live, from) {} else {
         return fill;
     }
     let to = first + fill;
@@ -40,14 +42,14 @@ fn copy_live(
 fn copy_block(
     pool: &mut [u8],
     places: &mut [u16; PAGES_IN_BLOCK],
-    live: &[u8; MOST_PAGES],
+    live: &[u8; LIVE_BYTES],
     base: usize,
     first: usize,
 ) -> usize
     requires { ⌜ (base + pagesInBlock ≤ mostPages) × (first + pagesInBlock ≤ mostPages) × (pageBytes * base + blockBytes ≤ length (now pool))
         × (pageBytes * first + blockBytes ≤ length (now pool)) ⌝ }
     ensures { λ r. ⌜ (copying (pagesOf (now (pool .exit))) (now (places .exit)) r
-        ≡ copyBlock (now (live .entry)) base first (copying (pagesOf (now (pool .entry))) (now (places .entry)) 0))
+        ≡ copyBlock (marksIn (now (live .entry))) base first (copying (pagesOf (now (pool .entry))) (now (places .entry)) 0))
         × (r ≤ pagesInBlock) ⌝ }
 {
     let mut fill: usize = 0;
@@ -77,7 +79,7 @@ fn rename_rows(table: &mut [u8], used: usize, base: usize, places: &[u16; PAGES_
 fn move_block(
     pool: &mut [u8],
     table: &mut [u8],
-    live: &[u8; MOST_PAGES],
+    live: &[u8; LIVE_BYTES],
     used: usize,
     block: usize,
     to: usize,
@@ -85,7 +87,7 @@ fn move_block(
     requires { ⌜ (rowBytes * used ≤ length (now table)) × (block < mostBlocks) × (to < mostBlocks)
         × (blockBytes * block + blockBytes ≤ length (now pool)) × (blockBytes * to + blockBytes ≤ length (now pool)) ⌝ }
     ensures { λ r. ⌜ (compacted (pagesOf (now (pool .exit))) (rowsOf (now (table .exit))) r
-        ≡ moveBlock (now (live .entry)) used block to (pagesOf (now (pool .entry))) (rowsOf (now (table .entry))))
+        ≡ moveBlock (marksIn (now (live .entry))) used block to (pagesOf (now (pool .entry))) (rowsOf (now (table .entry))))
         × (r ≤ pagesInBlock) ⌝ }
 {
     let mut places = [0u16; PAGES_IN_BLOCK];

@@ -1,10 +1,10 @@
--- Lists by their length: empty ones, and the others. Assumes nothing.
-use mathlib.Core.Path.{_≡_, refl}
+-- Lists by their length: empty ones, and the others; a store behind the seam of two. Assumes nothing.
+use mathlib.Core.Path.{_≡_, refl, ap}
 use mathlib.Core.Logic.{_⊎_, inl, inr}
-use mathlib.Core.List.{List, [], _∷_}
-use Prim.Native.Nat.{_≤_}
+use mathlib.Core.List.{List, [], _∷_, _++_}
+use Prim.Native.Nat.{ℕ, zero, suc, _+_, _≤_}
 use native.Mathlib.Omega.{arith}
-use lib.ListN.{length}
+use lib.ListN.{length, set}
 
 pub length-zero : {A : Type 0} (xs : List A) → length xs ≡ 0 → xs ≡ []
 length-zero [] e = refl
@@ -13,3 +13,9 @@ length-zero (x ∷ xs) e = absurd (omega arith)
 pub empty-or : {A : Type 0} (xs : List A) → (xs ≡ []) ⊎ (1 ≤ length xs)
 empty-or [] = inl refl
 empty-or (x ∷ xs) = inr (omega arith)
+
+-- A store behind the seam of two lists is one in the second.
+pub set-append-right : {A : Type 0} (xs ys : List A) (n k : ℕ) (a : A) → n ≡ length xs + k → set (xs ++ ys) n a ≡ xs ++ set ys k a
+set-append-right [] ys n k a e = ap (λ z. set ys z a) (omega arith)
+set-append-right (x ∷ xs) ys zero k a e = absurd (omega arith)
+set-append-right {A} (x ∷ xs) ys (suc n) k a e = ap {B = List A} (λ z. x ∷ z) (set-append-right xs ys n k a (omega arith))

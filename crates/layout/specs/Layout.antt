@@ -20,6 +20,10 @@ mostBlocks = 64
 abbrev pub mostPages : ℕ
 mostPages = pagesInBlock * mostBlocks
 
+-- The map of live pages: a bit a page.
+abbrev pub liveBytes : ℕ
+liveBytes = 256
+
 -- Node limit: 10 × (B − 2).
 abbrev pub nodeLimit : ℕ → ℕ
 nodeLimit blocks = 10 * (blocks - 2)

@@ -17,6 +17,9 @@ pub const MOST_BLOCKS: usize = 64;
 
 pub const MOST_PAGES: usize = PAGES_IN_BLOCK * MOST_BLOCKS;
 
+// The map of live pages: a bit a page.
+pub const LIVE_BYTES: usize = MOST_PAGES / 8;
+
 // The work table: 64 rows of 16 bytes for each block.
 pub const ROW_BYTES: usize = 16;
 

@@ -10,6 +10,7 @@ use native.Mathlib.Omega.{arith}
 use lib.ListN.{length, set, take, drop, length-take, length-drop, length-append, take-append-drop}
 use lib.Seq.{take-at, drop-at, set-append-left, take-append-add, drop-append-add}
 use Rattle.laws.specs.Tests.{and-left, and-right}
+use Rattle.laws.specs.Lists.{set-append-right}
 use Rattle.page.specs.Page.{Page}
 use Rattle.store.specs.Pool.{Blocks, block, addTo}
 use Rattle.store.specs.Reopen.{Cells, cellsIn, cells, blockIn, blocksIn, blank, filled, allFilled}
@@ -110,11 +111,6 @@ unfolding cellsIn
 cellsIn-snoc zero b p l = absurd (not-suc-le-zero l)
 cellsIn-snoc (suc k) [] p l = refl
 cellsIn-snoc (suc k) (x ∷ b) p l = ap {B = Cells} (λ z. some x ∷ z) (cellsIn-snoc k b p (le-of-suc-le-suc l))
-
-set-append-right : {A : Type 0} (xs ys : List A) (n k : ℕ) (a : A) → n ≡ length xs + k → set (xs ++ ys) n a ≡ xs ++ set ys k a
-set-append-right [] ys n k a e = ap (λ z. set ys z a) (omega arith)
-set-append-right (x ∷ xs) ys zero k a e = absurd (omega arith)
-set-append-right {A} (x ∷ xs) ys (suc n) k a e = ap {B = List A} (λ z. x ∷ z) (set-append-right xs ys n k a (omega arith))
 
 pub cells-addTo : (width : ℕ) (bs : Blocks) (i : ℕ) (p : Page) → i < length bs → length (block bs i) < width →
     cells width (addTo bs i p) ≡ set (cells width bs) (i * width + length (block bs i)) (some p)

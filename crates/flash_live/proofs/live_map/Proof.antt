@@ -7,19 +7,20 @@ use lib.ListN.{replicate}
 use Rattle.laws.specs.Loops.{steps, steps-begin, steps-more, steps-done}
 use Rattle.flash_rows.specs.Row.{rowsOf}
 use Rattle.flash_live.specs.Live.{markNth, liveMap}
+use Rattle.flash_live.specs.Bits.{marksIn, no-marks}
 use Rattle.flash_live.proofs.live_map.Statement.{statement}
 use Rattle.flash_live.proofs.live_map.Tie as tie
 
 abbrev Inv-loop : tie.InvT-loop
 Inv-loop table used live₀ n₀ live n = (n ≤ used) ×
-    (steps (markNth (rowsOf table)) (used - n) n live ≡ steps (markNth (rowsOf table)) used 0 (replicate 2048 0))
+    (steps (markNth (rowsOf table)) (used - n) n (marksIn live) ≡ steps (markNth (rowsOf table)) used 0 (replicate 2048 0))
 
 abbrev μ-loop : tie.MeasureT-loop
 μ-loop table used live₀ n₀ live n = used - n
 
 loop-holds : tie.Need-loop-holds Inv-loop μ-loop
 loop-holds c = let a = c .before .args in
-    (omega arith, steps-begin (markNth (rowsOf (a .table .now))) (a .used) (replicate 2048 0))
+    (omega arith, rw no-marks (steps-begin (markNth (rowsOf (a .table .now))) (a .used) (replicate 2048 0)))
 
 read-row-requires : tie.Need-read-row-requires Inv-loop μ-loop
 read-row-requires c κs = omega arith
@@ -39,14 +40,14 @@ loop-again c = let l = c .before .before .before .before .loop in
     let a = c .before .before .before .before .before .before .args in (
       omega arith,
       rw (c .mark-row .ensures, c .before .read-row .ensures)
-          (steps-more (markNth (rowsOf (a .table .now))) (a .used) (l .n) (l .live) (omega arith) ∙ l .inv .1),
+          (steps-more (markNth (rowsOf (a .table .now))) (a .used) (l .n) (marksIn (l .live)) (omega arith) ∙ l .inv .1),
     )
 
 returns : tie.Need-returns Inv-loop μ-loop
 unfolding liveMap
 returns c = let l = c .before .loop in
     let a = c .before .before .before .args in
-    sym (steps-done (markNth (rowsOf (a .table .now))) (a .used) (l .n) (l .live) (omega arith)) ∙ l .inv .1
+    sym (steps-done (markNth (rowsOf (a .table .now))) (a .used) (l .n) (marksIn (l .live)) (omega arith)) ∙ l .inv .1
 
 pub live-map-spec : {M : Type 1} → statement M
 live-map-spec =

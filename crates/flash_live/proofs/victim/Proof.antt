@@ -4,6 +4,7 @@ use Prim.Native.Nat.{_-_, _≤_, _<_}
 use native.Mathlib.Omega.{arith}
 use Rattle.laws.specs.Loops.{steps, steps-begin, steps-more, steps-done}
 use Rattle.flash_blocks.specs.Pages.{pagesOf}
+use Rattle.flash_live.specs.Bits.{marksIn}
 use Rattle.flash_live.specs.Choose.{choice, weigh, best, victim}
 use Rattle.flash_live.specs.declared.Choice.{Choice}
 use Rattle.flash_live.proofs.victim.Statement.{statement}
@@ -11,7 +12,7 @@ use Rattle.flash_live.proofs.victim.Tie as tie
 
 abbrev Inv-loop : tie.InvT-loop
 Inv-loop pool live blocks best₀ block₀ best block = ((block ≤ blocks) × (best .block < blocks)) ×
-    (steps (weigh (pagesOf pool) live) (blocks - block) block best ≡ steps (weigh (pagesOf pool) live) blocks 0
+    (steps (weigh (pagesOf pool) (marksIn live)) (blocks - block) block best ≡ steps (weigh (pagesOf pool) (marksIn live)) blocks 0
     (choice 0 33))
 
 abbrev μ-loop : tie.MeasureT-loop
@@ -19,7 +20,7 @@ abbrev μ-loop : tie.MeasureT-loop
 
 loop-holds : tie.Need-loop-holds Inv-loop μ-loop
 loop-holds c = let a = c .before .args in
-    (omega arith, steps-begin (weigh (pagesOf (a .pool .now)) (a .live .now)) (a .blocks) (choice 0 33))
+    (omega arith, steps-begin (weigh (pagesOf (a .pool .now)) (marksIn (a .live .now))) (a .blocks) (choice 0 33))
 
 weigh-requires : tie.Need-weigh-requires Inv-loop μ-loop
 weigh-requires c κs = omega arith
@@ -35,7 +36,7 @@ loop-again c = let l = c .before .before .loop in
     let a = c .before .before .before .before .args in (
       omega (arith, c .weigh .ensures .inside),
       rw (c .weigh .ensures .is)
-          (steps-more (weigh (pagesOf (a .pool .now)) (a .live .now)) (a .blocks) (l .block) (l .best) (omega arith) ∙
+          (steps-more (weigh (pagesOf (a .pool .now)) (marksIn (a .live .now))) (a .blocks) (l .block) (l .best) (omega arith) ∙
           l .inv .1),
     )
 
@@ -44,7 +45,7 @@ unfolding victim best
 returns c = let l = c .before .loop in
     let a = c .before .before .before .args in (
       ap (λ (x : Choice). x .block)
-          (sym (steps-done (weigh (pagesOf (a .pool .now)) (a .live .now)) (a .blocks) (l .block) (l .best) (omega arith))
+          (sym (steps-done (weigh (pagesOf (a .pool .now)) (marksIn (a .live .now))) (a .blocks) (l .block) (l .best) (omega arith))
           ∙ l .inv .1),
       omega arith,
     )

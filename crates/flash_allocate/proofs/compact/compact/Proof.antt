@@ -2,6 +2,7 @@
 use mathlib.Core.Path.{_∙_}
 use Rattle.flash_rows.specs.Row.{rowsOf}
 use Rattle.flash_blocks.specs.Pages.{pagesOf}
+use Rattle.flash_live.specs.Bits.{marksIn}
 use Rattle.flash_allocate.proofs.Laws.{compact-steps}
 use borrow.Author.Needs.{needs}
 use Rattle.flash_allocate.proofs.compact.compact.Statement.{statement}
@@ -33,7 +34,7 @@ returns c =
     let v = c8 .victim in
     let o = c4 .move-block in (
       o .ensures .0 ∙
-          compact-steps (a .used) (a .blocks) (a .to) (pagesOf (a .pool .now)) (rowsOf (a .table .now)) (m .result) (v .result)
+          compact-steps (a .used) (a .blocks) (a .to) (pagesOf (a .pool .now)) (rowsOf (a .table .now)) (marksIn (m .result)) (v .result)
           (m .ensures) (v .ensures .0),
       o .ensures .1,
     )

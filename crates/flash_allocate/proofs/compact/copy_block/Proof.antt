@@ -5,6 +5,7 @@ use native.Mathlib.Omega.{arith}
 use lib.ListN.{length}
 use Rattle.laws.specs.Loops.{steps, steps-begin, steps-more, steps-done}
 use Rattle.flash_blocks.specs.Pages.{pagesOf}
+use Rattle.flash_live.specs.Bits.{marksIn}
 use Rattle.flash_allocate.specs.Compact.{Copying, copying, copyLive, copyBlock}
 use Rattle.flash_allocate.proofs.compact.copy_block.Statement.{statement}
 use Rattle.flash_allocate.proofs.compact.copy_block.Tie as tie
@@ -12,15 +13,15 @@ use Rattle.flash_allocate.proofs.compact.copy_block.Tie as tie
 abbrev Inv-loop : tie.InvT-loop
 Inv-loop pool₀ places₀ live base first fill₀ k₀ pool places fill k =
     ((k ≤ 32) × ((fill ≤ k) × (length pool ≡ length pool₀))) ×
-    (steps (copyLive live base first) (32 - k) k (copying (pagesOf pool) places fill) ≡ steps
-    (copyLive live base first) 32 0 (copying (pagesOf pool₀) places₀ 0))
+    (steps (copyLive (marksIn live) base first) (32 - k) k (copying (pagesOf pool) places fill) ≡ steps
+    (copyLive (marksIn live) base first) 32 0 (copying (pagesOf pool₀) places₀ 0))
 
 abbrev μ-loop : tie.MeasureT-loop
 μ-loop pool₀ places₀ live base first fill₀ k₀ pool places fill k = 32 - k
 
 loop-holds : tie.Need-loop-holds Inv-loop μ-loop
 loop-holds c = let a = c .before .args in
-    (omega arith, steps-begin (copyLive (a .live .now) (a .base) (a .first)) 32 (copying (pagesOf (a .pool .now)) (a .places .now) 0))
+    (omega arith, steps-begin (copyLive (marksIn (a .live .now)) (a .base) (a .first)) 32 (copying (pagesOf (a .pool .now)) (a .places .now) 0))
 
 copy-live-requires : tie.Need-copy-live-requires Inv-loop μ-loop
 copy-live-requires c κs = omega arith
@@ -34,7 +35,7 @@ loop-less c = omega arith
 loop-again : tie.Need-loop-again Inv-loop μ-loop
 loop-again c = let l = c .before .before .before .before .before .before .loop in
     let a = c .before .before .before .before .before .before .before .before .args in
-    let f = copyLive (a .live .now) (a .base) (a .first) in
+    let f = copyLive (marksIn (a .live .now)) (a .base) (a .first) in
     let o = c .before .before .copy-live in (
       omega (arith, o .ensures .1),
       ap (λ (w : Copying). steps f (32 - (l .k + 1)) (l .k + 1) w) (o .ensures .0) ∙
@@ -48,7 +49,7 @@ returns : tie.Need-returns Inv-loop μ-loop
 unfolding copyBlock
 returns c = let l = c .before .loop in
     let a = c .before .before .before .args in (
-      sym (steps-done (copyLive (a .live .now) (a .base) (a .first)) 32 (l .k)
+      sym (steps-done (copyLive (marksIn (a .live .now)) (a .base) (a .first)) 32 (l .k)
           (copying (pagesOf (l .pool)) (l .places) (l .fill)) (omega arith)) ∙ l .inv .1,
       omega arith,
     )

@@ -1,8 +1,10 @@
 -- `compact::copy_live` meets its contract: dead, or copied and its place noted. Assumes nothing.
-use mathlib.Core.Path.{refl}
+use mathlib.Core.Path.{sym, _∙_}
 use native.Mathlib.Omega.{arith}
-use borrow.Author.Tests.{eq-eqb, ne-eqb}
-use Rattle.flash_allocate.specs.Compact.{copyPage, copyLive}
+use Rattle.flash_blocks.specs.Pages.{pagesOf}
+use Rattle.flash_live.specs.Bits.{marksIn}
+use Rattle.flash_allocate.specs.Compact.{copying, copyPage}
+use Rattle.flash_allocate.proofs.Laws.{copy-dead, copy-live}
 use borrow.Author.Needs.{needs}
 use Rattle.flash_allocate.proofs.compact.copy_live.Statement.{statement}
 use Rattle.flash_allocate.proofs.compact.copy_live.Tie as tie
@@ -10,12 +12,16 @@ use Rattle.flash_allocate.proofs.compact.copy_live.Tie as tie
 add-from : tie.Need-add-from
 add-from c = search needs
 
-element-copy-out-if1 : tie.Need-element-copy-out-if1
-element-copy-out-if1 c = search needs
+is-live-requires : tie.Need-is-live-requires
+is-live-requires c κs = search needs
 
 returns : tie.Need-returns
-unfolding copyLive
-returns c = (rw (eq-eqb _ _ (c .if1 .taken)) refl, omega arith)
+returns c =
+    let a = c .before .before .before .args in (
+      copy-dead (marksIn (a .live .now)) (a .base) (a .first) (a .k) (copying (pagesOf (a .pool .now)) (a .places .now) (a .fill))
+          (sym (c .before .is-live .ensures) ∙ c .if1 .left),
+      omega arith,
+    )
 
 add-to : tie.Need-add-to
 add-to c = search needs
@@ -39,15 +45,22 @@ same-length : tie.Need-same-length
 same-length c = search needs
 
 returns-2 : tie.Need-returns-2
-unfolding copyLive copyPage
-returns-2 c = (rw (ne-eqb _ _ (c .before .before .before .before .if1 .left), c .before .before .copy-page .ensures) refl, omega arith)
+unfolding copyPage
+returns-2 c =
+    let c4 = c .before .before .before .before in
+    let a = c4 .before .before .before .args in (
+      rw (c .before .before .copy-page .ensures)
+          (copy-live (marksIn (a .live .now)) (a .base) (a .first) (a .k) (copying (pagesOf (a .pool .now)) (a .places .now) (a .fill))
+          (sym (c4 .before .is-live .ensures) ∙ c4 .if1 .taken)),
+      omega arith,
+    )
 
 pub copy-live-spec : {M : Type 1} → statement M
 copy-live-spec =
     tie.close
     (tie.spec
     add-from
-    element-copy-out-if1
+    is-live-requires
     returns
     add-to
     copy-page-requires

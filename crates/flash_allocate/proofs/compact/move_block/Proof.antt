@@ -1,6 +1,7 @@
 -- `compact::move_block` meets its contract: its three calls are the three steps of the definition. Assumes nothing.
 use Rattle.flash_rows.specs.Row.{rowsOf}
 use Rattle.flash_blocks.specs.Pages.{pagesOf}
+use Rattle.flash_live.specs.Bits.{marksIn}
 use Rattle.flash_allocate.proofs.Laws.{move-steps}
 use borrow.Author.Needs.{needs}
 use Rattle.flash_allocate.proofs.compact.move_block.Statement.{statement}
@@ -40,7 +41,7 @@ returns c =
     let k = c11 .copy-block in
     let r = c6 .rename-rows in
     let e = c2 .erase-block in (
-      move-steps (a .live .now) (a .used) (a .block) (a .to) (pagesOf (a .pool .now)) (rowsOf (a .table .now))
+      move-steps (marksIn (a .live .now)) (a .used) (a .block) (a .to) (pagesOf (a .pool .now)) (rowsOf (a .table .now))
           (pagesOf (k .last .0)) (k .last .1 .0) (k .result) (k .ensures .0)
           (rowsOf (r .last .0)) (r .ensures) (pagesOf (e .last .0)) (e .ensures .0),
       k .ensures .1,
