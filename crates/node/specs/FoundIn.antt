@@ -15,6 +15,12 @@ use Rattle.node.specs.Search.{place}
 use Rattle.node.specs.Value.{pairsIn, Held, length-pairsIn, keyAt-pairsIn, place-value, found-at-value, found-above-value, found-end-value}
 use Rattle.node.specs.Repoint.{place-keyAt}
 
+-- A place among the first keys: the key before it is below the wanted one, and the key there is not.
+pub record PlaceIn (keys : List ℕ) (count wanted i : ℕ) : Type 0 where
+  pub inside : i ≤ count
+  pub before : 0 < i → getD keys (i - 1) 0 < wanted
+  pub behind : i < count → wanted ≤ getD keys i 0
+
 -- Every node with these keys, ascending, has the key where the answer says.
 pub record FoundIn (keys : List ℕ) (count key : ℕ) (r : Found) : Type 0 where
   pub is : (v : NodeValue) → Held v → v .keys ≡ keys → v .count ≡ count → found key (pairsIn v) ≡ r

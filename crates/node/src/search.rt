@@ -5,7 +5,7 @@ ghost use Rattle.layout.specs.Layout.{mostKeys};
 ghost use Rattle.node.specs.Search.{place, childPlace, keyAt, pointerAt};
 ghost use Rattle.node.specs.Ascends.{ascends};
 ghost use Rattle.node.specs.Found.{found};
-ghost use Rattle.node.specs.FoundIn.{FoundIn};
+ghost use Rattle.node.specs.FoundIn.{PlaceIn, FoundIn};
 ghost use Rattle.node.specs.Value.{pairsIn, Sized, Held};
 use crate::Found;
 use crate::NodeValue;
@@ -39,36 +39,13 @@ pub fn find_from_end(keys: &[u32; MOST_KEYS], count: usize, key: u32) -> Found
     Found::Above(i)
 }
 
-// The same by halves: keys are taken out in any order.
-pub fn find_by_halves(keys: &[u32; MOST_KEYS], count: usize, key: u32) -> Found
+// The place of the first key at or above the wanted one among the first `count` keys, by halves.
+fn place_in(keys: &[u32; MOST_KEYS], count: usize, wanted: u64) -> usize
     requires { ⌜ count ≤ mostKeys ⌝ }
-    ensures { λ r. ⌜ FoundIn (now (keys .entry)) count key r ⌝ }
+    ensures { λ r. ⌜ PlaceIn (now (keys .entry)) count wanted r ⌝ }
 {
     let mut low: usize = 0;
     let mut high = count;
-    while low < high {
-        let middle = (low + high) / 2;
-        let other = keys[middle];
-        if other == key {
-            return Found::At(middle);
-        }
-        if other < key {
-            low = middle + 1;
-        } else {
-            high = middle;
-        }
-    }
-    Found::Above(low)
-}
-
-// The place of the first key at or above the wanted one, by halves.
-fn place(v: NodeValue, wanted: u64) -> usize
-    requires { ⌜ Held v ⌝ }
-    ensures { λ r. ⌜ (r ≡ place wanted (pairsIn v)) × (r ≤ v .count) ⌝ }
-{
-    let keys = v.keys;
-    let mut low: usize = 0;
-    let mut high = v.count;
     while low < high {
         let middle = (low + high) / 2;
         if wide(keys[middle]) < wanted {
@@ -80,20 +57,35 @@ fn place(v: NodeValue, wanted: u64) -> usize
     low
 }
 
-// The place of a key and whether it is there.
-pub fn find(v: NodeValue, key: u32) -> Found
-    requires { ⌜ Held v ⌝ }
-    ensures { λ r. ⌜ r ≡ found key (pairsIn v) ⌝ }
+// The place of a key among the first `count` keys and whether it is there, by halves.
+pub fn find_by_halves(keys: &[u32; MOST_KEYS], count: usize, key: u32) -> Found
+    requires { ⌜ count ≤ mostKeys ⌝ }
+    ensures { λ r. ⌜ FoundIn (now (keys .entry)) count key r ⌝ }
 {
-    let i = place(v, wide(key));
-    let keys = v.keys;
-    if i < v.count {
+    let i = place_in(keys, count, wide(key));
+    if i < count {
         if keys[i] == key {
             return Found::At(i);
         }
         return Found::Above(i);
     }
     Found::Above(i)
+}
+
+// The place of the first key at or above the wanted one.
+fn place(v: NodeValue, wanted: u64) -> usize
+    requires { ⌜ Held v ⌝ }
+    ensures { λ r. ⌜ (r ≡ place wanted (pairsIn v)) × (r ≤ v .count) ⌝ }
+{
+    place_in(&v.keys, v.count, wanted)
+}
+
+// The place of a key and whether it is there.
+pub fn find(v: NodeValue, key: u32) -> Found
+    requires { ⌜ Held v ⌝ }
+    ensures { λ r. ⌜ r ≡ found key (pairsIn v) ⌝ }
+{
+    find_by_halves(&v.keys, v.count, key)
 }
 
 // The place of the child for a key: that of the first key above it.
