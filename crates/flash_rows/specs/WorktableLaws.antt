@@ -1,27 +1,15 @@
 -- The work table in bytes: its rows lent and come back, bytes laid in its buffer. Assumes nothing.
 use mathlib.Core.Path.{_≡_, refl, sym, ap, _∙_}
-use mathlib.Core.List.{List, [], _∷_}
-use Prim.Native.Nat.{ℕ, suc, _+_, _-_, _≤_}
+use mathlib.Core.List.{List}
+use Prim.Native.Nat.{ℕ, _+_, _-_, _≤_}
 use native.Mathlib.Omega.{arith}
 use lib.ListN.{length, take, drop, length-drop}
-use lib.Seq.{sets, length-take-le, take-set-lt, take-all}
+use lib.Seq.{length-take-le, take-all}
 use borrow.Rule.Slice.PartMut.{putMid}
-use Rattle.laws.specs.Lay.{lay, part, lay-lent, lay-sets, lay-whole, drop-lay, length-lay, part-lay-before}
+use Rattle.laws.specs.Lay.{lay, part, take-laid, lay-lent, lay-whole, drop-lay, length-lay, part-lay-before}
 use Rattle.laws.specs.Chunks.{drop-lay-front}
 use Rattle.flash_rows.specs.Row.{rowsOf}
 use Rattle.flash_rows.specs.Worktable.{bufferBytes, rowsAt, bufferOf, rowsIn, tableFrom, withRows, withBuffer}
-
--- Bytes laid in the first k, and the first k with bytes laid.
-take-sets : (vs s : List ℕ) (k at : ℕ) → at + length vs ≤ k → take k (sets s at vs) ≡ sets (take k s) at vs
-take-sets [] s k at h = refl
-take-sets (v ∷ vs) s k at h =
-    take-sets vs _ k (suc at) (omega arith) ∙ ap (λ (l : List ℕ). sets l (suc at) vs) (take-set-lt k s at v (omega arith))
-
-take-laid : (s vs : List ℕ) (k at : ℕ) → k ≤ length s → at + length vs ≤ k → take k (lay s at vs) ≡ lay (take k s) at vs
-take-laid s vs k at l h =
-    ap (take k) (sym (lay-sets vs s at (omega arith))) ∙
-    take-sets vs s k at h ∙
-    lay-sets vs (take k s) at (rw (length-take-le k s l) h)
 
 module _ (table : List ℕ) (long : rowsAt ≤ length table) where
   pub length-buffer : length (bufferOf table) ≡ bufferBytes

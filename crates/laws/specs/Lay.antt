@@ -32,6 +32,7 @@ use lib.Seq.{
   take-add,
   take-take,
   take-all,
+  take-set-lt,
   drop-cons,
   getD-append-add,
   getD-take,
@@ -51,6 +52,18 @@ part s at n = take n (drop at s)
 pub lay-sets : (vs s : List ℕ) (at : ℕ) → at + length vs ≤ length s → sets s at vs ≡ lay s at vs
 unfolding lay
 lay-sets vs s at h = sets-eq vs s at h ∙ append-assoc (take at s) vs (drop (at + length vs) s)
+
+-- Bytes laid in the first k, and the first k with bytes laid.
+take-sets : (vs s : List ℕ) (k at : ℕ) → at + length vs ≤ k → take k (sets s at vs) ≡ sets (take k s) at vs
+take-sets [] s k at h = refl
+take-sets (v ∷ vs) s k at h =
+    take-sets vs _ k (suc at) (omega arith) ∙ ap (λ (l : List ℕ). sets l (suc at) vs) (take-set-lt k s at v (omega arith))
+
+pub take-laid : (s vs : List ℕ) (k at : ℕ) → k ≤ length s → at + length vs ≤ k → take k (lay s at vs) ≡ lay (take k s) at vs
+take-laid s vs k at l h =
+    ap (take k) (sym (lay-sets vs s at (omega arith))) ∙
+    take-sets vs s k at h ∙
+    lay-sets vs (take k s) at (rw (length-take-le k s l) h)
 
 pub lay-nil : (s : List ℕ) (at : ℕ) → lay s at [] ≡ s
 unfolding lay
@@ -109,6 +122,11 @@ pub drop-replicate : (k n a : ℕ) → drop k (replicate n a) ≡ replicate (n -
 drop-replicate zero n a = rw sub-zero
 drop-replicate (suc k) zero a = rw zero-sub
 drop-replicate (suc k) (suc n) a = rw suc-sub-suc (drop-replicate k n a)
+
+pub take-replicate : (n m x : ℕ) → n ≤ m → take n (replicate m x) ≡ replicate n x
+take-replicate zero m x l = refl
+take-replicate (suc n) zero x l = absurd (omega arith)
+take-replicate (suc n) (suc m) x l = ap {B = List ℕ} (x ∷_) (take-replicate n m x (omega arith))
 
 -- Bytes laid over a buffer of one byte repeated.
 pub lay-replicate : (n a : ℕ) (xs : List ℕ) → lay (replicate n a) 0 xs ≡ xs ++ replicate (n - length xs) a

@@ -8,7 +8,7 @@ use borrow.Author.Tests.{le-leb, lt-leb}
 use lib.ListN.{length, take, drop, replicate, length-replicate}
 use lib.Seq.{length-take-le}
 use borrow.Rule.Slice.PartMut.{putMid}
-use Rattle.laws.specs.Lay.{drop-replicate}
+use Rattle.laws.specs.Lay.{drop-replicate, take-replicate}
 use Rattle.laws.specs.Loops.{allFrom}
 use Rattle.layout.specs.Layout.{fewestBlocks, nodeLimit, mostNodes, tableBytes, lastSequence}
 use Rattle.account.specs.declared.Tariff.{Tariff}
@@ -23,7 +23,6 @@ use Rattle.mount_rows.specs.Fill.{filled, withinThree, Filled}
 use Rattle.mount_checkpoint.specs.Scores.{takePages}
 use Rattle.flash_read.specs.NodeTable.{tableOf}
 use Rattle.mount_tree.specs.Area.{workBytes, Checkable}
-use Rattle.mount_restore.specs.Blank.{take-replicate}
 use Rattle.mount_restore.specs.Table.{emptyRows, scoredRows, restoredRows, Restored}
 use Rattle.mount_restore.specs.Questions.{rowsPass, tableFor, treePasses, refusalOf, Judged, Asked}
 use Rattle.mount_restore.specs.Scores.{isBelow}

@@ -2,18 +2,18 @@
 -- nodes is free for the check of the tree, and zeros there give the restored rows again. Assumes nothing.
 use mathlib.Core.Path.{_≡_, refl, sym, ap, ap₂, _∙_, fun-ext}
 use mathlib.Core.Bool.{Bool, true, false}
-use mathlib.Core.List.{List, [], _∷_}
+use mathlib.Core.List.{List}
 use mathlib.Core.Logic.{_⊎_, inl, inr}
 use Prim.Native.Nat.{ℕ, zero, suc, _+_, _-_, _*_, _≤_, _<_}
-use native.Mathlib.Nat.{zero-add}
 use native.Mathlib.Omega.{arith}
 use borrow.Author.Tests.{ltb-true}
 use lib.Dec.{ltb, eqb}
 use lib.ListN.{length, getD, set, take, drop, replicate, length-drop, length-replicate, List·getD-eq-default}
-use lib.Seq.{getD-set-other, ext-getD, length-take-le, take-take, take-nil}
+use lib.Seq.{getD-set-other, ext-getD, length-take-le, take-take}
 use Rattle.laws.specs.Order.{le-or}
 use Rattle.laws.specs.Tests.{choose}
-use Rattle.laws.specs.Lay.{lay, part, drop-replicate, part-lay, part-lay-before, part-part, part-take, length-lay}
+use Rattle.laws.specs.Lists.{drop-take}
+use Rattle.laws.specs.Lay.{lay, part, drop-replicate, take-replicate, part-lay, part-lay-before, part-part, part-take, length-lay}
 use Rattle.laws.specs.Chunks.{drop-lay-front}
 use Rattle.laws.specs.BigEndian.{numberAt}
 use Rattle.laws.specs.Loops.{steps-keep}
@@ -43,11 +43,6 @@ BlankFrom count rows = (n : ℕ) → count ≤ n → getD rows n noRow ≡ noRow
 
 -- ---- zeros
 
-pub take-replicate : (n m x : ℕ) → n ≤ m → take n (replicate m x) ≡ replicate n x
-take-replicate zero m x l = refl
-take-replicate (suc n) zero x l = absurd (omega arith)
-take-replicate (suc n) (suc m) x l = ap {B = List ℕ} (x ∷_) (take-replicate n m x (omega arith))
-
 part-zeros : (m at n : ℕ) → at + n ≤ m → part (replicate m 0) at n ≡ replicate n 0
 unfolding part
 part-zeros m at n l = ap (take n) (drop-replicate at m 0) ∙ take-replicate n (m - at) 0 (omega arith)
@@ -55,14 +50,6 @@ part-zeros m at n l = ap (take n) (drop-replicate at m 0) ∙ take-replicate n (
 zero-row : decode (replicate rowBytes 0) ≡ noRow
 unfolding decode noRow numberAt part modeFrom
 zero-row = refl
-
--- Of the first bytes, those from a place on.
-drop-take : (k n : ℕ) (l : List ℕ) → drop k (take (k + n) l) ≡ take n (drop k l)
-drop-take zero n l = ap (λ (m : ℕ). take m l) (zero-add n)
-drop-take (suc k) n [] = ap (drop (suc k)) (take-nil (suc k + n)) ∙ sym (take-nil n)
-drop-take (suc k) n (x ∷ l) =
-    let e : suc k + n ≡ suc (k + n) = omega arith in
-    ap (λ (m : ℕ). drop (suc k) (take m (x ∷ l))) e ∙ drop-take k n l
 
 -- A row whose bytes are zeros, and one that the table does not reach to.
 blank-row : (table : List ℕ) (n : ℕ) → (rowBytes * n + rowBytes ≤ length table → part table (rowBytes * n) rowBytes ≡ replicate rowBytes 0) →

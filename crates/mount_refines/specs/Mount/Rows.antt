@@ -5,7 +5,7 @@ use Prim.Native.Nat.{ℕ, _-_, _*_, _≤_, _<_}
 use native.Mathlib.Omega.{arith}
 use lib.ListN.{length, take, replicate, length-replicate}
 use Rattle.laws.specs.BigEndian.{numberAt}
-use Rattle.laws.specs.Lay.{part, drop-replicate}
+use Rattle.laws.specs.Lay.{part, drop-replicate, take-replicate}
 use Rattle.layout.specs.Layout.{fewestBlocks, nodeLimit, tableBytes}
 use Rattle.account.specs.declared.Tariff.{Tariff}
 use Rattle.store.specs.Reopen.{Cells}
@@ -16,7 +16,6 @@ use Rattle.flash_rows.specs.Worktable.{rowsAt, rowsFor}
 use Rattle.flash_rows.proofs.Laws.{length-rows, get-rows}
 use Rattle.flash_blocks.specs.Pages.{pagesOf}
 use Rattle.flash_refines.specs.Store.Mirror.{rowAt}
-use Rattle.mount_restore.specs.Blank.{take-replicate}
 use Rattle.mount_refines.specs.Checkpoint.Scores.{Scored, scores-taken}
 use Rattle.mount_refines.specs.Rows.Cells.{Unmet}
 use Rattle.mount_refines.specs.Rows.Given.{Given}
