@@ -2,8 +2,10 @@
 --
 --   from 0         the log buffer: 27 entries of 15 bytes, filled up to whole rows
 --   from 416       the rows: one a node, then one for each checkpoint page being written, eleven a block at most
---   behind them    free: the tree check has its marks and its stack there
+--   behind them    free
 --
+-- The tree check of a mount has its stack and its marks behind the rows of the nodes, where the rows of a checkpoint will stand: none is written before
+-- a batch ends, and what it leaves there is zeroed.
 -- The buffer stands first, so that its place is a number and not a product with B.
 use mathlib.Core.List.{List}
 use Prim.Native.Nat.{ℕ, _+_, _*_, _≤_}
