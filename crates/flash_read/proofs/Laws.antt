@@ -35,7 +35,7 @@ use Rattle.node.specs.Value.{pairsIn, nodeOf, Held, Stands}
 use Rattle.node.specs.Drafts.{draftOf, Redone}
 use Rattle.page.specs.Page.{Entry}
 use Rattle.page.specs.Decode as decode
-use Rattle.flash_read.specs.Replay.{isOwn, redoEntry, redoRun, redoNth}
+use Rattle.flash_read.specs.Replay.{isOwn, redoEntry, redoRun, entryIn, strideOf, redoFrom}
 use Rattle.flash_read.specs.Slots.{sequenceAt, slotAt, redoAt, redoTwo, redoThree}
 use Rattle.flash_read.specs.NodePage.{nodeOfPayload, nodePageAt}
 use Rattle.flash_read.specs.Content.{redoPages, logContent, contentBy}
@@ -76,66 +76,57 @@ module _ (id version : ℕ) (e : Entry) (d : Draft) (test : Bool) (t : test ≡ 
   unfolding redoEntry
   entry-other o = rw (sym t ∙ o) refl
 
--- The loop over a page's entries.
-module _ (id version : ℕ) (page : List ℕ) where
-  run-more : (left at : ℕ) (d : Draft) → 0 < left → length (payloadAt page at 0x12) ≡ 15 →
-      redoRun id version (left - 1) page (at + 18) (redoEntry id version (decode.entryOf (payloadAt page at 0x12)) d) ≡ redoRun id version left page at d
-  unfolding redoRun
-  run-more left at d h e =
-      let turn : left ≡ suc (left - 1) = omega arith in
-      sym (ap (λ (k : ℕ). redoRun id version k page at d) turn ∙ rw (eq-eqb (length (payloadAt page at 0x12)) 15 e, redoRun) refl)
+-- Fifteen bytes of the buffer, lent as a part of it.
+pub part-lent : (bytes : List ℕ) (at : ℕ) → take (at + 15 - at) (drop at bytes) ≡ part bytes at 15
+unfolding part
+part-lent bytes at = let size : at + 15 - at ≡ 15 = omega arith in ap (λ (n : ℕ). take n (drop at bytes)) size
 
-  pub run-stop : (left at : ℕ) (d : Draft) → 0 < left → (length (payloadAt page at 0x12) ≡ 15 → ⊥) → redoRun id version left page at d ≡ d
-  unfolding redoRun
-  run-stop left at d h e =
+-- The loop over entries.
+module _ (framed : Bool) (id version : ℕ) (bytes : List ℕ) where
+  from-more : (left at : ℕ) (d : Draft) → 0 < left → length (entryIn framed bytes at) ≡ 15 →
+      redoFrom framed id version (left - 1) bytes (at + strideOf framed) (redoEntry id version (decode.entryOf (entryIn framed bytes at)) d) ≡
+      redoFrom framed id version left bytes at d
+  unfolding redoFrom
+  from-more left at d h e =
       let turn : left ≡ suc (left - 1) = omega arith in
-      ap (λ (k : ℕ). redoRun id version k page at d) turn ∙ rw (ne-eqb (length (payloadAt page at 0x12)) 15 e, redoRun) refl
+      sym (ap (λ (k : ℕ). redoFrom framed id version k bytes at d) turn ∙ rw (eq-eqb (length (entryIn framed bytes at)) 15 e, redoFrom) refl)
 
-  pub run-done : (left at : ℕ) (d : Draft) → left ≤ 0 → redoRun id version left page at d ≡ d
-  unfolding redoRun
-  run-done left at d h =
+  pub from-stop : (left at : ℕ) (d : Draft) → 0 < left → (length (entryIn framed bytes at) ≡ 15 → ⊥) → redoFrom framed id version left bytes at d ≡ d
+  unfolding redoFrom
+  from-stop left at d h e =
+      let turn : left ≡ suc (left - 1) = omega arith in
+      ap (λ (k : ℕ). redoFrom framed id version k bytes at d) turn ∙ rw (ne-eqb (length (entryIn framed bytes at)) 15 e, redoFrom) refl
+
+  pub from-done : (left at : ℕ) (d : Draft) → left ≤ 0 → redoFrom framed id version left bytes at d ≡ d
+  unfolding redoFrom
+  from-done left at d h =
       let over : left ≡ 0 = omega arith in
-      ap (λ (k : ℕ). redoRun id version k page at d) over
+      ap (λ (k : ℕ). redoFrom framed id version k bytes at d) over
 
   -- a turn: an entry of the node's and the version, and another
-  module _ (left at : ℕ) (h : 0 < left) (b : List ℕ) (p : b ≡ payloadAt page at 0x12) (l : length b ≡ 15)
+  module _ (left at : ℕ) (h : 0 < left) (b : List ℕ) (p : b ≡ entryIn framed bytes at) (l : length b ≡ 15) (step : ℕ) (s : step ≡ strideOf framed)
       (test : Bool) (t : test ≡ isOwn id version (decode.entryOf b)) (d : Draft) where
-    run-turn : (x : Draft) → x ≡ redoEntry id version (decode.entryOf b) d →
-        redoRun id version (left - 1) page (at + 18) x ≡ redoRun id version left page at d
-    run-turn x e =
-        ap (redoRun id version (left - 1) page (at + 18)) (e ∙ ap (λ (b : List ℕ). redoEntry id version (decode.entryOf b) d) p) ∙
-        run-more left at d h (sym (ap length p) ∙ l)
+    from-turn : (x : Draft) → x ≡ redoEntry id version (decode.entryOf b) d →
+        redoFrom framed id version (left - 1) bytes (at + step) x ≡ redoFrom framed id version left bytes at d
+    from-turn x e =
+        ap (λ (k : ℕ). redoFrom framed id version (left - 1) bytes (at + k) x) s ∙
+        ap (redoFrom framed id version (left - 1) bytes (at + strideOf framed)) (e ∙ ap (λ (b : List ℕ). redoEntry id version (decode.entryOf b) d) p) ∙
+        from-more left at d h (sym (ap length p) ∙ l)
 
-    pub run-own : test ≡ true → (x : Draft) → x ≡ redo d (decode.entryOf b .change) →
-        redoRun id version (left - 1) page (at + 18) x ≡ redoRun id version left page at d
-    run-own o x e = run-turn x (e ∙ entry-own id version (decode.entryOf b) d test t o)
+    pub from-own : test ≡ true → (x : Draft) → x ≡ redo d (decode.entryOf b .change) →
+        redoFrom framed id version (left - 1) bytes (at + step) x ≡ redoFrom framed id version left bytes at d
+    from-own o x e = from-turn x (e ∙ entry-own id version (decode.entryOf b) d test t o)
 
-    pub run-other : test ≡ false → redoRun id version (left - 1) page (at + 18) d ≡ redoRun id version left page at d
-    run-other o = run-turn d (entry-other id version (decode.entryOf b) d test t o)
+    pub from-other : test ≡ false → redoFrom framed id version (left - 1) bytes (at + step) d ≡ redoFrom framed id version left bytes at d
+    from-other o = from-turn d (entry-other id version (decode.entryOf b) d test t o)
 
--- Entry k of the buffer, lent as a part of it.
-pub nth-length : (buffer : List ℕ) (k n : ℕ) → k < n → 15 * n ≤ length buffer → length (take (15 * k + 15 - 15 * k) (drop (15 * k) buffer)) ≡ 15
-nth-length buffer k n l h =
-    length-take-le (15 * k + 15 - 15 * k) (drop (15 * k) buffer) (rw (length-drop (15 * k) buffer) (omega arith)) ∙ omega arith
-
--- The loop over the buffer's entries: a turn at an entry of the node's and the version, and at another.
-module _ (id version : ℕ) (buffer : List ℕ) (n k : ℕ) (l : k < n) (d : Draft) (test : Bool)
-    (t : test ≡ isOwn id version (decode.entryOf (take (15 * k + 15 - 15 * k) (drop (15 * k) buffer)))) where
-  nth-turn : (x : Draft) → x ≡ redoEntry id version (decode.entryOf (take (15 * k + 15 - 15 * k) (drop (15 * k) buffer))) d →
-      steps (redoNth id version buffer) (n - (k + 1)) (k + 1) x ≡ steps (redoNth id version buffer) (n - k) k d
-  unfolding redoNth part
-  nth-turn x e =
-      let size : 15 * k + 15 - 15 * k ≡ 15 = omega arith in
-      ap (steps (redoNth id version buffer) (n - (k + 1)) (k + 1))
-      (e ∙ ap (λ (m : ℕ). redoEntry id version (decode.entryOf (take m (drop (15 * k) buffer))) d) size) ∙
-      steps-more (redoNth id version buffer) n k d l
-
-  pub nth-own : test ≡ true → (x : Draft) → x ≡ redo d (decode.entryOf (take (15 * k + 15 - 15 * k) (drop (15 * k) buffer)) .change) →
-      steps (redoNth id version buffer) (n - (k + 1)) (k + 1) x ≡ steps (redoNth id version buffer) (n - k) k d
-  nth-own o x e = nth-turn x (e ∙ entry-own id version (decode.entryOf (take (15 * k + 15 - 15 * k) (drop (15 * k) buffer))) d test t o)
-
-  pub nth-other : test ≡ false → steps (redoNth id version buffer) (n - (k + 1)) (k + 1) d ≡ steps (redoNth id version buffer) (n - k) k d
-  nth-other o = nth-turn d (entry-other id version (decode.entryOf (take (15 * k + 15 - 15 * k) (drop (15 * k) buffer))) d test t o)
+-- No entry stands at the place where a page has no field 12.
+run-none : (id version : ℕ) (page : List ℕ) (left at : ℕ) (d : Draft) → 0 < left → (length (payloadAt page at 0x12) ≡ 15 → ⊥) →
+    redoRun id version left page at d ≡ d
+unfolding redoRun
+run-none id version page left at d h e =
+    let turn : left ≡ suc (left - 1) = omega arith in
+    ap (λ (k : ℕ). redoRun id version k page at d) turn ∙ rw (ne-eqb (length (payloadAt page at 0x12)) 15 e, redoRun) refl
 
 pub payload-blank : (at tag : ℕ) → at < 512 → (tag ≡ 255 → ⊥) → payloadAt blankPage at tag ≡ []
 unfolding blankPage
@@ -166,7 +157,7 @@ module _ (pages : List (List ℕ)) (q : ℕ) where
   redo-behind id version d h =
       sym
       (ap (λ (b : List ℕ). redoRun id version mostEntries b 7 d) (page-behind h) ∙
-      run-stop id version blankPage 27 7 d (omega arith) (λ e. omega (arith, ap length (payload-blank 7 0x12 (omega arith) (λ z. omega arith)))))
+      run-none id version blankPage 27 7 d (omega arith) (λ e. omega (arith, ap length (payload-blank 7 0x12 (omega arith) (λ z. omega arith)))))
 
 -- The pages of a row, by how many they are.
 module _ (pages : List (List ℕ)) (row : Row) (n : ℕ) (d : Draft) where

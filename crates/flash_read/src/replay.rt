@@ -1,12 +1,12 @@
 // The entries of a page and of the buffer, replayed in place for one node and one version.
 ghost use mathlib.Core.Path.{_≡_};
-ghost use Prim.Native.Nat.{_*_, _≤_};
+ghost use Prim.Native.Nat.{_+_, _*_, _≤_};
 ghost use lib.ListN.{length};
 ghost use Rattle.layout.specs.Layout.{mostEntries, entrySize};
 ghost use Rattle.node.specs.Replay.{redo};
 ghost use Rattle.node_replay.specs.Outline.{draftIn, HeldIn, RedoneIn};
 ghost use Rattle.page.specs.Decode.{entryOf};
-ghost use Rattle.flash_read.specs.Replay.{isOwn, redoRun, redoBuffer};
+ghost use Rattle.flash_read.specs.Replay.{isOwn, entryIn, strideOf, redoFrom, redoRun, redoBuffer};
 use layout::ENTRY_BYTES;
 use layout::MOST_ENTRIES;
 use layout::MOST_KEYS;
@@ -58,6 +58,65 @@ fn redo_entry(
     redo_link(outline, Shape::Branch, pointer)
 }
 
+// The bytes of an entry: on a page the payload of the field 12 at a place, in the buffer the fifteen bytes there. Nothing where there is none.
+fn entry_at<'a>(bytes: &'a [u8], at: usize, framed: bool) -> &'a [u8]
+    requires { ⌜ at ≤ 4096 ⌝ }
+    ensures { λ r. ⌜ now r ≡ entryIn framed (now (bytes .entry)) at ⌝ }
+{
+    if framed {
+        return payload(bytes, at, 0x12);
+    }
+    let to = at + ENTRY_BYTES;
+    if to <= bytes.len() {
+        return &bytes[at..to];
+    }
+    &bytes[..0]
+}
+
+// How far one entry lies behind another: on a page a field's head is between them.
+fn stride(framed: bool) -> usize
+    ensures { λ r. ⌜ r ≡ strideOf framed ⌝ }
+{
+    if framed {
+        return 3 + ENTRY_BYTES;
+    }
+    ENTRY_BYTES
+}
+
+// At most so many entries from a place on, in order. The one loop over entries, so that the compiler keeps the outline in registers.
+fn redo_run(
+    bytes: &[u8],
+    at: usize,
+    most: usize,
+    framed: bool,
+    id: usize,
+    version: u32,
+    keys: &mut [u32; MOST_KEYS],
+    pointers: &mut [u32; MOST_KEYS],
+    outline: Outline,
+) -> Outline
+    requires { ⌜ (at + 18 * most ≤ 4096) × (HeldIn outline (now keys) (now pointers)) ⌝ }
+    ensures { λ r. ⌜ RedoneIn r (now (keys .exit)) (now (pointers .exit))
+        (redoFrom framed id version most (now (bytes .entry)) at (draftIn outline (now (keys .entry)) (now (pointers .entry)))) ⌝ }
+{
+    let step = stride(framed);
+    let mut r = outline;
+    let mut place = at;
+    let mut left = most;
+    while 0 < left {
+        let entry = entry_at(bytes, place, framed);
+        if entry.len() != ENTRY_BYTES {
+            return r;
+        }
+        place += step;
+        left -= 1;
+        if is_own(entry, id, version) {
+            r = redo_entry(entry, keys, pointers, r);
+        }
+    }
+    r
+}
+
 // The entries of a log page, in order.
 pub fn redo_page(
     page: &[u8],
@@ -71,21 +130,17 @@ pub fn redo_page(
     ensures { λ r. ⌜ RedoneIn r (now (keys .exit)) (now (pointers .exit))
         (redoRun id version mostEntries (now (page .entry)) 7 (draftIn outline (now (keys .entry)) (now (pointers .entry)))) ⌝ }
 {
-    let mut r = outline;
-    let mut at: usize = 7;
-    let mut left: usize = MOST_ENTRIES;
-    while 0 < left {
-        let entry = payload(page, at, 0x12);
-        if entry.len() != ENTRY_BYTES {
-            return r;
-        }
-        at += 18;
-        left -= 1;
-        if is_own(entry, id, version) {
-            r = redo_entry(entry, keys, pointers, r);
-        }
-    }
-    r
+    redo_run(
+        page,
+        7,
+        MOST_ENTRIES,
+        true,
+        id,
+        version,
+        keys,
+        pointers,
+        outline,
+    )
 }
 
 // The first n entries of some bytes, in order.
@@ -102,16 +157,5 @@ pub fn redo_entries(
     ensures { λ r. ⌜ RedoneIn r (now (keys .exit)) (now (pointers .exit))
         (redoBuffer id version (now (buffer .entry)) n (draftIn outline (now (keys .entry)) (now (pointers .entry)))) ⌝ }
 {
-    let mut r = outline;
-    let mut k: usize = 0;
-    while k < n {
-        let from = ENTRY_BYTES * k;
-        let to = from + ENTRY_BYTES;
-        let entry = &buffer[from..to];
-        k += 1;
-        if is_own(entry, id, version) {
-            r = redo_entry(entry, keys, pointers, r);
-        }
-    }
-    r
+    redo_run(buffer, 0, n, false, id, version, keys, pointers, outline)
 }

@@ -18,27 +18,6 @@ fn wide(x: u32) -> u64
     x as u64
 }
 
-// The place of a key among the first `count` keys and whether it is there, from the last key down, since a node's entries most often come
-// with keys ascending.
-pub fn find_from_end(keys: &[u32; MOST_KEYS], count: usize, key: u32) -> Found
-    requires { ⌜ count ≤ mostKeys ⌝ }
-    ensures { λ r. ⌜ FoundIn (now (keys .entry)) count key r ⌝ }
-{
-    let mut i = count;
-    while 0 < i {
-        let below = i - 1;
-        let other = keys[below];
-        if other < key {
-            return Found::Above(i);
-        }
-        if other == key {
-            return Found::At(below);
-        }
-        i = below;
-    }
-    Found::Above(i)
-}
-
 // The place of the first key at or above the wanted one among the first `count` keys, by halves.
 fn place_in(keys: &[u32; MOST_KEYS], count: usize, wanted: u64) -> usize
     requires { ⌜ count ≤ mostKeys ⌝ }
@@ -70,6 +49,21 @@ pub fn find_by_halves(keys: &[u32; MOST_KEYS], count: usize, key: u32) -> Found
         return Found::Above(i);
     }
     Found::Above(i)
+}
+
+// The same of a key that most often is behind all others, as in a replay, where a node's entries come with keys ascending.
+pub fn find_behind(keys: &[u32; MOST_KEYS], count: usize, key: u32) -> Found
+    requires { ⌜ count ≤ mostKeys ⌝ }
+    ensures { λ r. ⌜ FoundIn (now (keys .entry)) count key r ⌝ }
+{
+    if count == 0 {
+        return Found::Above(0);
+    }
+    let last = count - 1;
+    if keys[last] < key {
+        return Found::Above(count);
+    }
+    find_by_halves(keys, count, key)
 }
 
 // The place of the first key at or above the wanted one.

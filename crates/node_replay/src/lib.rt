@@ -11,8 +11,8 @@ use node::DraftValue;
 use node::Found;
 use node::Shape;
 use node::same_shape;
+use node::search::find_behind;
 use node::search::find_by_halves;
-use node::search::find_from_end;
 use node::splice;
 use outline::Outline;
 use outline::broken;
@@ -36,7 +36,7 @@ pub fn redo_put(
 {
     let mut r = outline;
     let count = outline.count;
-    let found = find_from_end(keys, count, key);
+    let found = find_behind(keys, count, key);
     match found {
         Found::At(i) => {
             pointers[i] = pointer;

@@ -11,14 +11,14 @@ use Rattle.node_replay.proofs.redo_put.Tie as tie
 
 -- What the search answers is what is found in the draft's pairs.
 answer :
-    (c : tie.After-find-from-end) →
+    (c : tie.After-find-behind) →
     let a = c .before .before .args in
-    found (a .key) (pairsIn (nodeFrom (a .outline) (a .keys .now) (a .pointers .now))) ≡ c .find-from-end .result
+    found (a .key) (pairsIn (nodeFrom (a .outline) (a .keys .now) (a .pointers .now))) ≡ c .find-behind .result
 answer c = let a = c .before .before .args in
-    c .find-from-end .ensures .is (nodeFrom (a .outline) (a .keys .now) (a .pointers .now)) (c .before .before .pre) refl refl
+    c .find-behind .ensures .is (nodeFrom (a .outline) (a .keys .now) (a .pointers .now)) (c .before .before .pre) refl refl
 
-find-from-end-requires : tie.Need-find-from-end-requires
-find-from-end-requires c κs = search needs
+find-behind-requires : tie.Need-find-behind-requires
+find-behind-requires c κs = search needs
 
 enum-known-found : tie.Need-enum-known-found
 enum-known-found c = search needs
@@ -105,7 +105,7 @@ pub redo-put-spec : {M : Type 1} → statement M
 redo-put-spec =
     tie.close
     (tie.spec
-    find-from-end-requires
+    find-behind-requires
     enum-known-found
     mul-pointers
     element-write-pointers
