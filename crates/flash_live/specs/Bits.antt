@@ -2,8 +2,8 @@
 use mathlib.Core.Path.{_≡_, refl, sym, ap, ap₂, _∙_}
 use mathlib.Core.Bool.{true, false}
 use mathlib.Core.List.{List, [], _∷_, _++_}
-use Prim.Native.Nat.{ℕ, zero, suc, _+_, _*_, _/_, _%_, _<_}
-use native.Mathlib.Nat.{zero-add, zero-div, div-div-eq-div-mul}
+use Prim.Native.Nat.{ℕ, zero, suc, _+_, _*_, _/_, _%_, _^_, _<_}
+use native.Mathlib.Nat.{zero-add, zero-div, div-div-eq-div-mul, mod-eq-of-lt, pow-succ'}
 use native.Mathlib.Omega.{arith}
 use borrow.Author.Tests.{not-true, not-false, eqb-true, eqb-false}
 use lib.ListN.{length, getD, set, replicate, List·getD-append, replicate-append-replicate}
@@ -16,6 +16,11 @@ use Rattle.flash_live.specs.Live.{mostPages, marked}
 unfoldable pub twoTo : ℕ → ℕ
 twoTo zero = 1
 twoTo (suc k) = 2 * twoTo k
+
+two-pow : (k : ℕ) → 2 ^ k ≡ twoTo k
+unfolding twoTo
+two-pow zero = refl
+two-pow (suc k) = pow-succ' 2 k ∙ ap (λ (x : ℕ). 2 * x) (two-pow k)
 
 -- The n lowest bits of a number, lowest first.
 unfoldable pub bitsOf : ℕ → ℕ → List ℕ
@@ -57,6 +62,17 @@ unfolding bitsOf twoTo
 bit-fits zero b k h l z = absurd (omega arith)
 bit-fits (suc n) b zero h l z = omega arith
 bit-fits (suc n) b (suc k) h l z = omega (arith, bit-fits n (b / 2) k (omega arith) (omega arith) z)
+
+-- What the two shifts of a byte are.
+pub shifted-down : (b k : ℕ) → b / 2 ^ k ≡ b / twoTo k
+shifted-down b k = ap (λ (x : ℕ). b / x) (two-pow k)
+
+pub shifted-up : (k : ℕ) → k < 8 → 1 * 2 ^ k % 2 ^ 8 ≡ twoTo k
+unfolding twoTo
+shifted-up k h =
+    let fits : 0 + twoTo k < twoTo 8 = bit-fits 8 0 k h (omega arith) (bit-at 8 0 k h ∙ ap (λ (x : ℕ). x % 2) (zero-div (twoTo k))) in
+    let one : 1 * 2 ^ k ≡ twoTo k = omega (arith, two-pow k) in
+    ap (λ (x : ℕ). x % 256) one ∙ mod-eq-of-lt (omega (arith, fits))
 
 -- The same of a byte, by whether its bit is set.
 module _ (b k : ℕ) (h : k < 8) where

@@ -20,12 +20,12 @@ add-result : tie.Need-add-result
 add-result c = let q = c .before .before in
     let s = q .before in
     let clear = sym (q .has-bit .ensures) ∙ c .before .if1 .left in
-    omega (arith, c .two-to .ensures .0, byte-bit-fits (s .args .byte) (s .args .k) (s .pre) clear (omega arith))
+    omega (arith, c .two-to .ensures, byte-bit-fits (s .args .byte) (s .args .k) (s .pre) clear (omega arith))
 
 returns-2 : tie.Need-returns-2
 returns-2 c = let q = c .before .before in
     let s = q .before in
-    rw (c .two-to .ensures .0)
+    rw (c .two-to .ensures)
     (byte-bit-set (s .args .byte) (s .args .k) (s .pre) (sym (q .has-bit .ensures) ∙ c .before .if1 .left))
 
 pub with-bit-spec : {M : Type 1} → statement M
