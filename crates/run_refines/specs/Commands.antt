@@ -1,4 +1,5 @@
 pub mod Lists
 pub mod Tables
+pub mod Holding
 pub mod Commands
 pub mod Lookups
