@@ -24,7 +24,7 @@ serve-edit-holding-requires : tie.Need-serve-edit-holding-requires
 serve-edit-holding-requires c κs = search needs
 
 add-t27 : tie.Need-add-t27
-add-t27 c =     let c7 = c .before .before .before .before .before .before .before in
+add-t27 c = let c7 = c .before .before .before .before .before .before .before in
     let c21 = c7 .before .before .before .before .before .before .before .before .before .before .before .before .before .before in
     omega (arith, c21 .descend .ensures .charged .most, c7 .serve-edit-holding .ensures .most)
 
@@ -32,17 +32,17 @@ enum-told : tie.Need-enum-told
 enum-told c = search needs
 
 same-length : tie.Need-same-length
-same-length c =     let c7 = c .before .before .before .before .before .before .before in
+same-length c = let c7 = c .before .before .before .before .before .before .before in
     let c21 = c7 .before .before .before .before .before .before .before .before .before .before .before .before .before .before in
     omega (arith, c7 .serve-edit-holding .kept .0, c21 .descend .kept .0)
 
 same-length-2 : tie.Need-same-length-2
-same-length-2 c =     let c7 = c .before .before .before .before .before .before .before in
+same-length-2 c = let c7 = c .before .before .before .before .before .before .before in
     let c21 = c7 .before .before .before .before .before .before .before .before .before .before .before .before .before .before in
     omega (arith, c7 .serve-edit-holding .kept .1 .0, c21 .descend .kept .1 .0)
 
 returns : tie.Need-returns
-returns c =     let c7 = c .before .before .before .before .before .before .before in
+returns c = let c7 = c .before .before .before .before .before .before .before in
     let c11 = c7 .before .before .before .before in
     let c13 = c11 .before .before in
     let c21 = c13 .before .before .before .before .before .before .before .before in
@@ -61,7 +61,7 @@ same-length-4 : tie.Need-same-length-4
 same-length-4 c = search needs
 
 returns-2 : tie.Need-returns-2
-returns-2 c =     let c2 = c .before .before in
+returns-2 c = let c2 = c .before .before in
     let c10 = c2 .before .before .before .before .before .before .before .before in
     let c15 = c10 .before .before .before .before .before in
     let a = c15 .args in

@@ -23,7 +23,7 @@ same-length-2 : tie.Need-same-length-2
 same-length-2 c = search needs
 
 returns : tie.Need-returns
-returns c =     let c1 = c .before in
+returns c = let c1 = c .before in
     let c2 = c1 .before in
     let c8 = c2 .before .before .before .before .before .before in
     let c13 = c8 .before .before .before .before .before in
