@@ -13,6 +13,10 @@ use Rattle.run_path.specs.declared.path.Path.{Path}
 abbrev pub tableIn : World → Table
 tableIn w = tableOf (w .pages) (w .table) (w .state)
 
+-- The steps down that a walk may take: one node more is read at most, and no path has more nodes than there are.
+abbrev pub stepsIn : World → ℕ
+stepsIn w = w .state .nodes - 1
+
 -- A sound tree has at most 9 levels, so a path has at most 9 nodes: 8 steps down.
 abbrev pub mostSteps : ℕ
 mostSteps = 8

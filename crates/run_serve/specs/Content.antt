@@ -2,7 +2,7 @@
 use Prim.Native.Nat.{ℕ}
 use Rattle.node.specs.Node.{Node}
 use Rattle.node.specs.Change.{Change}
-use Rattle.node.specs.Replay.{Draft, redo}
+use Rattle.node.specs.Replay.{Draft, made, redo}
 use Rattle.store.specs.Store.{nodeIn}
 use Rattle.store.specs.Serve.{Work, read, edit, rewrite}
 use Rattle.flash_allocate.specs.World.{World}
@@ -15,12 +15,12 @@ draftAt n w = content (w .pages) (w .table) (w .state) n
 unfoldable pub contentOf : ℕ → World → Node
 contentOf n w = nodeIn (draftAt n w)
 
--- The same with one change more.
-unfoldable pub editedOf : Change → ℕ → World → Node
-editedOf c n w = nodeIn (redo (draftAt n w) c)
+-- The content x with one change more.
+unfoldable pub editedOf : Change → Node → Node
+editedOf c x = nodeIn (redo (made x) c)
 
--- The content of node n after a request.
-abbrev pub contentAfter : Work → ℕ → World → Node
-contentAfter read n w = contentOf n w
-contentAfter (edit c) n w = editedOf c n w
-contentAfter (rewrite x) n w = x
+-- The content that a request leaves of the content x.
+abbrev pub contentAfter : Work → Node → Node
+contentAfter read x = x
+contentAfter (edit c) x = editedOf c x
+contentAfter (rewrite y) x = y

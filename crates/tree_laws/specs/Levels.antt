@@ -4,7 +4,7 @@ use mathlib.Core.Path.{_≡_, ap}
 use mathlib.Core.Bool.{true}
 use mathlib.Core.List.{List, [], _∷_}
 use mathlib.Core.Logic.{_⊎_, inl, inr}
-use Prim.Native.Nat.{ℕ, zero, suc, _*_, _≤_, _<_}
+use Prim.Native.Nat.{ℕ, zero, suc, _*_, _-_, _≤_, _<_}
 use native.Mathlib.Nat.{zero-add}
 use native.Mathlib.Omega.{arith}
 use lib.ListN.{length}
@@ -115,46 +115,58 @@ module _ (table : Table) (count : ℕ) (pairs : List Pair) (s : Spells table cou
             fewest-deep (s .depth) l,
           ))
 
--- A sound table, with at most 620 nodes.
-module _ (limit count : ℕ) (table : Table) (s : sound limit count table ≡ true) (few : limit ≤ mostNodes) where
+-- A sound table of any size: the depth of its leaves is below the count, so one step less than there are nodes is fuel enough for every way down.
+module _ (limit count : ℕ) (table : Table) (s : sound limit count table ≡ true) where
   spelled : Spells table count (mapOf count table)
   spelled = sound-spells limit count table s
-
-  small : count ≤ mostNodes
-  small = omega (arith, sound-limit limit count table s)
-
-  shallow : spelled .depth ≤ mostDepth
-  shallow = spells-depth table count (mapOf count table) spelled small
 
   below : spelled .depth < count
   below = depth-count table count (mapOf count table) spelled
 
-  leftmost-sound : (fuel : ℕ) → spelled .depth ≤ fuel →
-      leftmost fuel table 0 0 ≡ record { depth = spelled .depth; leaf = firstLeaf (spelled .depth) (spelled .tree) }
-  leftmost-sound fuel l =
-      rw zero-add at
-      (rw (spelled .root) at (leftmost-is (spelled .depth) fuel table (spelled .tree) 0 bound32 noLeaf 0 l (spelled .stands)))
+  pub path-enough : (k fuel : ℕ) → count - 1 ≤ fuel → path fuel table k 0 ≡ path count table k 0
+  path-enough k fuel l =
+      rw (spelled .root) at
+      (path-fuel table k (spelled .depth) fuel count (spelled .tree) 0 bound32 noLeaf (omega (arith, below)) (omega (arith, below)) (spelled .stands))
 
-  -- Leaves stand at depth 8 at most.
-  pub depth-most : leftmost count table 0 0 .depth ≤ mostDepth
-  depth-most = rw (leftmost-sound count (omega (arith, below))) shallow
+  pub leafFor-enough : (k fuel : ℕ) → count - 1 ≤ fuel → leafFor fuel table k 0 ≡ leafFor count table k 0
+  leafFor-enough k fuel l =
+      rw (spelled .root) at
+      (leafFor-fuel table k (spelled .depth) fuel count (spelled .tree) 0 bound32 noLeaf (omega (arith, below)) (omega (arith, below)) (spelled .stands))
 
-  -- A path has at most 9 nodes, and fuel 8 is enough to follow it.
-  pub path-most : (k : ℕ) → length (path count table k 0) ≤ suc mostDepth
-  path-most k =
-      omega (
-        arith,
-        shallow,
+  -- The same with at most 620 nodes.
+  module _ (few : limit ≤ mostNodes) where
+    small : count ≤ mostNodes
+    small = omega (arith, sound-limit limit count table s)
+
+    shallow : spelled .depth ≤ mostDepth
+    shallow = spells-depth table count (mapOf count table) spelled small
+
+    leftmost-sound : (fuel : ℕ) → spelled .depth ≤ fuel →
+        leftmost fuel table 0 0 ≡ record { depth = spelled .depth; leaf = firstLeaf (spelled .depth) (spelled .tree) }
+    leftmost-sound fuel l =
+        rw zero-add at
+        (rw (spelled .root) at (leftmost-is (spelled .depth) fuel table (spelled .tree) 0 bound32 noLeaf 0 l (spelled .stands)))
+
+    -- Leaves stand at depth 8 at most.
+    pub depth-most : leftmost count table 0 0 .depth ≤ mostDepth
+    depth-most = rw (leftmost-sound count (omega (arith, below))) shallow
+
+    -- A path has at most 9 nodes, and fuel 8 is enough to follow it.
+    pub path-most : (k : ℕ) → length (path count table k 0) ≤ suc mostDepth
+    path-most k =
+        omega (
+          arith,
+          shallow,
+          rw (spelled .root) at
+              (path-levels (spelled .depth) count table k (spelled .tree) 0 bound32 noLeaf (omega (arith, below)) (spelled .stands)),
+        )
+
+    pub path-any : (k fuel : ℕ) → mostDepth ≤ fuel → path fuel table k 0 ≡ path count table k 0
+    path-any k fuel l =
         rw (spelled .root) at
-            (path-levels (spelled .depth) count table k (spelled .tree) 0 bound32 noLeaf (omega (arith, below)) (spelled .stands)),
-      )
+        (path-fuel table k (spelled .depth) fuel count (spelled .tree) 0 bound32 noLeaf (omega (arith, shallow)) (omega (arith, below)) (spelled .stands))
 
-  pub path-any : (k fuel : ℕ) → mostDepth ≤ fuel → path fuel table k 0 ≡ path count table k 0
-  path-any k fuel l =
-      rw (spelled .root) at
-      (path-fuel table k (spelled .depth) fuel count (spelled .tree) 0 bound32 noLeaf (omega (arith, shallow)) (omega (arith, below)) (spelled .stands))
-
-  pub leafFor-any : (k fuel : ℕ) → mostDepth ≤ fuel → leafFor fuel table k 0 ≡ leafFor count table k 0
-  leafFor-any k fuel l =
-      rw (spelled .root) at
-      (leafFor-fuel table k (spelled .depth) fuel count (spelled .tree) 0 bound32 noLeaf (omega (arith, shallow)) (omega (arith, below)) (spelled .stands))
+    pub leafFor-any : (k fuel : ℕ) → mostDepth ≤ fuel → leafFor fuel table k 0 ≡ leafFor count table k 0
+    leafFor-any k fuel l =
+        rw (spelled .root) at
+        (leafFor-fuel table k (spelled .depth) fuel count (spelled .tree) 0 bound32 noLeaf (omega (arith, shallow)) (omega (arith, below)) (spelled .stands))

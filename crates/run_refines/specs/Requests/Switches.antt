@@ -1,5 +1,4 @@
 -- THE ACCOUNT SETTLED follows the store's switch, with the score that the account says. Assumes nothing.
-use mathlib.Core.Path.{_≡_, sym, subst}
 use Prim.Native.Nat.{ℕ, _+_, _<_}
 use native.Mathlib.Omega.{arith}
 use Rattle.laws.specs.Update.{update}
@@ -13,8 +12,6 @@ use Rattle.store.specs.Run.{Run}
 use Rattle.store.specs.Serve as Store
 use Rattle.flash_allocate.specs.World.{World}
 use Rattle.flash_refines.specs.Store.Follows.{Follows, Writable}
-use Rattle.run_serve.specs.Content.{contentOf}
-use Rattle.run_serve.specs.Write.{writeWhole}
 use Rattle.run_serve.specs.Settle.{switch, settleBy}
 use Rattle.run_refines.specs.Requests.Scores.{rescored-follows}
 use Rattle.run_refines.specs.Requests.Writes.{Stays, stays, whole-follows, whole-stays}
@@ -26,20 +23,16 @@ module _ {B : ℕ} {run : Run} (b : Writable B run) (n : ℕ) (there : n < run .
   switch-stays narrow Disk Log = whole-stays b n there x neat number narrow Log
   switch-stays narrow Disk Disk = stays b
 
-  module _ {score : ℕ → ℕ} {w : World} (f : Follows score w run) (content : contentOf n w ≡ x) where
-    -- the content that the code writes is the store's
-    read-whole : (m : Mode) (run′ : Run) → Follows score (writeWhole m n x w) run′ → Follows score (writeWhole m n (contentOf n w) w) run′
-    read-whole m run′ g = subst (λ (y : Node). Follows score (writeWhole m n y w) run′) (sym content) g
-
-    switch-follows : (from to : Mode) → Follows score (switch from to n w) (Store.switch from to n x run)
+  module _ {score : ℕ → ℕ} {w : World} (f : Follows score w run) where
+    switch-follows : (from to : Mode) → Follows score (switch from to n x w) (Store.switch from to n x run)
     unfolding switch
     switch-follows Log Log = f
-    switch-follows Log Disk = read-whole Disk _ (whole-follows b n there x neat number f Disk)
-    switch-follows Disk Log = read-whole Log _ (whole-follows b n there x neat number f Log)
+    switch-follows Log Disk = whole-follows b n there x neat number f Disk
+    switch-follows Disk Log = whole-follows b n there x neat number f Log
     switch-follows Disk Disk = f
 
     pub settle-follows : Narrow x → (from : Mode) (after : Account) →
-        Follows (update score n (after .score)) (settleBy from after n w) (Store.switch from (after .mode) n x run)
+        Follows (update score n (after .score)) (settleBy from after n x w) (Store.switch from (after .mode) n x run)
     unfolding settleBy
     settle-follows narrow from after =
         rescored-follows (switch-follows from (after .mode)) n (omega (arith, switch-stays narrow from (after .mode) .nodes)) (after .score)

@@ -1,5 +1,5 @@
 -- A REQUEST'S OWN CHANGE follows the store's, and so does the whole request, served in a mode. Assumes nothing.
-use mathlib.Core.Path.{_≡_, refl, sym, ap, _∙_, subst}
+use mathlib.Core.Path.{_≡_, refl, sym, ap, subst}
 use Prim.Native.Nat.{ℕ, _+_, _<_}
 use native.Mathlib.Omega.{arith}
 use borrow.Author.Tests.{lt-ltb}
@@ -14,7 +14,7 @@ use Rattle.account.specs.Serve.{serveOf}
 use Rattle.node.specs.Node.{Node, Neat}
 use Rattle.node.specs.Change.{Change, change}
 use Rattle.node.specs.Narrow.{Narrow}
-use Rattle.node.specs.Replay.{Draft, made, redo}
+use Rattle.node.specs.Replay.{made}
 use Rattle.store.specs.Store.{nodeIn, draftOf, nodeOf, modeOf}
 use Rattle.store.specs.Run.{Run}
 use Rattle.store.specs.Serve.{Work, read, edit, rewrite, workOn, note}
@@ -31,7 +31,7 @@ use Rattle.flash_refines.specs.Read.Content.{content-follows}
 use Rattle.run_serve.specs.Content.{draftAt, contentOf, editedOf, contentAfter}
 use Rattle.run_serve.specs.Write.{write}
 use Rattle.run_serve.specs.Settle.{accountAt, settleBy, settle}
-use Rattle.run_serve.specs.Serve.{requestOf, serveThere, serve, charge}
+use Rattle.run_serve.specs.Serve.{requestOf, serveThere, serveHolding, serve, charge}
 use Rattle.run_refines.specs.Requests.Writes.{Stays, whole-follows}
 use Rattle.run_refines.specs.Requests.Switches.{switch-stays, settle-follows}
 
@@ -85,10 +85,10 @@ module _ {B : ℕ} {score : ℕ → ℕ} {w : World} {run : Run} (b : Writable B
     unfolding contentOf
     content-is = ap nodeIn draft-is
 
-    after-is : (work : Work) → Fits work x → contentAfter work n w ≡ workOn work x
+    after-is : (work : Work) → Fits work x → contentAfter work x ≡ workOn work x
     unfolding editedOf
-    after-is read fits = content-is
-    after-is (edit c) fits = ap nodeIn (ap (λ (d : Draft). redo d c) draft-is ∙ redo-made c x (fits .0) (fits .1))
+    after-is read fits = refl
+    after-is (edit c) fits = ap nodeIn (redo-made c x (fits .0) (fits .1))
     after-is (rewrite y) fits = refl
 
     abbrev served : Served
@@ -97,12 +97,12 @@ module _ {B : ℕ} {score : ℕ → ℕ} {w : World} {run : Run} (b : Writable B
     abbrev switched : Run
     switched = Store.switch (modeOf (run .now) n) (served .account .mode) n x run
 
-    settled : Follows (update score n (served .account .score)) (settle t (requestOf work) n w) switched
+    settled : Follows (update score n (served .account .score)) (settle t (requestOf work) n x w) switched
     settled =
         subst
-        (λ (a : Account). Follows (update score n (served .account .score)) (settleBy (a .mode) (serveOf t a (requestOf work) .account) n w) switched)
+        (λ (a : Account). Follows (update score n (served .account .score)) (settleBy (a .mode) (serveOf t a (requestOf work) .account) n x w) switched)
         (sym account-is)
-        (settle-follows b n there x neat (omega arith) f content-is narrow (modeOf (run .now) n) (served .account))
+        (settle-follows b n there x neat (omega arith) f narrow (modeOf (run .now) n) (served .account))
 
     left : Stays B run switched
     left = switch-stays b n there x neat (omega arith) narrow (modeOf (run .now) n) (served .account .mode)
@@ -111,17 +111,21 @@ module _ {B : ℕ} {score : ℕ → ℕ} {w : World} {run : Run} (b : Writable B
     unfolding nodeOf
     node-is = ap nodeIn held
 
-    own : Follows (update score n (served .account .score)) (serve t n work w) (Store.work (served .account .mode) n work x switched)
-    unfolding serve serveThere
+    own : Follows (update score n (served .account .score)) (serveHolding t n x work w) (Store.work (served .account .mode) n work x switched)
+    unfolding serveHolding serveThere
     own =
         rw (lt-ltb n (w .state .nodes) inside, after-is work fits)
         (subst
         (λ (a : Account). Follows (update score n (served .account .score))
-        (write (serveOf t a (requestOf work) .account .mode) n work (workOn work x) (settle t (requestOf work) n w))
+        (write (serveOf t a (requestOf work) .account .mode) n work (workOn work x) (settle t (requestOf work) n x w))
         (Store.work (served .account .mode) n work x switched))
         (sym account-is)
         (own-follows (left .writable) settled n (omega (arith, left .nodes)) x (omega (arith, left .last)) (served .account .mode) work fits))
 
-    pub serve-follows : Follows (update score n (served .account .score)) (serve t n work w) (Store.serve (served .account .mode) n work run)
+    holding-follows : Follows (update score n (served .account .score)) (serveHolding t n x work w) (Store.serve (served .account .mode) n work run)
     unfolding Store.serve
-    serve-follows = rw node-is (note-follows own)
+    holding-follows = rw node-is (note-follows own)
+
+    pub serve-follows : Follows (update score n (served .account .score)) (serve t n work w) (Store.serve (served .account .mode) n work run)
+    unfolding serve
+    serve-follows = rw content-is holding-follows

@@ -1,23 +1,22 @@
--- `request::serve_edit` meets its contract: the content edited, the account settled, then the edit in the mode that serves. Assumes nothing.
+-- `request::serve_edit` meets its contract: the content read, then the edit with it in hand. Assumes nothing.
+use mathlib.Core.Path.{refl}
 use Rattle.flash_rows.specs.Worktable.{tableFrom}
 use Rattle.flash_blocks.specs.Pages.{pagesOf}
 use Rattle.node.specs.Value.{nodeOf}
 use Rattle.node.specs.Drafts.{changeOf}
 use Rattle.store.specs.Serve.{edit}
 use Rattle.flash_allocate.specs.World.{world}
-use Rattle.run_serve.proofs.Laws.{served-there, served-nowhere}
+use Rattle.run_serve.specs.Content.{contentOf}
+use Rattle.run_serve.proofs.Laws.{served-nowhere, served-read}
 use borrow.Author.Needs.{needs}
 use Rattle.run_serve.proofs.request.serve_edit.Statement.{statement}
 use Rattle.run_serve.proofs.request.serve_edit.Tie as tie
 
-edited-content-requires : tie.Need-edited-content-requires
-edited-content-requires c κs = search needs
+content-of-requires : tie.Need-content-of-requires
+content-of-requires c κs = search needs
 
-settle-requires : tie.Need-settle-requires
-settle-requires c κs = search needs
-
-write-edit-requires : tie.Need-write-edit-requires
-write-edit-requires c κs = search needs
+serve-edit-holding-requires : tie.Need-serve-edit-holding-requires
+serve-edit-holding-requires c κs = search needs
 
 same-length : tie.Need-same-length
 same-length c = search needs
@@ -28,33 +27,28 @@ same-length-2 c = search needs
 returns : tie.Need-returns
 returns c =
     let c4 = c .before .before .before .before in
-    let c13 = c4 .before .before .before .before .before .before .before .before .before in
-    let c16 = c13 .before .before .before in
-    let c19 = c16 .before .before .before in
-    let c23 = c19 .before .before .before .before in
-    let a = c23 .args in
-    let x = c13 .settle in
-    let y = c4 .write-edit in
-    let v = c16 .edited-content in
-    served-there (a .tariff) (a .id) (edit (changeOf (a .change)))
-    (world (pagesOf (a .pool .now)) (tableFrom (a .table .now)) (a .state)) (c19 .if1 .taken) (pagesOf (x .last .0))
-    (tableFrom (x .last .1 .0)) (x .result) (x .ensures) (nodeOf (v .result)) (v .ensures .is) (pagesOf (y .last .0))
-    (tableFrom (y .last .1 .0)) (y .result) (y .ensures)
+    let c7 = c4 .before .before .before in
+    let c14 = c7 .before .before .before .before .before .before .before in
+    let a = c14 .args in
+    let v = c7 .content-of in
+    served-read (a .tariff) (a .id) (nodeOf (v .result)) (edit (changeOf (a .change)))
+    (world (pagesOf (a .pool .now)) (tableFrom (a .table .now)) (a .state)) (v .ensures .is) (c4 .serve-edit-holding .ensures)
 
 returns-2 : tie.Need-returns-2
 returns-2 c =
     let c4 = c .before .before .before .before in
     let a = c4 .args in
-    served-nowhere (a .tariff) (a .id) (edit (changeOf (a .change)))
-    (world (pagesOf (a .pool .now)) (tableFrom (a .table .now)) (a .state)) (c .if1 .left) (c4 .pre .0)
+    let w = world (pagesOf (a .pool .now)) (tableFrom (a .table .now)) (a .state) in
+    let work = edit (changeOf (a .change)) in
+    served-read (a .tariff) (a .id) (contentOf (a .id) w) work w refl
+    (served-nowhere (a .tariff) (a .id) (contentOf (a .id) w) work w (c .if1 .left) (c4 .pre .0))
 
 pub serve-edit-spec : {M : Type 1} → statement M
 serve-edit-spec =
     tie.close
     (tie.spec
-    edited-content-requires
-    settle-requires
-    write-edit-requires
+    content-of-requires
+    serve-edit-holding-requires
     same-length
     same-length-2
     returns

@@ -5,7 +5,8 @@ use Rattle.flash_blocks.specs.Pages.{pagesOf}
 use Rattle.node.specs.Value.{nodeOf}
 use Rattle.store.specs.Serve.{rewrite}
 use Rattle.flash_allocate.specs.World.{world}
-use Rattle.run_serve.proofs.Laws.{served-there, served-nowhere}
+use Rattle.run_serve.specs.Content.{contentOf}
+use Rattle.run_serve.proofs.Laws.{served-there, served-nowhere, served-read}
 use borrow.Author.Needs.{needs}
 use Rattle.run_serve.proofs.request.serve_rewrite.Statement.{statement}
 use Rattle.run_serve.proofs.request.serve_rewrite.Tie as tie
@@ -31,17 +32,22 @@ returns c =
     let a = c20 .args in
     let x = c13 .settle in
     let y = c4 .write-whole in
-    served-there (a .tariff) (a .id) (rewrite (nodeOf (a .v)))
-    (world (pagesOf (a .pool .now)) (tableFrom (a .table .now)) (a .state)) (c16 .if1 .taken) (pagesOf (x .last .0))
+    let w = world (pagesOf (a .pool .now)) (tableFrom (a .table .now)) (a .state) in
+    let content = contentOf (a .id) w in
+    let work = rewrite (nodeOf (a .v)) in
+    served-read (a .tariff) (a .id) content work w refl
+    (served-there (a .tariff) (a .id) content work w (c16 .if1 .taken) (pagesOf (x .last .0))
     (tableFrom (x .last .1 .0)) (x .result) (x .ensures) (nodeOf (a .v)) refl (pagesOf (y .last .0))
-    (tableFrom (y .last .1 .0)) (y .result) (y .ensures)
+    (tableFrom (y .last .1 .0)) (y .result) (y .ensures))
 
 returns-2 : tie.Need-returns-2
 returns-2 c =
     let c4 = c .before .before .before .before in
     let a = c4 .args in
-    served-nowhere (a .tariff) (a .id) (rewrite (nodeOf (a .v)))
-    (world (pagesOf (a .pool .now)) (tableFrom (a .table .now)) (a .state)) (c .if1 .left) (c4 .pre .0)
+    let w = world (pagesOf (a .pool .now)) (tableFrom (a .table .now)) (a .state) in
+    let content = contentOf (a .id) w in
+    let work = rewrite (nodeOf (a .v)) in
+    served-read (a .tariff) (a .id) content work w refl (served-nowhere (a .tariff) (a .id) content work w (c .if1 .left) (c4 .pre .0))
 
 pub serve-rewrite-spec : {M : Type 1} → statement M
 serve-rewrite-spec =

@@ -2,6 +2,7 @@
 use Rattle.flash_rows.specs.Worktable.{tableFrom}
 use Rattle.flash_blocks.specs.Pages.{pagesOf}
 use Rattle.flash_allocate.specs.World.{world}
+use Rattle.run_serve.specs.Content.{contentOf}
 use Rattle.run_serve.proofs.Laws.{settled}
 use borrow.Author.Needs.{needs}
 use Rattle.run_serve.proofs.settle.settle.Statement.{statement}
@@ -19,8 +20,8 @@ serve-requires c κs = search needs
 switch-requires : tie.Need-switch-requires
 switch-requires c κs = search needs
 
-rescore-requires : tie.Need-rescore-requires
-rescore-requires c κs = search needs
+stored-requires : tie.Need-stored-requires
+stored-requires c κs = search needs
 
 same-length : tie.Need-same-length
 same-length c = search needs
@@ -38,11 +39,12 @@ returns c =
     let c18 = c14 .before .before .before .before in
     let a = c18 .args in
     let x = c8 .switch in
-    let y = c2 .rescore in
-    settled (a .tariff) (a .request) (a .id) (world (pagesOf (a .pool .now)) (tableFrom (a .table .now)) (a .state))
+    let y = c2 .stored in
+    let w = world (pagesOf (a .pool .now)) (tableFrom (a .table .now)) (a .state) in
+    settled (a .tariff) (a .request) (a .id) (contentOf (a .id) w) w
     (world (pagesOf (x .last .0)) (tableFrom (x .last .1 .0)) (x .result)) (c14 .row-at .result)
     (c13 .account-in .result) (c12 .serve .result) (tableFrom (y .last .0)) (c14 .row-at .ensures)
-    (c13 .account-in .ensures) (c12 .serve .ensures) (x .ensures) (y .ensures) (y .kept .0)
+    (c13 .account-in .ensures) (c12 .serve .ensures) (x .ensures) (y .ensures .0) (y .kept .0) (y .result) (y .ensures .1)
 
 pub settle-spec : {M : Type 1} → statement M
 settle-spec =
@@ -52,7 +54,7 @@ settle-spec =
     account-in-requires
     serve-requires
     switch-requires
-    rescore-requires
+    stored-requires
     same-length
     same-length-2
     returns)
