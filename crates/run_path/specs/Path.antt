@@ -1,8 +1,9 @@
--- The path from the root to the leaf of a key, by value (document 01, "Nodes and tree": every command reads "the nodes from root to leaf").
+-- The path from the root to the leaf of a key (document 01, "Nodes and tree": every command reads "the nodes from root to leaf").
 use mathlib.Core.Path.{_≡_}
 use mathlib.Core.List.{List}
 use Prim.Native.Nat.{ℕ, _-_, _≤_}
-use lib.ListN.{getD, take}
+use lib.ListN.{length, getD, take}
+use Rattle.layout.specs.Layout.{nodeLimit, mostBlocks}
 use Rattle.node.specs.Value.{Becomes}
 use Rattle.tree.specs.Table.{Table, path, leafFor}
 use Rattle.flash_allocate.specs.World.{World}
@@ -17,21 +18,19 @@ tableIn w = tableOf (w .pages) (w .table) (w .state)
 abbrev pub stepsIn : World → ℕ
 stepsIn w = w .state .nodes - 1
 
--- A sound tree has at most 9 levels, so a path has at most 9 nodes: 8 steps down.
-abbrev pub mostSteps : ℕ
-mostSteps = 8
-
 -- The path to a key in a world, and the leaf at its end.
 abbrev pub pathTo : ℕ → World → List ℕ
-pathTo k w = path mostSteps (tableIn w) k 0
+pathTo k w = path (stepsIn w) (tableIn w) k 0
 
 abbrev pub leafAt : ℕ → World → ℕ
-leafAt k w = leafFor mostSteps (tableIn w) k 0
+leafAt k w = leafFor (stepsIn w) (tableIn w) k 0
 
--- What the code of a way down finds in a table: the ids from the root on, and the leaf with its id.
-pub record PathTo (table : Table) (k : ℕ) (r : Path) : Type 0 where
-  pub ids : take (r .length) (r .ids) ≡ path mostSteps table k 0
+-- What the code of a way down finds in a table by at most so many steps: the ids from the root on stand in front of those in the lent array, and the
+-- leaf is in hand.
+pub record PathTo (table : Table) (steps k : ℕ) (lent : List ℕ) (r : Path) : Type 0 where
+  pub ids : take (r .length) lent ≡ path steps table k 0
   pub some : 1 ≤ r .length
-  pub few : r .length ≤ 9
-  pub end : getD (r .ids) (r .length - 1) 0 ≡ leafFor mostSteps table k 0
-  pub leaf : Becomes (r .leaf) (table (leafFor mostSteps table k 0))
+  pub few : r .length ≤ nodeLimit mostBlocks
+  pub end : getD lent (r .length - 1) 0 ≡ leafFor steps table k 0
+  pub leaf : Becomes (r .leaf) (table (leafFor steps table k 0))
+  pub room : length lent ≡ nodeLimit mostBlocks

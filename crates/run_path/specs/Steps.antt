@@ -1,5 +1,5 @@
 -- A way down a step at a time: what is left of it from a node gives the whole. Assumes nothing.
-use mathlib.Core.Path.{_≡_, refl, sym, ap, _∙_, subst}
+use mathlib.Core.Path.{_≡_, refl, sym, ap, _∙_}
 use mathlib.Core.Bool.{Bool, true, false}
 use mathlib.Core.List.{List, [], _∷_, _++_, append-assoc}
 use Prim.Native.Nat.{ℕ, suc, _+_, _-_, _≤_, _<_}
@@ -10,6 +10,7 @@ use lib.Dec.{ltb}
 use lib.ListN.{length, take, set, length-set}
 use lib.Seq.{getD-set-same, take-suc-set}
 use mathlib.Core.Option.{none}
+use Rattle.layout.specs.Layout.{nodeLimit, mostBlocks}
 use Rattle.pairs.specs.Pairs.{Pair}
 use Rattle.node.specs.declared.Shape.the-variants.{Leaf, Branch}
 use Rattle.node.specs.declared.NodeValue.{NodeValue}
@@ -18,7 +19,7 @@ use Rattle.node.specs.Search.{place, childPlace, pointerAt, place-first, place-
 use Rattle.node.specs.Value.{Becomes}
 use Rattle.tree.specs.Table.{Table, slot, path, leafFor, childFor}
 use Rattle.tree_laws.specs.LeafOfKey.{path-leaf, leafFor-leaf}
-use Rattle.run_path.specs.Path.{mostSteps, PathTo}
+use Rattle.run_path.specs.Path.{PathTo}
 
 -- The place that a key leads to is that of the first key above it, as the code searches it.
 pub slot-place : (k : ℕ) (ks : List Pair) → slot k ks ≡ childPlace k ks
@@ -44,64 +45,72 @@ module _ (table : Table) (k id : ℕ) where
     unfolding leafFor
     leaf-below fuel = rw (e, leafFor) (ap (λ (j : ℕ). leafFor fuel table k (pointerAt ks last j)) (slot-place k ks))
 
--- After i steps: the ids so far, and the node that the path has come to.
-pub record Down (table : Table) (k : ℕ) (ids : List ℕ) (id i : ℕ) : Type 0 where
-  pub steps : i ≤ mostSteps
-  pub long : length ids ≡ 9
-  pub onPath : take i ids ++ path (mostSteps - i) table k id ≡ path mostSteps table k 0
-  pub leaf : leafFor (mostSteps - i) table k id ≡ leafFor mostSteps table k 0
+-- After i steps of so many: the ids so far, and the node that the path has come to.
+pub record Down (table : Table) (steps k : ℕ) (ids : List ℕ) (id i : ℕ) : Type 0 where
+  pub within : i ≤ steps
+  pub long : steps < length ids
+  pub room : length ids ≡ nodeLimit mostBlocks
+  pub onPath : take i ids ++ path (steps - i) table k id ≡ path steps table k 0
+  pub leaf : leafFor (steps - i) table k id ≡ leafFor steps table k 0
 
-pub down-start : (table : Table) (k : ℕ) (ids : List ℕ) → length ids ≡ 9 → Down table k ids 0 0
-down-start table k ids l = record { steps = omega arith; long = l; onPath = refl; leaf = refl }
+pub down-start : (table : Table) (nodes k : ℕ) (ids : List ℕ) → nodes ≤ nodeLimit mostBlocks → length ids ≡ nodeLimit mostBlocks →
+    Down table (nodes - 1) k ids 0 0
+down-start table nodes k ids l e =
+    let none : nodes - 1 - 0 ≡ nodes - 1 = omega arith in
+    record {
+      within = omega arith;
+      long = omega arith;
+      room = e;
+      onPath = ap (λ (n : ℕ). path n table k 0) none;
+      leaf = ap (λ (n : ℕ). leafFor n table k 0) none;
+    }
 
-module _ {table : Table} {k : ℕ} {ids : List ℕ} {id i : ℕ} (d : Down table k ids id i) where
+module _ {table : Table} {steps k : ℕ} {ids : List ℕ} {id i : ℕ} (d : Down table steps k ids id i) where
   noted : take (i + 1) (set ids i id) ≡ take i ids ++ (id ∷ [])
-  noted = rw (add-one i) (take-suc-set ids i id (omega (arith, d .steps, d .long)))
+  noted = rw (add-one i) (take-suc-set ids i id (omega (arith, d .within, d .long)))
 
   -- one step more, from a branch
-  pub down-more : i < mostSteps → (ks : List Pair) (last : ℕ) → table id ≡ node Branch ks last →
-      Down table k (set ids i id) (pointerAt ks last (childPlace k ks)) (i + 1)
+  pub down-more : i < steps → (ks : List Pair) (last : ℕ) → table id ≡ node Branch ks last →
+      Down table steps k (set ids i id) (pointerAt ks last (childPlace k ks)) (i + 1)
   down-more l ks last e =
-      let f : mostSteps - i ≡ suc (mostSteps - (i + 1)) = omega arith in
+      let f : steps - i ≡ suc (steps - (i + 1)) = omega arith in
       let next : ℕ = pointerAt ks last (childPlace k ks) in
       record {
-        steps = omega arith;
-        long = length-set ids i id ∙ d .long;
+        within = omega arith;
+        long = omega (arith, length-set ids i id, d .long);
+        room = length-set ids i id ∙ d .room;
         onPath =
-            ap (λ (xs : List ℕ). xs ++ path (mostSteps - (i + 1)) table k next) noted ∙
-            append-assoc (take i ids) (id ∷ []) (path (mostSteps - (i + 1)) table k next) ∙
+            ap (λ (xs : List ℕ). xs ++ path (steps - (i + 1)) table k next) noted ∙
+            append-assoc (take i ids) (id ∷ []) (path (steps - (i + 1)) table k next) ∙
             ap (λ (xs : List ℕ). take i ids ++ xs)
-            (sym (ap (λ (n : ℕ). path n table k id) f ∙ path-branch table k id ks last e (mostSteps - (i + 1)))) ∙
+            (sym (ap (λ (n : ℕ). path n table k id) f ∙ path-branch table k id ks last e (steps - (i + 1)))) ∙
             d .onPath;
-        leaf = sym (ap (λ (n : ℕ). leafFor n table k id) f ∙ leaf-below table k id ks last e (mostSteps - (i + 1))) ∙ d .leaf;
+        leaf = sym (ap (λ (n : ℕ). leafFor n table k id) f ∙ leaf-below table k id ks last e (steps - (i + 1))) ∙ d .leaf;
       }
 
   -- the end of the path: a leaf, or no step left
-  pub down-end : path (mostSteps - i) table k id ≡ id ∷ [] → leafFor (mostSteps - i) table k id ≡ id → (v : NodeValue) → Becomes v (table id) →
-      PathTo table k (record { ids = set ids i id; length = i + 1; leaf = v })
-  down-end e f v b =
-      let here : leafFor mostSteps table k 0 ≡ id = sym (d .leaf) ∙ f in
-      let last : i + 1 - 1 ≡ i = omega arith in
-      record {
-        ids = noted ∙ ap (λ (xs : List ℕ). take i ids ++ xs) (sym e) ∙ d .onPath;
-        some = omega arith;
-        few = omega (arith, d .steps);
-        end = rw last (getD-set-same ids i id 0 (omega (arith, d .steps, d .long))) ∙ sym here;
-        leaf = rw here b;
-      }
+  module _ (v : NodeValue) (b : Becomes v (table id)) where
+    down-end : path (steps - i) table k id ≡ id ∷ [] → leafFor (steps - i) table k id ≡ id →
+        PathTo table steps k (set ids i id) (record { length = i + 1; leaf = v })
+    down-end e f =
+        let here : leafFor steps table k 0 ≡ id = sym (d .leaf) ∙ f in
+        let last : i + 1 - 1 ≡ i = omega arith in
+        record {
+          ids = noted ∙ ap (λ (xs : List ℕ). take i ids ++ xs) (sym e) ∙ d .onPath;
+          some = omega arith;
+          few = omega (arith, d .within, d .long, d .room);
+          end = rw last (getD-set-same ids i id 0 (omega (arith, d .within, d .long))) ∙ sym here;
+          leaf = rw here b;
+          room = length-set ids i id ∙ d .room;
+        }
 
-  pub down-leaf : (ps : List Pair) (next : ℕ) → table id ≡ node Leaf ps next → (v : NodeValue) → Becomes v (table id) →
-      PathTo table k (record { ids = set ids i id; length = i + 1; leaf = v })
-  down-leaf ps next e v b =
-      let ends : childFor k (table id) ≡ none = ap (childFor k) e in
-      down-end (path-leaf table k (mostSteps - i) id ends) (leafFor-leaf table k (mostSteps - i) id ends) v b
+    pub down-leaf : (ps : List Pair) (next : ℕ) → table id ≡ node Leaf ps next → PathTo table steps k (set ids i id) (record { length = i + 1; leaf = v })
+    down-leaf ps next e =
+        let ends : childFor k (table id) ≡ none = ap (childFor k) e in
+        down-end (path-leaf table k (steps - i) id ends) (leafFor-leaf table k (steps - i) id ends)
 
-  pub down-last : mostSteps ≤ i → (v : NodeValue) → Becomes v (table id) → PathTo table k (record { ids = set ids 8 id; length = 9; leaf = v })
-  unfolding path leafFor
-  down-last l v b =
-      let none : mostSteps - i ≡ 0 = omega arith in
-      let here : i ≡ 8 = omega (arith, d .steps) in
-      let nine : i + 1 ≡ 9 = omega arith in
-      subst (λ (n : ℕ). PathTo table k (record { ids = set ids 8 id; length = n; leaf = v })) nine
-      (subst (λ (n : ℕ). PathTo table k (record { ids = set ids n id; length = i + 1; leaf = v })) here
-      (down-end (ap (λ (n : ℕ). path n table k id) none) (ap (λ (n : ℕ). leafFor n table k id) none) v b))
+    pub down-last : steps ≤ i → PathTo table steps k (set ids i id) (record { length = i + 1; leaf = v })
+    unfolding path leafFor
+    down-last l =
+        let none : steps - i ≡ 0 = omega arith in
+        down-end (ap (λ (n : ℕ). path n table k id) none) (ap (λ (n : ℕ). leafFor n table k id) none)

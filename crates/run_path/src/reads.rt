@@ -1,6 +1,6 @@
 // Nodes read, one after another.
 ghost use Prim.Native.Nat.{_≤_};
-ghost use lib.ListN.{length, take};
+ghost use lib.ListN.{length};
 ghost use Rattle.layout.specs.Layout.{nodeLimit, mostBlocks};
 ghost use Rattle.account.specs.Range.{Ranged};
 ghost use Rattle.flash_allocate.specs.World.{Good, worldIn};
@@ -8,7 +8,6 @@ ghost use Rattle.run_serve.specs.Step.{InBytes};
 ghost use Rattle.run_path.specs.Reads.{ReadAs};
 use account::Tariff;
 use flash_allocate::state::State;
-use layout::MOST_LEVELS;
 use run_serve::charged::Charged;
 use run_serve::request::serve_read;
 
@@ -35,20 +34,4 @@ pub fn read_nodes(
         i += 1;
     }
     Charged { state: s, charge }
-}
-
-// Reads of the first n nodes of a path.
-pub fn serve_reads(
-    pool: &mut [u8],
-    table: &mut [u8],
-    state: State,
-    tariff: Tariff,
-    ids: [u32; MOST_LEVELS],
-    n: usize,
-) -> Charged
-    requires { ⌜ (Good (length (now pool)) (length (now table)) state) × (Ranged tariff) × (n ≤ 9) ⌝ }
-    ensures { λ r. ⌜ InBytes ReadAs (now (pool .exit)) (now (table .exit)) r tariff n (take n ids)
-        (worldIn (now (pool .entry)) (now (table .entry)) state) ⌝ }
-{
-    read_nodes(pool, table, state, tariff, &ids[0..n])
 }

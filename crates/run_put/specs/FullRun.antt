@@ -4,8 +4,8 @@ use mathlib.Core.List.{List, [], _∷_}
 use Prim.Native.Nat.{ℕ, zero, suc, _+_, _-_, _≤_, _<_}
 use native.Mathlib.Omega.{arith}
 use borrow.Author.Tests.{eq-eqb, ne-eqb}
-use lib.ListN.{length, getD, take, drop, length-drop, drop-of-length-le}
-use lib.Seq.{drop-cons, getD-take, length-take-le}
+use lib.ListN.{length, getD, drop, length-drop, drop-of-length-le}
+use lib.Seq.{drop-cons}
 use Rattle.layout.specs.Layout.{mostKeys}
 use Rattle.node.specs.declared.NodeValue.{NodeValue}
 use Rattle.node.specs.Node.{Node, pairsOf}
@@ -64,38 +64,14 @@ module _ (table : Table) (ids : List ℕ) where
       rw (ne-eqb (fullRun table ids) (length ids) (omega (arith, r .inside)), idsNeeded) (sym whole)
 
   -- all of them, the root too
-  pub needed-all : Full table ids 0 → suc (length ids) ≡ idsNeeded table ids
+  all-needed : Full table ids 0 → suc (length ids) ≡ idsNeeded table ids
   unfolding idsNeeded
-  needed-all r = rw (eq-eqb (fullRun table ids) (length ids) (r .run ∙ omega arith), idsNeeded) refl
+  all-needed r = rw (eq-eqb (fullRun table ids) (length ids) (r .run ∙ omega arith), idsNeeded) refl
 
--- The same of the first n ids of an array.
-module _ (table : Table) (ids : List ℕ) (n : ℕ) (l : n ≤ length ids) where
-  whole : length (take n ids) ≡ n
-  whole = length-take-le n ids l
-
-  same-size : (i : ℕ) → i < n → sizeAt table (getD (take n ids) i 0) ≡ sizeAt table (getD ids i 0)
-  same-size i h = ap (sizeAt table) (getD-take n ids i 0 h)
-
-  pub leaf-counted : 1 ≤ n → mostKeys ≤ sizeAt table (getD ids (n - 1) 0) → Full table (take n ids) (n - 1)
-  leaf-counted h f = full-leaf table (take n ids) (n - 1) (omega (arith, whole)) (omega (arith, same-size (n - 1) (omega arith)))
-
-  module _ (i : ℕ) (r : Full table (take n ids) i) where
-    pub above-counted : 0 < i → mostKeys ≤ sizeAt table (getD ids (i - 1) 0) → Full table (take n ids) (i - 1)
-    above-counted h f =
-        full-above table (take n ids) i (i - 1) r (omega arith) (omega (arith, same-size (i - 1) (omega (arith, whole, r .inside))))
-
-    pub gap-counted : 0 < i → sizeAt table (getD ids (i - 1) 0) < mostKeys → n - i ≡ idsNeeded table (take n ids)
-    gap-counted h f =
-        omega (
-          arith,
-          whole,
-          needed-gap table (take n ids) i (i - 1) r (omega arith) (omega (arith, same-size (i - 1) (omega (arith, whole, r .inside)))),
-        )
-
-    pub all-counted : i ≤ 0 → n + 1 ≡ idsNeeded table (take n ids)
-    all-counted h =
-        let zero : i ≡ 0 = omega arith in
-        omega (arith, whole, needed-all table (take n ids) (subst (Full table (take n ids)) zero r))
+  pub needed-all : (i : ℕ) → Full table ids i → i ≤ 0 → length ids + 1 ≡ idsNeeded table ids
+  needed-all i r l =
+      let zero : i ≡ 0 = omega arith in
+      omega (arith, all-needed (subst (Full table ids) zero r))
 
 -- The size of a node that was read.
 pub size-read : (table : Table) (id : ℕ) (v : NodeValue) → Becomes v (table id) → sizeAt table id ≡ v .count

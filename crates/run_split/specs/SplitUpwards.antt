@@ -1,8 +1,8 @@
 -- A PAIR PUT INTO THE LEAF OF A WAY: "the work goes in the order given, leaf upwards" (document 01, "Nodes and tree").
 use mathlib.Core.Bool.{Bool, true, false}
 use mathlib.Core.List.{List, [], _∷_}
-use Prim.Native.Nat.{ℕ, _+_}
-use lib.ListN.{drop}
+use Prim.Native.Nat.{ℕ, _+_, _*_}
+use lib.ListN.{length, drop}
 use Rattle.account.specs.declared.Tariff.{Tariff}
 use Rattle.flash_rows.specs.Worktable.{Worktable}
 use Rattle.flash_allocate.specs.World.{World}
@@ -29,7 +29,8 @@ splitUpwardsBelow t wanted (id ∷ ids) start = upward t wanted false id (splitU
 unfoldable pub splitUpwards : Tariff → ℕ → ℕ → List ℕ → World → Absorbing
 splitUpwards t key value ids w = upward t key true 0 (splitUpwardsBelow t key (drop 1 ids) (absorbing w 0 (Pair key value)))
 
--- What the code of it leaves.
+-- What the code of it leaves: of at most two requests a node of the path.
 abbrev pub SplitUpwardsAs : ℕ → ℕ → List (List ℕ) → Worktable → Charged → Tariff → ℕ → ℕ → List ℕ → World → Type 0
 SplitUpwardsAs poolLength tableLength pages table r t key value ids w =
-    ChargedAs Grew poolLength tableLength pages table r (w .state) 18 (splitUpwards t key value ids w .now) (splitUpwards t key value ids w .charge)
+    ChargedAs Grew poolLength tableLength pages table r (w .state) (2 * length ids) (splitUpwards t key value ids w .now)
+    (splitUpwards t key value ids w .charge)

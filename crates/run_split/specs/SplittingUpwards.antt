@@ -26,14 +26,13 @@ pub record SplittingUpwards (poolLength tableLength : ℕ) (t : Tariff) (key val
   pub some : 1 ≤ i
   pub inside : i ≤ length ids
   pub is : absorbing now paid pending ≡ splitUpwardsBelow t key (drop i ids) (absorbing start 0 (Pair key value))
-  pub most : paid + mostCharge * (2 * i) ≤ mostCharge * 18
+  pub most : paid + mostCharge * (2 * i) ≤ mostCharge * (2 * length ids)
 
-pub splitting-start : {P T : ℕ} (t : Tariff) (key value : ℕ) (ids : List ℕ) (w : World) → Growing P T (w .state) → (n : ℕ) → n ≡ length ids → 1 ≤ n →
-    n ≤ 9 →
-    SplittingUpwards P T t key value ids n w w 0 (Pair key value)
+pub splitting-start : {P T : ℕ} (t : Tariff) (key value : ℕ) (ids : List ℕ) (w : World) → Growing P T (w .state) → 1 ≤ length ids →
+    SplittingUpwards P T t key value ids (length ids) w w 0 (Pair key value)
 unfolding splitUpwardsBelow
-splitting-start t key value ids w g n e some few =
-    let none = drop-of-length-le ids {i = n} (omega arith) in
+splitting-start t key value ids w g some =
+    let none = drop-of-length-le ids {i = length ids} (omega arith) in
     record {
       growing = g;
       blocks = refl;

@@ -1,6 +1,7 @@
 // A pair put into the leaf of a path: "the work goes in the order given, leaf upwards".
 ghost use Prim.Native.Nat.{_≤_};
-ghost use lib.ListN.{length, take};
+ghost use lib.ListN.{length};
+ghost use Rattle.layout.specs.Layout.{nodeLimit, mostBlocks};
 ghost use Rattle.account.specs.Range.{Ranged};
 ghost use Rattle.flash_allocate.specs.World.{worldIn};
 ghost use Rattle.run_serve.specs.Step.{InBytes};
@@ -10,29 +11,28 @@ use super::Pending;
 use super::absorb::absorb;
 use account::Tariff;
 use flash_allocate::state::State;
-use layout::MOST_LEVELS;
 use run_serve::charged::Charged;
 use run_serve::id::wide;
 
-// The leaf takes the pair, then each node of the path what the one below it left, and the root last.
+// The leaf of a path takes the pair, then each node of the path what the one below it left, and the root last.
 pub fn split_upwards(
     pool: &mut [u8],
     table: &mut [u8],
     state: State,
     tariff: Tariff,
-    ids: [u32; MOST_LEVELS],
-    n: usize,
+    ids: &[u32],
     key: u32,
     value: u32,
 ) -> Charged
-    requires { ⌜ (Growing (length (now pool)) (length (now table)) state) × (Ranged tariff) × (1 ≤ n) × (n ≤ 9) ⌝ }
-    ensures { λ r. ⌜ InBytes SplitUpwardsAs (now (pool .exit)) (now (table .exit)) r tariff key value (take n ids)
+    requires { ⌜ (Growing (length (now pool)) (length (now table)) state) × (Ranged tariff)
+        × (1 ≤ length (now ids)) × (length (now ids) ≤ nodeLimit mostBlocks) ⌝ }
+    ensures { λ r. ⌜ InBytes SplitUpwardsAs (now (pool .exit)) (now (table .exit)) r tariff key value (now (ids .entry))
         (worldIn (now (pool .entry)) (now (table .entry)) state) ⌝ }
 {
     let mut s = state;
     let mut charge: u64 = 0;
     let mut pending = Pending::Pair { key, value };
-    let mut i = n;
+    let mut i = ids.len();
     while 1 < i {
         i -= 1;
         let taken = absorb(pool, table, s, tariff, false, wide(ids[i]), key, pending);

@@ -1,4 +1,4 @@
--- A REQUEST WITH ITS CONTENT IN HAND is the request that reads it, where what is in hand is the node that the state's book has. Assumes nothing.
+-- A REQUEST WITH ITS CONTENT IN HAND is the request that reads it, where what is in hand is the node of the table. Assumes nothing.
 use mathlib.Core.Path.{_≡_, sym, ap, _∙_}
 use mathlib.Core.Logic.{_⊎_, inl, inr}
 use Prim.Native.Nat.{ℕ, _≤_, _<_}
@@ -9,24 +9,27 @@ use Rattle.node.specs.Node.{Node}
 use Rattle.store.specs.Serve.{Work}
 use Rattle.model.specs.State.{State, bookOf}
 use Rattle.flash_allocate.specs.World.{World}
-use Rattle.flash_read.specs.NodeTable.{tableOf-in}
+use Rattle.flash_read.specs.NodeTable.{tableOf, tableOf-in}
 use Rattle.run_serve.specs.Content.{contentOf}
 use Rattle.run_serve.specs.Serve.{serveHolding, serve}
 use Rattle.run_refines.specs.Commands.Lists.{Runs}
 use Rattle.run_refines.specs.Commands.Tables.{table-agrees}
 
-module _ {blocks : ℕ} {w : World} {s : State} (k : Runs blocks w s) (n : ℕ) (x : Node) (e : x ≡ bookOf s .table n) where
-  -- the content that the code would read
-  content-agrees : n < w .state .nodes → contentOf n w ≡ x
+-- The node that the table has in this world; of a node that is not there both serve nothing.
+module _ (t : Tariff) (n : ℕ) (x : Node) (work : Work) (w : World) (e : x ≡ tableOf (w .pages) (w .table) (w .state) n) where
+  content-is : n < w .state .nodes → contentOf n w ≡ x
   unfolding contentOf
-  content-agrees l =
-      sym (tableOf-in (w .pages) (w .table) (w .state) n l) ∙ ap (λ (table : ℕ → Node). table n) (table-agrees k) ∙ sym e
+  content-is l = sym (tableOf-in (w .pages) (w .table) (w .state) n l) ∙ sym e
 
-  -- of a node that is not there both serve nothing
-  pub serve-holding : (t : Tariff) (work : Work) → serveHolding t n x work w ≡ serve t n work w
+  pub serve-here : serveHolding t n x work w ≡ serve t n work w
   unfolding serve serveHolding
-  serve-holding t work = go (le-or (w .state .nodes) n)
+  serve-here = go (le-or (w .state .nodes) n)
     where
       go : (w .state .nodes ≤ n) ⊎ (n < w .state .nodes) → serveHolding t n x work w ≡ serve t n work w
       go (inl l) = rw (le-ltb n (w .state .nodes) l)
-      go (inr l) = ap (λ (z : Node). serveHolding t n z work w) (sym (content-agrees l))
+      go (inr l) = ap (λ (z : Node). serveHolding t n z work w) (sym (content-is l))
+
+-- The node that the book of a state has with which the world agrees.
+pub serve-holding : {blocks : ℕ} {w : World} {s : State} (k : Runs blocks w s) (n : ℕ) (x : Node) → x ≡ bookOf s .table n → (t : Tariff) (work : Work) →
+    serveHolding t n x work w ≡ serve t n work w
+serve-holding {w = w} k n x e t work = serve-here t n x work w (e ∙ sym (ap (λ (table : ℕ → Node). table n) (table-agrees k)))

@@ -16,7 +16,7 @@ use Rattle.model.specs.State.{State, bookOf}
 use Rattle.demands.specs.Says.{bookOf-count}
 use Rattle.demands.specs.Run.{serveAll-table, serveAll-count, serveAll-served}
 use Rattle.flash_allocate.specs.World.{World}
-use Rattle.run_put.specs.Put.{tableAt}
+use Rattle.run_path.specs.Path.{tableIn}
 use Rattle.run_refines.specs.Commands.Tables.{table-agrees}
 use Rattle.run_refines.specs.Commands.Lists.{servedAll, Runs}
 use Rattle.run_refines.specs.Put.Lists.{Suits, served-together}
@@ -28,12 +28,12 @@ module _ {B : ℕ} {s : State} {w : World} (a : Runs B w s) where
   pub blocks-are : w .state .blocks ≡ B
   blocks-are = sym (a .agrees .mirrors .pages .size) ∙ a .sound .good .invariant .rules .size
 
-  pub table-is : tableAt w ≡ bookOf s .table
+  pub table-is : tableIn w ≡ bookOf s .table
   table-is = table-agrees a
 
 -- The world after a list of requests on a table with a count.
 pub record Moment (B : ℕ) (t : Tariff) (before : Table) (count : ℕ) (w : World) (rs : List NodeRequest) : Type 0 where
-  pub table : tableAt (servedAll t rs w) ≡ applyAll rs before
+  pub table : tableIn (servedAll t rs w) ≡ applyAll rs before
   pub nodes : servedAll t rs w .state .nodes ≡ countAfterAll rs count
   pub blocks : servedAll t rs w .state .blocks ≡ B
 

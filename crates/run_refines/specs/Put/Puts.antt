@@ -28,7 +28,7 @@ use Rattle.tree.specs.Put.{work, finish, idsNeeded, putRefused, putRequests}
 use Rattle.tree.specs.Sound.{sound}
 use Rattle.tree.specs.Spells.{Spells}
 use Rattle.tree_laws.specs.SoundLaws.{spells-sound}
-use Rattle.tree_laws.specs.Levels.{path-any, leafFor-any}
+use Rattle.tree_laws.specs.Levels.{path-enough, leafFor-enough}
 use Rattle.tree_laws.specs.GetLaws.{node-neat, leaf-found, path-found}
 use Rattle.tree_laws.specs.LeafOfKey.{LeafOf}
 use Rattle.tree_laws.specs.NarrowLaws.{put-narrow}
@@ -42,9 +42,9 @@ use Rattle.model.specs.State.{State, bookOf, serveAll, charges}
 use Rattle.demands.specs.Says.{bookOf-count}
 use Rattle.demands.specs.NodesNarrow.{book-narrow}
 use Rattle.flash_allocate.specs.World.{World}
-use Rattle.run_path.specs.Path.{mostSteps}
+use Rattle.run_path.specs.Path.{tableIn, stepsIn}
 use Rattle.run_path.specs.Reads.{readAll, readCharges}
-use Rattle.run_serve.specs.Serve.{serve, charge}
+use Rattle.run_serve.specs.Serve.{serveHolding, charge}
 use Rattle.store.specs.Serve as Store
 use Rattle.node.specs.declared.fit.Fitting.{Fitting}
 use Rattle.node.specs.declared.fit.Fitting.the-variants.{Room, Full}
@@ -52,9 +52,10 @@ use Rattle.run_split.specs.declared.Pending.the-variants.{Nothing}
 use Rattle.node.specs.Fit.{byFit, fitOf, full-above}
 use Rattle.run_split.specs.Absorbing.{Absorbing, absorbing}
 use Rattle.run_split.specs.SplitUpwards.{splitUpwards}
-use Rattle.run_put.specs.Put.{readAndEdit, readAndSplit, Doing, doing, answering, refused, putSplitting, tableAt, putIn, put}
+use Rattle.run_put.specs.Put.{readAndEdit, readAndSplit, Doing, doing, answering, refused, putSplitting, putIn, put}
 use Rattle.run_refines.specs.Commands.Lists.{servedAll, chargedAll, servedAll-append, chargedAll-append, Runs}
 use Rattle.run_refines.specs.Commands.Commands.{reads-served, reads-charged}
+use Rattle.run_refines.specs.Commands.Holding.{serve-here}
 use Rattle.run_refines.specs.Put.Lists.{Suits, served-together}
 use Rattle.run_refines.specs.Put.Moments.{nodes-are, blocks-are, table-is, Moment, moment}
 use Rattle.run_refines.specs.Put.Sizes.{room-size, pairs-put}
@@ -101,28 +102,28 @@ module _ (t : Tariff) {B : ℕ} (s : State) (w : World) (a : Runs B w s) (pairs 
   sound-here : sound mostNodes count table ≡ true
   sound-here = spells-sound mostNodes count table pairs spells few
 
-  path-is : path mostSteps table key 0 ≡ onPath
-  path-is = path-any mostNodes count table sound-here (omega arith) key mostSteps (omega arith)
+  path-is : path (stepsIn w) table key 0 ≡ onPath
+  path-is = path-enough mostNodes count table sound-here key (stepsIn w) (omega (arith, nodes-are a))
 
-  leaf-is : leafFor mostSteps table key 0 ≡ leaf
-  leaf-is = leafFor-any mostNodes count table sound-here (omega arith) key mostSteps (omega arith)
+  leaf-is : leafFor (stepsIn w) table key 0 ≡ leaf
+  leaf-is = leafFor-enough mostNodes count table sound-here key (stepsIn w) (omega (arith, nodes-are a))
 
   -- The put on this table, its path and its leaf, by whether the pair fits.
   put-by : (f : Fitting) → fitOf key (pairsOf (table leaf)) ≡ f →
       put t key value w ≡
-      byFit f (answering (valueOr Replaced (getAnswer count table key)) (readAndEdit t onPath leaf key value w)) (putSplitting t onPath (idsNeeded table onPath) key value w)
+      byFit f (answering (valueOr Replaced (getAnswer count table key)) (readAndEdit t onPath leaf (table leaf) key value w)) (putSplitting t onPath (idsNeeded table onPath) key value w)
   unfolding putIn getAnswer
   put-by f e =
       ap (λ (z : Table). putIn z t key value w) (table-is a) ∙
       ap₂
       (λ (ids : List ℕ) (i : ℕ).
       byFit (fitOf key (pairsOf (table i)))
-      (answering (valueOr Replaced (lookup key (pairsOf (table i)))) (readAndEdit t ids i key value w))
+      (answering (valueOr Replaced (lookup key (pairsOf (table i)))) (readAndEdit t ids i (table i) key value w))
       (putSplitting t ids (idsNeeded table ids) key value w))
       path-is leaf-is ∙
       ap
       (λ (z : Fitting).
-      byFit z (answering (valueOr Replaced (lookup key (pairsOf (table leaf)))) (readAndEdit t onPath leaf key value w))
+      byFit z (answering (valueOr Replaced (lookup key (pairsOf (table leaf)))) (readAndEdit t onPath leaf (table leaf) key value w))
       (putSplitting t onPath (idsNeeded table onPath) key value w))
       e
 
@@ -173,14 +174,17 @@ module _ (t : Tariff) {B : ℕ} (s : State) (w : World) (a : Runs B w s) (pairs 
         go true e = absurd (omega (arith, refused-past table count pairs spells key value small limit within e, single .1, within))
         go false e = refl
 
-    edit-is : readAndEdit t onPath leaf key value w ≡ record { now = servedAll t rs w; charge = chargedAll t rs w }
+    edit-is : readAndEdit t onPath leaf (table leaf) key value w ≡ record { now = servedAll t rs w; charge = chargedAll t rs w }
     unfolding readAndEdit
     edit-is =
         let reads = map read onPath in
         let one = edit leaf (Change.put key value) ∷ [] in
         let list : rs ≡ reads ++ one = requests-are accepted ∙ ap (λ (z : List NodeRequest). reads ++ z) (single .0) in
-        let now : serve t leaf (Store.edit (Change.put key value)) (readAll t onPath w) ≡ servedAll t rs w =
-        ap (serve t leaf (Store.edit (Change.put key value))) (reads-served t onPath w) ∙
+        let m = moment t s w rs (countAfterAll rs count) a (suits-accepted accepted) reads one (sym list) in
+        let held : table leaf ≡ tableIn (servedAll t reads w) leaf = ap (λ (z : Table). z leaf) (sym (m .table ∙ applyAll-reads onPath table)) in
+        let now : serveHolding t leaf (table leaf) (Store.edit (Change.put key value)) (readAll t onPath w) ≡ servedAll t rs w =
+        ap (serveHolding t leaf (table leaf) (Store.edit (Change.put key value))) (reads-served t onPath w) ∙
+        serve-here t leaf (table leaf) (Store.edit (Change.put key value)) (servedAll t reads w) held ∙
         sym (servedAll-append t reads one w) ∙
         ap (λ (z : List NodeRequest). servedAll t z w) (sym list) in
         let paid : readCharges t onPath w + charge t leaf (Store.edit (Change.put key value)) (readAll t onPath w) ≡ chargedAll t rs w =
@@ -253,7 +257,7 @@ module _ (t : Tariff) {B : ℕ} (s : State) (w : World) (a : Runs B w s) (pairs 
           let same = servedAll-append t reads xs w in
           record {
             table =
-                ap tableAt (sym same) ∙
+                ap tableIn (sym same) ∙
                 m .table ∙
                 applyAll-append reads xs table ∙
                 ap (applyAll xs) (applyAll-reads onPath table);

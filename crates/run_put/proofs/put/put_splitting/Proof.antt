@@ -1,6 +1,5 @@
 -- `put::put_splitting` meets its contract: the ids counted, then a refusal or the splits. Assumes nothing.
 use native.Mathlib.Omega.{arith}
-use lib.ListN.{take}
 use Rattle.flash_rows.specs.Worktable.{tableFrom}
 use Rattle.flash_blocks.specs.Pages.{pagesOf}
 use Rattle.tree.specs.Put.{idsNeeded}
@@ -14,8 +13,8 @@ use Rattle.run_put.proofs.put.put_splitting.Tie as tie
 
 ids-needed-requires : tie.Need-ids-needed-requires
 ids-needed-requires c κs =
-    let c4 = c .before .before .before .before in
-    (readable (c4 .pre .0), c4 .pre .2, c4 .pre .3, c4 .pre .4)
+    let c5 = c .before .before .before .before .before in
+    (readable (c5 .pre .0), c5 .pre .2, c5 .pre .3, c5 .pre .4)
 
 node-limit-requires : tie.Need-node-limit-requires
 node-limit-requires c κs = search needs
@@ -23,8 +22,8 @@ node-limit-requires c κs = search needs
 add-if1 : tie.Need-add-if1
 add-if1 c =
     let c2 = c .before .before in
-    let c7 = c2 .before .before .before .before .before in
-    omega (arith, c7 .pre .0 .limited, c7 .pre .0 .good .most, c2 .ids-needed .ensures .1)
+    let c8 = c2 .before .before .before .before .before .before in
+    omega (arith, c8 .pre .0 .limited, c8 .pre .0 .good .most, c2 .ids-needed .ensures .1)
 
 same-length : tie.Need-same-length
 same-length c = search needs
@@ -35,18 +34,18 @@ same-length-2 c = search needs
 returns : tie.Need-returns
 returns c =
     let c3 = c .before .before .before in
-    let c8 = c3 .before .before .before .before .before in
-    let a = c8 .args in
+    let c9 = c3 .before .before .before .before .before .before in
+    let a = c9 .args in
     let x = c3 .ids-needed in
-    new-refused (a .tariff) (take (a .n) (a .ids)) (x .result)
-    (idsNeeded (tableOf (pagesOf (a .pool .now)) (tableFrom (a .table .now)) (a .state)) (take (a .n) (a .ids)))
+    new-refused (a .tariff) (a .ids .now) (x .result)
+    (idsNeeded (tableOf (pagesOf (a .pool .now)) (tableFrom (a .table .now)) (a .state)) (a .ids .now))
     (a .key) (a .value) (world (pagesOf (a .pool .now)) (tableFrom (a .table .now)) (a .state)) (x .ensures .0)
-    (omega (arith, c .if1 .taken, c .before .before .node-limit .ensures .0)) (c8 .pre .0)
+    (omega (arith, c .if1 .taken, c .before .before .node-limit .ensures .0)) (c9 .pre .0)
 
 read-and-split-requires : tie.Need-read-and-split-requires
 read-and-split-requires c κs =
-    let c10 = c .before .before .before .before .before .before .before .before .before .before in
-    (c10 .pre .0, c10 .pre .1, c10 .pre .2, c10 .pre .3)
+    let c11 = c .before .before .before .before .before .before .before .before .before .before .before in
+    (c11 .pre .0, c11 .pre .1, c11 .pre .2, c11 .pre .3)
 
 same-length-3 : tie.Need-same-length-3
 same-length-3 c = search needs
@@ -60,12 +59,12 @@ returns-2 c =
     let c7 = c4 .before .before .before in
     let c9 = c7 .before .before in
     let c10 = c9 .before in
-    let c15 = c10 .before .before .before .before .before in
-    let a = c15 .args in
+    let c16 = c10 .before .before .before .before .before .before in
+    let a = c16 .args in
     let x = c10 .ids-needed in
     let y = c4 .read-and-split in
-    new-split (a .tariff) (take (a .n) (a .ids)) (x .result)
-    (idsNeeded (tableOf (pagesOf (a .pool .now)) (tableFrom (a .table .now)) (a .state)) (take (a .n) (a .ids)))
+    new-split (a .tariff) (a .ids .now) (x .result)
+    (idsNeeded (tableOf (pagesOf (a .pool .now)) (tableFrom (a .table .now)) (a .state)) (a .ids .now))
     (a .key) (a .value) (world (pagesOf (a .pool .now)) (tableFrom (a .table .now)) (a .state)) (x .ensures .0)
     (pagesOf (y .last .0)) (tableFrom (y .last .1 .0)) (y .result)
     (omega (arith, c7 .if1 .left, c9 .node-limit .ensures .0)) (y .ensures)
