@@ -11,7 +11,7 @@ use mathlib.Core.List.{List}
 use Prim.Native.Nat.{ℕ, _+_, _*_, _≤_}
 use native.Mathlib.Omega.{arith}
 use lib.ListN.{set, take, drop}
-use Rattle.layout.specs.Layout.{entrySize, mostEntries, fewestBlocks, nodeLimit, tableBytes}
+use Rattle.layout.specs.Layout.{entrySize, mostEntries, fewestBlocks, nodeLimit, tableBytes, workBytes}
 use Rattle.flash_rows.specs.declared.Row.{Row}
 use Rattle.flash_rows.specs.Row.{rowsOf, rowBytes}
 
@@ -56,9 +56,9 @@ withRow n r w = withRows (set (w .rows) n r) w
 abbrev pub withBuffer : List ℕ → Worktable → Worktable
 withBuffer buffer w = worktable buffer (w .rows)
 
--- It fits for every B from 4, with the tree check's 17 bytes a node behind the rows; with a buffer of 1,695 bytes too, as pages of 2,048 bytes need it.
-pub plan-fits : (blocks : ℕ) → fewestBlocks ≤ blocks → freeAt blocks + 17 * nodeLimit blocks ≤ tableBytes blocks
+-- It fits for every B from 4, with room for the tree check behind all rows even; with a buffer of 1,695 bytes too, as pages of 2,048 bytes need it.
+pub plan-fits : (blocks : ℕ) → fewestBlocks ≤ blocks → freeAt blocks + workBytes (nodeLimit blocks) ≤ tableBytes blocks
 plan-fits blocks few = omega arith
 
-pub plan-fits-wide : (blocks : ℕ) → fewestBlocks ≤ blocks → 1696 + (rowBytes * rowsFor blocks + 17 * nodeLimit blocks) ≤ tableBytes blocks
+pub plan-fits-wide : (blocks : ℕ) → fewestBlocks ≤ blocks → 1696 + (rowBytes * rowsFor blocks + workBytes (nodeLimit blocks)) ≤ tableBytes blocks
 plan-fits-wide blocks few = omega arith

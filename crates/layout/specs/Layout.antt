@@ -31,10 +31,18 @@ nodeLimit blocks = 10 * (blocks - 2)
 abbrev pub mostNodes : ℕ
 mostNodes = nodeLimit mostBlocks
 
--- Work table: at least 1,024 × B bytes. Batch: 0 to 32,768 bytes.
+-- Work table: at least 1,024 × B bytes.
 abbrev pub tableBytes : ℕ → ℕ
 tableBytes blocks = 1024 * blocks
 
+-- The tree check works in so many bytes: a slot of 16 for each node that may be due, and a mark for each id.
+abbrev pub dueBytes : ℕ
+dueBytes = 16
+
+abbrev pub workBytes : ℕ → ℕ
+workBytes nodes = dueBytes * nodes + nodes
+
+-- Batch: 0 to 32,768 bytes.
 abbrev pub mostBatchBytes : ℕ
 mostBatchBytes = 32768
 

@@ -20,10 +20,12 @@ pub const MOST_PAGES: usize = PAGES_IN_BLOCK * MOST_BLOCKS;
 // The map of live pages: a bit a page.
 pub const LIVE_BYTES: usize = MOST_PAGES / 8;
 
-// The work table: 64 rows of 16 bytes for each block.
+// The work table: 64 rows of 16 bytes for each block; a node due in the tree check has 16 bytes there too.
 pub const ROW_BYTES: usize = 16;
 
 pub const TABLE_BYTES: usize = 1024;
+
+pub const DUE_BYTES: usize = 16;
 
 // The tree: nodes of up to 24 keys, on at most nine levels; the first 12 keys stay in a split.
 pub const MOST_KEYS: usize = 24;

@@ -10,7 +10,7 @@ use lib.Seq.{length-take-le}
 use borrow.Rule.Slice.PartMut.{putMid}
 use Rattle.laws.specs.Lay.{drop-replicate, take-replicate}
 use Rattle.laws.specs.Loops.{allFrom}
-use Rattle.layout.specs.Layout.{fewestBlocks, nodeLimit, mostNodes, tableBytes, lastSequence}
+use Rattle.layout.specs.Layout.{fewestBlocks, nodeLimit, mostNodes, tableBytes, workBytes, lastSequence}
 use Rattle.account.specs.declared.Tariff.{Tariff}
 use Rattle.account.specs.Tariff.{limit}
 use Rattle.account.specs.Range.{inRange}
@@ -22,7 +22,7 @@ use Rattle.flash_allocate.specs.declared.state.State.{State}
 use Rattle.mount_rows.specs.Fill.{filled, withinThree, Filled}
 use Rattle.mount_checkpoint.specs.Scores.{takePages}
 use Rattle.flash_read.specs.NodeTable.{tableOf}
-use Rattle.mount_tree.specs.Area.{workBytes, Checkable}
+use Rattle.mount_tree.specs.Area.{Checkable}
 use Rattle.mount_restore.specs.Table.{emptyRows, scoredRows, restoredRows, Restored}
 use Rattle.mount_restore.specs.Questions.{rowsPass, tableFor, treePasses, refusalOf, Judged, Asked}
 use Rattle.mount_restore.specs.Scores.{isBelow}

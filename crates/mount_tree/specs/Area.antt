@@ -7,7 +7,7 @@ use Prim.Native.Nat.{ℕ, suc, _+_, _-_, _*_, _≤_, _<_}
 use lib.ListN.{length, getD, take, drop, set}
 use Rattle.laws.specs.Tests.{choose}
 use Rattle.laws.specs.Lay.{part}
-use Rattle.layout.specs.Layout.{bound32}
+use Rattle.layout.specs.Layout.{bound32, dueBytes, workBytes}
 use Rattle.node.specs.declared.NodeValue.{NodeValue}
 use Rattle.node.specs.Value.{nodeOf, Sized}
 use Rattle.tree.specs.Table.{Table}
@@ -16,14 +16,10 @@ use Rattle.flash_allocate.specs.declared.state.State.{State}
 use Rattle.flash_read.specs.NodeTable.{Readable}
 use Rattle.mount_tree.specs.declared.due.Due.{Due}
 use Rattle.mount_tree.specs.declared.walk.WalkValue.{WalkValue}
-use Rattle.mount_tree.specs.Due.{dueBytes, duesOf, noDue}
+use Rattle.mount_tree.specs.Due.{duesOf, noDue}
 use Rattle.mount_tree.specs.Passes.{passes}
 use Rattle.mount_tree.specs.Pending.{visitAll}
 use Rattle.mount_tree.specs.Reached.{reachedIn}
-
--- The bytes that a check of so many nodes works in.
-abbrev pub workBytes : ℕ → ℕ
-workBytes nodes = dueBytes * nodes + nodes
 
 unfoldable pub duesIn : ℕ → ℕ → List ℕ → List Due
 duesIn kept nodes table = duesOf (part table kept (dueBytes * nodes))

@@ -9,9 +9,10 @@ use lib.Seq.{drop-cons, drop-set-lt, getD-set-same, take-set-le, take-set-lt, dr
 use borrow.Rule.Slice.PartMut.{putMid}
 use Rattle.laws.specs.Lay.{lay, part, part-lay, part-lay-before, part-lay-behind, length-part, length-lay, lay-lent}
 use Rattle.mount_tree.specs.declared.due.Due.{Due}
-use Rattle.mount_tree.specs.Due.{dueBytes, duesOf, noDue}
+use Rattle.layout.specs.Layout.{dueBytes, workBytes}
+use Rattle.mount_tree.specs.Due.{duesOf, noDue}
 use Rattle.mount_tree.specs.Stack.{length-dues}
-use Rattle.mount_tree.specs.Area.{workBytes, duesIn, marksIn, Marks, Pushes, rootDue, Begun}
+use Rattle.mount_tree.specs.Area.{duesIn, marksIn, Marks, Pushes, rootDue, Begun}
 
 -- A part that the code lends from one place to another.
 part-between : (s : List ℕ) (at n : ℕ) → take (at + n - at) (drop at s) ≡ part s at n

@@ -4,13 +4,9 @@ use mathlib.Core.List.{List, [], _∷_, _++_, map}
 use Prim.Native.Nat.{ℕ, _+_, _*_, _/_, _%_}
 use Rattle.laws.specs.BigEndian.{bigEndian, numberAt}
 use Rattle.laws.specs.Chunks.{chunks}
-use Rattle.layout.specs.Layout.{bound32}
+use Rattle.layout.specs.Layout.{bound32, dueBytes}
 use Rattle.pairs.specs.Pairs.{Pair}
 use Rattle.mount_tree.specs.declared.due.Due.{Due}
-
--- The bytes of a node due.
-abbrev pub dueBytes : ℕ
-dueBytes = 16
 
 -- The node due that 16 bytes spell, and the bytes of one.
 unfoldable pub decode : List ℕ → Due

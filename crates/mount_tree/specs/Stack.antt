@@ -8,11 +8,11 @@ use lib.Seq.{drop-cons, drop-set-lt, getD-set-same}
 use Rattle.laws.specs.Lay.{lay, part}
 use Rattle.laws.specs.BigEndian.{numberAt, number-bigEndian}
 use Rattle.laws.specs.Chunks.{chunks, length-chunks, get-chunks, lay-chunks, map-set}
-use Rattle.layout.specs.Layout.{bound32}
+use Rattle.layout.specs.Layout.{bound32, dueBytes}
 use Rattle.pairs.specs.Pairs.{Pair}
 use Rattle.node.specs.Search.{keyAt, pointerAt}
 use Rattle.mount_tree.specs.declared.due.Due.{Due}
-use Rattle.mount_tree.specs.Due.{dueBytes, decode, encode, duesOf, noDue, childrenOf}
+use Rattle.mount_tree.specs.Due.{decode, encode, duesOf, noDue, childrenOf}
 
 -- The numbers of a node due are within their widths.
 pub record Fits (d : Due) : Type 0 where

@@ -18,7 +18,8 @@ use Rattle.mount_tree.specs.Stack.{length-children}
 use Rattle.mount_tree.specs.Passes.{passes, marked, pass-inside, pass-fresh}
 use Rattle.mount_tree.specs.Pending.{visitAll, all-fails, all-leaf, all-branch}
 use Rattle.mount_tree.specs.Reached.{reachedIn, reached-set, crowded-none}
-use Rattle.mount_tree.specs.Area.{workBytes, duesIn, marksIn, walkIn, comesTo, failedAt, Marks, Pushes, Stepped, NextDue}
+use Rattle.layout.specs.Layout.{workBytes}
+use Rattle.mount_tree.specs.Area.{duesIn, marksIn, walkIn, comesTo, failedAt, Marks, Pushes, Stepped, NextDue}
 use Rattle.mount_tree.specs.AreaLaws.{length-duesIn, length-marksIn}
 
 module _ (tree : Table) (kept nodes : ℕ) (before : List ℕ) (w : WalkValue) where

@@ -9,7 +9,7 @@ use borrow.Author.Tests.{eq-eqb, ne-eqb}
 use lib.Dec.{eqb}
 use lib.ListN.{length, take, drop-of-length-le}
 use Rattle.laws.specs.Tests.{choose}
-use Rattle.layout.specs.Layout.{noLeaf}
+use Rattle.layout.specs.Layout.{noLeaf, workBytes}
 use Rattle.tree.specs.Table.{Table}
 use Rattle.tree.specs.Sound.{Walk, complete}
 use Rattle.flash_allocate.specs.declared.state.State.{State}
@@ -18,7 +18,7 @@ use Rattle.mount_tree.specs.declared.due.Due.{Due}
 use Rattle.mount_tree.specs.declared.walk.WalkValue.{WalkValue}
 use Rattle.mount_tree.specs.Pending.{visitAll, all-none}
 use Rattle.mount_tree.specs.Reached.{all-reached}
-use Rattle.mount_tree.specs.Area.{workBytes, duesIn, marksIn, Checkable, Standing, walkIn, comesTo, Stepped}
+use Rattle.mount_tree.specs.Area.{duesIn, marksIn, Checkable, Standing, walkIn, comesTo, Stepped}
 use Rattle.mount_tree.specs.AreaLaws.{length-duesIn, length-marksIn}
 
 -- What a check asks is asked of the kept bytes and the length alone.

@@ -3,14 +3,15 @@ ghost use mathlib.Core.Path.{_≡_};
 ghost use mathlib.Core.List.{[], _∷_};
 ghost use Prim.Native.Nat.{_+_, _-_, _≤_, _<_};
 ghost use lib.ListN.{length, getD};
+ghost use Rattle.layout.specs.Layout.{workBytes};
 ghost use Rattle.node.specs.Value.{pairsIn, Sized};
 ghost use Rattle.mount_tree.specs.Due.{noDue, childrenOf};
-ghost use Rattle.mount_tree.specs.Area.{workBytes, duesIn, Marks, Pushes, rootDue, Begun};
-use super::due::DUE_BYTES;
+ghost use Rattle.mount_tree.specs.Area.{duesIn, Marks, Pushes, rootDue, Begun};
 use super::due::Due;
 use super::due::push_children;
 use super::due::read_due;
 use super::due::write_due;
+use layout::DUE_BYTES;
 use node::NodeValue;
 use wire::bytes::fill_part;
 

@@ -3,16 +3,16 @@ ghost use mathlib.Core.Path.{_≡_};
 ghost use mathlib.Core.List.{_++_};
 ghost use Prim.Native.Nat.{_+_, _*_, _≤_};
 ghost use lib.ListN.{length, getD, drop, set};
+ghost use Rattle.layout.specs.Layout.{dueBytes};
 ghost use Rattle.node.specs.Value.{pairsIn, Sized};
 ghost use Rattle.mount_tree.specs.Due as def;
-ghost use Rattle.mount_tree.specs.Due.{dueBytes, duesOf, noDue, childrenOf};
+ghost use Rattle.mount_tree.specs.Due.{duesOf, noDue, childrenOf};
+use layout::DUE_BYTES;
 use node::NodeValue;
 use node::search::key;
 use node::search::pointer;
 use wire::bytes::lay_bytes;
 use wire::number::read32;
-
-pub const DUE_BYTES: usize = 16;
 
 // A node due: its id, how deep the leaves stand below it, and the bound that its keys stay below.
 pub struct Due {
