@@ -5,12 +5,11 @@ use Prim.Native.Nat.{ℕ, _+_, _≤_}
 use native.Mathlib.Omega.{arith}
 use lib.ListN.{length}
 use Rattle.laws.specs.Lay.{lay}
-use Rattle.layout.specs.Layout.{mostNodes}
 use Rattle.account.specs.declared.Tariff.{Tariff}
 use Rattle.command.specs.declared.Command.{Command}
 use Rattle.command.specs.declared.Command.the-variants.{Get, Put, Delete, Scan}
 use Rattle.command.specs.Answer.{answerBytes, scanBytes}
-use Rattle.book.specs.Command.{mostRequests, replyBytes}
+use Rattle.book.specs.Command.{replyBytes}
 use Rattle.flash_rows.specs.Worktable.{Worktable}
 use Rattle.flash_allocate.specs.World.{World}
 use Rattle.run_serve.specs.declared.charged.Charged.{Charged}
@@ -25,7 +24,7 @@ use Rattle.run_split.specs.Growing.{Growing, Grew, grew-charged}
 use Rattle.run_put.specs.Put as Put
 use Rattle.run_put.specs.Put.{DoneAs}
 use Rattle.run.specs.declared.Progress.{Progress}
-use Rattle.run.specs.Run.{commandWorld, commandCharge, commandReply, InRange, CommandAs}
+use Rattle.run.specs.Run.{commandWorld, commandCharge, commandReply, mostServed, InRange, CommandAs}
 
 -- What the code of a reply leaves: these bytes at a place, and what was charged as it was.
 pub record RepliedAs (before after : List ℕ) (r : Progress) (c : Charged) (at : ℕ) (bytes : List ℕ) : Type 0 where
@@ -37,7 +36,7 @@ pub record RepliedAs (before after : List ℕ) (r : Progress) (c : Charged) (at 
 module _ {P T : ℕ} {pages : List (List ℕ)} {table : Worktable} (t : Tariff) (w : World) {before after : List ℕ} {r : Progress}
     {at : ℕ} {c : Command} where
   replied : {d : Command} {paid : Charged} {m : ℕ} {bytes : List ℕ} → c ≡ d →
-      ChargedAs Grew P T pages table paid (w .state) m (commandWorld t d w) (commandCharge t d w) → m ≤ mostRequests mostNodes →
+      ChargedAs Grew P T pages table paid (w .state) m (commandWorld t d w) (commandCharge t d w) → m ≤ mostServed →
       bytes ≡ replyBytes (commandReply t d w) → RepliedAs before after r paid at bytes → CommandAs P T pages table before after r t c at w
   replied {d} {m = m} e k most f l =
       subst (λ (x : Command). CommandAs P T pages table before after r t x at w) (sym e)
@@ -64,7 +63,7 @@ module _ {P T : ℕ} {pages : List (List ℕ)} {table : Worktable} (t : Tariff) 
         RepliedAs before after r (d .charged) at (answerBytes (d .answer)) → CommandAs P T pages table before after r t c at w
     delete-replied e h l = replied e (grew-charged g (h .charged)) (omega arith) (ap answerBytes (h .answer)) l
 
-    pub scan-replied : {low high most : ℕ} {d : Scanned} → c ≡ Scan low high most → ScannedAs P T pages table d t low high most w →
+    pub scan-replied : {low high most : ℕ} {ids : List ℕ} {d : Scanned} → c ≡ Scan low high most → ScannedAs P T pages table ids d t low high most w →
         RepliedAs before after r (d .charged) at (scanBytes (pairsOf (d .pairs))) → CommandAs P T pages table before after r t c at w
     scan-replied e h l = replied e (grew-charged g (h .charged)) (omega arith) (ap scanBytes (h .pairs)) l
 

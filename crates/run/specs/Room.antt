@@ -19,9 +19,9 @@ use Rattle.command.specs.AnswerLaws.{length-answerBytes, length-scanBytes}
 use Rattle.command.specs.Batch.{roomFor}
 use Rattle.book.specs.Command.{replyBytes}
 use Rattle.flash_allocate.specs.World.{World}
-use Rattle.run_path.specs.Path.{tableIn, leafAt}
+use Rattle.run_path.specs.Descend.{descent}
 use Rattle.run_lookup.specs.Value.{valueIn}
-use Rattle.run_scan.specs.Scan.{scanPairs}
+use Rattle.run_scan.specs.Scan.{pairsAlong, scanPairs}
 use Rattle.run_put.specs.Put.{put}
 use Rattle.run.specs.Run.{commandReply}
 
@@ -42,19 +42,16 @@ pairs-few (suc fuel) table low high most id =
     go true l = length-range low high most (pairsOf (table id))
     go false l = omega (arith, l, length-append got more, length-range low high most (pairsOf (table id)))
 
-scan-few : (low high most : ℕ) (w : World) → length (scanPairs low high most w) ≤ most
+scan-few : (t : Tariff) (low high most : ℕ) (w : World) → length (scanPairs t low high most w) ≤ most
 unfolding scanPairs
-scan-few low high most w = go (ltb high low)
+scan-few t low high most w = go (ltb high low)
   where
-    found : List Pair
-    found = pairsFrom (w .state .nodes) (tableIn w) low high most (leafAt low w)
-
-    go : (b : Bool) → length {A = Pair} (elim b [ true ↦ [] | false ↦ found ]) ≤ most
+    go : (b : Bool) → length {A = Pair} (elim b [ true ↦ [] | false ↦ pairsAlong low high most (descent t low w) ]) ≤ most
     go true = omega arith
-    go false = pairs-few (w .state .nodes) (tableIn w) low high most (leafAt low w)
+    go false = pairs-few _ _ low high most _
 
 pub reply-room : (t : Tariff) (c : Command) (w : World) → length (replyBytes (commandReply t c w)) ≤ roomFor c
-reply-room t (Get k) w = length-answerBytes (valueOr Got (valueIn k w))
+reply-room t (Get k) w = length-answerBytes (valueOr Got (valueIn t k w))
 reply-room t (Put k v) w = length-answerBytes (put t k v w .answer)
-reply-room t (Delete k) w = length-answerBytes (valueOr Deleted (valueIn k w))
-reply-room t (Scan low high most) w = omega (arith, length-scanBytes (scanPairs low high most w), scan-few low high most w)
+reply-room t (Delete k) w = length-answerBytes (valueOr Deleted (valueIn t k w))
+reply-room t (Scan low high most) w = omega (arith, length-scanBytes (scanPairs t low high most w), scan-few t low high most w)

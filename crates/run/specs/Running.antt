@@ -7,7 +7,6 @@ use native.Mathlib.Omega.{arith}
 use lib.ListN.{length, length-append}
 use Rattle.laws.specs.Lay.{lay, lay-nil, lay-next}
 use Rattle.laws.specs.Options.{none-some}
-use Rattle.layout.specs.Layout.{mostNodes}
 use Rattle.account.specs.declared.Tariff.{Tariff}
 use Rattle.account.specs.Fair.{mostCharge}
 use Rattle.command.specs.declared.Command.{Command}
@@ -15,12 +14,12 @@ use Rattle.command.specs.declared.Step.the-variants.{Next, Invalid}
 use Rattle.command.specs.Command.{commandAt}
 use Rattle.command.specs.Batch.{before, commandsFrom, roomFor, roomForAll}
 use Rattle.command.specs.BatchLaws.{commandsFrom-end, commandsFrom-next, commandsFrom-invalid}
-use Rattle.book.specs.Command.{mostRequests, replyBytes, repliesBytes}
+use Rattle.book.specs.Command.{replyBytes, repliesBytes}
 use Rattle.flash_rows.specs.Worktable.{Worktable}
 use Rattle.flash_allocate.specs.World.{World, world}
 use Rattle.run_split.specs.Growing.{Growing}
 use Rattle.run.specs.declared.Progress.{Progress}
-use Rattle.run.specs.Run.{commandReply, runWorld, runCharge, runReplies, CommandAs, RunAs}
+use Rattle.run.specs.Run.{commandReply, mostServed, runWorld, runCharge, runReplies, CommandAs, RunAs}
 use Rattle.run.specs.Valid.{listOr, commandsIn, Fits}
 use Rattle.run.specs.Room.{reply-room}
 
@@ -34,7 +33,7 @@ pub record Running (poolLength tableLength : ℕ) (t : Tariff) (batch empty : Li
   pub left : commandsFrom batch from ≡ some rest
   pub worlds : runWorld t rest now ≡ runWorld t (commandsIn batch) start
   pub charges : paid + runCharge t rest now ≡ runCharge t (commandsIn batch) start
-  pub most : paid ≤ mostCharge * mostRequests mostNodes * from
+  pub most : paid ≤ mostCharge * mostServed * from
   pub laid : List ℕ
   pub buffer : answers ≡ lay empty 0 laid
   pub behind : place ≡ length laid

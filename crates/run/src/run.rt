@@ -1,6 +1,8 @@
 // A command of a batch, whichever it is, and all of them.
 ghost use Prim.Native.Nat.{_+_, _≤_};
 ghost use lib.ListN.{length};
+ghost use mathlib.Core.Path.{_≡_};
+ghost use Rattle.layout.specs.Layout.{nodeLimit, mostBlocks};
 ghost use Rattle.account.specs.Range.{Ranged};
 ghost use Rattle.command.specs.Batch.{roomFor};
 ghost use Rattle.flash_allocate.specs.World.{worldIn};
@@ -16,24 +18,26 @@ use command::Command;
 use command::Step;
 use command::batch::command_at;
 use flash_allocate::state::State;
+use layout::MOST_NODES;
 use run_lookup::delete::delete;
 use run_lookup::get::get;
 use run_put::put::put;
 use run_scan::scan::scan;
 use run_serve::charged::Charged;
 
-// Runs a command and lays its reply at a place.
+// Runs a command and lays its reply at a place. A put has the ids of its path in the lent array, a scan those of its leaves.
 pub fn run_command(
     pool: &mut [u8],
     table: &mut [u8],
     answers: &mut [u8],
+    ids: &mut [u32; MOST_NODES],
     state: State,
     tariff: Tariff,
     command: Command,
     at: usize,
 ) -> Progress
     requires { ⌜ (Growing (length (now pool)) (length (now table)) state) × (Ranged tariff) × (InRange command)
-        × (at + roomFor command ≤ length (now answers)) ⌝ }
+        × (at + roomFor command ≤ length (now answers)) × (length (now ids) ≡ nodeLimit mostBlocks) ⌝ }
     ensures { λ r. ⌜ InBytes CommandAs (now (pool .exit)) (now (table .exit)) (now (answers .entry))
         (now (answers .exit)) r tariff command at (worldIn (now (pool .entry)) (now (table .entry)) state) ⌝ }
 {
@@ -43,7 +47,7 @@ pub fn run_command(
             return reply(answers, at, done);
         }
         Command::Put { key, value } => {
-            let done = put(pool, table, state, tariff, key, value);
+            let done = put(pool, table, ids, state, tariff, key, value);
             return reply(answers, at, done);
         }
         Command::Delete { key } => {
@@ -51,7 +55,7 @@ pub fn run_command(
             return reply(answers, at, done);
         }
         Command::Scan { low, high, most } => {
-            let done = scan(pool, table, state, tariff, low, high, most);
+            let done = scan(pool, table, ids, state, tariff, low, high, most);
             return reply_pairs(answers, at, done);
         }
     }
@@ -71,6 +75,7 @@ pub fn run_commands(
     ensures { λ r. ⌜ InBytes RunAs (now (pool .exit)) (now (table .exit)) (now (answers .entry)) (now (answers .exit))
         r tariff (commandsIn (now (batch .entry))) (worldIn (now (pool .entry)) (now (table .entry)) state) ⌝ }
 {
+    let mut ids = [0u32; MOST_NODES];
     let mut s = state;
     let mut charge: u64 = 0;
     let mut place: usize = 0;
@@ -79,7 +84,7 @@ pub fn run_commands(
         let step = command_at(batch, at);
         match step {
             Step::Next { command, next } => {
-                let done = run_command(pool, table, answers, s, tariff, command, place);
+                let done = run_command(pool, table, answers, &mut ids, s, tariff, command, place);
                 let paid = done.charged;
                 s = paid.state;
                 charge += paid.charge;
