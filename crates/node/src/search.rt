@@ -71,7 +71,8 @@ fn place(v: NodeValue, wanted: u64) -> usize
     requires { ⌜ Held v ⌝ }
     ensures { λ r. ⌜ (r ≡ place wanted (pairsIn v)) × (r ≤ v .count) ⌝ }
 {
-    place_in(&v.keys, v.count, wanted)
+    let keys = v.keys;
+    place_in(&keys, v.count, wanted)
 }
 
 // The place of a key and whether it is there.
@@ -79,7 +80,8 @@ pub fn find(v: NodeValue, key: u32) -> Found
     requires { ⌜ Held v ⌝ }
     ensures { λ r. ⌜ r ≡ found key (pairsIn v) ⌝ }
 {
-    find_by_halves(&v.keys, v.count, key)
+    let keys = v.keys;
+    find_by_halves(&keys, v.count, key)
 }
 
 // The place of the child for a key: that of the first key above it.

@@ -8,7 +8,7 @@ find-by-halves-requires : tie.Need-find-by-halves-requires
 find-by-halves-requires c κs = search needs
 
 returns : tie.Need-returns
-returns c = let entry = c .before .before .before in sym (c .find-by-halves .ensures .is (entry .args .t1) (entry .pre) refl refl)
+returns c = let entry = c .before .before .before in sym (c .find-by-halves .ensures .is (entry .args .v) (entry .pre) refl refl)
 
 pub find-spec : {M : Type 1} → statement M
 find-spec = tie.close (tie.spec find-by-halves-requires returns)

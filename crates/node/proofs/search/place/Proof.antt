@@ -11,7 +11,7 @@ returns : tie.Need-returns
 returns c =
     let entry = c .before .before .before in
     let p = c .place-in in (
-      place-value (entry .args .t1) (entry .pre) (entry .args .wanted) (p .result) (p .ensures .inside) (p .ensures .before) (p .ensures .behind),
+      place-value (entry .args .v) (entry .pre) (entry .args .wanted) (p .result) (p .ensures .inside) (p .ensures .before) (p .ensures .behind),
       p .ensures .inside,
     )
 
