@@ -12,31 +12,27 @@ use account::Tariff;
 use command::Answer;
 use flash_allocate::state::State;
 use node::ChangeValue;
-use run_path::path::path_to;
-use run_path::reads::serve_reads;
+use run_path::descend::descend;
 use run_serve::charged::Answered;
 use run_serve::charged::Charged;
-use run_serve::id::wide;
-use run_serve::request::serve_edit;
+use run_serve::request::serve_edit_holding;
 
-// The reads to the leaf, then one edit of it where the key is there.
+// The walk down to the leaf, then one edit of it, with its content in hand, where the key is there.
 pub fn delete(pool: &mut [u8], table: &mut [u8], state: State, tariff: Tariff, key: u32) -> Answered
     requires { ⌜ (Good (length (now pool)) (length (now table)) state) × (Ranged tariff)
         × (state .nodes ≤ nodeLimit mostBlocks) ⌝ }
     ensures { λ r. ⌜ InBytes DeletedAs (now (pool .exit)) (now (table .exit)) r tariff key
         (worldIn (now (pool .entry)) (now (table .entry)) state) ⌝ }
 {
-    let path = path_to(pool, table, state, key);
-    let leaf = path.leaf;
-    let ids = path.ids;
-    let last = path.length - 1;
-    let value = value_at(leaf, key);
-    let read = serve_reads(pool, table, state, tariff, ids, path.length);
+    let down = descend(pool, table, state, tariff, key);
+    let leaf = down.leaf;
+    let read = down.charged;
     let s = read.state;
+    let value = value_at(leaf, key);
     match value {
         Value::There(old) => {
             let deletion = ChangeValue::Delete { key };
-            let edit = serve_edit(pool, table, s, tariff, wide(ids[last]), deletion);
+            let edit = serve_edit_holding(pool, table, s, tariff, down.id, leaf, deletion);
             let t = edit.state;
             let charged = Charged {
                 state: t,

@@ -10,21 +10,19 @@ use super::value::get_answer;
 use super::value::value_at;
 use account::Tariff;
 use flash_allocate::state::State;
-use run_path::path::path_to;
-use run_path::reads::serve_reads;
+use run_path::descend::descend;
 use run_serve::charged::Answered;
 
-// The value at a key: the answer is that of the nodes before they are read as requests.
+// The value at a key, in the leaf that the walk down ends at.
 pub fn get(pool: &mut [u8], table: &mut [u8], state: State, tariff: Tariff, key: u32) -> Answered
     requires { ⌜ (Good (length (now pool)) (length (now table)) state) × (Ranged tariff)
         × (state .nodes ≤ nodeLimit mostBlocks) ⌝ }
     ensures { λ r. ⌜ InBytes GotAs (now (pool .exit)) (now (table .exit)) r tariff key
         (worldIn (now (pool .entry)) (now (table .entry)) state) ⌝ }
 {
-    let path = path_to(pool, table, state, key);
-    let leaf = path.leaf;
+    let down = descend(pool, table, state, tariff, key);
+    let leaf = down.leaf;
     let answer = get_answer(value_at(leaf, key));
-    let ids = path.ids;
-    let charged = serve_reads(pool, table, state, tariff, ids, path.length);
+    let charged = down.charged;
     Answered { charged, answer }
 }

@@ -1,4 +1,4 @@
-// Get and delete: the path to the leaf of a key, its reads, and what is done there.
+// Get and delete: the walk down to the leaf of a key, and what is done there.
 pub mod delete;
 pub mod get;
 pub mod value;

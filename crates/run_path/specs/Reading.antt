@@ -1,6 +1,6 @@
 -- Reads a node at a time: what is left of them from here gives the whole. Assumes nothing.
 use mathlib.Core.Path.{_≡_, refl, sym, ap, _∙_, subst}
-use mathlib.Core.List.{List, [], _∷_, _++_}
+use mathlib.Core.List.{List, [], _∷_}
 use Prim.Native.Nat.{ℕ, _+_, _-_, _*_, _≤_, _<_}
 use native.Mathlib.Nat.{sub-zero}
 use native.Mathlib.Numerals.{add-one}
@@ -12,8 +12,7 @@ use Rattle.account.specs.Fair.{mostCharge}
 use Rattle.flash_rows.specs.Worktable.{Worktable}
 use Rattle.store.specs.Serve.{read}
 use Rattle.flash_allocate.specs.World.{World, world, Good}
-use Rattle.run_serve.specs.Serve.{serve, charge, ServedAs}
-use Rattle.run_serve.specs.Step.{kept-then, charged-is, both, then}
+use Rattle.run_serve.specs.Serve.{ServedAs}
 use Rattle.run_serve.specs.declared.charged.Charged.{Charged}
 use Rattle.run_path.specs.Reads.{readAll, readCharges, ReadAs}
 
@@ -81,21 +80,3 @@ pub reads-part : {p q : ℕ} {pages : List (List ℕ)} {table : Worktable} {c : 
     n ≤ length ns →
     ReadAs p q pages table c t (length (take (n - 0) ns)) (take (n - 0) ns) w → ReadAs p q pages table c t n (take n ns) w
 reads-part t w n ns l r = rw (sub-zero, length-take-le n ns l) at r
-
--- Reads of some nodes, then of others, are the reads of both lists in one.
-pub readAll-append : (t : Tariff) (ms ns : List ℕ) (w : World) → readAll t (ms ++ ns) w ≡ readAll t ns (readAll t ms w)
-readAll-append t [] ns w = refl
-readAll-append t (m ∷ ms) ns w = readAll-append t ms ns (serve t m read w)
-
-pub readCharges-append : (t : Tariff) (ms ns : List ℕ) (w : World) →
-    readCharges t (ms ++ ns) w ≡ readCharges t ms w + readCharges t ns (readAll t ms w)
-readCharges-append t [] ns w = omega arith
-readCharges-append t (m ∷ ms) ns w = omega (arith, readCharges-append t ms ns (serve t m read w))
-
-module _ {p q p′ q′ m n : ℕ} {pages pages′ : List (List ℕ)} {table table′ : Worktable} {c c′ : Charged} (t : Tariff)
-    (ms ns : List ℕ) (w : World) where
-  pub reads-then : ReadAs p q pages table c t m ms w → ReadAs p′ q′ pages′ table′ c′ t n ns (world pages table (c .state)) →
-      ReadAs p′ q′ pages′ table′ (both c c′) t (m + n) (ms ++ ns) w
-  reads-then a b =
-      charged-is (then (readAll t ns) (readCharges t ns) (kept-then (readAll t ns)) a b) (omega arith) (sym (readAll-append t ms ns w))
-      (sym (readCharges-append t ms ns w))

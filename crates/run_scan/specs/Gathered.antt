@@ -1,12 +1,11 @@
--- What is gathered for a scan from the leaf of the low key on: the pairs, and the leaves behind it by links. Assumes nothing.
+-- What is gathered for a scan from a first leaf on: the pairs, and the leaves behind it by links. Assumes nothing.
 use mathlib.Core.Path.{_≡_}
 use mathlib.Core.List.{List}
 use Prim.Native.Nat.{ℕ, _≤_}
 use lib.ListN.{length, take}
 use Rattle.layout.specs.Layout.{nodeLimit, mostBlocks}
-use Rattle.tree.specs.Table.{Table, leafFor}
+use Rattle.tree.specs.Table.{Table}
 use Rattle.tree.specs.Scan.{pairsFrom, leavesAfter}
-use Rattle.run_path.specs.Path.{mostSteps}
 use Rattle.run_scan.specs.declared.gather.Gathered.{Gathered}
 use Rattle.run_scan.specs.Pairs.{pairsOf, Sized}
 
@@ -18,7 +17,3 @@ pub record GatheredFrom (first : ℕ) (table : Table) (nodes low high most : ℕ
   pub wanted : r .pairs .count ≤ most
   pub few : r .visited ≤ nodes
   pub room : length ids ≡ nodeLimit mostBlocks
-
--- The leaf of the low key is the first.
-abbrev pub GatheredAs : Table → ℕ → ℕ → ℕ → ℕ → List ℕ → Gathered → Type 0
-GatheredAs table nodes low high most ids r = GatheredFrom (leafFor mostSteps table low 0) table nodes low high most ids r

@@ -5,8 +5,7 @@ ghost use lib.ListN.{length};
 ghost use Rattle.flash_rows.specs.Worktable.{tableFrom};
 ghost use Rattle.flash_blocks.specs.Pages.{pagesOf};
 ghost use Rattle.flash_read.specs.NodeTable.{tableOf, Readable};
-ghost use Rattle.run_path.specs.Path.{PathTo};
-ghost use Rattle.run_scan.specs.Gathered.{GatheredAs};
+ghost use Rattle.run_scan.specs.Gathered.{GatheredFrom};
 ghost use Rattle.layout.specs.Layout.{nodeLimit, mostBlocks, mostPairs};
 use super::Pairs;
 use flash_allocate::state::State;
@@ -14,7 +13,6 @@ use flash_read::by_id::node_at;
 use layout::MOST_NODES;
 use layout::MOST_PAIRS;
 use layout::NO_LEAF;
-use run_path::path::Path;
 
 // The pairs, and how many leaves behind the first were gone to.
 pub struct Gathered {
@@ -22,29 +20,28 @@ pub struct Gathered {
     pub visited: usize,
 }
 
-// From the leaf at the end of a path on; as many links are followed as there are nodes at most. The ids of the leaves behind the first are laid into
-// `leaves`, in order: they are lent, since a stack is small.
+// From a first leaf on; as many links are followed as there are nodes at most. The ids of the leaves behind the first are laid into `leaves`, in order:
+// they are lent, since a stack is small.
 pub fn gather<'a>(
     pool: &'a [u8],
     table: &'a [u8],
     state: State,
-    path: Path,
+    first: usize,
     low: u32,
     high: u32,
     most: usize,
     leaves: &mut [u32; MOST_NODES],
 ) -> Gathered
-    requires { ⌜ (Readable state (now table))
-        × (PathTo (tableOf (pagesOf (now pool)) (tableFrom (now table)) state) low path) × (low ≤ high)
-        × (1 ≤ most) × (most ≤ mostPairs) × (length (now leaves) ≡ nodeLimit mostBlocks) ⌝ }
-    ensures { λ r. ⌜ GatheredAs (tableOf (pagesOf (now (pool .entry))) (tableFrom (now (table .entry))) state)
+    requires { ⌜ (Readable state (now table)) × (low ≤ high) × (1 ≤ most) × (most ≤ mostPairs)
+        × (length (now leaves) ≡ nodeLimit mostBlocks) ⌝ }
+    ensures { λ r. ⌜ GatheredFrom first (tableOf (pagesOf (now (pool .entry))) (tableFrom (now (table .entry))) state)
         (state .nodes) low high most (now (leaves .exit)) r ⌝ }
 {
     let mut keys = [0u32; MOST_PAIRS];
     let mut values = [0u32; MOST_PAIRS];
     let mut count: usize = 0;
     let mut visited: usize = 0;
-    let mut leaf = path.leaf;
+    let mut leaf = node_at(pool, table, state, first);
     'leaves: loop {
         let leaf_keys = leaf.keys;
         let leaf_values = leaf.pointers;

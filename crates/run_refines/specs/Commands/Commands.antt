@@ -1,7 +1,5 @@
--- A COMMAND'S NODE REQUESTS, served by the code one after another, agree with the model's command; and the paths down that the code walks
--- are the model's. Assumes nothing.
-use mathlib.Core.Path.{_≡_, refl, ap, _∙_}
-use mathlib.Core.Bool.{true}
+-- A COMMAND'S NODE REQUESTS, served by the code one after another, agree with the model's command. Assumes nothing.
+use mathlib.Core.Path.{_≡_, refl, ap}
 use mathlib.Core.List.{List, [], _∷_, map}
 use Prim.Native.Nat.{ℕ, _+_, _<_}
 use native.Mathlib.Omega.{arith}
@@ -10,10 +8,6 @@ use Rattle.pairs.specs.Pairs.{Pair}
 use Rattle.account.specs.declared.Tariff.{Tariff}
 use Rattle.command.specs.declared.Command.{Command}
 use Rattle.tree.specs.NodeRequest.{read, countAfterAll}
-use Rattle.tree.specs.Table.{path, leafFor}
-use Rattle.tree.specs.Sound.{sound}
-use Rattle.tree_laws.specs.SoundLaws.{spells-sound}
-use Rattle.tree_laws.specs.Levels.{path-any, leafFor-any}
 use Rattle.book.specs.Command.{requests}
 use Rattle.store.specs.Serve as Store
 use Rattle.store_laws.specs.Numbers.{last}
@@ -26,11 +20,8 @@ use Rattle.demands.specs.RequestCount.{command-length}
 use Rattle.demands.specs.BatchFits.{mostNumbers}
 use Rattle.flash_allocate.specs.World.{World}
 use Rattle.run_serve.specs.Serve.{serve, charge}
-use Rattle.flash_read.specs.NodeTable.{tableOf}
-use Rattle.run_path.specs.Path.{mostSteps}
 use Rattle.run_path.specs.Reads.{readAll, readCharges}
 use Rattle.run_refines.specs.Commands.Lists.{servedAll, chargedAll, Runs, Ran, list-runs}
-use Rattle.run_refines.specs.Commands.Tables.{table-agrees}
 
 -- Reads are node requests like others.
 pub reads-served : (t : Tariff) (ns : List ℕ) (w : World) → readAll t ns w ≡ servedAll t (map read ns) w
@@ -44,20 +35,6 @@ reads-charged t (n ∷ ns) w = ap (λ (k : ℕ). charge t n Store.read w + k) (r
 module _ {blocks : ℕ} {w : World} {s : State} (k : Runs blocks w s) (ps : List Pair) (h : Holds (nodeLimit blocks) (bookOf s) ps) where
   abbrev limit : ℕ
   limit = nodeLimit blocks
-
-  is-sound : sound limit (bookOf s .count) (bookOf s .table) ≡ true
-  is-sound = spells-sound limit (bookOf s .count) (bookOf s .table) ps (h .spells) (h .most)
-
-  -- THE WAY DOWN that the code walks is the model's.
-  pub path-is : (key : ℕ) → path mostSteps (tableOf (w .pages) (w .table) (w .state)) key 0 ≡ path (bookOf s .count) (bookOf s .table) key 0
-  path-is key =
-      ap (λ table. path mostSteps table key 0) (table-agrees k) ∙
-      path-any limit (bookOf s .count) (bookOf s .table) is-sound (omega (arith, k .few)) key mostSteps (omega arith)
-
-  pub leaf-is : (key : ℕ) → leafFor mostSteps (tableOf (w .pages) (w .table) (w .state)) key 0 ≡ leafFor (bookOf s .count) (bookOf s .table) key 0
-  leaf-is key =
-      ap (λ table. leafFor mostSteps table key 0) (table-agrees k) ∙
-      leafFor-any limit (bookOf s .count) (bookOf s .table) is-sound (omega (arith, k .few)) key mostSteps (omega arith)
 
   -- THE REQUESTS OF A COMMAND
   pub command-runs : (t : Tariff) (c : Command) → Valid c → ValueFits c → 1 + (mostNumbers + last (s .run)) < bound32 → Ran blocks t (requests limit c (bookOf s)) w s

@@ -1,38 +1,46 @@
 -- GET, DELETE AND SCAN by the code agree with the model's: what is left, the charge, the answer. Assumes nothing.
 use mathlib.Core.Path.{_≡_, refl, sym, ap, ap₂, _∙_}
 use mathlib.Core.Bool.{Bool, true, false}
-use mathlib.Core.List.{List, [], _++_, map}
+use mathlib.Core.List.{List, [], _++_, map, map-append}
 use mathlib.Core.Option.{Option, none, some}
-use Prim.Native.Nat.{ℕ, _+_}
+use Prim.Native.Nat.{ℕ, _+_, _<_}
 use native.Mathlib.Omega.{arith}
 use lib.Dec.{ltb}
-use Rattle.layout.specs.Layout.{nodeLimit}
+use Rattle.layout.specs.Layout.{nodeLimit, bound32}
 use Rattle.pairs.specs.Pairs.{Pair, lookup}
 use Rattle.account.specs.declared.Tariff.{Tariff}
 use Rattle.command.specs.declared.Answer.the-variants.{Got, Deleted}
 use Rattle.command.specs.declared.Command.the-variants.{Get, Delete, Scan}
 use Rattle.command.specs.Answer.{valueOr}
-use Rattle.node.specs.Node.{pairsOf}
+use Rattle.node.specs.Node.{Node, pairsOf}
+use Rattle.node.specs.Change.{remove}
 use Rattle.tree.specs.Table.{Table, path, leafFor}
 use Rattle.tree.specs.NodeRequest.{NodeRequest, read}
 use Rattle.tree.specs.Get.{getAnswer}
 use Rattle.tree.specs.Delete.{deletionFor, deleteRequests}
 use Rattle.tree.specs.Scan.{leavesAfter, pairsFrom, scanRequests, scanAnswer}
 use Rattle.book.specs.Command.{short, listed, requests, answer}
-use Rattle.model.specs.State.{State, bookOf}
+use Rattle.store.specs.Serve as Store
+use Rattle.store_laws.specs.Numbers.{last}
+use Rattle.model.specs.State.{State, bookOf, serveAll}
 use Rattle.demands.specs.Says.{bookOf-count}
 use Rattle.demands.specs.Run.{Holds}
+use Rattle.demands.specs.BatchFits.{mostNumbers}
 use Rattle.flash_allocate.specs.World.{World}
-use Rattle.run_path.specs.Path.{tableIn, pathTo, leafAt}
+use Rattle.run_path.specs.Path.{tableIn}
 use Rattle.run_path.specs.Reads.{readAll, readCharges}
+use Rattle.run_path.specs.Descend.{descent}
 use Rattle.run_lookup.specs.Value.{valueIn}
 use Rattle.run_lookup.specs.Delete.{deletion, deletionCharge, delete, deleteCharge}
-use Rattle.run_scan.specs.Scan.{scanReads, scanPairs}
+use Rattle.run_scan.specs.Scan.{pairsAlong, leavesAlong, scanWorld, scanCharge, scanPairs}
 use Rattle.run_refines.specs.Commands.Lists.{servedAll, chargedAll, servedAll-append, chargedAll-append, Runs}
 use Rattle.run_refines.specs.Commands.Tables.{table-agrees}
-use Rattle.run_refines.specs.Commands.Commands.{reads-served, reads-charged, path-is, leaf-is}
+use Rattle.run_refines.specs.Commands.Holding.{serve-holding}
+use Rattle.run_refines.specs.Commands.Descents.{Walked, descent-walked}
+use Rattle.run_refines.specs.Commands.Commands.{reads-served, reads-charged}
 
-module _ {blocks : ℕ} {w : World} {s : State} (k : Runs blocks w s) (ps : List Pair) (h : Holds (nodeLimit blocks) (bookOf s) ps) where
+module _ {blocks : ℕ} {w : World} {s : State} (k : Runs blocks w s) (ps : List Pair) (h : Holds (nodeLimit blocks) (bookOf s) ps)
+    (number : 1 + (mostNumbers + last (s .run)) < bound32) (t : Tariff) where
   abbrev limit : ℕ
   limit = nodeLimit blocks
 
@@ -42,128 +50,148 @@ module _ {blocks : ℕ} {w : World} {s : State} (k : Runs blocks w s) (ps : List
   abbrev table : Table
   table = bookOf s .table
 
-  -- the value that the code finds is the model's
-  pub value-is : (key : ℕ) → valueIn key w ≡ getAnswer count table key
-  unfolding getAnswer
-  value-is key =
-      ap₂ (λ (T : Table) (leaf : ℕ). lookup key (pairsOf (T leaf))) (table-agrees k) (leaf-is k ps h key)
+  -- the model's path to a key, its reads, and the leaf at its end
+  abbrev onPath : ℕ → List ℕ
+  onPath key = path count table key 0
 
-  -- GET
-  pub get-world : (t : Tariff) (key : ℕ) → readAll t (pathTo key w) w ≡ servedAll t (requests limit (Get key) (bookOf s)) w
-  unfolding requests
-  get-world t key = ap (λ (ns : List ℕ). readAll t ns w) (path-is k ps h key) ∙ reads-served t (path count table key 0) w
+  abbrev reads : ℕ → List NodeRequest
+  reads key = map read (onPath key)
 
-  pub get-charge : (t : Tariff) (key : ℕ) → readCharges t (pathTo key w) w ≡ chargedAll t (requests limit (Get key) (bookOf s)) w
-  unfolding requests
-  get-charge t key = ap (λ (ns : List ℕ). readCharges t ns w) (path-is k ps h key) ∙ reads-charged t (path count table key 0) w
+  abbrev leaf : ℕ → ℕ
+  leaf key = leafFor count table key 0
 
-  pub get-answer : (key : ℕ) → answer limit (Get key) (bookOf s) ≡ short (valueOr Got (valueIn key w))
-  unfolding answer
-  get-answer key = ap (λ (o : Option ℕ). short (valueOr Got o)) (sym (value-is key))
+  -- the walk down of the code
+  module _ (key : ℕ) (small : key < bound32) where
+    down : Walked blocks t w s table count (onPath key) (leaf key) (descent t key w)
+    down = descent-walked k ps h t key small (omega (arith, h .most, k .few))
 
-  -- DELETE
-  deletion-served : (t : Tariff) (o : Option ℕ) (leaf key : ℕ) (z : World) → deletion t o leaf key z ≡ servedAll t (deletionFor o leaf key) z
-  deletion-served t none leaf key z = refl
-  deletion-served t (some old) leaf key z = refl
+    -- the value that the code finds is the model's
+    pub value-is : valueIn t key w ≡ getAnswer count table key
+    unfolding getAnswer
+    value-is = ap (λ (x : Node). lookup key (pairsOf x)) (down .node)
 
-  deletion-charged : (t : Tariff) (o : Option ℕ) (leaf key : ℕ) (z : World) → deletionCharge t o leaf key z ≡ chargedAll t (deletionFor o leaf key) z
-  deletion-charged t none leaf key z = refl
-  deletion-charged t (some old) leaf key z = omega arith
+    -- GET
+    pub get-world : descent t key w .now ≡ servedAll t (requests limit (Get key) (bookOf s)) w
+    unfolding requests
+    get-world = down .world
 
-  abbrev deletions : ℕ → List NodeRequest
-  deletions key = deletionFor (getAnswer count table key) (leafFor count table key 0) key
+    pub get-charge : descent t key w .charge ≡ chargedAll t (requests limit (Get key) (bookOf s)) w
+    unfolding requests
+    get-charge = down .charge
 
-  removed-as : (t : Tariff) (key : ℕ) (z : World) → deletion t (valueIn key w) (leafAt key w) key z ≡ servedAll t (deletions key) z
-  removed-as t key z =
-      ap₂ (λ (o : Option ℕ) (leaf : ℕ). deletion t o leaf key z) (value-is key) (leaf-is k ps h key) ∙
-      deletion-served t (getAnswer count table key) (leafFor count table key 0) key z
+    pub get-answer : answer limit (Get key) (bookOf s) ≡ short (valueOr Got (valueIn t key w))
+    unfolding answer
+    get-answer = ap (λ (o : Option ℕ). short (valueOr Got o)) (sym value-is)
 
-  removed-charge : (t : Tariff) (key : ℕ) (z : World) → deletionCharge t (valueIn key w) (leafAt key w) key z ≡ chargedAll t (deletions key) z
-  removed-charge t key z =
-      ap₂ (λ (o : Option ℕ) (leaf : ℕ). deletionCharge t o leaf key z) (value-is key) (leaf-is k ps h key) ∙
-      deletion-charged t (getAnswer count table key) (leafFor count table key 0) key z
+    -- DELETE: the content in hand is that of the leaf after the reads
+    held : descent t key w .node ≡ bookOf (serveAll t (reads key) s) .table (descent t key w .leaf)
+    held = down .node ∙ ap₂ (λ (z : Table) (n : ℕ). z n) (sym (down .sameTable)) (sym (down .leaf))
 
-  pub delete-world : (t : Tariff) (key : ℕ) → delete t key w ≡ servedAll t (requests limit (Delete key) (bookOf s)) w
-  unfolding delete requests deleteRequests
-  delete-world t key =
-      removed-as t key (readAll t (pathTo key w) w) ∙
-      ap (servedAll t (deletions key)) (get-world t key) ∙
-      sym (servedAll-append t (map read (path count table key 0)) (deletions key) w)
+    abbrev after : World
+    after = descent t key w .now
 
-  pub delete-charge : (t : Tariff) (key : ℕ) → deleteCharge t key w ≡ chargedAll t (requests limit (Delete key) (bookOf s)) w
-  unfolding deleteCharge requests deleteRequests
-  delete-charge t key =
-      ap₂ _+_ (get-charge t key) (removed-charge t key (readAll t (pathTo key w) w) ∙ ap (chargedAll t (deletions key)) (get-world t key)) ∙
-      sym (chargedAll-append t (map read (path count table key 0)) (deletions key) w)
+    deletion-served : (o : Option ℕ) → deletion t o (descent t key w .leaf) (descent t key w .node) key after ≡ servedAll t (deletionFor o (descent t key w .leaf) key) after
+    deletion-served none = refl
+    deletion-served (some old) =
+        serve-holding (down .runs) (descent t key w .leaf) (descent t key w .node) held t (Store.edit (remove key))
 
-  pub delete-answer : (key : ℕ) → answer limit (Delete key) (bookOf s) ≡ short (valueOr Deleted (valueIn key w))
-  unfolding answer
-  delete-answer key = ap (λ (o : Option ℕ). short (valueOr Deleted o)) (sym (value-is key))
+    deletion-charged : (o : Option ℕ) → deletionCharge t o (descent t key w .leaf) key after ≡ chargedAll t (deletionFor o (descent t key w .leaf) key) after
+    deletion-charged none = refl
+    deletion-charged (some old) = omega arith
+
+    abbrev deletions : List NodeRequest
+    deletions = deletionFor (getAnswer count table key) (leaf key) key
+
+    deletions-are : deletionFor (valueIn t key w) (descent t key w .leaf) key ≡ deletions
+    deletions-are = ap₂ (λ (o : Option ℕ) (n : ℕ). deletionFor o n key) value-is (down .leaf)
+
+    pub delete-world : delete t key w ≡ servedAll t (requests limit (Delete key) (bookOf s)) w
+    unfolding delete requests deleteRequests
+    delete-world =
+        deletion-served (valueIn t key w) ∙
+        ap₂ (servedAll t) deletions-are (down .world) ∙
+        sym (servedAll-append t (reads key) deletions w)
+
+    pub delete-charge : deleteCharge t key w ≡ chargedAll t (requests limit (Delete key) (bookOf s)) w
+    unfolding deleteCharge requests deleteRequests
+    delete-charge =
+        ap₂ _+_ (down .charge) (deletion-charged (valueIn t key w) ∙ ap₂ (chargedAll t) deletions-are (down .world)) ∙
+        sym (chargedAll-append t (reads key) deletions w)
+
+    pub delete-answer : answer limit (Delete key) (bookOf s) ≡ short (valueOr Deleted (valueIn t key w))
+    unfolding answer
+    delete-answer = ap (λ (o : Option ℕ). short (valueOr Deleted o)) (sym value-is)
 
   -- SCAN
-  count-is : w .state .nodes ≡ count
-  count-is = k .agrees .nodes ∙ sym (bookOf-count s)
+  module _ (low high most : ℕ) (small : low < bound32) where
+    walked : Walked blocks t w s table count (onPath low) (leaf low) (descent t low w)
+    walked = down low small
 
-  leaves-are : (low high most : ℕ) →
-      leavesAfter (w .state .nodes) (tableIn w) low high most (leafAt low w) ≡ leavesAfter count table low high most (leafFor count table low 0)
-  leaves-are low high most =
-      ap (λ (n : ℕ). leavesAfter n (tableIn w) low high most (leafAt low w)) count-is ∙
-      ap₂ (λ (T : Table) (leaf : ℕ). leavesAfter count T low high most leaf) (table-agrees k) (leaf-is k ps h low)
+    abbrev behind : List ℕ
+    behind = leavesAfter count table low high most (leaf low)
 
-  -- "Low above high: an empty list and no node read."
-  abbrev unlessCrossed : {A : Type 0} → Bool → List A → List A
-  unlessCrossed true xs = []
-  unlessCrossed false xs = xs
+    -- the world after the walk has the same nodes
+    nodes-are : descent t low w .now .state .nodes ≡ count
+    nodes-are = walked .runs .agrees .nodes ∙ sym (bookOf-count (serveAll t (reads low) s)) ∙ walked .sameCount
 
-  abbrev visited : ℕ → ℕ → ℕ → List ℕ
-  visited low high most = path count table low 0 ++ leavesAfter count table low high most (leafFor count table low 0)
+    table-is : tableIn (descent t low w .now) ≡ table
+    table-is = table-agrees (walked .runs) ∙ walked .sameTable
 
-  reads-are : (low high most : ℕ) → scanReads low high most w ≡ unlessCrossed (ltb high low) (visited low high most)
-  unfolding scanReads
-  reads-are low high most = go (ltb high low)
-    where
-      found : pathTo low w ++ leavesAfter (w .state .nodes) (tableIn w) low high most (leafAt low w) ≡ visited low high most
-      found = ap₂ {B = List ℕ} _++_ (path-is k ps h low) (leaves-are low high most)
+    leaves-are : leavesAlong low high most (descent t low w) ≡ behind
+    leaves-are =
+        ap₂ (λ (n : ℕ) (z : Table). leavesAfter n z low high most (descent t low w .leaf)) nodes-are table-is ∙
+        ap (leavesAfter count table low high most) (walked .leaf)
 
-      go : (t : Bool) →
-          elim t [ true ↦ [] | false ↦ pathTo low w ++ leavesAfter (w .state .nodes) (tableIn w) low high most (leafAt low w) ] ≡
-          unlessCrossed t (visited low high most)
-      go true = refl
-      go false = found
+    pairs-are : pairsAlong low high most (descent t low w) ≡ pairsFrom count table low high most (leaf low)
+    pairs-are =
+        ap₂ (λ (n : ℕ) (z : Table). pairsFrom n z low high most (descent t low w .leaf)) nodes-are table-is ∙
+        ap (pairsFrom count table low high most) (walked .leaf)
 
-  requests-are : (low high most : ℕ) → requests limit (Scan low high most) (bookOf s) ≡ map read (unlessCrossed (ltb high low) (visited low high most))
-  unfolding requests scanRequests
-  requests-are low high most = go (ltb high low)
-    where
-      go : (t : Bool) → elim t [ true ↦ [] | false ↦ map read (visited low high most) ] ≡ map read (unlessCrossed t (visited low high most))
-      go true = refl
-      go false = refl
+    -- the reads of both lists in one
+    read-world : readAll t (leavesAlong low high most (descent t low w)) (descent t low w .now) ≡ servedAll t (map read (onPath low ++ behind)) w
+    read-world =
+        ap₂ (readAll t) leaves-are (walked .world) ∙
+        reads-served t behind (servedAll t (reads low) w) ∙
+        sym (servedAll-append t (reads low) (map read behind) w) ∙
+        ap (λ (rs : List NodeRequest). servedAll t rs w) (sym (map-append read (onPath low) behind))
 
-  pub scan-world : (t : Tariff) (low high most : ℕ) →
-      readAll t (scanReads low high most w) w ≡ servedAll t (requests limit (Scan low high most) (bookOf s)) w
-  scan-world t low high most =
-      ap (λ (ns : List ℕ). readAll t ns w) (reads-are low high most) ∙
-      reads-served t (unlessCrossed (ltb high low) (visited low high most)) w ∙
-      ap (λ (rs : List NodeRequest). servedAll t rs w) (sym (requests-are low high most))
+    read-charge : descent t low w .charge + readCharges t (leavesAlong low high most (descent t low w)) (descent t low w .now) ≡
+        chargedAll t (map read (onPath low ++ behind)) w
+    read-charge =
+        ap₂ _+_ (walked .charge) (ap₂ (readCharges t) leaves-are (walked .world) ∙ reads-charged t behind (servedAll t (reads low) w)) ∙
+        sym (chargedAll-append t (reads low) (map read behind) w) ∙
+        ap (λ (rs : List NodeRequest). chargedAll t rs w) (sym (map-append read (onPath low) behind))
 
-  pub scan-charge : (t : Tariff) (low high most : ℕ) →
-      readCharges t (scanReads low high most w) w ≡ chargedAll t (requests limit (Scan low high most) (bookOf s)) w
-  scan-charge t low high most =
-      ap (λ (ns : List ℕ). readCharges t ns w) (reads-are low high most) ∙
-      reads-charged t (unlessCrossed (ltb high low) (visited low high most)) w ∙
-      ap (λ (rs : List NodeRequest). chargedAll t rs w) (sym (requests-are low high most))
+    -- "Low above high: an empty list and no node read."
+    pub scan-world : scanWorld t low high most w ≡ servedAll t (requests limit (Scan low high most) (bookOf s)) w
+    unfolding scanWorld requests scanRequests
+    scan-world = go (ltb high low)
+      where
+        go : (b : Bool) →
+            elim b [ true ↦ w | false ↦ readAll t (leavesAlong low high most (descent t low w)) (descent t low w .now) ] ≡
+            servedAll t (elim b [ true ↦ [] | false ↦ map read (onPath low ++ behind) ]) w
+        go true = refl
+        go false = read-world
 
-  pub scan-answer : (low high most : ℕ) → answer limit (Scan low high most) (bookOf s) ≡ listed (scanPairs low high most w)
-  unfolding answer scanAnswer scanPairs
-  scan-answer low high most = ap listed (go (ltb high low))
-    where
-      found : pairsFrom (w .state .nodes) (tableIn w) low high most (leafAt low w) ≡ pairsFrom count table low high most (leafFor count table low 0)
-      found =
-          ap (λ (n : ℕ). pairsFrom n (tableIn w) low high most (leafAt low w)) count-is ∙
-          ap₂ (λ (T : Table) (leaf : ℕ). pairsFrom count T low high most leaf) (table-agrees k) (leaf-is k ps h low)
+    pub scan-charge : scanCharge t low high most w ≡ chargedAll t (requests limit (Scan low high most) (bookOf s)) w
+    unfolding scanCharge requests scanRequests
+    scan-charge = go (ltb high low)
+      where
+        go : (b : Bool) →
+            elim b [
+              | true ↦ 0
+              | false ↦ descent t low w .charge + readCharges t (leavesAlong low high most (descent t low w)) (descent t low w .now)
+            ] ≡
+            chargedAll t (elim b [ true ↦ [] | false ↦ map read (onPath low ++ behind) ]) w
+        go true = refl
+        go false = read-charge
 
-      go : (t : Bool) →
-          _≡_ {A = List Pair} (elim t [ true ↦ [] | false ↦ pairsFrom count table low high most (leafFor count table low 0) ])
-          (elim t [ true ↦ [] | false ↦ pairsFrom (w .state .nodes) (tableIn w) low high most (leafAt low w) ])
-      go true = refl
-      go false = sym found
+    pub scan-answer : answer limit (Scan low high most) (bookOf s) ≡ listed (scanPairs t low high most w)
+    unfolding answer scanAnswer scanPairs
+    scan-answer = ap listed (go (ltb high low))
+      where
+        go : (b : Bool) →
+            _≡_ {A = List Pair} (elim b [ true ↦ [] | false ↦ pairsFrom count table low high most (leaf low) ])
+            (elim b [ true ↦ [] | false ↦ pairsAlong low high most (descent t low w) ])
+        go true = refl
+        go false = sym pairs-are

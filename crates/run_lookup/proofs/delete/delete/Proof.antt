@@ -1,77 +1,58 @@
--- `delete::delete` meets its contract: the path read, then the leaf at its end edited where the key was there. Assumes nothing.
+-- `delete::delete` meets its contract: the walk down, then the leaf in hand edited where the key is there. Assumes nothing.
 use Rattle.flash_rows.specs.Worktable.{tableFrom}
 use Rattle.flash_blocks.specs.Pages.{pagesOf}
 use Rattle.flash_allocate.specs.World.{world}
 use mathlib.Core.Path.{ap, _∙_}
 use native.Mathlib.Omega.{arith}
 use Rattle.run_lookup.specs.Value.{valueOf}
-use Rattle.run_lookup.specs.Finding.{value-in, path-read}
+use Rattle.run_lookup.specs.Finding.{value-in}
 use Rattle.run_lookup.specs.Deletion.{deleted-none, deleted-one}
 use borrow.Author.Needs.{needs}
 use Rattle.run_lookup.proofs.delete.delete.Statement.{statement}
 use Rattle.run_lookup.proofs.delete.delete.Tie as tie
 
-path-to-requires : tie.Need-path-to-requires
-path-to-requires c κs = search needs
-
-sub-last : tie.Need-sub-last
-sub-last c = search needs
+descend-requires : tie.Need-descend-requires
+descend-requires c κs = search needs
 
 value-at-requires : tie.Need-value-at-requires
 value-at-requires c κs = search needs
 
-serve-reads-requires : tie.Need-serve-reads-requires
-serve-reads-requires c κs = search needs
-
 enum-known-value : tie.Need-enum-known-value
 enum-known-value c = search needs
 
-mul-wide : tie.Need-mul-wide
-mul-wide c = search needs
+serve-edit-holding-requires : tie.Need-serve-edit-holding-requires
+serve-edit-holding-requires c κs = search needs
 
-array-read-wide : tie.Need-array-read-wide
-array-read-wide c = search needs
-
-wide-requires : tie.Need-wide-requires
-wide-requires c κs = search needs
-
-serve-edit-requires : tie.Need-serve-edit-requires
-serve-edit-requires c κs =
-    let c11 = c .before .before .before .before .before .before .before .before .before .before .before in
-    let c23 = c11 .before .before .before .before .before .before .before .before .before .before .before .before in
-    (c11 .serve-reads .ensures .kept .good, c23 .pre .1)
-
-add-t39 : tie.Need-add-t39
-add-t39 c =
-    let c7 = c .before .before .before .before .before .before .before in
-    let c19 = c7 .before .before .before .before .before .before .before .before .before .before .before .before in
-    let c26 = c19 .before .before .before .before .before .before .before in
-    omega (arith, c19 .serve-reads .ensures .most, c7 .serve-edit .ensures .most, c26 .path-to .ensures .few)
+add-t27 : tie.Need-add-t27
+add-t27 c = let c7 = c .before .before .before .before .before .before .before in
+    let c21 = c7 .before .before .before .before .before .before .before .before .before .before .before .before .before .before in
+    omega (arith, c21 .descend .ensures .charged .most, c7 .serve-edit-holding .ensures .most)
 
 enum-told : tie.Need-enum-told
 enum-told c = search needs
 
 same-length : tie.Need-same-length
-same-length c = search needs
+same-length c = let c7 = c .before .before .before .before .before .before .before in
+    let c21 = c7 .before .before .before .before .before .before .before .before .before .before .before .before .before .before in
+    omega (arith, c7 .serve-edit-holding .kept .0, c21 .descend .kept .0)
 
 same-length-2 : tie.Need-same-length-2
-same-length-2 c = search needs
+same-length-2 c = let c7 = c .before .before .before .before .before .before .before in
+    let c21 = c7 .before .before .before .before .before .before .before .before .before .before .before .before .before .before in
+    omega (arith, c7 .serve-edit-holding .kept .1 .0, c21 .descend .kept .1 .0)
 
 returns : tie.Need-returns
-returns c =
-    let c7 = c .before .before .before .before .before .before .before in
-    let c8 = c7 .before in
-    let c12 = c8 .before .before .before .before in
-    let c19 = c12 .before .before .before .before .before .before .before in
-    let c22 = c19 .before .before .before in
-    let c26 = c22 .before .before .before .before in
-    let c31 = c26 .before .before .before .before .before in
-    let a = c31 .args in
+returns c = let c7 = c .before .before .before .before .before .before .before in
+    let c11 = c7 .before .before .before .before in
+    let c13 = c11 .before .before in
+    let c21 = c13 .before .before .before .before .before .before .before .before in
+    let c26 = c21 .before .before .before .before .before in
+    let a = c26 .args in
     let w = world (pagesOf (a .pool .now)) (tableFrom (a .table .now)) (a .state) in
-    let path = c26 .path-to .ensures in
-    let value = c22 .value-at in
-    deleted-one (a .tariff) (a .key) w (path-read w path (a .tariff) (c19 .serve-reads .ensures)) _ _ (c8 .wide .ensures ∙ path .end)
-    (value-in w path (valueOf (value .result)) (value .ensures) ∙ ap valueOf (c12 .value .given .1)) (c7 .serve-edit .ensures)
+    let down = c21 .descend .ensures in
+    let value = c13 .value-at in
+    deleted-one (a .tariff) (a .key) w down _
+    (value-in (a .tariff) w down (valueOf (value .result)) (value .ensures) ∙ ap valueOf (c11 .value .given .1)) (c7 .serve-edit-holding .ensures)
 
 same-length-3 : tie.Need-same-length-3
 same-length-3 c = search needs
@@ -80,32 +61,25 @@ same-length-4 : tie.Need-same-length-4
 same-length-4 c = search needs
 
 returns-2 : tie.Need-returns-2
-returns-2 c =
-    let c7 = c .before .before .before .before .before .before .before in
-    let c10 = c7 .before .before .before in
-    let c14 = c10 .before .before .before .before in
-    let c19 = c14 .before .before .before .before .before in
-    let a = c19 .args in
+returns-2 c = let c2 = c .before .before in
+    let c10 = c2 .before .before .before .before .before .before .before .before in
+    let c15 = c10 .before .before .before .before .before in
+    let a = c15 .args in
     let w = world (pagesOf (a .pool .now)) (tableFrom (a .table .now)) (a .state) in
-    let path = c14 .path-to .ensures in
-    let value = c10 .value-at in
-    deleted-none (a .tariff) (a .key) w (path-read w path (a .tariff) (c7 .serve-reads .ensures))
-    (value-in w path (valueOf (value .result)) (value .ensures) ∙ ap valueOf (c .enum-told .given .1))
+    let down = c10 .descend .ensures in
+    let value = c2 .value-at in
+    deleted-none (a .tariff) (a .key) w down
+    (value-in (a .tariff) w down (valueOf (value .result)) (value .ensures) ∙ ap valueOf (c .enum-told .given .1))
 
 pub delete-spec : {M : Type 1} → statement M
 delete-spec =
     tie.close
     (tie.spec
-    path-to-requires
-    sub-last
+    descend-requires
     value-at-requires
-    serve-reads-requires
     enum-known-value
-    mul-wide
-    array-read-wide
-    wide-requires
-    serve-edit-requires
-    add-t39
+    serve-edit-holding-requires
+    add-t27
     enum-told
     same-length
     same-length-2

@@ -6,9 +6,7 @@ use native.Mathlib.Omega.{arith}
 use borrow.Author.Needs.{needs}
 use Rattle.flash_blocks.specs.Pages.{pagesOf}
 use Rattle.flash_rows.specs.Worktable.{tableFrom}
-use Rattle.tree.specs.Table.{leafFor}
 use Rattle.flash_read.specs.NodeTable.{tableOf}
-use Rattle.run_path.specs.Path.{mostSteps}
 use Rattle.run_scan.specs.InLeaf.{Taking, taking-start, taking-skip, taking-more}
 use Rattle.run_scan.specs.Along.{Along, along-start}
 use Rattle.run_scan.specs.Gathering.{gathered-high, gathered-last, gathered-end, gathered-out, gathering-next}
@@ -16,23 +14,25 @@ use Rattle.run_scan.proofs.gather.gather.Statement.{statement}
 use Rattle.run_scan.proofs.gather.gather.Tie as tie
 
 abbrev Inv-loop : tie.InvT-loop
-Inv-loop pool table state low high most leaves keys₀ values₀ count₀ visited leaf leaf-keys leaf-values i₀ keys values
+Inv-loop pool table state first low high most leaves keys₀ values₀ count₀ visited leaf leaf-keys leaf-values i₀ keys values
     count i = Taking low high most leaf keys₀ values₀ count₀ keys values count i
 
 abbrev μ-loop : tie.MeasureT-loop
-μ-loop pool table state low high most leaves keys₀ values₀ count₀ visited leaf leaf-keys leaf-values i₀ keys values count i = leaf .count - i
+μ-loop pool table state first low high most leaves keys₀ values₀ count₀ visited leaf leaf-keys leaf-values i₀ keys values count i = leaf .count - i
 
 abbrev Inv-leaves : tie.InvT-leaves
-Inv-leaves pool table state low high most leaves₀ keys₀ values₀ count₀ visited₀ leaf₀ leaves keys values count
-    visited leaf = let nodes = tableOf (pagesOf pool) (tableFrom table) state in
-    Along (leafFor mostSteps nodes low 0) nodes (state .nodes) low high most keys values count leaves visited leaf
+Inv-leaves pool table state first low high most leaves₀ keys₀ values₀ count₀ visited₀ leaf₀ leaves keys values count
+    visited leaf = Along first (tableOf (pagesOf pool) (tableFrom table) state) (state .nodes) low high most keys values count leaves visited leaf
 
 abbrev μ-leaves : tie.MeasureT-leaves
-μ-leaves pool table state low high most leaves₀ keys₀ values₀ count₀ visited₀ leaf₀ leaves keys values count visited leaf = state .nodes - visited
+μ-leaves pool table state first low high most leaves₀ keys₀ values₀ count₀ visited₀ leaf₀ leaves keys values count visited leaf = state .nodes - visited
+
+node-at-requires : tie.Need-node-at-requires Inv-loop μ-loop Inv-leaves μ-leaves
+node-at-requires c κs = c .before .before .pre .0
 
 leaves-holds : tie.Need-leaves-holds Inv-loop μ-loop Inv-leaves μ-leaves
 leaves-holds c = let entry = c .before .before .before in
-    along-start _ _ _ _ _ _ _ _ _ _ (entry .pre .1 .leaf) (entry .pre .5) (search needs) (search needs) (entry .pre .3)
+    along-start _ _ _ _ _ _ _ _ _ _ (c .node-at .ensures) (entry .pre .4) (search needs) (search needs) (entry .pre .2)
 
 loop-holds : tie.Need-loop-holds Inv-loop μ-loop Inv-leaves μ-leaves
 loop-holds c = let a = c .before .before .leaves .inv in
@@ -48,13 +48,13 @@ mul-keys : tie.Need-mul-keys Inv-loop μ-loop Inv-leaves μ-leaves
 mul-keys c =
     let c4 = c .before .before .before .before in
     let c11 = c4 .before .before .before .before .before .before .before in
-    let t = c4 .loop .inv in omega (arith, t .wanted, c11 .pre .4)
+    let t = c4 .loop .inv in omega (arith, t .wanted, c11 .pre .3)
 
 array-write-keys : tie.Need-array-write-keys Inv-loop μ-loop Inv-leaves μ-leaves
 array-write-keys c =
     let c4 = c .before .before .before .before in
     let c11 = c4 .before .before .before .before .before .before .before in
-    let t = c4 .loop .inv in omega (arith, t .wanted, t .keyRoom, c11 .pre .4)
+    let t = c4 .loop .inv in omega (arith, t .wanted, t .keyRoom, c11 .pre .3)
 
 mul-values : tie.Need-mul-values Inv-loop μ-loop Inv-leaves μ-leaves
 mul-values c = let s = c .before .before .before .before .before .before .before .leaves .inv .here .held .sized in
@@ -68,19 +68,19 @@ mul-values-2 : tie.Need-mul-values-2 Inv-loop μ-loop Inv-leaves μ-leaves
 mul-values-2 c =
     let c4 = c .before .before .before .before in
     let c11 = c4 .before .before .before .before .before .before .before in
-    let t = c4 .loop .inv in omega (arith, t .wanted, c11 .pre .4)
+    let t = c4 .loop .inv in omega (arith, t .wanted, c11 .pre .3)
 
 array-write-values : tie.Need-array-write-values Inv-loop μ-loop Inv-leaves μ-leaves
 array-write-values c =
     let c4 = c .before .before .before .before in
     let c11 = c4 .before .before .before .before .before .before .before in
-    let t = c4 .loop .inv in omega (arith, t .wanted, t .valueRoom, c11 .pre .4)
+    let t = c4 .loop .inv in omega (arith, t .wanted, t .valueRoom, c11 .pre .3)
 
 add-count : tie.Need-add-count Inv-loop μ-loop Inv-leaves μ-leaves
 add-count c =
     let c4 = c .before .before .before .before in
     let c11 = c4 .before .before .before .before .before .before .before in
-    let t = c4 .loop .inv in omega (arith, t .wanted, c11 .pre .4)
+    let t = c4 .loop .inv in omega (arith, t .wanted, c11 .pre .3)
 
 add-i : tie.Need-add-i Inv-loop μ-loop Inv-leaves μ-leaves
 add-i c = let s = c .before .before .before .before .before .before .before .leaves .inv .here .held .sized in omega
@@ -100,8 +100,8 @@ loop-again c =
     let s = c7 .leaves .inv .here .held .sized in
     let t = c4 .loop .inv in
     ⊎-elim
-    (λ w. rw (w .2, w .3, w .4) (taking-more (p .4) s t (c2 .if1 .taken) (w .0 .taken) (c1 .if2 .left) (w .1 .left)))
-    (λ w. rw (w .1, w .2, w .3) (taking-skip (p .4) s t (c2 .if1 .taken) (p .2) (w .0 .left)))
+    (λ w. rw (w .2, w .3, w .4) (taking-more (p .3) s t (c2 .if1 .taken) (w .0 .taken) (c1 .if2 .left) (w .1 .left)))
+    (λ w. rw (w .1, w .2, w .3) (taking-skip (p .3) s t (c2 .if1 .taken) (p .1) (w .0 .left)))
     (c .if3 .came)
 
 mul-leaves : tie.Need-mul-leaves Inv-loop μ-loop Inv-leaves μ-leaves
@@ -125,8 +125,8 @@ add-visited c =
 cast-node-at : tie.Need-cast-node-at Inv-loop μ-loop Inv-leaves μ-leaves
 cast-node-at c = search needs
 
-node-at-requires : tie.Need-node-at-requires Inv-loop μ-loop Inv-leaves μ-leaves
-node-at-requires c κs = c .before .before .before .before .before .before .before .before .before .before .before .before .pre .0
+node-at-requires-2 : tie.Need-node-at-requires-2 Inv-loop μ-loop Inv-leaves μ-leaves
+node-at-requires-2 c κs = c .before .before .before .before .before .before .before .before .before .before .before .before .pre .0
 
 leaves-less : tie.Need-leaves-less Inv-loop μ-loop Inv-leaves μ-leaves
 leaves-less c = let a = c .before .before .before .before .before .before .before .before .before .leaves .inv in omega (arith, a .links, c .before .if6 .left)
@@ -140,8 +140,8 @@ leaves-again c =
     let c9 = c6 .before .before .before in
     let c13 = c9 .before .before .before .before in
     let p = c13 .pre in
-    gathering-next (p .2) (p .4) (c9 .leaves .inv) (c6 .loop .inv) (c4 .if1 .left) (p .0 .nodes) (c3 .if5 .left)
-    (c1 .if6 .left) (c .node-at .result) (c .node-at .ensures)
+    gathering-next (p .1) (p .3) (c9 .leaves .inv) (c6 .loop .inv) (c4 .if1 .left) (p .0 .nodes) (c3 .if5 .left)
+    (c1 .if6 .left) (c .node-at2 .result) (c .node-at2 .ensures)
 
 returns : tie.Need-returns Inv-loop μ-loop Inv-leaves μ-leaves
 returns c =
@@ -150,7 +150,7 @@ returns c =
     let c6 = c3 .before .before .before in
     let c10 = c6 .before .before .before .before in
     let p = c10 .pre in
-    gathered-high (p .2) (p .4) (c6 .leaves .inv) (c3 .loop .inv) (c1 .if1 .taken) (c .if2 .taken)
+    gathered-high (p .1) (p .3) (c6 .leaves .inv) (c3 .loop .inv) (c1 .if1 .taken) (c .if2 .taken)
 
 returns-2 : tie.Need-returns-2 Inv-loop μ-loop Inv-leaves μ-leaves
 returns-2 c =
@@ -161,7 +161,7 @@ returns-2 c =
     let c8 = c5 .before .before .before in
     let c12 = c8 .before .before .before .before in
     let p = c12 .pre in
-    gathered-last (p .2) (p .4) (c8 .leaves .inv) (c5 .loop .inv) (c3 .if1 .taken) (c1 .if3 .taken) (c2 .if2 .left) (c .if4 .taken)
+    gathered-last (p .1) (p .3) (c8 .leaves .inv) (c5 .loop .inv) (c3 .if1 .taken) (c1 .if3 .taken) (c2 .if2 .left) (c .if4 .taken)
 
 returns-3 : tie.Need-returns-3 Inv-loop μ-loop Inv-leaves μ-leaves
 returns-3 c =
@@ -170,7 +170,7 @@ returns-3 c =
     let c6 = c3 .before .before .before in
     let c10 = c6 .before .before .before .before in
     let p = c10 .pre in
-    gathered-end (p .2) (p .4) (c6 .leaves .inv) (c3 .loop .inv) (c1 .if1 .left) (c .if5 .taken)
+    gathered-end (p .1) (p .3) (c6 .leaves .inv) (c3 .loop .inv) (c1 .if1 .left) (c .if5 .taken)
 
 returns-4 : tie.Need-returns-4 Inv-loop μ-loop Inv-leaves μ-leaves
 returns-4 c =
@@ -179,7 +179,7 @@ returns-4 c =
     let c8 = c5 .before .before .before in
     let c12 = c8 .before .before .before .before in
     let p = c12 .pre in
-    gathered-out (p .2) (p .4) (c8 .leaves .inv) (c5 .loop .inv) (c3 .if1 .left) (c .if6 .taken)
+    gathered-out (p .1) (p .3) (c8 .leaves .inv) (c5 .loop .inv) (c3 .if1 .left) (c .if6 .taken)
 
 pub gather-spec : {M : Type 1} → statement M
 gather-spec =
@@ -189,6 +189,7 @@ gather-spec =
     μ-loop
     Inv-leaves
     μ-leaves
+    node-at-requires
     leaves-holds
     loop-holds
     mul-key
@@ -207,7 +208,7 @@ gather-spec =
     element-write-leaves
     add-visited
     cast-node-at
-    node-at-requires
+    node-at-requires-2
     leaves-less
     leaves-again
     returns

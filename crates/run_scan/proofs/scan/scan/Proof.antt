@@ -1,4 +1,4 @@
--- `scan::scan` meets its contract: the pairs and the leaves gathered, then the path and the leaves read. Assumes nothing.
+-- `scan::scan` meets its contract: the walk down, then the pairs and the leaves gathered from its leaf on, then these leaves read. Assumes nothing.
 use Prim.Native.Nat.{_≤_}
 use native.Mathlib.Nat.{sub-zero}
 use native.Mathlib.Omega.{arith}
@@ -15,20 +15,17 @@ use Rattle.run_scan.proofs.scan.scan.Statement.{statement}
 use Rattle.run_scan.proofs.scan.scan.Tie as tie
 
 returns : tie.Need-returns
-returns c = let entry = c .before .before .before in
-    let a = entry .args in
-    scanned-none (a .tariff) (a .low) (a .high) (a .most)
-    (world (pagesOf (a .pool .now)) (tableFrom (a .table .now)) (a .state)) _ (c .if1 .taken) (entry .pre .0)
-    (listed-none _ _) (record { size = omega arith; keyRoom = search needs; valueRoom = search needs }) (omega arith)
+returns c = let c3 = c .before .before .before in
+    let a = c3 .args in
+    scanned-none (a .tariff) (a .low) (a .high) (a .most) (world (pagesOf (a .pool .now)) (tableFrom (a .table .now)) (a .state)) _ (a .ids .now)
+    (c .if1 .taken) (c3 .pre .0) (listed-none _ _) (record { size = omega arith; keyRoom = search needs; valueRoom = search needs }) (omega arith)
+    (c3 .pre .5)
 
-path-to-requires : tie.Need-path-to-requires
-path-to-requires c κs = search needs
+descend-requires : tie.Need-descend-requires
+descend-requires c κs = search needs
 
 gather-requires : tie.Need-gather-requires
 gather-requires c κs = search needs
-
-serve-reads-requires : tie.Need-serve-reads-requires
-serve-reads-requires c κs = search needs
 
 sub-read-nodes : tie.Need-sub-read-nodes
 sub-read-nodes c = search needs
@@ -37,81 +34,78 @@ part-read-nodes-start : tie.Need-part-read-nodes-start
 part-read-nodes-start c = search needs
 
 part-read-nodes-end : tie.Need-part-read-nodes-end
-part-read-nodes-end c =
-    let c12 = c .before .before .before .before .before .before .before .before .before .before .before .before in
-    let c22 = c12 .before .before .before .before .before .before .before .before .before .before in
-    let found = c12 .gather .ensures in omega (arith, found .few, found .room, c22 .pre .2)
+part-read-nodes-end c = search needs
 
 read-nodes-requires : tie.Need-read-nodes-requires
-read-nodes-requires c κs =
-    let c9 = c .before .before .before .before .before .before .before .before .before in
-    let c13 = c9 .before .before .before .before in
-    let c23 = c13 .before .before .before .before .before .before .before .before .before .before in
-    let entry = c23 in
-    let found = c13 .gather in
+read-nodes-requires c κs = let c5 = c .before .before .before .before .before in
+    let c15 = c5 .before .before .before .before .before .before .before .before .before .before in
+    let c21 = c15 .before .before .before .before .before .before in
+    let found = c5 .gather in
     let leaves = found .last .1 .1 .1 .1 .1 .1 .1 .0 in
-    let few : found .result .visited ≤ length leaves = omega (arith, found .ensures .few, found .ensures .room, entry .pre .2) in (
-      c9 .serve-reads .ensures .kept .good,
-      entry .pre .1,
+    let down = c15 .descend .ensures .charged .kept in
+    let few : found .result .visited ≤ length leaves = omega (arith, found .ensures .few, found .ensures .room, down .nodes, c21 .pre .2) in (
+      down .good,
+      c21 .pre .1,
       rw
           (sub-zero, length-take-le (found .result .visited) leaves few)
           (omega (arith, few, found .ensures .room)),
     )
 
-add-t46 : tie.Need-add-t46
-add-t46 c =
-    let c7 = c .before .before .before .before .before .before .before in
-    let c17 = c7 .before .before .before .before .before .before .before .before .before .before in
-    let c21 = c17 .before .before .before .before in
-    let c25 = c21 .before .before .before .before in
-    let c31 = c25 .before .before .before .before .before .before in
-    let found = c21 .gather in
+add-t42 : tie.Need-add-t42
+add-t42 c = let c7 = c .before .before .before .before .before .before .before in
+    let c13 = c7 .before .before .before .before .before .before in
+    let c23 = c13 .before .before .before .before .before .before .before .before .before .before in
+    let c29 = c23 .before .before .before .before .before .before in
+    let found = c13 .gather in
     let leaves = found .last .1 .1 .1 .1 .1 .1 .1 .0 in
-    let few : found .result .visited ≤ length leaves = omega (arith, found .ensures .few, found .ensures .room, c31 .pre .2) in
-    let x = c17 .serve-reads in
-    let left = world (pagesOf (x .last .0)) (tableFrom (x .last .1 .0)) (x .result .state) in
-    let along = reads-part (c31 .args .tariff) left (found .result .visited) leaves few (c7 .read-nodes .ensures) in
-    omega (arith, x .ensures .most, c25 .path-to .ensures .few, along .most, found .ensures .room)
+    let x = c23 .descend in
+    let down = x .ensures .charged in
+    let few : found .result .visited ≤ length leaves = omega (arith, found .ensures .few, found .ensures .room, down .kept .nodes, c29 .pre .2) in
+    let left = world (pagesOf (x .last .0)) (tableFrom (x .last .1 .0)) (x .result .charged .state) in
+    let along = reads-part (c29 .args .tariff) left (found .result .visited) leaves few (c7 .read-nodes .ensures) in
+    omega (arith, down .most, along .most, few, found .ensures .room)
 
 same-length : tie.Need-same-length
-same-length c = search needs
+same-length c = let c8 = c .before .before .before .before .before .before .before .before in
+    let c23 = c8 .before .before .before .before .before .before .before .before .before .before .before .before .before .before .before in
+    let c24 = c23 .before in
+    omega (arith, c8 .read-nodes .kept .0, c24 .descend .kept .0)
 
 same-length-2 : tie.Need-same-length-2
-same-length-2 c = search needs
+same-length-2 c = let c8 = c .before .before .before .before .before .before .before .before in
+    let c23 = c8 .before .before .before .before .before .before .before .before .before .before .before .before .before .before .before in
+    let c24 = c23 .before in
+    omega (arith, c8 .read-nodes .kept .1 .0, c24 .descend .kept .1 .0)
 
 returns-2 : tie.Need-returns-2
-returns-2 c =
-    let c8 = c .before .before .before .before .before .before .before .before in
-    let c18 = c8 .before .before .before .before .before .before .before .before .before .before in
-    let c22 = c18 .before .before .before .before in
-    let c26 = c22 .before .before .before .before in
-    let c29 = c26 .before .before .before in
-    let c32 = c29 .before .before .before in
-    let entry = c32 in
-    let a = entry .args in
-    let found = c22 .gather in
+returns-2 c = let c8 = c .before .before .before .before .before .before .before .before in
+    let c14 = c8 .before .before .before .before .before .before in
+    let c24 = c14 .before .before .before .before .before .before .before .before .before .before in
+    let c27 = c24 .before .before .before in
+    let c30 = c27 .before .before .before in
+    let a = c30 .args in
+    let found = c14 .gather in
     let leaves = found .last .1 .1 .1 .1 .1 .1 .1 .0 in
-    let few : found .result .visited ≤ length leaves = omega (arith, found .ensures .few, found .ensures .room, entry .pre .2) in
-    let x = c18 .serve-reads in
-    scanned (a .tariff) (a .low) (a .high) (a .most)
-    (world (pagesOf (a .pool .now)) (tableFrom (a .table .now)) (a .state)) (c29 .if1 .left) (entry .pre .2)
-    (c26 .path-to .ensures) (found .ensures) (x .ensures)
-    (reads-part (a .tariff) (world (pagesOf (x .last .0)) (tableFrom (x .last .1 .0)) (x .result .state))
-    (found .result .visited) leaves few (c8 .read-nodes .ensures))
+    let x = c24 .descend in
+    let nodes = x .ensures .charged .kept .nodes in
+    let few : found .result .visited ≤ length leaves = omega (arith, found .ensures .few, found .ensures .room, nodes, c30 .pre .2) in
+    scanned (a .tariff) (a .low) (a .high) (a .most) (world (pagesOf (a .pool .now)) (tableFrom (a .table .now)) (a .state)) (c27 .if1 .left)
+    (c30 .pre .2) (x .ensures) (found .ensures)
+    (reads-part (a .tariff) (world (pagesOf (x .last .0)) (tableFrom (x .last .1 .0)) (x .result .charged .state)) (found .result .visited) leaves
+    few (c8 .read-nodes .ensures))
 
 pub scan-spec : {M : Type 1} → statement M
 scan-spec =
     tie.close
     (tie.spec
     returns
-    path-to-requires
+    descend-requires
     gather-requires
-    serve-reads-requires
     sub-read-nodes
     part-read-nodes-start
     part-read-nodes-end
     read-nodes-requires
-    add-t46
+    add-t42
     same-length
     same-length-2
     returns-2)
