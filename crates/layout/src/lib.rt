@@ -27,12 +27,10 @@ pub const TABLE_BYTES: usize = 1024;
 
 pub const DUE_BYTES: usize = 16;
 
-// The tree: nodes of up to 24 keys, on at most nine levels; the first 12 keys stay in a split.
+// The tree: nodes of up to 24 keys; the first 12 keys stay in a split.
 pub const MOST_KEYS: usize = 24;
 
 pub const KEPT_KEYS: usize = 12;
-
-pub const MOST_LEVELS: usize = 9;
 
 pub const MOST_NODES: usize = 10 * (MOST_BLOCKS - 2);
 
