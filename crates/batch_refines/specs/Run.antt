@@ -62,11 +62,14 @@ module _ {blocks : ℕ} {w : World} {s : State} (k : Runs blocks w s) (ps : List
   pub command-agrees : (c : Command) → Valid c → ValueFits c → One blocks t c w s
   unfolding requests
   command-agrees (Get key) valid value =
-      in-order (Get key) valid value (get-world k ps h t key) (get-charge k ps h t key) (sym (get-answer k ps h key))
+      in-order (Get key) valid value (get-world k ps h number t key valid) (get-charge k ps h number t key valid)
+      (sym (get-answer k ps h number t key valid))
   command-agrees (Delete key) valid value =
-      in-order (Delete key) valid value (delete-world k ps h t key) (delete-charge k ps h t key) (sym (delete-answer k ps h key))
+      in-order (Delete key) valid value (delete-world k ps h number t key valid) (delete-charge k ps h number t key valid)
+      (sym (delete-answer k ps h number t key valid))
   command-agrees (Scan low high most) valid value =
-      in-order (Scan low high most) valid value (scan-world k ps h t low high most) (scan-charge k ps h t low high most) (sym (scan-answer k ps h low high most))
+      in-order (Scan low high most) valid value (scan-world k ps h number t low high most valid)
+      (scan-charge k ps h number t low high most valid) (sym (scan-answer k ps h number t low high most valid))
   command-agrees (Put key v) valid value =
       let p = put-agrees t s w k ps (h .spells) key v valid value (omega (arith, few (Put key v) valid)) in
       record { runs = p .runs; charge = p .charge; reply = p .answer; number = omega (arith, ran (Put key v) valid value .number, few (Put key v) valid) }
