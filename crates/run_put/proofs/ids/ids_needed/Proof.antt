@@ -25,7 +25,8 @@ loop-holds : tie.Need-loop-holds Inv-loop μ-loop
 loop-holds c =
     let entry = c .before .before .before in
     let a = entry .args in
-    full-leaf (tableOf (pagesOf (a .pool .now)) (tableFrom (a .table .now)) (a .state)) (a .ids .now) (length (a .ids .now) - 1) (omega (arith, entry .pre .1)) (entry .pre .3)
+    let nodes = tableOf (pagesOf (a .pool .now)) (tableFrom (a .table .now)) (a .state) in
+    full-leaf nodes (a .ids .now) (length (a .ids .now) - 1) (omega (arith, entry .pre .1)) (entry .pre .3)
 
 sub-above : tie.Need-sub-above Inv-loop μ-loop
 sub-above c = omega arith

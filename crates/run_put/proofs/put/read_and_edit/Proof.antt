@@ -22,7 +22,8 @@ mul-wide : tie.Need-mul-wide
 mul-wide c = omega (arith, c .before .before .before .before .before .before .before .before .before .before .before .before .before .pre .3)
 
 shared-slice-read-wide : tie.Need-shared-slice-read-wide
-shared-slice-read-wide c = omega (arith, c .before .before .before .before .before .before .before .before .before .before .before .before .before .before .pre .2)
+shared-slice-read-wide c =
+    omega (arith, c .before .before .before .before .before .before .before .before .before .before .before .before .before .before .pre .2)
 
 wide-requires : tie.Need-wide-requires
 wide-requires c κs = search needs
