@@ -38,8 +38,9 @@ pub fn run_command(
 ) -> Progress
     requires { ⌜ (Growing (length (now pool)) (length (now table)) state) × (Ranged tariff) × (InRange command)
         × (at + roomFor command ≤ length (now answers)) × (length (now ids) ≡ nodeLimit mostBlocks) ⌝ }
-    ensures { λ r. ⌜ InBytes CommandAs (now (pool .exit)) (now (table .exit)) (now (answers .entry))
-        (now (answers .exit)) r tariff command at (worldIn (now (pool .entry)) (now (table .entry)) state) ⌝ }
+    ensures { λ r. ⌜ (InBytes CommandAs (now (pool .exit)) (now (table .exit)) (now (answers .entry))
+        (now (answers .exit)) r tariff command at (worldIn (now (pool .entry)) (now (table .entry)) state))
+        × (length (now (ids .exit)) ≡ nodeLimit mostBlocks) ⌝ }
 {
     match command {
         Command::Get { key } => {

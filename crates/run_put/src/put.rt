@@ -152,8 +152,9 @@ pub fn put(
 ) -> Answered
     requires { ⌜ (Growing (length (now pool)) (length (now table)) state) × (Ranged tariff)
         × (length (now ids) ≡ nodeLimit mostBlocks) ⌝ }
-    ensures { λ r. ⌜ InBytes DoneAs (now (pool .exit)) (now (table .exit)) r state
-        (def.put tariff key value (worldIn (now (pool .entry)) (now (table .entry)) state)) ⌝ }
+    ensures { λ r. ⌜ (InBytes DoneAs (now (pool .exit)) (now (table .exit)) r state
+        (def.put tariff key value (worldIn (now (pool .entry)) (now (table .entry)) state)))
+        × (length (now (ids .exit)) ≡ nodeLimit mostBlocks) ⌝ }
 {
     let path = path_to(pool, table, ids, state, key);
     let leaf = path.leaf;

@@ -37,9 +37,11 @@ returns c =
     let c8 = c2 .before .before .before .before .before .before in
     let c12 = c8 .before .before .before .before in
     let c17 = c12 .before .before .before .before .before in
-    let a = c17 .args in
-    get-replied (a .tariff) (world (pagesOf (a .pool .now)) (tableFrom (a .table .now)) (a .state)) (c17 .pre .0) (c12 .command .given .1)
-    (c8 .get .ensures) (c2 .reply .ensures)
+    let a = c17 .args in (
+      get-replied (a .tariff) (world (pagesOf (a .pool .now)) (tableFrom (a .table .now)) (a .state)) (c17 .pre .0) (c12 .command .given .1)
+          (c8 .get .ensures) (c2 .reply .ensures),
+      c17 .pre .4,
+    )
 
 enum-known-command-2 : tie.Need-enum-known-command-2
 enum-known-command-2 c = search needs
@@ -49,9 +51,9 @@ put-requires c κs = search needs
 
 reply-requires-2 : tie.Need-reply-requires-2
 reply-requires-2 c κs =
-    let c9 = c .before .before .before .before .before .before .before .before .before in
-    let c14 = c9 .before .before .before .before .before in
-    omega (arith, c14 .pre .3, ap roomFor (c9 .command2 .given .1))
+    let c10 = c .before .before .before .before .before .before .before .before .before .before in
+    let c15 = c10 .before .before .before .before .before in
+    omega (arith, c15 .pre .3, ap roomFor (c10 .command2 .given .1))
 
 same-length-4 : tie.Need-same-length-4
 same-length-4 c = search needs
@@ -66,11 +68,13 @@ returns-2 : tie.Need-returns-2
 returns-2 c =
     let c2 = c .before .before in
     let c8 = c2 .before .before .before .before .before .before in
-    let c12 = c8 .before .before .before .before in
-    let c17 = c12 .before .before .before .before .before in
-    let a = c17 .args in
-    put-replied (a .tariff) (world (pagesOf (a .pool .now)) (tableFrom (a .table .now)) (a .state)) (c12 .command2 .given .1)
-    (c8 .put .ensures) (c2 .reply2 .ensures)
+    let c13 = c8 .before .before .before .before .before in
+    let c18 = c13 .before .before .before .before .before in
+    let a = c18 .args in (
+      put-replied (a .tariff) (world (pagesOf (a .pool .now)) (tableFrom (a .table .now)) (a .state)) (c13 .command2 .given .1)
+          (c8 .put .ensures .0) (c2 .reply2 .ensures),
+      c8 .put .ensures .1,
+    )
 
 enum-known-command-3 : tie.Need-enum-known-command-3
 enum-known-command-3 c = search needs
@@ -99,26 +103,28 @@ returns-3 c =
     let c8 = c2 .before .before .before .before .before .before in
     let c12 = c8 .before .before .before .before in
     let c17 = c12 .before .before .before .before .before in
-    let a = c17 .args in
-    delete-replied (a .tariff) (world (pagesOf (a .pool .now)) (tableFrom (a .table .now)) (a .state)) (c17 .pre .0) (c12 .command3 .given .1)
-    (c8 .delete .ensures) (c2 .reply3 .ensures)
+    let a = c17 .args in (
+      delete-replied (a .tariff) (world (pagesOf (a .pool .now)) (tableFrom (a .table .now)) (a .state)) (c17 .pre .0) (c12 .command3 .given .1)
+          (c8 .delete .ensures) (c2 .reply3 .ensures),
+      c17 .pre .4,
+    )
 
 enum-known-command-4 : tie.Need-enum-known-command-4
 enum-known-command-4 c = search needs
 
 scan-requires : tie.Need-scan-requires
 scan-requires c κs =
-    let c3 = c .before .before .before in
-    let c8 = c3 .before .before .before .before .before in
-    let range = range-is (c3 .command4 .given .1) (c8 .pre .2) in
-    (c8 .pre .0 .good, c8 .pre .1, omega (arith, c8 .pre .0 .limited, c8 .pre .0 .good .most), range .0, range .1)
+    let c4 = c .before .before .before .before in
+    let c9 = c4 .before .before .before .before .before in
+    let range = range-is (c4 .command4 .given .1) (c9 .pre .2) in
+    (c9 .pre .0 .good, c9 .pre .1, omega (arith, c9 .pre .0 .limited, c9 .pre .0 .good .most), range .0, range .1, c9 .pre .4)
 
 reply-pairs-requires : tie.Need-reply-pairs-requires
 reply-pairs-requires c κs =
     let c5 = c .before .before .before .before .before in
-    let c9 = c5 .before .before .before .before in
-    let c14 = c9 .before .before .before .before .before in
-    (c5 .scan .ensures .sized, omega (arith, c5 .scan .ensures .count, c14 .pre .3, ap roomFor (c9 .command4 .given .1)))
+    let c10 = c5 .before .before .before .before .before in
+    let c15 = c10 .before .before .before .before .before in
+    (c5 .scan .ensures .sized, omega (arith, c5 .scan .ensures .count, c15 .pre .3, ap roomFor (c10 .command4 .given .1)))
 
 same-length-10 : tie.Need-same-length-10
 same-length-10 c = search needs
@@ -133,11 +139,13 @@ returns-4 : tie.Need-returns-4
 returns-4 c =
     let c2 = c .before .before in
     let c8 = c2 .before .before .before .before .before .before in
-    let c12 = c8 .before .before .before .before in
-    let c17 = c12 .before .before .before .before .before in
-    let a = c17 .args in
-    scan-replied (a .tariff) (world (pagesOf (a .pool .now)) (tableFrom (a .table .now)) (a .state)) (c17 .pre .0) (c12 .command4 .given .1)
-    (c8 .scan .ensures) (c2 .reply-pairs .ensures)
+    let c13 = c8 .before .before .before .before .before in
+    let c18 = c13 .before .before .before .before .before in
+    let a = c18 .args in (
+      scan-replied (a .tariff) (world (pagesOf (a .pool .now)) (tableFrom (a .table .now)) (a .state)) (c18 .pre .0) (c13 .command4 .given .1)
+          (c8 .scan .ensures) (c2 .reply-pairs .ensures),
+      c8 .scan .ensures .room,
+    )
 
 pub run-command-spec : {M : Type 1} → statement M
 run-command-spec =

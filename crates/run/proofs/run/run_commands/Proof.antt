@@ -1,9 +1,10 @@
 -- `run::run_commands` meets its contract: the commands left, from here, give the whole. Assumes nothing.
 use mathlib.Core.Path.{_≡_, refl, sym, _∙_}
-use Prim.Native.Nat.{_-_}
+use Prim.Native.Nat.{ℕ, _-_}
 use native.Mathlib.Omega.{arith}
 use borrow.Author.Needs.{needs}
-use lib.ListN.{length}
+use lib.ListN.{length, length-replicate}
+use Rattle.layout.specs.Layout.{nodeLimit, mostBlocks}
 use Rattle.command.specs.declared.Step.the-variants.{Next}
 use Rattle.command.specs.Command.{commandAt, Onward}
 use Rattle.command.specs.CommandLaws.{commandAt-onward}
@@ -16,13 +17,13 @@ use Rattle.run.proofs.run.run_commands.Statement.{statement}
 use Rattle.run.proofs.run.run_commands.Tie as tie
 
 abbrev Inv-loop : tie.InvT-loop
-Inv-loop pool₀ table₀ batch answers₀ tariff s₀ charge₀ place₀ at₀ pool table answers s charge place at =
-    (length pool ≡ length pool₀) × (length table ≡ length table₀) × (length answers ≡ length answers₀) ×
+Inv-loop pool₀ table₀ batch answers₀ tariff ids₀ s₀ charge₀ place₀ at₀ pool table answers ids s charge place at =
+    (length pool ≡ length pool₀) × (length table ≡ length table₀) × (length answers ≡ length answers₀) × (length ids ≡ nodeLimit mostBlocks) ×
     Running (length pool) (length table) tariff batch answers₀ at (world (pagesOf pool₀) (tableFrom table₀) s₀)
     (world (pagesOf pool) (tableFrom table) s) answers charge place
 
 abbrev μ-loop : tie.MeasureT-loop
-μ-loop pool₀ table₀ batch answers₀ tariff s₀ charge₀ place₀ at₀ pool table answers s charge place at = length batch - at
+μ-loop pool₀ table₀ batch answers₀ tariff ids₀ s₀ charge₀ place₀ at₀ pool table answers ids s charge place at = length batch - at
 
 -- the command found, and that it goes on
 step-is : (k : tie.After-known-told Inv-loop μ-loop) →
@@ -46,6 +47,7 @@ loop-holds c =
       refl,
       refl,
       refl,
+      length-replicate {A = ℕ} 620 0,
       running-start _ _ (a .tariff) (a .batch .now) (a .answers .now)
           (world (pagesOf (a .pool .now)) (tableFrom (a .table .now)) (a .state)) (c4 .pre .0) (c4 .pre .2),
     )
@@ -58,48 +60,50 @@ enum-known-step c = search needs
 
 run-command-requires : tie.Need-run-command-requires Inv-loop μ-loop
 run-command-requires c κs =
-    let c3 = c .before .before .before in
-    let c7 = c3 .before .before .before .before in
-    let c8 = c7 .before in
-    let c13 = c8 .before .before .before .before .before in
-    let l = c8 .loop in (
-      l .inv .3 .growing,
-      c13 .pre .1,
-      command-range (c13 .args .batch .now) (l .at) _ _ (step-is (c3)),
+    let c4 = c .before .before .before .before in
+    let c8 = c4 .before .before .before .before in
+    let c9 = c8 .before in
+    let c14 = c9 .before .before .before .before .before in
+    let l = c9 .loop in (
+      l .inv .4 .growing,
+      c14 .pre .1,
+      command-range (c14 .args .batch .now) (l .at) _ _ (step-is (c4)),
       omega
-          (arith, running-room (l .inv .3) (c7 .loop-test .taken) _ _ (step-is (c3)), l .inv .2),
+          (arith, running-room (l .inv .4) (c8 .loop-test .taken) _ _ (step-is (c4)), l .inv .2),
+      l .inv .3,
     )
 
 add-charge : tie.Need-add-charge Inv-loop μ-loop
 add-charge c =
     let c9 = c .before .before .before .before .before .before .before .before .before in
-    let c17 = c9 .before .before .before .before .before .before .before .before in
-    let c18 = c17 .before in
-    let c23 = c18 .before .before .before .before .before in
-    omega (arith, c18 .loop .inv .3 .most, c9 .run-command .ensures .charged .most, c23 .pre .2 .short, c17 .loop-test .taken)
+    let c18 = c9 .before .before .before .before .before .before .before .before .before in
+    let c19 = c18 .before in
+    let c24 = c19 .before .before .before .before .before in
+    omega (arith, c19 .loop .inv .4 .most, c9 .run-command .ensures .0 .charged .most, c24 .pre .2 .short, c18 .loop-test .taken)
 
 loop-less : tie.Need-loop-less Inv-loop μ-loop
 loop-less c =
-    let c13 = c .before .before .before .before .before .before .before .before .before .before .before .before .before in
-    let c17 = c13 .before .before .before .before in
-    let further = onward (c13) in
-    omega (arith, further .0, further .1, c17 .loop-test .taken)
+    let c14 = c .before .before .before .before .before .before .before .before .before .before .before .before .before .before in
+    let c18 = c14 .before .before .before .before in
+    let further = onward (c14) in
+    omega (arith, further .0, further .1, c18 .loop-test .taken)
 
 loop-again : tie.Need-loop-again Inv-loop μ-loop
 loop-again c =
     let c9 = c .before .before .before .before .before .before .before .before .before in
-    let c13 = c9 .before .before .before .before in
-    let c17 = c13 .before .before .before .before in
-    let c18 = c17 .before in
-    let l = c18 .loop in
+    let c14 = c9 .before .before .before .before .before in
+    let c18 = c14 .before .before .before .before in
+    let c19 = c18 .before in
+    let l = c19 .loop in
     let x = c9 .run-command in
-    let further = onward (c13) in (
+    let further = onward (c14) in (
       x .kept .0 ∙ l .inv .0,
       x .kept .1 .0 ∙ l .inv .1,
       x .kept .1 .1 .0 ∙ l .inv .2,
-      running-next (l .inv .3) (c17 .loop-test .taken) _ _ (step-is (c13)) (length (x .last .0))
+      x .ensures .1,
+      running-next (l .inv .4) (c18 .loop-test .taken) _ _ (step-is (c14)) (length (x .last .0))
           (length (x .last .1 .0)) (pagesOf (x .last .0)) (tableFrom (x .last .1 .0)) (x .last .1 .1 .0) (x .result)
-          (further .0) (further .1) (x .ensures),
+          (further .0) (further .1) (x .ensures .0),
     )
 
 enum-told : tie.Need-enum-told Inv-loop μ-loop
@@ -119,7 +123,7 @@ returns c =
     let c2 = c .before .before in
     let c3 = c2 .before in
     let c4 = c3 .before in
-    absurd (running-valid (c4 .loop .inv .3) (c3 .loop-test .taken) (sym (c2 .command-at .ensures) ∙ c .enum-told .given .1))
+    absurd (running-valid (c4 .loop .inv .4) (c3 .loop-test .taken) (sym (c2 .command-at .ensures) ∙ c .enum-told .given .1))
 
 same-length-4 : tie.Need-same-length-4 Inv-loop μ-loop
 same-length-4 c = c .before .loop .inv .0
@@ -131,7 +135,7 @@ same-length-6 : tie.Need-same-length-6 Inv-loop μ-loop
 same-length-6 c = c .before .loop .inv .2
 
 returns-2 : tie.Need-returns-2 Inv-loop μ-loop
-returns-2 c = running-end (c .before .loop .inv .3) (c .loop-test .left)
+returns-2 c = running-end (c .before .loop .inv .4) (c .loop-test .left)
 
 pub run-commands-spec : {M : Type 1} → statement M
 run-commands-spec =

@@ -63,10 +63,12 @@ returns c =
     let a = c21 .args in
     let p = c15 .path-to in
     let f = c11 .fit in
-    let x = c4 .read-and-edit in
-    put-edit (a .key) (world (pagesOf (a .pool .now)) (tableFrom (a .table .now)) (a .state))
-    (p .result) (p .last .1 .1 .0) (p .ensures) (a .tariff) (a .value) (f .result) (f .ensures) (pagesOf (x .last .0)) (tableFrom (x .last .1 .0))
-    (c8 .replaced-answer .result) (x .result) (c9 .enum-told .given .1) (c8 .replaced-answer .ensures) (x .ensures)
+    let x = c4 .read-and-edit in (
+      put-edit (a .key) (world (pagesOf (a .pool .now)) (tableFrom (a .table .now)) (a .state))
+          (p .result) (p .last .1 .1 .0) (p .ensures) (a .tariff) (a .value) (f .result) (f .ensures) (pagesOf (x .last .0)) (tableFrom (x .last .1 .0))
+          (c8 .replaced-answer .result) (x .result) (c9 .enum-told .given .1) (c8 .replaced-answer .ensures) (x .ensures),
+      p .ensures .room,
+    )
 
 enum-told-2 : tie.Need-enum-told-2
 enum-told-2 c = search needs
@@ -114,10 +116,13 @@ returns-2 c =
     let c20 = c14 .before .before .before .before .before .before in
     let a = c20 .args in
     let p = c14 .path-to in
-    let f = c10 .fit in
-    done-is
-    (put-new (a .key) (world (pagesOf (a .pool .now)) (tableFrom (a .table .now)) (a .state))
-    (p .result) (p .last .1 .1 .0) (p .ensures) (a .tariff) (a .value) (f .result) (f .ensures) _ (c8 .enum-told2 .given .1)) (c4 .put-splitting .ensures)
+    let f = c10 .fit in (
+      done-is
+          (put-new (a .key) (world (pagesOf (a .pool .now)) (tableFrom (a .table .now)) (a .state))
+          (p .result) (p .last .1 .1 .0) (p .ensures) (a .tariff) (a .value) (f .result) (f .ensures) _ (c8 .enum-told2 .given .1))
+          (c4 .put-splitting .ensures),
+      p .ensures .room,
+    )
 
 pub put-spec : {M : Type 1} → statement M
 put-spec = tie.close (tie.spec path-to-requires fit-requires enum-told replaced-answer-requires sub-read-and-edit
