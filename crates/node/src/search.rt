@@ -37,7 +37,7 @@ fn place_in(keys: &[u32; MOST_KEYS], count: usize, wanted: u64) -> usize
 }
 
 // The place of a key among the first `count` keys and whether it is there, by halves.
-pub fn find_by_halves(keys: &[u32; MOST_KEYS], count: usize, key: u32) -> Found
+fn find_by_halves(keys: &[u32; MOST_KEYS], count: usize, key: u32) -> Found
     requires { ⌜ count ≤ mostKeys ⌝ }
     ensures { λ r. ⌜ FoundIn (now (keys .entry)) count key r ⌝ }
 {
@@ -51,7 +51,29 @@ pub fn find_by_halves(keys: &[u32; MOST_KEYS], count: usize, key: u32) -> Found
     Found::Above(i)
 }
 
-// The same of a key that most often is behind all others, as in a replay, where a node's entries come with keys ascending.
+// The same for a replay, whose keys come in an order that the processor foresees: each comparison is a branch, and the first equal key ends it.
+pub fn find_in_replay(keys: &[u32; MOST_KEYS], count: usize, key: u32) -> Found
+    requires { ⌜ count ≤ mostKeys ⌝ }
+    ensures { λ r. ⌜ FoundIn (now (keys .entry)) count key r ⌝ }
+{
+    let mut low: usize = 0;
+    let mut high = count;
+    while low < high {
+        let middle = (low + high) / 2;
+        let other = keys[middle];
+        if other == key {
+            return Found::At(middle);
+        }
+        if other < key {
+            low = middle + 1;
+        } else {
+            high = middle;
+        }
+    }
+    Found::Above(low)
+}
+
+// The same of a key that most often is behind all others: a node's entries come with keys ascending.
 pub fn find_behind(keys: &[u32; MOST_KEYS], count: usize, key: u32) -> Found
     requires { ⌜ count ≤ mostKeys ⌝ }
     ensures { λ r. ⌜ FoundIn (now (keys .entry)) count key r ⌝ }
@@ -63,7 +85,7 @@ pub fn find_behind(keys: &[u32; MOST_KEYS], count: usize, key: u32) -> Found
     if keys[last] < key {
         return Found::Above(count);
     }
-    find_by_halves(keys, count, key)
+    find_in_replay(keys, count, key)
 }
 
 // The place of the first key at or above the wanted one.

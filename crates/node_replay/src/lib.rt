@@ -12,7 +12,7 @@ use node::Found;
 use node::Shape;
 use node::same_shape;
 use node::search::find_behind;
-use node::search::find_by_halves;
+use node::search::find_in_replay;
 use node::splice;
 use outline::Outline;
 use outline::broken;
@@ -67,7 +67,7 @@ pub fn redo_delete(
 {
     let mut r = outline;
     let count = outline.count;
-    let found = find_by_halves(keys, count, key);
+    let found = find_in_replay(keys, count, key);
     match found {
         Found::At(i) => {
             splice::remove(keys, count, i);

@@ -11,14 +11,14 @@ use Rattle.node_replay.proofs.redo_delete.Tie as tie
 
 -- What the search answers is what is found in the draft's pairs.
 answer :
-    (c : tie.After-find-by-halves) →
+    (c : tie.After-find-in-replay) →
     let a = c .before .before .args in
-    found (a .key) (pairsIn (nodeFrom (a .outline) (a .keys .now) (a .pointers .now))) ≡ c .find-by-halves .result
+    found (a .key) (pairsIn (nodeFrom (a .outline) (a .keys .now) (a .pointers .now))) ≡ c .find-in-replay .result
 answer c = let a = c .before .before .args in
-    c .find-by-halves .ensures .is (nodeFrom (a .outline) (a .keys .now) (a .pointers .now)) (c .before .before .pre) refl refl
+    c .find-in-replay .ensures .is (nodeFrom (a .outline) (a .keys .now) (a .pointers .now)) (c .before .before .pre) refl refl
 
-find-by-halves-requires : tie.Need-find-by-halves-requires
-find-by-halves-requires c κs = search needs
+find-in-replay-requires : tie.Need-find-in-replay-requires
+find-in-replay-requires c κs = search needs
 
 enum-known-found : tie.Need-enum-known-found
 enum-known-found c = search needs
@@ -76,7 +76,7 @@ pub redo-delete-spec : {M : Type 1} → statement M
 redo-delete-spec =
     tie.close
     (tie.spec
-    find-by-halves-requires
+    find-in-replay-requires
     enum-known-found
     remove-requires
     remove-requires-2

@@ -1,4 +1,4 @@
--- `node::search::find_behind` meets its contract: behind the last key, or found by halves. Assumes nothing.
+-- `node::search::find_behind` meets its contract: behind the last key, or found as in a replay. Assumes nothing.
 use native.Mathlib.Omega.{arith}
 use Rattle.node.specs.FoundIn.{found-in-above}
 use borrow.Author.Needs.{needs}
@@ -24,8 +24,8 @@ returns-2 c =
     let a = c .before .before .before .args in
     found-in-above (a .keys .now) (a .count) (a .key) (a .count) (omega arith) (λ z. c .if2 .taken) (λ z. omega arith)
 
-find-by-halves-requires : tie.Need-find-by-halves-requires
-find-by-halves-requires c κs = search needs
+find-in-replay-requires : tie.Need-find-in-replay-requires
+find-in-replay-requires c κs = search needs
 
 returns-3 : tie.Need-returns-3
 returns-3 c = search needs
@@ -39,5 +39,5 @@ find-behind-spec =
     mul-if2
     element-copy-out-if2
     returns-2
-    find-by-halves-requires
+    find-in-replay-requires
     returns-3)
