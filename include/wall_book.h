@@ -5,11 +5,11 @@
  *
  * What to lend:
  *
- *   pool      4 to 64 blocks of 16,384 bytes. It is plain memory: a call reads and writes its bytes in any order and any
- *             number of times. A flash chip's pages are copied in before a call, and those that changed out after it.
+ *   pool      4 to 64 blocks of 16,384 bytes. It is plain memory: a call reads and writes its bytes in any order and
+ *             any number of times. A flash chip's pages are copied in before a call, and those that changed out after.
  *   table     1,024 bytes for each block or more (WALL_BOOK_TABLE_BYTES). What it holds at entry means nothing.
- *   commands  0 to 32,768 bytes. A command is a tag of 1 byte, a length of 2 and a payload of that many; keys, values and
- *             bounds have 4 bytes, `most` (1 to 32) has 2, and the most significant byte comes first:
+ *   commands  0 to 32,768 bytes. A command is a tag of 1 byte, a length of 2 and a payload of that many; keys, values
+ *             and bounds have 4 bytes, `most` (1 to 32) has 2, and the most significant byte comes first:
  *                01 0004 key                get       answers 7 bytes or fewer
  *                02 0008 key value          put       7
  *                03 0004 key                delete    7
@@ -23,7 +23,8 @@
  * Nothing is kept between calls and the library has no data of its own: pools may be used by turns, and several at once
  * from several threads, each with buffers of its own.
  *
- * A batch takes at most 13,312 bytes of stack on x86-64, whatever the pool holds, and prepare 2,048; nothing calls itself.
+ * A batch takes at most 13,312 bytes of stack on x86-64, whatever the pool holds, and prepare 2,048; nothing calls
+ * itself.
  *
  * Both calls answer 0, or the number of the first question that failed; a refusal leaves pool and answers as they were.
  */

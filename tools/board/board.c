@@ -1,5 +1,5 @@
-/* A bare Cortex-M4 (QEMU's mps2-an386): start, text by semihosting, how deep the stack went, and the functions that compiled code
- * asks its libraries for. */
+/* A bare Cortex-M4 (QEMU's mps2-an386): start, text by semihosting, how deep the stack went, and the functions that
+ * compiled code asks its libraries for. */
 #include <stddef.h>
 #include <stdint.h>
 

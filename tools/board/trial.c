@@ -87,7 +87,7 @@ static void run(size_t blocks, size_t commands_bytes, size_t answers_bytes)
     print("\n");
 }
 
-/* A batch of random commands. One in eight has a byte too few or an answer buffer too short, one in eight meets a spoiled pool. */
+/* A batch of random commands. One in 16 is a byte short, one has little room for answers, two meet a spoiled pool. */
 static void try_batch(size_t blocks, uint32_t keys)
 {
     uint32_t count = below(MOST_COMMANDS), turn = below(16), place = below((uint32_t)blocks * BLOCK);
