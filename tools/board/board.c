@@ -108,3 +108,7 @@ __attribute__((naked)) void __aeabi_uldivmod(void)
     __asm__("push {r4, lr}\n sub sp, #16\n add r4, sp, #8\n str r4, [sp]\n bl divide\n"
             "ldr r2, [sp, #8]\n ldr r3, [sp, #12]\n add sp, #16\n pop {r4, pc}");
 }
+
+/* A Cortex-M0 has neither a long product nor a division, and asks for them too. */
+uint64_t __aeabi_lmul(uint64_t a, uint64_t b) { return a * b; }
+uint64_t __aeabi_uidivmod(uint32_t number, uint32_t by) { return (uint64_t)(number % by) << 32 | number / by; }
