@@ -230,34 +230,27 @@ static int load(const char *name)
     return file != NULL && fclose(file) == 0 && read;
 }
 
-static int fail(const char *name)
+/* Prepares a pool, puts four times and saves it. Answers whether it is saved. */
+static int begin(const char *name)
 {
-    perror(name);
-    return 1;
-}
-
-int main(int count, char **words)
-{
-    if (count != 2) {
-        fprintf(stderr, "usage: book FILE\n");
-        return 2;
-    }
     memset(pool, 0xff, sizeof pool);
     run("a blank pool", sizeof answers);
     printf("prepare\n");
-    if (print_refused(wall_book_prepare(pool, sizeof pool, 3, 1, 2, 1, 4, 4, 3, 2)))
-        return 1;
+    print_refused(wall_book_prepare(pool, sizeof pool, 3, 1, 2, 1, 4, 4, 3, 2));
     lay_put(7, 100);
     lay_put(9, 300);
     lay_put(8, 200);
     lay_put(7, 101);
     run("four puts", sizeof answers);
-    if (!save(words[1]))
-        return fail(words[1]);
+    return save(name);
+}
 
+/* Loads it again and goes on: nothing else has to be kept. Answers whether it is loaded and saved. */
+static int go_on(const char *name)
+{
     memset(pool, 0, sizeof pool);
-    if (!load(words[1]))
-        return fail(words[1]);
+    if (!load(name))
+        return 0;
     lay_get(7);
     lay_scan(0, 0xffffffff, 32);
     lay_delete(9);
@@ -266,5 +259,18 @@ int main(int count, char **words)
     run_empty();
     meet_refusals();
     fill();
-    return save(words[1]) ? 0 : fail(words[1]);
+    return save(name);
+}
+
+int main(int count, char **words)
+{
+    if (count != 2) {
+        fprintf(stderr, "usage: book FILE\n");
+        return 2;
+    }
+    if (!begin(words[1]) || !go_on(words[1])) {
+        perror(words[1]);
+        return 1;
+    }
+    return 0;
 }
