@@ -19,21 +19,35 @@ fn as_cpp() {
     check(&["c++", "-Wall", "-Wextra", "-Werror", "-x", "c++"]);
 }
 
+/// A temporary folder, gone when the test ends, however it ends.
+struct Folder(PathBuf);
+
+impl Folder {
+    fn new(name: &str) -> Folder {
+        let path = std::env::temp_dir().join(format!("yokehour-example-{name}-{}", std::process::id()));
+        fs::create_dir_all(&path).expect("a temporary folder");
+        Folder(path)
+    }
+}
+
+impl Drop for Folder {
+    fn drop(&mut self) {
+        let _ = fs::remove_dir_all(&self.0);
+    }
+}
+
 /// Compiles and runs the example in a folder of its own; nothing is asked of a build without the proved book.
 fn check(compiler: &[&str]) {
     if proved_to_compare().unwrap_or_else(|missing| panic!("{missing}")).is_none() {
         return;
     }
-    let folder = std::env::temp_dir().join(format!("yokehour-example-{}-{}", compiler[0], std::process::id()));
-    fs::create_dir_all(&folder).expect("a temporary folder");
-    compile(compiler, &folder);
-    let output = Command::new(folder.join("book")).arg("wall.pool").current_dir(&folder).output().expect("runs");
-    let kept = fs::metadata(folder.join("wall.pool")).expect("the pool is kept").len();
-    fs::remove_dir_all(&folder).expect("was made");
-
+    let Folder(folder) = &Folder::new(compiler[0]);
+    compile(compiler, folder);
+    let output = Command::new(folder.join("book")).arg("wall.pool").current_dir(folder).output().expect("runs");
     let stored = fs::read_to_string(root().join("examples/c/stdout")).expect("the stored output");
     assert_eq!(String::from_utf8_lossy(&output.stdout), stored);
     assert!(output.status.success(), "{output:?}");
+    let kept = fs::metadata(folder.join("wall.pool")).expect("the pool is kept").len();
     assert_eq!(kept, POOL_BYTES);
 }
 
