@@ -1,17 +1,32 @@
 /* The wall book: an ordered map from 32-bit keys to 32-bit values on raw NAND flash.
  *
- * Both calls work on buffers that the caller lends and that do not overlap; neither keeps anything, and neither asks anything of
- * the bytes. They answer 0, or the number of the first question that failed; a refusal leaves pool and answers as they were.
+ * Two calls, on buffers that the caller lends; neither asks anything of the bytes in them. docs/COMMANDS.md takes
+ * commands, answers and refusals apart byte by byte.
  *
- *    1  the pool is not 4 to 64 blocks of 16,384 bytes          6  the newest checkpoint is incomplete
- *    2  the table has fewer than 1,024 bytes a block            7  the tree that the pool spells is unsound
- *    3  the batch is over 32,768 bytes or not valid             8  the sequence numbers are used up
- *    4  the answers would not fit their buffer                 10  a tariff number is out of range (prepare)
- *    5  a page, or the pages together, break the layout
+ * What to lend:
  *
- * A put for which node ids do not suffice is no refusal of the batch: its own answer carries 9.
+ *   pool      4 to 64 blocks of 16,384 bytes. It is plain memory: a call reads and writes its bytes in any order and
+ *             any number of times. A flash chip's pages are copied in before a call, and those that changed out after.
+ *   table     1,024 bytes for each block or more (WALL_BOOK_TABLE_BYTES). What it holds at entry means nothing.
+ *   commands  0 to 32,768 bytes. A command is a tag of 1 byte, a length of 2 and a payload of that many; keys, values
+ *             and bounds have 4 bytes, `most` (1 to 32) has 2, and the most significant byte comes first:
+ *                01 0004 key                get       answers 7 bytes or fewer
+ *                02 0008 key value          put       7
+ *                03 0004 key                delete    7
+ *                04 000a low high most      scan      3 + 8 x most
+ *   answers   room for the sum of the last column, however short the answers turn out. Twenty bytes for each byte of
+ *             commands are always enough; without a scan, as many as the commands have.
  *
- * A batch takes at most 13,312 bytes of stack on x86-64, whatever the pool holds, and prepare 2,048; nothing calls itself.
+ * No two of these share a byte, `length` and `charge` included, and nobody else reads or writes them while a call runs.
+ * A buffer of 0 bytes may be NULL: nothing is read or written through its pointer. `length` and `charge` may not.
+ *
+ * Nothing is kept between calls and the library has no data of its own: pools may be used by turns, and several at once
+ * from several threads, each with buffers of its own.
+ *
+ * A batch takes at most 13,312 bytes of stack on x86-64, whatever the pool holds, and prepare 2,048; nothing calls
+ * itself.
+ *
+ * Both calls answer 0, or the number of the first question that failed; a refusal leaves pool and answers as they were.
  */
 #ifndef WALL_BOOK_H
 #define WALL_BOOK_H
@@ -23,15 +38,35 @@
 extern "C" {
 #endif
 
-/* Erases the pool and writes an empty map under a tariff: what a read, an edit and a rewrite cost in log mode and in disk mode
- * (0 to 1,000,000), and what a switch to disk and to log costs (1 to 1,000,000). */
+#define WALL_BOOK_BLOCK_BYTES 16384
+#define WALL_BOOK_MOST_COMMAND_BYTES 32768
+#define WALL_BOOK_TABLE_BYTES(pool_bytes) ((pool_bytes) / 16)
+
+/* Why a call is refused; batch asks 1 to 8 in this order, prepare 1 and then 10. */
+enum wall_book_refusal {
+    WALL_BOOK_DONE = 0,
+    WALL_BOOK_POOL_LENGTH = 1,      /* the pool is not 4 to 64 blocks of 16,384 bytes */
+    WALL_BOOK_TABLE_LENGTH = 2,     /* the table has fewer than 1,024 bytes a block */
+    WALL_BOOK_BATCH = 3,            /* the batch is over 32,768 bytes or not wholly of valid commands */
+    WALL_BOOK_ANSWER_ROOM = 4,      /* the answers might not fit their buffer */
+    WALL_BOOK_PAGES = 5,            /* a page, or the pages together, break the layout */
+    WALL_BOOK_CHECKPOINT = 6,       /* the newest checkpoint is incomplete */
+    WALL_BOOK_TREE = 7,             /* the tree that the pool spells is unsound */
+    WALL_BOOK_SEQUENCE_NUMBERS = 8, /* the sequence numbers are used up */
+    WALL_BOOK_NODE_IDS = 9,         /* no call's: the answer 8f of a put for which node ids do not suffice has it */
+    WALL_BOOK_TARIFF = 10           /* a tariff number is out of range */
+};
+
+/* Erases the pool and writes an empty map under a tariff: what a read, an edit and a rewrite cost in log mode and in
+ * disk mode (0 to 1,000,000), and what a switch to disk and to log costs (1 to 1,000,000). */
 uint32_t wall_book_prepare(uint8_t *pool, size_t pool_bytes,
                            uint32_t log_read, uint32_t log_edit, uint32_t log_rewrite,
                            uint32_t disk_read, uint32_t disk_edit, uint32_t disk_rewrite,
                            uint32_t to_disk, uint32_t to_log);
 
-/* Runs a batch of commands. `length` becomes the number of bytes laid in `answers`, `charge` what the batch cost; both are 0 where it
- * is refused. The table needs 1,024 bytes a block, which are zero afterwards, save with refusals 1 and 2, which leave it as it was. */
+/* Runs a batch of commands. `length` becomes the number of bytes laid in `answers`, `charge` what the batch cost; both
+ * are 0 where it is refused. Refusals 1 and 2 leave the table as it was; after any other call 1,024 bytes of it a block
+ * are zero and those behind them as they were. */
 uint32_t wall_book_batch(uint8_t *pool, size_t pool_bytes, uint8_t *table, size_t table_bytes,
                          const uint8_t *commands, size_t commands_bytes, uint8_t *answers, size_t answers_bytes,
                          size_t *length, uint64_t *charge);
