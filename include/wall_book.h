@@ -11,7 +11,7 @@
  *
  * A put for which node ids do not suffice is no refusal of the batch: its own answer carries 9.
  *
- * A batch takes at most 13,312 bytes of stack on x86-64, whatever the pool holds, and prepare 2,048; nothing calls itself.
+ * A batch takes at most 12,288 bytes of stack on x86-64, whatever the pool holds, and prepare 2,048; nothing calls itself.
  */
 #ifndef WALL_BOOK_H
 #define WALL_BOOK_H
