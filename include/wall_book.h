@@ -23,7 +23,7 @@
  * Nothing is kept between calls and the library has no data of its own: pools may be used by turns, and several at once
  * from several threads, each with buffers of its own.
  *
- * A batch takes at most 13,312 bytes of stack on x86-64, whatever the pool holds, and prepare 2,048; nothing calls
+ * A batch takes at most 12,288 bytes of stack on x86-64, whatever the pool holds, and prepare 2,048; nothing calls
  * itself.
  *
  * Both calls answer 0, or the number of the first question that failed; a refusal leaves pool and answers as they were.

@@ -4,7 +4,7 @@ use yokehour_host::books::proved_to_compare;
 use yokehour_host::stack::CASES;
 
 /// The most bytes of stack that a call may take, as `include/wall_book.h` says.
-const STACK_BYTES: usize = 13 * 1024;
+const STACK_BYTES: usize = 12 * 1024;
 
 #[test]
 fn calls_keep_to_their_stack() {
