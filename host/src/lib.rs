@@ -34,6 +34,7 @@ pub mod refusal;
 pub mod report;
 pub mod shell;
 pub mod stack;
+pub mod tool;
 pub mod tree;
 pub mod wire;
 pub mod workload;

@@ -23,6 +23,23 @@ impl Refusal {
     }
 }
 
+/// The refusal of a number in a sentence, for people; 9 is that of a single put.
+pub fn words(number: u8) -> &'static str {
+    match number {
+        1 => "the pool is not 4 to 64 blocks of 16,384 bytes",
+        2 => "the table has fewer than 1,024 bytes a block",
+        3 => "the batch is over 32,768 bytes or not valid",
+        4 => "the answers would not fit their buffer",
+        5 => "a page, or the pages together, break the layout",
+        6 => "the newest checkpoint is incomplete",
+        7 => "the tree that the pool spells is unsound",
+        8 => "the sequence numbers are used up",
+        9 => "too few node ids are left for the split that it needs",
+        10 => "a tariff number is out of range",
+        _ => "a number that no book should give",
+    }
+}
+
 /// A refusal of a pool with its reason, for people; the number alone is promised.
 #[derive(Clone, Copy, PartialEq, Eq, Debug)]
 pub struct Fault {
