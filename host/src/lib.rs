@@ -33,6 +33,7 @@ pub mod reference;
 pub mod refusal;
 pub mod report;
 pub mod shell;
+pub mod sound;
 pub mod stack;
 pub mod tool;
 pub mod tree;

@@ -88,120 +88,227 @@ fn kind_of(shape: Shape) -> u8 {
     }
 }
 
-/// Why a page does not check.
-pub type Flaw = &'static str;
+/// What is wrong with a page, and at which of its bytes that shows.
+#[derive(Clone, Copy, PartialEq, Eq, Debug)]
+pub struct Flaw {
+    pub byte: usize,
+    pub why: &'static str,
+}
+
+impl std::fmt::Display for Flaw {
+    fn fmt(&self, out: &mut std::fmt::Formatter<'_>) -> std::fmt::Result {
+        write!(out, "byte {}: {}", self.byte, self.why)
+    }
+}
+
+/// All that can be read of a page, and all its flaws; neither if it is blank.
+#[derive(Clone, Debug)]
+pub struct Reading {
+    /// Where there are flaws, what is left of it: sequence number 0 if that cannot be read, and no entry that cannot be.
+    pub page: Option<Page>,
+    pub flaws: Vec<Flaw>,
+}
 
 /// Says whether these bytes are a blank page.
 pub fn is_blank(bytes: &[u8]) -> bool {
     bytes.iter().all(|&byte| byte == BLANK)
 }
 
-/// Reads a page: nothing if it is blank, or else what is wrong with it.
+/// Reads a page: nothing if it is blank, or else the first thing that is wrong with it.
 ///
 /// Question 5 as far as the page's own bytes decide it.
 pub fn decode(bytes: &[u8]) -> Result<Option<Page>, Flaw> {
-    if bytes[0] == BLANK {
-        return if is_blank(bytes) { Ok(None) } else { Err("FF first on a page that is not blank") };
-    }
-    let (sequence, rest) = decode_sequence(bytes)?;
-    let (field, after) = next_field(rest).ok_or("no valid field behind the sequence number")?;
-    let (content, rest) = match field.tag {
-        TAG_ENTRY => decode_log(rest, sequence)?,
-        TAG_NODE => (decode_node(field)?, after),
-        TAG_TARIFF | TAG_SCORE => decode_checkpoint(rest)?,
-        _ => return Err("no content behind the sequence number"),
-    };
-    decode_sum(bytes, rest)?;
-    Ok(Some(Page { sequence, content }))
-}
-
-fn decode_sequence(bytes: &[u8]) -> Result<(u32, &[u8]), Flaw> {
-    match next_field(bytes) {
-        Some((Field { tag: TAG_SEQUENCE, payload }, rest)) => match Numbers(payload).u32() {
-            0 => Err("sequence number 0"),
-            sequence => Ok((sequence, rest)),
-        },
-        _ => Err("no sequence number first"),
+    let Reading { page, flaws } = examine(bytes);
+    match flaws.first() {
+        Some(&flaw) => Err(flaw),
+        None => Ok(page),
     }
 }
 
-/// Checks field 1F at the front of `rest`, and that FF follows it to the page's end.
-fn decode_sum(bytes: &[u8], rest: &[u8]) -> Result<(), Flaw> {
-    let Some((Field { tag: TAG_SUM, payload }, tail)) = next_field(rest) else {
-        return Err("no sum behind the content");
-    };
-    let before = &bytes[..bytes.len() - rest.len()];
-    if payload != page_sum(before) {
-        return Err("the sum differs");
+/// Reads as much of a page as can be read, with all that is wrong with it.
+pub fn examine(bytes: &[u8]) -> Reading {
+    if is_blank(bytes) {
+        return Reading { page: None, flaws: Vec::new() };
     }
-    if !is_blank(tail) {
-        return Err("a byte other than FF behind the sum");
+    let mut reader = Reader { bytes, at: 0, flaws: Vec::new() };
+    let sequence = reader.sequence();
+    let content = reader.content(sequence);
+    if content.is_some() {
+        reader.sum();
     }
-    Ok(())
+    Reading { page: content.map(|content| Page { sequence, content }), flaws: reader.flaws }
 }
 
-/// Reads entries until another tag comes.
-fn decode_log(mut rest: &[u8], sequence: u32) -> Result<(Content, &[u8]), Flaw> {
-    let mut entries = Vec::with_capacity(LOG_PAGE_ENTRIES);
-    while let Some((Field { tag: TAG_ENTRY, payload }, after)) = next_field(rest) {
-        entries.push(decode_entry(payload, sequence)?);
-        rest = after;
+/// Where a page's content begins.
+pub const CONTENT_START: usize = FIELD_HEAD + SEQUENCE_BYTES;
+/// Bytes of a log entry, its head included, and where its version and its kind stand.
+const ENTRY_FIELD_BYTES: usize = FIELD_HEAD + ENTRY_BYTES;
+pub const ENTRY_VERSION: usize = FIELD_HEAD + 2;
+const ENTRY_KIND: usize = ENTRY_VERSION + 4;
+
+/// Where the log entry at a place begins.
+pub fn entry_start(place: usize) -> usize {
+    CONTENT_START + ENTRY_FIELD_BYTES * place
+}
+
+/// Where the pair at a place of a node page begins.
+pub fn pair_start(place: usize) -> usize {
+    CONTENT_START + FIELD_HEAD + NODE_HEAD + PAIR_BYTES * place
+}
+
+/// Where a node page has its link.
+pub const LINK_START: usize = CONTENT_START + FIELD_HEAD + 3;
+
+/// Where the first tariff number stands on a checkpoint's first page.
+pub const TARIFF_START: usize = CONTENT_START + FIELD_HEAD;
+
+/// Where the score at a place of a checkpoint page begins, on the first of its set or on another.
+pub fn score_start(first: bool, place: usize) -> usize {
+    let tariff = if first { FIELD_HEAD + TARIFF_BYTES } else { 0 };
+    CONTENT_START + tariff + (FIELD_HEAD + SCORE_BYTES) * place
+}
+
+/// A page while it is read: it goes on behind a flaw where it can.
+struct Reader<'a> {
+    bytes: &'a [u8],
+    at: usize,
+    flaws: Vec<Flaw>,
+}
+
+impl<'a> Reader<'a> {
+    fn flaw(&mut self, byte: usize, why: &'static str) {
+        self.flaws.push(Flaw { byte, why });
     }
-    Ok((Content::Log(entries), rest))
-}
 
-fn decode_entry(payload: &[u8], sequence: u32) -> Result<Entry, Flaw> {
-    let mut numbers = Numbers(payload);
-    let (id, version, kind) = (numbers.u16(), numbers.u32(), numbers.u8());
-    let (key, pointer) = (numbers.u32(), numbers.u32());
-    if version == 0 || version >= sequence {
-        return Err("an entry's version is 0 or not below the page's sequence number");
+    /// The field at a byte, if a valid one stands there.
+    fn field(&self, at: usize) -> Option<Field<'a>> {
+        next_field(self.bytes.get(at..)?).map(|(field, _)| field)
     }
-    let change = match (kind, key, pointer) {
-        (KIND_PUT, key, pointer) => Change::Put(Pair { key, pointer }),
-        (KIND_DELETE, key, 0) => Change::Delete { key },
-        (KIND_LEAF, 0, link) => Change::Link(Shape::Leaf, link),
-        (KIND_BRANCH, 0, link) => Change::Link(Shape::Branch, link),
-        _ => return Err("an entry's kind is unknown or goes with other numbers"),
-    };
-    Ok(Entry { id, version, change })
-}
 
-fn decode_node(field: Field<'_>) -> Result<Content, Flaw> {
-    let mut numbers = Numbers(field.payload);
-    let (id, shape, link) = (numbers.u16(), numbers.u8(), numbers.u32());
-    let shape = shape_of(shape).ok_or("a node page is neither leaf nor branch")?;
-    let count = (field.payload.len() - NODE_HEAD) / PAIR_BYTES;
-    let pairs = (0..count).map(|_| Pair { key: numbers.u32(), pointer: numbers.u32() }).collect();
-    Ok(Content::Node { id, node: Node { shape, pairs, link } })
-}
+    /// Takes the field at hand if it has this tag.
+    fn take(&mut self, tag: u8) -> Option<&'a [u8]> {
+        let field = self.field(self.at).filter(|field| field.tag == tag)?;
+        self.at += FIELD_HEAD + field.payload.len();
+        Some(field.payload)
+    }
 
-/// Reads a checkpoint page: a tariff perhaps, scores, a count perhaps.
-fn decode_checkpoint(rest: &[u8]) -> Result<(Content, &[u8]), Flaw> {
-    let (tariff, mut rest) = match next_field(rest) {
-        Some((Field { tag: TAG_TARIFF, payload }, after)) => {
-            let mut numbers = Numbers(payload);
-            (Some(std::array::from_fn(|_| numbers.u32())), after)
+    /// The sequence number, 0 if it cannot be read.
+    fn sequence(&mut self) -> u32 {
+        let sequence = self.take(TAG_SEQUENCE).map(|payload| Numbers(payload).u32());
+        match sequence {
+            Some(0) => self.flaw(FIELD_HEAD, "sequence number 0"),
+            Some(_) => {}
+            None if self.bytes[0] == BLANK => self.flaw(0, "FF first on a page that is not blank"),
+            None => self.flaw(0, "no sequence number first"),
         }
-        _ => (None, rest),
-    };
-    let mut page = Checkpoint { tariff, scores: Vec::new(), count: None };
-    while let Some((Field { tag: TAG_SCORE, payload }, after)) = next_field(rest) {
+        self.at = CONTENT_START;
+        sequence.unwrap_or(0)
+    }
+
+    fn content(&mut self, sequence: u32) -> Option<Content> {
+        match self.field(self.at).map(|field| field.tag) {
+            Some(TAG_ENTRY) => Some(self.log(sequence)),
+            Some(TAG_NODE) => self.node(),
+            Some(TAG_TARIFF | TAG_SCORE) => Some(self.checkpoint()),
+            _ if self.is_entry(self.at + ENTRY_FIELD_BYTES) => Some(self.log(sequence)),
+            Some(_) => {
+                self.flaw(self.at, "no content behind the sequence number");
+                None
+            }
+            None => {
+                self.flaw(self.at, "no valid field behind the sequence number");
+                None
+            }
+        }
+    }
+
+    fn is_entry(&self, at: usize) -> bool {
+        self.field(at).is_some_and(|field| field.tag == TAG_ENTRY)
+    }
+
+    /// Reads entries until the sum, or until neither this nor the next is an entry.
+    fn log(&mut self, sequence: u32) -> Content {
+        let mut entries = Vec::with_capacity(LOG_PAGE_ENTRIES);
+        loop {
+            let start = self.at;
+            if let Some(payload) = self.take(TAG_ENTRY) {
+                entries.extend(self.entry(payload, start, sequence));
+            } else if self.field(start).is_none() && self.is_entry(start + ENTRY_FIELD_BYTES) {
+                self.flaw(start, "no valid field before a log entry");
+                self.at += ENTRY_FIELD_BYTES;
+            } else {
+                return Content::Log(entries);
+            }
+        }
+    }
+
+    fn entry(&mut self, payload: &[u8], start: usize, sequence: u32) -> Option<Entry> {
         let mut numbers = Numbers(payload);
-        page.scores.push(Score { id: numbers.u16(), score: numbers.u32() });
-        rest = after;
+        let (id, version, kind) = (numbers.u16(), numbers.u32(), numbers.u8());
+        let (key, pointer) = (numbers.u32(), numbers.u32());
+        // Without a sequence number nothing can be said of a version.
+        if version == 0 || (sequence != 0 && version >= sequence) {
+            self.flaw(start + ENTRY_VERSION, "an entry's version is 0 or not below the page's sequence number");
+        }
+        let change = match (kind, key, pointer) {
+            (KIND_PUT, key, pointer) => Change::Put(Pair { key, pointer }),
+            (KIND_DELETE, key, 0) => Change::Delete { key },
+            (KIND_LEAF, 0, link) => Change::Link(Shape::Leaf, link),
+            (KIND_BRANCH, 0, link) => Change::Link(Shape::Branch, link),
+            _ => {
+                self.flaw(start + ENTRY_KIND, "an entry's kind is unknown or goes with other numbers");
+                return None;
+            }
+        };
+        Some(Entry { id, version, change })
     }
-    if let Some((Field { tag: TAG_COUNT, payload }, after)) = next_field(rest) {
-        page.count = Some(Numbers(payload).u16());
-        rest = after;
+
+    fn node(&mut self) -> Option<Content> {
+        let payload = self.take(TAG_NODE)?;
+        let mut numbers = Numbers(payload);
+        let (id, shape, link) = (numbers.u16(), numbers.u8(), numbers.u32());
+        let Some(shape) = shape_of(shape) else {
+            self.flaw(LINK_START - 1, "a node page is neither leaf nor branch");
+            return None;
+        };
+        let count = (payload.len() - NODE_HEAD) / PAIR_BYTES;
+        let pairs = (0..count).map(|_| Pair { key: numbers.u32(), pointer: numbers.u32() }).collect();
+        Some(Content::Node { id, node: Node { shape, pairs, link } })
     }
-    if page.scores.is_empty() || page.scores.len() > page.capacity() {
-        return Err("a checkpoint page has no score or too many");
+
+    /// Reads a checkpoint page: a tariff perhaps, scores, a count perhaps.
+    fn checkpoint(&mut self) -> Content {
+        let tariff = self.take(TAG_TARIFF).map(|payload| {
+            let mut numbers = Numbers(payload);
+            std::array::from_fn(|_| numbers.u32())
+        });
+        let mut page = Checkpoint { tariff, scores: Vec::new(), count: None };
+        while let Some(payload) = self.take(TAG_SCORE) {
+            let mut numbers = Numbers(payload);
+            page.scores.push(Score { id: numbers.u16(), score: numbers.u32() });
+        }
+        page.count = self.take(TAG_COUNT).map(|payload| Numbers(payload).u16());
+        if page.scores.is_empty() || page.scores.len() > page.capacity() {
+            self.flaw(score_start(tariff.is_some(), 0), "a checkpoint page has no score or too many");
+        } else if page.count.is_none() && page.scores.len() < page.capacity() {
+            self.flaw(self.at, "a checkpoint page that is not the last is not full");
+        }
+        Content::Checkpoint(page)
     }
-    if page.count.is_none() && page.scores.len() < page.capacity() {
-        return Err("a checkpoint page that is not the last is not full");
+
+    /// Checks field 1F at hand, and that FF follows it to the page's end.
+    fn sum(&mut self) {
+        let start = self.at;
+        let Some(payload) = self.take(TAG_SUM) else {
+            return self.flaw(start, "no sum behind the content");
+        };
+        if payload != page_sum(&self.bytes[..start]) {
+            self.flaw(start + FIELD_HEAD, "the sum differs");
+        }
+        if let Some(behind) = self.bytes[self.at..].iter().position(|&byte| byte != BLANK) {
+            self.flaw(self.at + behind, "a byte other than FF behind the sum");
+        }
     }
-    Ok((Content::Checkpoint(page), rest))
 }
 
 /// The used bytes of a page, up to the end of field 1F; all of them if it does not check.
@@ -387,6 +494,29 @@ mod tests {
                 }
             }
         }
+    }
+
+    #[test]
+    fn what_is_left_of_a_broken_page_is_read() {
+        let page = log(9);
+        let left = |at: usize| {
+            let mut bytes = page.encode();
+            bytes[at] ^= 0x55;
+            let Reading { page, flaws } = examine(&bytes);
+            let entries = page.map(|page| match page.content {
+                Content::Log(entries) => entries.len(),
+                other => panic!("{other:?}"),
+            });
+            (entries, flaws.iter().map(|flaw| flaw.byte).collect::<Vec<_>>())
+        };
+        let sum = entry_start(9) + FIELD_HEAD;
+        assert_eq!(left(0), (Some(9), vec![0, sum]), "the sequence number's tag");
+        assert_eq!(left(entry_start(0)), (Some(8), vec![entry_start(0), sum]), "the first entry's tag");
+        assert_eq!(left(entry_start(4) + 1), (Some(8), vec![entry_start(4), sum]), "an entry's length");
+        assert_eq!(left(entry_start(4) + ENTRY_KIND), (Some(8), vec![entry_start(4) + ENTRY_KIND, sum]));
+        assert_eq!(left(entry_start(4) + 12), (Some(9), vec![sum]), "a key");
+        assert_eq!(left(sum), (Some(9), vec![sum]));
+        assert_eq!(left(500), (Some(9), vec![500]));
     }
 
     #[test]

@@ -45,7 +45,7 @@ pub fn words(number: u8) -> &'static str {
 pub struct Fault {
     pub refusal: Refusal,
     pub why: &'static str,
-    /// The page or the node that it was seen at.
+    /// Where it was seen.
     pub at: Place,
 }
 
@@ -53,19 +53,40 @@ pub struct Fault {
 pub enum Place {
     Pool,
     Page(usize),
+    Byte(Byte),
     Block(usize),
-    Node(usize),
+    /// A node, and where it shows if it lies on a page.
+    Node(usize, Option<Byte>),
+}
+
+/// A byte of a page.
+#[derive(Clone, Copy, PartialEq, Eq, Debug)]
+pub struct Byte {
+    pub page: usize,
+    pub byte: usize,
+}
+
+impl fmt::Display for Byte {
+    fn fmt(&self, out: &mut fmt::Formatter<'_>) -> fmt::Result {
+        write!(out, "page {}, byte {}", self.page, self.byte)
+    }
+}
+
+impl fmt::Display for Place {
+    fn fmt(&self, out: &mut fmt::Formatter<'_>) -> fmt::Result {
+        match self {
+            Place::Pool => out.write_str("the pool"),
+            Place::Page(page) => write!(out, "page {page}"),
+            Place::Byte(byte) => write!(out, "{byte}"),
+            Place::Block(block) => write!(out, "block {block}"),
+            Place::Node(id, None) => write!(out, "node {id}"),
+            Place::Node(id, Some(byte)) => write!(out, "node {id} ({byte})"),
+        }
+    }
 }
 
 impl fmt::Display for Fault {
     fn fmt(&self, out: &mut fmt::Formatter<'_>) -> fmt::Result {
-        write!(out, "{}: ", self.refusal.number())?;
-        match self.at {
-            Place::Pool => {}
-            Place::Page(page) => write!(out, "page {page}: ")?,
-            Place::Block(block) => write!(out, "block {block}: ")?,
-            Place::Node(id) => write!(out, "node {id}: ")?,
-        }
-        out.write_str(self.why)
+        write!(out, "{}: {}: {}", self.refusal.number(), self.at, self.why)
     }
 }
