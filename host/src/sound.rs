@@ -30,7 +30,7 @@ pub fn check(nodes: &[Node]) -> Result<(), &'static str> {
 /// Walks over the tree from the root; a node that is not there is said elsewhere.
 pub fn walk<'a>(nodes: &'a [Option<&'a Node>]) -> Walk<'a> {
     let reached = vec![None; nodes.len()];
-    let mut walk = Walk { nodes, reached, leaf_depth: None, last_leaf: None, flaws: Vec::new() };
+    let mut walk = Walk { nodes, reached, missing: false, leaf_depth: None, last_leaf: None, flaws: Vec::new() };
     if !nodes.is_empty() {
         walk.visit(ROOT, Bounds { low: 0, end: 1 << 32 }, 0);
     }
@@ -56,6 +56,8 @@ pub struct Walk<'a> {
     nodes: &'a [Option<&'a Node>],
     /// The bounds under which each node was reached.
     pub reached: Vec<Option<Bounds>>,
+    /// Whether a node was reached that is not there.
+    missing: bool,
     leaf_depth: Option<usize>,
     /// The last leaf, unless a node was missing since.
     last_leaf: Option<(usize, &'a Node)>,
@@ -70,8 +72,8 @@ impl<'a> Walk<'a> {
     fn visit(&mut self, id: usize, bounds: Bounds, depth: usize) {
         self.reached[id] = Some(bounds);
         let Some(node) = self.nodes[id] else {
-            // Which leaf would come next is not known.
-            self.last_leaf = None;
+            // Neither the nodes below it are known, nor which leaf would come next.
+            (self.missing, self.last_leaf) = (true, None);
             return;
         };
         self.check_keys(id, node, bounds);
@@ -123,7 +125,8 @@ impl<'a> Walk<'a> {
     }
 
     fn finish(&mut self) {
-        for id in (0..self.nodes.len()).filter(|&id| self.reached[id].is_none()).collect::<Vec<_>>() {
+        let unreached = |&id: &usize| self.reached[id].is_none() && !self.missing;
+        for id in (0..self.nodes.len()).filter(unreached).collect::<Vec<_>>() {
             self.flaw(id, Part::Whole, "a node is not reached");
         }
         if let Some((id, _)) = self.last_leaf.filter(|(_, leaf)| leaf.link != NO_LINK) {
@@ -184,6 +187,6 @@ mod tests {
         assert_eq!(told, expected);
         let missing = [nodes[0], None, nodes[2], None];
         let told: Vec<usize> = walk(&missing).flaws.iter().map(|flaw| flaw.id).collect();
-        assert_eq!(told, [2, 0, 3], "nothing is said of what a missing node would have had");
+        assert_eq!(told, [2, 0], "nothing is said of what a missing node would have had");
     }
 }

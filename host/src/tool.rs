@@ -4,19 +4,26 @@
 //! 2 a request that cannot be understood or a file that cannot be used.
 
 mod answer;
+mod check;
 mod csv;
 mod delete;
+mod diff;
 mod export;
 mod file;
 mod get;
 mod help;
 mod import;
+mod node;
+mod page;
 mod pool;
 mod prepare;
 mod progress;
 mod put;
+mod room;
 mod run;
 mod scan;
+mod show;
+mod stats;
 #[cfg(test)]
 mod trial;
 mod words;
@@ -37,8 +44,11 @@ pub struct Verb {
 }
 
 /// All verbs, in the order of the help.
-pub const VERBS: &[Verb] =
-    &[prepare::VERB, get::VERB, put::VERB, delete::VERB, scan::VERB, import::VERB, export::VERB, run::VERB];
+#[rustfmt::skip]
+pub const VERBS: &[Verb] = &[
+    prepare::VERB, get::VERB, put::VERB, delete::VERB, scan::VERB, import::VERB, export::VERB, run::VERB,
+    check::VERB, stats::VERB, show::VERB, page::VERB, node::VERB, diff::VERB,
+];
 
 /// What a verb says: on standard output, then on standard error; and its exit status.
 #[derive(Clone, PartialEq, Eq, Debug, Default)]

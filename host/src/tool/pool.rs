@@ -57,6 +57,12 @@ impl<'a> Pool<'a> {
         answers.ok_or_else(|| Stop::no(format!("{}: the book's answers cannot be read", self.name)))
     }
 
+    /// The number that the book answers an empty batch on a copy with.
+    pub fn number(mut self) -> u8 {
+        let mut table = vec![0; table_bytes(self.bytes.len())];
+        self.book.batch(&mut self.bytes, &mut table, &[], &mut []).number
+    }
+
     /// A refusal in words, with the first place that tells why.
     fn refused(&self, number: u8) -> Stop {
         let place = match number {
