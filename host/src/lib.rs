@@ -31,6 +31,7 @@ pub mod proved;
 pub mod random;
 pub mod reference;
 pub mod refusal;
+pub mod repair;
 pub mod report;
 pub mod shell;
 pub mod sound;

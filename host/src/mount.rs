@@ -249,9 +249,7 @@ impl Survey {
         let found = faults.len();
         let count = checkpoint.scores.len();
         if count > node_limit(self.blocks) {
-            // A tree of any size is not walked: the walk calls itself once a level.
             faults.push(fault(Refusal::Tree, Place::Pool, "more nodes than the limit"));
-            return None;
         }
         let tariff = checkpoint.check_tariff(faults);
         let finished: Vec<(Result<Node, Broken>, Row)> = self.gather(count).into_iter().map(Gathered::finish).collect();
@@ -298,12 +296,18 @@ impl Survey {
     }
 
     /// What the pages say of the greatest version of each node below the count.
-    pub fn gather(&self, count: usize) -> Vec<Gathered<'_>> {
-        let mut gathered: Vec<Gathered<'_>> = (0..count).map(|_| Gathered::default()).collect();
+    fn gather(&self, count: usize) -> Vec<Gathered<'_>> {
+        self.gather_up_to(&vec![u32::MAX; count])
+    }
+
+    /// What the pages say of each node's greatest version, but of none above the node's ceiling.
+    pub fn gather_up_to(&self, ceilings: &[u32]) -> Vec<Gathered<'_>> {
+        let mut gathered: Vec<Gathered<'_>> = ceilings.iter().map(|_| Gathered::default()).collect();
         for (_, decoded) in &self.pages {
             for (id, version) in decoded.versions() {
-                if let Some(node) = gathered.get_mut(usize::from(id)) {
-                    node.version = node.version.max(version);
+                let id = usize::from(id);
+                if ceilings.get(id).is_some_and(|&ceiling| version <= ceiling) {
+                    gathered[id].version = gathered[id].version.max(version);
                 }
             }
         }

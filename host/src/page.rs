@@ -198,7 +198,10 @@ impl<'a> Reader<'a> {
         match sequence {
             Some(0) => self.flaw(FIELD_HEAD, "sequence number 0"),
             Some(_) => {}
-            None if self.bytes[0] == BLANK => self.flaw(0, "FF first on a page that is not blank"),
+            None if self.bytes[0] == BLANK => {
+                let written = self.bytes.iter().position(|&byte| byte != BLANK).unwrap_or(0);
+                self.flaw(written, "FF first on a page that is not blank");
+            }
             None => self.flaw(0, "no sequence number first"),
         }
         self.at = CONTENT_START;

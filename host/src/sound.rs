@@ -31,11 +31,25 @@ pub fn check(nodes: &[Node]) -> Result<(), &'static str> {
 pub fn walk<'a>(nodes: &'a [Option<&'a Node>]) -> Walk<'a> {
     let reached = vec![None; nodes.len()];
     let mut walk = Walk { nodes, reached, missing: false, leaf_depth: None, last_leaf: None, flaws: Vec::new() };
+    // The pointers due, the leftmost last: a tree may be as deep as it has nodes, too deep for calls.
+    let mut due = Vec::new();
     if !nodes.is_empty() {
-        walk.visit(ROOT, Bounds { low: 0, end: 1 << 32 }, 0);
+        walk.visit(ROOT, Bounds { low: 0, end: 1 << 32 }, 0, &mut due);
+    }
+    while let Some(pointer) = due.pop() {
+        walk.follow(pointer, &mut due);
     }
     walk.finish();
     walk
+}
+
+/// A pointer that a walk has to follow.
+struct Due {
+    from: usize,
+    part: Part,
+    pointer: u32,
+    bounds: Bounds,
+    depth: usize,
 }
 
 /// The keys that a node may have: from `low`, below `end`.
@@ -69,7 +83,7 @@ impl<'a> Walk<'a> {
         self.flaws.push(Flaw { id, part, why });
     }
 
-    fn visit(&mut self, id: usize, bounds: Bounds, depth: usize) {
+    fn visit(&mut self, id: usize, bounds: Bounds, depth: usize, due: &mut Vec<Due>) {
         self.reached[id] = Some(bounds);
         let Some(node) = self.nodes[id] else {
             // Neither the nodes below it are known, nor which leaf would come next.
@@ -79,7 +93,7 @@ impl<'a> Walk<'a> {
         self.check_keys(id, node, bounds);
         match node.shape {
             Shape::Leaf => self.visit_leaf(id, node, depth),
-            Shape::Branch => self.visit_children(id, node, bounds, depth),
+            Shape::Branch => due.extend(children(id, node, bounds, depth + 1).into_iter().rev()),
         }
     }
 
@@ -105,22 +119,12 @@ impl<'a> Walk<'a> {
         self.last_leaf = Some((id, leaf));
     }
 
-    fn visit_children(&mut self, id: usize, branch: &Node, bounds: Bounds, depth: usize) {
-        let mut low = bounds.low;
-        for pair in &branch.pairs {
-            let end = u64::from(pair.key);
-            self.follow(id, (Part::Key(pair.key), pair.pointer), Bounds { low, end }, depth);
-            low = end;
-        }
-        self.follow(id, (Part::Link, branch.link), Bounds { low, ..bounds }, depth);
-    }
-
     /// Follows a pointer to a node that was not reached before.
-    fn follow(&mut self, from: usize, (part, pointer): (Part, u32), bounds: Bounds, depth: usize) {
+    fn follow(&mut self, Due { from, part, pointer, bounds, depth }: Due, due: &mut Vec<Due>) {
         match self.reached.get(pointer as usize) {
             None => self.flaw(from, part, "a pointer to no node"),
             Some(Some(_)) => self.flaw(from, part, "a pointer to a node that was reached before"),
-            Some(None) => self.visit(pointer as usize, bounds, depth + 1),
+            Some(None) => self.visit(pointer as usize, bounds, depth, due),
         }
     }
 
@@ -133,6 +137,19 @@ impl<'a> Walk<'a> {
             self.flaw(id, Part::Link, "the last leaf has a link");
         }
     }
+}
+
+/// The pointers of a branch, from left to right.
+fn children(from: usize, branch: &Node, bounds: Bounds, depth: usize) -> Vec<Due> {
+    let mut low = bounds.low;
+    let mut due = Vec::with_capacity(branch.pairs.len() + 1);
+    for pair in &branch.pairs {
+        let bounds = Bounds { low, end: u64::from(pair.key) };
+        due.push(Due { from, part: Part::Key(pair.key), pointer: pair.pointer, bounds, depth });
+        low = bounds.end;
+    }
+    due.push(Due { from, part: Part::Link, pointer: branch.link, bounds: Bounds { low, ..bounds }, depth });
+    due
 }
 
 #[cfg(test)]
@@ -169,6 +186,14 @@ mod tests {
         assert!(!with(0, branch(&[], 1)), "a branch with no key");
         let lowest = vec![branch(&[(0, 2)], 1), leaf(0..9, NO_LINK), leaf(0..0, 1)];
         assert_eq!(check(&lowest), Ok(()), "a branch key may equal its lower bound");
+    }
+
+    #[test]
+    fn a_tree_may_be_as_deep_as_it_has_nodes() {
+        let link = |id: u32| branch(&[(1, u32::MAX)], id + 1);
+        let nodes: Vec<Node> = (0..65_535).map(link).chain([leaf(1..2, NO_LINK)]).collect();
+        assert_eq!(check(&nodes), Err("a pointer to no node"));
+        assert!(walk(&nodes.iter().map(Some).collect::<Vec<_>>()).reached.iter().all(Option::is_some));
     }
 
     #[test]

@@ -19,8 +19,10 @@ mod pool;
 mod prepare;
 mod progress;
 mod put;
+mod remains;
 mod room;
 mod run;
+mod salvage;
 mod scan;
 mod show;
 mod stats;
@@ -47,7 +49,7 @@ pub struct Verb {
 #[rustfmt::skip]
 pub const VERBS: &[Verb] = &[
     prepare::VERB, get::VERB, put::VERB, delete::VERB, scan::VERB, import::VERB, export::VERB, run::VERB,
-    check::VERB, stats::VERB, show::VERB, page::VERB, node::VERB, diff::VERB,
+    check::VERB, stats::VERB, show::VERB, page::VERB, node::VERB, diff::VERB, salvage::VERB,
 ];
 
 /// What a verb says: on standard output, then on standard error; and its exit status.
