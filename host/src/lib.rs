@@ -37,6 +37,7 @@ pub mod shell;
 pub mod sound;
 pub mod spell;
 pub mod stack;
+pub mod svg;
 pub mod tool;
 pub mod tree;
 pub mod wire;

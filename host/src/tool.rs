@@ -15,6 +15,7 @@ mod help;
 mod import;
 mod node;
 mod page;
+mod picture;
 mod pool;
 mod prepare;
 mod progress;
@@ -50,6 +51,7 @@ pub struct Verb {
 pub const VERBS: &[Verb] = &[
     prepare::VERB, get::VERB, put::VERB, delete::VERB, scan::VERB, import::VERB, export::VERB, run::VERB,
     check::VERB, stats::VERB, show::VERB, page::VERB, node::VERB, diff::VERB, salvage::VERB,
+    picture::VERB,
 ];
 
 /// What a verb says: on standard output, then on standard error; and its exit status.

@@ -2,7 +2,7 @@
 
 use super::node::spelled;
 use super::pool::Pool;
-use super::words::{Options, Words};
+use super::words::{counted, Options, Words};
 use super::{Said, Stop, Verb};
 use crate::mount::examine;
 use crate::refusal::{words as refusal_words, Fault, Refusal};
@@ -27,7 +27,7 @@ fn run(words: &mut Words<'_>, options: &Options) -> Result<Said, Stop> {
     let mut text: String = faults.iter().map(|fault| format!("{fault}\n")).collect();
     text.push_str(&match faults.first() {
         None => fine(name, &pool.bytes)?,
-        Some(fault) => format!("{name}: {}, {}\n", count(&faults), refused(fault)),
+        Some(fault) => format!("{name}: {}, {}\n", counted(faults.len(), "fault"), refused(fault)),
     });
     let (own, book) = (faults.first().map_or(0, |fault| fault.refusal.number()), pool.number());
     if own != book {
@@ -39,14 +39,7 @@ fn run(words: &mut Words<'_>, options: &Options) -> Result<Said, Stop> {
 fn fine(name: &str, bytes: &[u8]) -> Result<String, Stop> {
     let mounted = spelled(name, bytes)?;
     let (keys, nodes) = (tree::pairs(&mounted.nodes).len(), mounted.nodes.len());
-    Ok(format!("{name}: no fault; {keys} keys in {nodes} nodes\n"))
-}
-
-fn count(faults: &[Fault]) -> String {
-    match faults.len() {
-        1 => "1 fault".to_string(),
-        many => format!("{many} faults"),
-    }
+    Ok(format!("{name}: no fault; {} in {}\n", counted(keys, "key"), counted(nodes, "node")))
 }
 
 fn refused(fault: &Fault) -> String {
@@ -194,7 +187,7 @@ mod tests {
         let folder = Folder::new("two");
         let pool = folder.prepared("p");
         text(&["put", &pool, "7", "100"]);
-        assert_eq!(text(&["check", &pool]), format!("{pool}: no fault; 1 keys in 1 nodes\n"));
+        assert_eq!(text(&["check", &pool]), format!("{pool}: no fault; 1 key in 1 node\n"));
         let mut bytes = std::fs::read(&pool).expect("is there");
         bytes[PAGE_BYTES + 10] ^= 1;
         bytes[2 * PAGE_BYTES + 16] = 9;
@@ -205,8 +198,6 @@ mod tests {
         let last = format!("{pool}: 3 faults, refused with 5: a page, or the pages together, break the layout\n");
         let said = said(&["check", &pool]);
         assert_eq!((said.status, said.text), (1, format!("{faults}{last}")));
-        let short = folder.file("short");
-        std::fs::write(&short, [0; 100]).expect("is written");
         let said = checked(&folder, &[0; 100]);
         assert!(said.status == 1 && said.text.starts_with("1: the pool: no length of a pool\n"), "{}", said.text);
     }

@@ -1,7 +1,7 @@
 //! `export`: all pairs as text.
 
 use super::pool::Pool;
-use super::words::{Options, Words};
+use super::words::{counted, Options, Words};
 use super::{csv, file, scan, Said, Stop, Verb};
 
 pub(super) const VERB: Verb = Verb {
@@ -19,7 +19,7 @@ fn run(words: &mut Words<'_>, options: &Options) -> Result<Said, Stop> {
     let mut pool = Pool::open(name, options)?;
     let pairs = scan::pairs(&mut pool, 0, u32::MAX, usize::MAX)?;
     let lines = csv::lines(&pairs);
-    let note = format!("{} pairs\n", pairs.len());
+    let note = format!("{}\n", counted(pairs.len(), "pair"));
     match target {
         None => Ok(Said { text: lines, note, status: 0 }),
         Some(target) => {

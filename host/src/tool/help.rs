@@ -9,9 +9,9 @@ pub(super) fn all() -> String {
         "usage: wallbook VERB FILE ..\n\nFILE is a pool; keys and values are decimal, or hexadecimal behind 0x.\n\n"
             .to_string();
     for verb in VERBS {
-        out.push_str(&format!("  {:<8} {:<22} {}\n", verb.name, verb.words, verb.about));
+        out.push_str(&format!("  {:<8} {:<23} {}\n", verb.name, verb.words, verb.about));
     }
-    out.push_str("  help     [VERB]                 this, or all of one verb\n\n");
+    out.push_str("  help     [VERB]                  this, or all of one verb\n\n");
     out.push_str("Exit status: 0 done; 1 refused, absent, faulty or different; 2 not understood, or no such file.\n");
     out
 }

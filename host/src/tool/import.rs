@@ -2,7 +2,7 @@
 
 use super::pool::{Pool, CALL_OPTIONS};
 use super::progress::Progress;
-use super::words::{Options, Words};
+use super::words::{counted, Options, Words};
 use super::{answer, csv, file, Said, Stop, Verb};
 use crate::command::{Answer, Command};
 use crate::layout::MAX_BATCH_BYTES;
@@ -35,7 +35,7 @@ fn run(words: &mut Words<'_>, options: &Options) -> Result<Said, Stop> {
         progress.tell(turn * BATCH_PUTS + chunk.len());
     }
     pool.save()?;
-    let counts = format!("{} lines put: {new} keys new, {} replaced", pairs.len(), pairs.len() - new);
+    let counts = format!("{} put: {new} new, {} replaced", counted(pairs.len(), "pair"), pairs.len() - new);
     Ok(Said::text(format!("{counts}\ncharge {}\n", pool.charge)))
 }
 
@@ -68,7 +68,7 @@ mod tests {
             |pairs: &[(u32, u32)]| pairs.iter().map(|(key, value)| format!("{key},{value}\n")).collect::<String>();
         std::fs::write(&csv, lines(&pairs)).expect("is written");
         let counts = text(&["import", &pool, &csv]);
-        assert!(counts.starts_with("5000 lines put: 5000 keys new, 0 replaced\ncharge "), "{counts}");
+        assert!(counts.starts_with("5000 pairs put: 5000 new, 0 replaced\ncharge "), "{counts}");
         let mut sorted = pairs;
         sorted.sort();
         let before = std::fs::read(&pool).expect("is there");
@@ -77,7 +77,7 @@ mod tests {
         assert_eq!(std::fs::read_to_string(&out).expect("is there"), lines(&sorted));
         assert_eq!(std::fs::read(&pool).expect("is there"), before, "an export leaves the pool");
         let again = text(&["import", &pool, &out]);
-        assert!(again.starts_with("5000 lines put: 0 keys new, 5000 replaced\n"), "{again}");
+        assert!(again.starts_with("5000 pairs put: 0 new, 5000 replaced\n"), "{again}");
     }
 
     #[test]

@@ -6,7 +6,7 @@ use crate::book::Book;
 use crate::command::{answer_room, encode, parse_answers, Answer, Command};
 use crate::layout::{table_bytes, BLANK, BLOCK_BYTES, MAX_BLOCKS};
 use crate::mount::mount;
-use crate::refusal::words;
+use crate::refusal::{words, Fault};
 
 /// The options of a verb that makes calls.
 pub(super) const CALL_OPTIONS: &[&str] = &["--book", "--dry"];
@@ -66,9 +66,9 @@ impl<'a> Pool<'a> {
     /// A refusal in words, with the first place that tells why.
     fn refused(&self, number: u8) -> Stop {
         let place = match number {
-            5..=8 => {
-                mount(&self.bytes).err().map(|fault| format!(" ({fault}; wallbook check {} tells all)", self.name))
-            }
+            5..=8 => mount(&self.bytes)
+                .err()
+                .map(|Fault { at, why, .. }| format!(" ({at}: {why}; wallbook check tells all)")),
             _ => None,
         };
         Stop::no(format!("{}: refused with {number}: {}{}", self.name, words(number), place.unwrap_or_default()))

@@ -2,7 +2,7 @@
 
 use super::pool::{Pool, CALL_OPTIONS};
 use super::progress::Progress;
-use super::words::{Options, Words};
+use super::words::{counted, Options, Words};
 use super::{csv, Said, Stop, Verb};
 use crate::command::{Answer, Command};
 use crate::layout::MAX_SCAN_PAIRS;
@@ -30,7 +30,7 @@ fn run(words: &mut Words<'_>, options: &Options) -> Result<Said, Stop> {
     let mut pool = Pool::open(file, options)?;
     let pairs = pairs(&mut pool, low, high, most)?;
     pool.save()?;
-    let note = format!("{} pairs, charge {}\n", pairs.len(), pool.charge);
+    let note = format!("{}, charge {}\n", counted(pairs.len(), "pair"), pool.charge);
     Ok(Said { text: csv::lines(&pairs), note, status: 0 })
 }
 

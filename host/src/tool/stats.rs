@@ -62,7 +62,7 @@ fn nodes(mounted: &Mounted, limit: usize) -> String {
     let log = mounted.rows.iter().filter(|row| row.account.mode == Mode::Log).count();
     let depth = levels(&mounted.nodes).len();
     let modes = format!("{log} in log mode, {} in disk mode", all - log);
-    format!("{all} of {limit}: {leaves} leaves, {} branches; {modes}; depth {depth}", all - leaves)
+    format!("{all} of {limit}: leaves {leaves}, branches {}; {modes}; depth {depth}", all - leaves)
 }
 
 fn leaves(mounted: &Mounted) -> String {
@@ -111,7 +111,7 @@ mod tests {
         let tariff = "tariff      3 1 2 in log mode, 1 4 4 in disk mode, switches 3 2; limit 5";
         assert_eq!(lines.next(), Some(tariff));
         let nodes = lines.next().expect("a line");
-        assert!(nodes.starts_with("nodes       3 of 20: 2 leaves, 1 branches; "), "{nodes}");
+        assert!(nodes.starts_with("nodes       3 of 20: leaves 2, branches 1; "), "{nodes}");
         assert!(nodes.ends_with("; depth 2"), "{nodes}");
         assert_eq!(lines.next(), Some("leaves      30 keys, 12 to 18 a leaf, 15.0 on average: 62% full"));
         // 17 splits are left: the first after 7 keys more, each of the others after 12 more.

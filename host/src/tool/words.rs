@@ -109,6 +109,11 @@ pub(super) fn number(word: &str) -> Option<u32> {
     u32::from_str_radix(digits, base).ok().filter(|_| plain)
 }
 
+/// So many of a thing.
+pub(super) fn counted(count: usize, thing: &str) -> String {
+    format!("{count} {thing}{}", if count == 1 { "" } else { "s" })
+}
+
 #[cfg(test)]
 mod tests {
     use super::*;
