@@ -11,6 +11,7 @@ pub mod bench;
 pub mod book;
 pub mod books;
 pub mod both;
+pub mod chart;
 pub mod command;
 pub mod damage;
 pub mod flash;

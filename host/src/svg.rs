@@ -65,6 +65,24 @@ impl Svg {
         );
     }
 
+    /// A small text in the middle above its point.
+    pub fn label(&mut self, (x, y): (f64, f64), text: &str) {
+        let _ = writeln!(
+            self.body,
+            "<text x=\"{x:.1}\" y=\"{y:.1}\" text-anchor=\"middle\" font-size=\"9\" fill=\"{INK}\">{}</text>",
+            escaped(text)
+        );
+    }
+
+    /// A text that reads upwards, its middle at the point.
+    pub fn upright(&mut self, (x, y): (f64, f64), text: &str) {
+        let _ = writeln!(
+            self.body,
+            "<text transform=\"translate({x:.1} {y:.1}) rotate(-90)\" text-anchor=\"middle\" fill=\"{INK}\">{}</text>",
+            escaped(text)
+        );
+    }
+
     /// The text of the file.
     pub fn finish(self) -> String {
         let Svg { width, height, body } = self;

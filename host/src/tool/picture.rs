@@ -125,7 +125,7 @@ fn legend(svg: &mut Svg, y: f64) {
         cell(svg, (x, y), &sample(Kind::Log, live), 0.7, word);
         svg.text((x + CELL + 4.0, y + 13.0), Anchor::Start, word);
     }
-    let x = LEFT + 160.0;
+    let x = LEFT + 220.0;
     svg.text((x - 6.0, y + 13.0), Anchor::End, "oldest");
     for step in 0..8 {
         let rank = f64::from(step) / 7.0;

@@ -2,6 +2,7 @@
 
 use std::collections::BTreeMap;
 
+use super::progress::Progress;
 use crate::layout::{BLOCK_BYTES, BLOCK_PAGES, PAGE_BYTES};
 use crate::mount::{Gathered, Survey};
 use crate::node::{Change, Node, Pair, Shape};
@@ -50,7 +51,9 @@ impl Remains {
     /// Changes the byte of each page that one byte spoils, in this copy of the pool.
     fn repair_pages(&mut self, pool: &mut [u8]) -> BTreeMap<usize, Repair> {
         let mut repairs = BTreeMap::new();
+        let mut progress = Progress::new("pages read");
         for (page, bytes) in pool.as_chunks_mut::<PAGE_BYTES>().0.iter_mut().enumerate() {
+            progress.tell(page);
             let flaws = crate::page::examine(bytes).flaws;
             let Some(first) = flaws.first() else { continue };
             let found = repair(bytes, &flaws);
