@@ -28,8 +28,10 @@ const COLOURS: [&str; 4] = ["#1f5fa8", "#e08a1e", "#3a9a4b", "#9a4fa0"];
 impl Chart {
     /// The chart as bars, a bar a value.
     pub fn bars(&self, title: &str) -> String {
-        let group_width = (BAR * self.series.len() as f64 + GAP).max(self.longest_name() * 7.0 + 12.0);
-        let width = LEFT + RIGHT + (group_width * self.groups.len() as f64).max(LEAST_WIDTH);
+        let groups = self.groups.len() as f64;
+        let least = LEAST_WIDTH.max(7.0 * title.len() as f64) / groups;
+        let group_width = (BAR * self.series.len() as f64 + GAP).max(7.0 * self.longest_name() + 12.0).max(least);
+        let width = LEFT + RIGHT + group_width * groups;
         let scale = Scale::of(self.greatest());
         let mut svg = Svg::new(width, TOP + HEIGHT + BOTTOM);
         svg.text((LEFT, 22.0), Anchor::Start, title);
@@ -55,7 +57,9 @@ impl Chart {
             svg.label((x + BAR / 2.0, area.y - 4.0), &short(value));
             if value > self.cap {
                 // A break in the bar: it would go on.
-                [14.0, 18.0].map(|y| svg.line((x, area.y + y), (x + BAR, area.y + y - 8.0), "#ffffff"));
+                for y in [area.y + 14.0, area.y + 18.0] {
+                    svg.line((x, y), (x + BAR, y - 8.0), "#ffffff");
+                }
             }
         }
     }
@@ -64,7 +68,7 @@ impl Chart {
         for tick in scale.ticks() {
             let y = TOP + HEIGHT - scale.height(tick);
             svg.line((LEFT, y), (right, y), if tick == 0.0 { INK } else { GREY });
-            svg.text((LEFT - 8.0, y + 4.0), Anchor::End, &short(tick));
+            svg.text((LEFT - 8.0, y + 4.0), Anchor::End, &scale.name(tick));
         }
         svg.line((LEFT, TOP), (LEFT, TOP + HEIGHT), INK);
         svg.upright((20.0, TOP + HEIGHT / 2.0), &self.y);
@@ -107,6 +111,15 @@ impl Scale {
 
     fn height(&self, value: f64) -> f64 {
         HEIGHT * value / self.top
+    }
+
+    /// A tick's number, with as many digits as the step has.
+    fn name(&self, tick: f64) -> String {
+        match self.step {
+            step if step >= 1.0 => grouped(tick.round() as u128),
+            step if step >= 0.1 => format!("{tick:.1}"),
+            _ => format!("{tick:.2}"),
+        }
     }
 
     fn ticks(&self) -> impl Iterator<Item = f64> + '_ {

@@ -1,5 +1,8 @@
 //! Commands and their answers in words.
 
+use super::pool::Pool;
+use super::words::Options;
+use super::{Said, Stop};
 use crate::command::{Answer, Command};
 use crate::refusal::words;
 
@@ -23,4 +26,16 @@ pub(super) fn spoken(command: &Command, answer: &Answer) -> (String, bool) {
         _ => return (format!("{answer:?} is no answer to {command:?}"), true),
     };
     (text, false)
+}
+
+/// Runs one command as a batch of its own, and says its answer and its charge.
+pub(super) fn one(file: &str, options: &Options, command: Command) -> Result<Said, Stop> {
+    let mut pool = Pool::open(file, options)?;
+    let answers = pool.batch(&[command])?;
+    let [answer] = &answers[..] else {
+        return Err(Stop::no(format!("{file}: {} answers to one command", answers.len())));
+    };
+    pool.save()?;
+    let (text, no) = spoken(&command, answer);
+    Ok(Said { text: format!("{text}\ncharge {}\n", pool.charge), status: u8::from(no), ..Said::default() })
 }

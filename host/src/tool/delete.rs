@@ -1,9 +1,8 @@
 //! `delete`: a key goes.
 
-use super::get::one;
 use super::pool::CALL_OPTIONS;
 use super::words::{Options, Words};
-use super::{Said, Stop, Verb};
+use super::{answer, Said, Stop, Verb};
 use crate::command::Command;
 
 pub(super) const VERB: Verb = Verb {
@@ -18,5 +17,5 @@ pub(super) const VERB: Verb = Verb {
 fn run(words: &mut Words<'_>, options: &Options) -> Result<Said, Stop> {
     let (file, key) = (words.word("a file")?, words.number("a key")?);
     words.end()?;
-    one(file, options, Command::Delete { key })
+    answer::one(file, options, Command::Delete { key })
 }

@@ -1,6 +1,6 @@
 //! `get`: the value of a key.
 
-use super::pool::{Pool, CALL_OPTIONS};
+use super::pool::CALL_OPTIONS;
 use super::words::{Options, Words};
 use super::{answer, Said, Stop, Verb};
 use crate::command::Command;
@@ -18,17 +18,5 @@ pub(super) const VERB: Verb = Verb {
 fn run(words: &mut Words<'_>, options: &Options) -> Result<Said, Stop> {
     let (file, key) = (words.word("a file")?, words.number("a key")?);
     words.end()?;
-    one(file, options, Command::Get { key })
-}
-
-/// Runs one command as a batch of its own, and says its answer and its charge.
-pub(super) fn one(file: &str, options: &Options, command: Command) -> Result<Said, Stop> {
-    let mut pool = Pool::open(file, options)?;
-    let answers = pool.batch(&[command])?;
-    let [answer] = &answers[..] else {
-        return Err(Stop::no(format!("{file}: {} answers to one command", answers.len())));
-    };
-    pool.save()?;
-    let (text, no) = answer::spoken(&command, answer);
-    Ok(Said { text: format!("{text}\ncharge {}\n", pool.charge), status: u8::from(no), ..Said::default() })
+    answer::one(file, options, Command::Get { key })
 }

@@ -17,7 +17,7 @@ pub(super) const VERB: Verb = Verb {
 
 fn run(words: &mut Words<'_>, _: &Options) -> Result<Said, Stop> {
     let name = words.word("a file")?;
-    let id = words.next().map(|word| Words::of(&[word]).number("a node id")).transpose()?;
+    let id = words.number_if_any("a node id")?;
     words.end()?;
     let mounted = spelled(name, &file::read(name)?)?;
     let Some(id) = id else {

@@ -1,5 +1,7 @@
 //! `picture`: a pool as SVG, a cell a page and a row a block.
 
+use std::path::Path;
+
 use super::words::{Options, Words};
 use super::{file, Said, Stop, Verb};
 use crate::layout::BLOCK_PAGES;
@@ -22,9 +24,10 @@ fn run(words: &mut Words<'_>, _: &Options) -> Result<Said, Stop> {
     let (name, target) = (words.word("a file")?, words.word("a file for the picture")?);
     words.end()?;
     let bytes = file::read(name)?;
+    let short = Path::new(name).file_name().unwrap_or_default().to_string_lossy();
     let title = match examine(&bytes).faults.first() {
-        None => format!("{name} opens"),
-        Some(fault) => format!("{name} is refused with {fault}"),
+        None => format!("{short} opens"),
+        Some(fault) => format!("{short} is refused with {fault}"),
     };
     file::write(target, drawn(&title, &marks(&bytes)).as_bytes())?;
     Ok(Said::default())

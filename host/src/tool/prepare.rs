@@ -22,7 +22,7 @@ const WORKED: [u32; 8] = [3, 1, 2, 1, 4, 4, 3, 2];
 
 fn run(words: &mut Words<'_>, options: &Options) -> Result<Said, Stop> {
     let (file, blocks) = (words.word("a file")?, words.number("a count of blocks")?);
-    let tariff = match words.next() {
+    let tariff = match words.number_if_any("a tariff number")? {
         None => WORKED,
         Some(first) => tariff(first, words)?,
     };
@@ -36,10 +36,8 @@ fn run(words: &mut Words<'_>, options: &Options) -> Result<Said, Stop> {
     Ok(Said::text(format!("{file}: {blocks} blocks, {bytes} bytes, an empty map of at most {nodes} nodes\n")))
 }
 
-fn tariff(first: &str, words: &mut Words<'_>) -> Result<[u32; 8], Stop> {
-    let mut numbers = [0; 8];
-    let both = [first];
-    numbers[0] = Words::of(&both).number("the first tariff number")?;
+fn tariff(first: u32, words: &mut Words<'_>) -> Result<[u32; 8], Stop> {
+    let mut numbers = [first; 8];
     for place in &mut numbers[1..] {
         *place = words.number("eight tariff numbers")?;
     }

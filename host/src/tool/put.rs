@@ -1,9 +1,8 @@
 //! `put`: a key gets a value.
 
-use super::get::one;
 use super::pool::CALL_OPTIONS;
 use super::words::{Options, Words};
-use super::{Said, Stop, Verb};
+use super::{answer, Said, Stop, Verb};
 use crate::command::Command;
 
 pub(super) const VERB: Verb = Verb {
@@ -18,7 +17,7 @@ pub(super) const VERB: Verb = Verb {
 fn run(words: &mut Words<'_>, options: &Options) -> Result<Said, Stop> {
     let (file, key, value) = (words.word("a file")?, words.number("a key")?, words.number("a value")?);
     words.end()?;
-    one(file, options, Command::Put { key, value })
+    answer::one(file, options, Command::Put { key, value })
 }
 
 #[cfg(test)]

@@ -22,10 +22,7 @@ pub(super) const VERB: Verb = Verb {
 fn run(words: &mut Words<'_>, options: &Options) -> Result<Said, Stop> {
     let file = words.word("a file")?;
     let (low, high) = (words.number("a lowest key")?, words.number("a highest key")?);
-    let most = match words.next() {
-        None => usize::MAX,
-        Some(word) => Words::of(&[word]).number("how many pairs at most")? as usize,
-    };
+    let most = words.number_if_any("how many pairs at most")?.map_or(usize::MAX, |most| most as usize);
     words.end()?;
     let mut pool = Pool::open(file, options)?;
     let pairs = pairs(&mut pool, low, high, most)?;

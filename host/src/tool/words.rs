@@ -89,6 +89,14 @@ impl<'a> Words<'a> {
         number(word).ok_or_else(|| Stop::wrong(format!("{what} expected, a number below 2^32, not {word:?}")))
     }
 
+    /// The next word, a number, if there is one.
+    pub fn number_if_any(&mut self, what: &str) -> Result<Option<u32>, Stop> {
+        if self.rest.len() == 0 {
+            return Ok(None);
+        }
+        self.number(what).map(Some)
+    }
+
     /// Nothing may follow.
     pub fn end(&mut self) -> Result<(), Stop> {
         match self.next() {
