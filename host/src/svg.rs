@@ -39,7 +39,8 @@ impl Svg {
         let Area { x, y, width, height } = area;
         let _ = write!(
             self.body,
-            "<rect x=\"{x:.1}\" y=\"{y:.1}\" width=\"{width:.1}\" height=\"{height:.1}\" fill=\"{fill}\" stroke=\"{outline}\">"
+            "<rect x=\"{x:.1}\" y=\"{y:.1}\" width=\"{width:.1}\" height=\"{height:.1}\" \
+             fill=\"{fill}\" stroke=\"{outline}\">"
         );
         let _ = writeln!(self.body, "<title>{}</title></rect>", escaped(title));
     }

@@ -8,6 +8,7 @@ mod check;
 mod csv;
 mod delete;
 mod diff;
+mod doubts;
 mod export;
 mod file;
 mod get;
@@ -125,8 +126,11 @@ fn named(name: &str) -> Result<&'static Verb, Stop> {
 
 #[cfg(test)]
 mod tests {
-    use super::trial::said;
+    use super::trial::{said, Folder};
     use super::*;
+    use crate::damage;
+    use crate::foreign::{self, Build, PoolStyle};
+    use crate::random::Random;
 
     #[test]
     fn every_verb_has_its_help() {
@@ -142,6 +146,31 @@ mod tests {
                 assert!(one.text.contains(&format!("\n  {option}")), "{}: {option}", verb.name);
             }
             assert!(one.text.lines().all(|line| line.len() <= 120), "{}", one.text);
+        }
+    }
+
+    #[test]
+    fn no_bytes_make_a_verb_fall() {
+        let folder = Folder::new("any");
+        let (name, other, out) = (folder.file("p"), folder.prepared("q"), folder.file("out"));
+        let mut random = Random::new(12);
+        for round in 0..60 {
+            let mut pool = foreign::make(&mut random, PoolStyle { blocks: 4, build: Build::Any }).pool;
+            match round % 4 {
+                0 => damage::change_byte(&mut random, &mut pool),
+                1 => damage::change_mended(&mut random, &mut pool),
+                2 => damage::move_pages(&mut random, &mut pool),
+                _ => pool = random.bytes(round * 700),
+            }
+            std::fs::write(&name, pool).expect("is written");
+            for verb in ["check", "stats", "show", "node", "salvage", "export"] {
+                assert!(said(&[verb, &name]).status < 2, "{verb}");
+            }
+            for verb in ["page", "get", "node", "delete"] {
+                said(&[verb, &name, &random.below(8).to_string()]);
+            }
+            assert!(said(&["diff", &name, &other]).status < 2);
+            assert_eq!(said(&["picture", &name, &out]).status, 0);
         }
     }
 

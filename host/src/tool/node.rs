@@ -43,7 +43,8 @@ mod tests {
         text(&["put", &pool, "7", "100"]);
         let line = "node 0 leaf log score 0 version 1 link 4294967295 pairs 7:100\n";
         assert_eq!(text(&["node", &pool]), line);
-        let full = "node 0: log mode, score 0, version 1, pages [0, 2]\n  leaf of 1 keys, next leaf 4294967295\n    7 -> 100\n";
+        let full = "node 0: log mode, score 0, version 1, pages [0, 2]\n  leaf of 1 keys, next leaf 4294967295\n";
+        let full = format!("{full}    7 -> 100\n");
         assert_eq!(text(&["node", &pool, "0"]), full);
         assert_eq!(said(&["node", &pool, "1"]).status, 1);
         assert_eq!(said(&["node", &pool, "x"]).status, 2);

@@ -13,9 +13,9 @@ pub(super) const VERB: Verb = Verb {
     name: "page",
     words: "FILE N",
     about: "one page, field by field; pages count through the pool from 0, 32 a block",
-    more:
-        "Each line has the byte where it begins, the bytes and what they say. Live is what belongs to a node's\n\
-           greatest version; where the pool spells no tree that is not known. Exit status 1 if the page does not check.",
+    more: "Each line has the byte where it begins, the bytes and what they say. Live is what belongs to a node's\n\
+           greatest version; where the pool spells no tree that is not known.\n\
+           Exit status 1 if the page does not check.",
     options: &[],
     run,
 };
