@@ -3,7 +3,7 @@
 //! From bytes upwards: [`wire`], [`page`], [`node`], [`tree`]; [`mount`] reads a closed pool, [`flash`]
 //! is the store while a batch runs, [`book`] has the two entry points. [`books`] has the books by name, and
 //! [`both`] makes a call on both. [`reference`] is the model that charges are compared with, [`optimum`]
-//! the cheapest schedule.
+//! the cheapest schedule. [`tool`] is the program for a person, over any book.
 
 pub mod account;
 pub mod audit;

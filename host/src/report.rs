@@ -83,7 +83,8 @@ pub const SECTIONS: &[Section] = &[
         title: "Tree of 5,000 uniform keys, then 3,000 commands with some lookups per insert, CAPSULE: after the build",
         papers: "Source 004, figures 6 and 9: a FlashDB-like scheme loses to a tuned B+ tree on this chip.",
         table: lookups_per_insert,
-        chart: Some(|rows| charges_chart(rows, 1, 1)),
+        // After the build alone: the optimum of the whole may have paid for this part before it.
+        chart: Some(|rows| Chart { y: "charge / what the optimum's grew by".into(), ..charges_chart(rows, 1, 1) }),
     },
     Section {
         name: "W7",
