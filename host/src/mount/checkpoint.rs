@@ -38,8 +38,7 @@ impl Survey {
             }
             checkpoint.add(*page, content);
             if let Some(tariff) = content.tariff {
-                let scores = checkpoint.scores_by_id(faults);
-                let scores = scores.filter(|_| faults.len() == found)?;
+                let scores = checkpoint.scores_by_id(faults).filter(|_| faults.len() == found)?;
                 return Some(NewestCheckpoint { tariff, scores, pages: checkpoint.pages });
             }
         }

@@ -17,6 +17,8 @@ pub(super) struct Left {
     /// Its pairs and its shape as far as they go.
     pairs: Vec<Pair>,
     shape: Option<Shape>,
+    /// Whether it has no node page.
+    in_log: bool,
 }
 
 impl Left {
@@ -25,8 +27,9 @@ impl Left {
             Some(node) => (node.pairs.clone(), Some(node.shape)),
             None => (gathered.replay.pairs().to_vec(), gathered.replay.shape()),
         };
+        let in_log = gathered.node_page.is_none();
         let (node, row) = gathered.finish();
-        Left { version: row.version, pages: row.pages, node: node.map_err(|broken| broken.why), pairs, shape }
+        Left { version: row.version, pages: row.pages, node: node.map_err(|broken| broken.why), pairs, shape, in_log }
     }
 
     /// The pairs, unless they are a branch's.
@@ -42,8 +45,8 @@ impl Left {
 pub(super) struct Doubts {
     /// With all of it.
     pub of_all: Vec<String>,
-    /// With nodes up to a version, since a page that cannot be read may hold something newer.
-    newer: Vec<(u32, String)>,
+    /// The pages that do not check, with their numbers: each may hold what is newer than a lower version.
+    newer: Vec<(u32, usize)>,
     /// With nodes that lie on a page.
     of_pages: Vec<(usize, String)>,
     /// The sequence number of the last page that closes a checkpoint, where the newest checkpoint is not whole.
@@ -78,14 +81,25 @@ impl Doubts {
 
     /// What may be wrong with one version of a node.
     pub fn of_node(&self, left: &Left) -> Vec<String> {
-        let newer = self.newer.iter().filter(|(sequence, _)| *sequence > left.version).map(|(_, doubt)| doubt);
         let of_pages = self.of_pages.iter().filter(|(page, _)| left.pages.contains(page)).map(|(_, doubt)| doubt);
         let last = left.pages.iter().filter_map(|page| self.sequences.get(page)).max();
         let open = self.closed.filter(|closed| last.is_some_and(|last| last > closed));
         let open = open.map(|_| "no whole checkpoint closes it".to_string());
-        let shared = left.pages.len() > 1 && self.sequences.values().any(|&sequence| sequence == left.version);
+        let has_entries = left.in_log || left.pages.len() > 1;
+        let shared = has_entries && self.sequences.values().any(|&sequence| sequence == left.version);
         let shared = shared.then(|| "its version is a page's sequence number".to_string());
-        self.of_all.iter().chain(newer).chain(of_pages).cloned().chain(open).chain(shared).collect()
+        let of_all = self.of_all.first().into_iter();
+        of_all.chain(of_pages).cloned().chain(self.newer_than(left.version)).chain(open).chain(shared).collect()
+    }
+
+    /// Which pages that do not check may hold something newer than a version.
+    fn newer_than(&self, version: u32) -> Option<String> {
+        let mut newer = self.newer.iter().filter(|(sequence, _)| *sequence > version).map(|(_, page)| page);
+        let first = newer.next()?;
+        Some(match newer.count() {
+            0 => format!("page {first}, which does not check, may hold something newer"),
+            more => format!("page {first} and {more} more, which do not check, may hold something newer"),
+        })
     }
 }
 
@@ -93,11 +107,10 @@ fn mended(page: usize, repair: &Repair) -> String {
     format!("on page {page}, read with {:02x} at byte {}", repair.value, repair.byte)
 }
 
-/// The pages that do not check: each may hold what is newer than a version below its number.
-fn newer(survey: &Survey) -> Vec<(u32, String)> {
-    let doubt = |page: &usize| format!("page {page}, which does not check, may hold something newer");
+/// The pages that do not check, with their sequence numbers, or the greatest where that cannot be read.
+fn newer(survey: &Survey) -> Vec<(u32, usize)> {
     let number = |page: &Option<Page>| page.as_ref().map(|page| page.sequence).filter(|&sequence| sequence > 0);
-    survey.broken.iter().map(|(page, reading)| (number(&reading.page).unwrap_or(u32::MAX), doubt(page))).collect()
+    survey.broken.iter().map(|(page, reading)| (number(&reading.page).unwrap_or(u32::MAX), *page)).collect()
 }
 
 /// The greatest sequence number of a page with a node count, 0 if there is none.

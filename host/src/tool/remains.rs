@@ -298,6 +298,7 @@ mod tests {
             ("a 25th key for a moment", "more than 24 keys after an entry"),
             ("no link", "no entry sets the link"),
             ("a sequence number twice", "have one sequence number"),
+            ("a version that is a page's sequence number", "its version is a page's sequence number"),
             ("a newest page that is no checkpoint page", "no whole checkpoint closes it"),
         ] {
             let flaw = FLAWS.iter().find(|flaw| flaw.name == name).expect(name);
