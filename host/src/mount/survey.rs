@@ -51,7 +51,7 @@ impl Survey {
     }
 
     /// Question 5.
-    pub(super) fn check_pages(&self, faults: &mut Vec<Fault>) {
+    pub fn check_pages(&self, faults: &mut Vec<Fault>) {
         for (page, reading) in &self.broken {
             let at = |byte: usize| Place::Byte(Byte { page: *page, byte });
             faults.extend(reading.flaws.iter().map(|flaw| fault(Refusal::Pages, at(flaw.byte), flaw.why)));

@@ -6,6 +6,7 @@ use crate::layout::{block_count, BLOCK_PAGES};
 use crate::mount::{Gathered, Survey};
 use crate::node::{Node, Pair, Shape};
 use crate::page::{Content, Page};
+use crate::refusal::Place;
 use crate::repair::Repair;
 
 /// What one version of a node left.
@@ -56,24 +57,11 @@ pub(super) struct Doubts {
 
 impl Doubts {
     pub fn of(pool: &[u8], survey: &Survey, repairs: &BTreeMap<usize, Repair>) -> Doubts {
-        let mut of_all = Vec::new();
-        if block_count(pool.len()).is_none() {
-            of_all.push(format!("{} bytes are no length of a pool: pages may be missing", pool.len()));
-        }
-        for page in &survey.behind_blank {
-            of_all
-                .push(format!("page {page} of block {} stands behind a blank one: a page is lost", page / BLOCK_PAGES));
-        }
         let mended = |(&page, repair): (&usize, &Repair)| (page, mended(page, repair));
-        let mut of_pages: Vec<(usize, String)> = repairs.iter().map(mended).collect();
-        for twins in survey.pages.windows(2).filter(|pair| pair[0].1.sequence == pair[1].1.sequence) {
-            let doubt = format!("pages {} and {} have one sequence number", twins[0].0, twins[1].0);
-            of_pages.extend([(twins[0].0, doubt.clone()), (twins[1].0, doubt)]);
-        }
         Doubts {
-            of_all,
+            of_all: lost(pool, survey),
             newer: newer(survey),
-            of_pages,
+            of_pages: repairs.iter().map(mended).chain(twins(survey)).collect(),
             closed: survey.count().is_none().then(|| closed(survey)),
             sequences: survey.pages.iter().map(|(page, decoded)| (*page, decoded.sequence)).collect(),
         }
@@ -101,6 +89,30 @@ impl Doubts {
             more => format!("page {first} and {more} more, which do not check, may hold something newer"),
         })
     }
+}
+
+/// Signs that pages are missing, which may have held anything.
+fn lost(pool: &[u8], survey: &Survey) -> Vec<String> {
+    let mut signs = Vec::new();
+    if block_count(pool.len()).is_none() {
+        signs.push(format!("{} bytes are no length of a pool: pages may be missing", pool.len()));
+    }
+    for page in &survey.behind_blank {
+        signs.push(format!("page {page} of block {} stands behind a blank one: a page is lost", page / BLOCK_PAGES));
+    }
+    let mut faults = Vec::new();
+    survey.check_pages(&mut faults);
+    for fault in faults.iter().filter(|fault| matches!(fault.at, Place::Block(_))) {
+        signs.push(format!("{}: {}: pages may be lost", fault.at, fault.why));
+    }
+    signs
+}
+
+/// The pages that share a sequence number: which of two is the newer cannot be told.
+fn twins(survey: &Survey) -> Vec<(usize, String)> {
+    let same = survey.pages.windows(2).filter(|pair| pair[0].1.sequence == pair[1].1.sequence);
+    let both = same.map(|pair| [pair[0].0, pair[1].0]);
+    both.flat_map(|[a, b]| [a, b].map(|page| (page, format!("pages {a} and {b} have one sequence number")))).collect()
 }
 
 fn mended(page: usize, repair: &Repair) -> String {

@@ -27,6 +27,9 @@ pub(super) struct Remains {
     pub notes: Vec<String>,
 }
 
+/// How many older versions of a node are tried: a page can be made that has one in every entry.
+const MOST_OLDER: usize = 60;
+
 /// Reads what is left of a pool of any length and any bytes.
 pub(super) fn remains(pool: &[u8]) -> Remains {
     let mut remains = Remains::default();
@@ -41,12 +44,15 @@ pub(super) fn remains(pool: &[u8]) -> Remains {
 }
 
 impl Remains {
-    /// Notes a pair, unless the same value was found before.
+    /// Notes a pair; a value that is found again has the lesser doubt.
     fn note(&mut self, pair: Pair, doubt: Option<String>) {
         let found = self.found.entry(pair.key).or_default();
-        if !found.iter().any(|found| found.value == pair.pointer) {
-            found.push(Found { value: pair.pointer, doubt });
+        match found.iter_mut().find(|found| found.value == pair.pointer) {
+            Some(before) if doubt.is_none() => before.doubt = None,
+            Some(_) => {}
+            None => found.push(Found { value: pair.pointer, doubt }),
         }
+        found.sort_by_key(|found| found.doubt.is_some());
     }
 
     /// Changes the byte of each page that one byte spoils, in this copy of the pool.
@@ -82,7 +88,7 @@ impl Remains {
             self.read_leaf(id, left, &walk, doubts);
         }
         let mut broken: Vec<(usize, u32)> = versions_of_broken(&newest);
-        while !broken.is_empty() {
+        for _ in 0..MOST_OLDER {
             broken.iter().for_each(|&(id, version)| ceilings[id] = version - 1);
             let older: Vec<Left> = survey.gather_up_to(&ceilings).into_iter().map(Left::of).collect();
             for &(id, _) in &broken {
@@ -257,15 +263,20 @@ mod tests {
     }
 
     #[test]
-    fn a_page_that_is_blank_before_a_written_one_makes_all_doubtful() {
+    fn a_block_that_lost_pages_makes_all_doubtful() {
         let mut random = Random::new(23);
-        let flaw = FLAWS.iter().find(|flaw| flaw.name == "a blank page before a written one").expect("is one");
         let style = PoolStyle { blocks: MIN_BLOCKS, build: Build::Any };
-        for _ in 0..20 {
-            let Some(pool) = flaw.make(&mut random, style) else { continue };
-            let remains = remains(&pool);
-            assert!(sure(&remains).is_empty());
-            assert!(remains.notes.iter().any(|note| note.contains("a page is lost")), "{:?}", remains.notes);
+        for (name, words) in [
+            ("a blank page before a written one", "a page is lost"),
+            ("a partly written block without the newest page", "pages may be lost"),
+        ] {
+            let flaw = FLAWS.iter().find(|flaw| flaw.name == name).expect(name);
+            let pools: Vec<Vec<u8>> = (0..100).filter_map(|_| flaw.make(&mut random, style)).take(20).collect();
+            assert!(pools.len() > 5, "{name}");
+            for remains in pools.iter().map(|pool| remains(pool)) {
+                assert!(sure(&remains).is_empty(), "{name}");
+                assert!(remains.notes.iter().any(|note| note.contains(words)), "{:?}", remains.notes);
+            }
         }
     }
 
@@ -294,7 +305,7 @@ mod tests {
     fn a_wrong_tree_is_doubted_where_it_is_wrong() {
         let mut random = Random::new(25);
         for (name, words) in [
-            ("a leaf's key above its bounds", "a key is out of its bounds"),
+            ("keys that descend", "keys do not ascend"),
             ("a 25th key for a moment", "more than 24 keys after an entry"),
             ("no link", "no entry sets the link"),
             ("a sequence number twice", "have one sequence number"),
@@ -309,7 +320,7 @@ mod tests {
                 doubts.filter(|doubt| doubt.contains(words)).count()
             };
             let counts: Vec<usize> = (0..60).filter_map(|_| flaw.make(&mut random, style)).map(doubted).collect();
-            assert!(counts.iter().any(|&count| count > 0), "{name}");
+            assert!(counts.iter().any(|&count| count > 0), "{name}: {counts:?}");
         }
     }
 
