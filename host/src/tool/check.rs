@@ -51,7 +51,7 @@ fn refused(fault: &Fault) -> String {
 mod tests {
     use crate::damage;
     use crate::foreign::{self, flaw::FLAWS, Build, PoolStyle};
-    use crate::layout::{MIN_BLOCKS, PAGE_BYTES};
+    use crate::layout::{page_range, BLANK, MIN_BLOCKS, PAGE_BYTES};
     use crate::mount::examine;
     use crate::random::Random;
     use crate::refusal::{Byte, Place, Refusal};
@@ -180,6 +180,21 @@ mod tests {
             assert_eq!(said.status == 0, examine(&pool).faults.is_empty());
         }
         assert!(faulty >= 40, "{faulty} of 120 pools had a fault");
+    }
+
+    #[test]
+    fn a_hole_is_told_once() {
+        let folder = Folder::new("hole");
+        let pool = folder.prepared("p");
+        for value in ["100", "101", "102"] {
+            text(&["put", &pool, "7", value]);
+        }
+        let mut bytes = std::fs::read(&pool).expect("is there");
+        bytes[page_range(3)].fill(BLANK);
+        let hole = "5: page 4: a written page behind a blank one\n";
+        let said = checked(&folder, &bytes);
+        assert_eq!(said.text.matches("behind a blank one").count(), 1, "{}", said.text);
+        assert!(said.status == 1 && said.text.starts_with(hole), "{}", said.text);
     }
 
     #[test]

@@ -157,10 +157,12 @@ fn versions_of_broken(left: &[Left]) -> Vec<(usize, u32)> {
 #[cfg(test)]
 mod tests {
     use super::*;
+    use crate::book::{Book, SecondBook};
+    use crate::command::{answer_room, encode, Command};
     use crate::damage;
     use crate::foreign::flaw::FLAWS;
     use crate::foreign::{self, Build, PoolStyle};
-    use crate::layout::{page_range, BLANK, MAX_BLOCKS, MIN_BLOCKS};
+    use crate::layout::{page_range, table_bytes, BLANK, MAX_BLOCKS, MIN_BLOCKS};
     use crate::mount;
     use crate::random::Random;
     use crate::tree;
@@ -260,6 +262,40 @@ mod tests {
             (all, read) = (all + pairs.len(), read + found(&remains, &pairs));
         }
         assert!(100 * read > 85 * all, "{read} of {all} are found");
+    }
+
+    /// A pool of our own in which every key was overwritten many times, and its pairs.
+    fn used_pool(random: &mut Random) -> (Vec<u8>, Map) {
+        let mut pool = vec![BLANK; 6 * BLOCK_BYTES];
+        let mut pairs = Map::new();
+        assert_eq!(SecondBook.prepare(&mut pool, [3, 1, 2, 1, 4, 4, 3, 2]), 0);
+        for value in 0..60 {
+            let keys: Vec<u32> = (0..20).map(|_| random.below(100) as u32).collect();
+            let commands: Vec<Command> = keys.iter().map(|&key| Command::Put { key, value }).collect();
+            let (mut table, mut answers) = (vec![0; table_bytes(pool.len())], vec![0; answer_room(&commands)]);
+            assert_eq!(SecondBook.batch(&mut pool, &mut table, &encode(&commands), &mut answers).number, 0);
+            pairs.extend(keys.into_iter().map(|key| (key, value)));
+        }
+        (pool, pairs)
+    }
+
+    #[test]
+    fn an_older_value_is_never_taken_for_sure() {
+        let mut random = Random::new(28);
+        let (whole, pairs) = used_pool(&mut random);
+        assert_eq!(sure(&remains(&whole)), pairs);
+        let (mut all, mut without_doubt, mut older) = (0, 0, 0);
+        for page in damage::written_pages(&whole) {
+            let mut pool = whole.clone();
+            pool[page_range(page)][20..].copy_from_slice(&random.bytes(PAGE_BYTES - 20));
+            let remains = remains(&pool);
+            let sure = sure(&remains);
+            assert!(sure.iter().all(|(key, value)| pairs.get(key) == Some(value)), "page {page}: {:?}", remains.notes);
+            (all, without_doubt) = (all + pairs.len(), without_doubt + sure.len());
+            older += pairs.len() - found(&remains, &pairs);
+        }
+        assert!(older > 0, "some pages held the only copy of a value");
+        assert!(2 * without_doubt > all, "{without_doubt} of {all} are sure");
     }
 
     #[test]
