@@ -117,6 +117,31 @@ impl Answer {
             Answer::Refused(number) => out.extend([TAG_REFUSED, 0, 1, *number]),
         }
     }
+
+    /// Reads one answer as [`split_answers`] cuts it out; nothing if it is none.
+    fn from_piece(piece: &[u8]) -> Option<Answer> {
+        let (&[tag, ..], payload) = piece.split_first_chunk::<FIELD_HEAD>()?;
+        let value = || payload.try_into().ok().map(u32::from_be_bytes);
+        match tag {
+            TAG_ABSENT => payload.is_empty().then_some(Answer::Absent),
+            TAG_GOT => value().map(Answer::Got),
+            TAG_REPLACED => value().map(Answer::Replaced),
+            TAG_DELETED => value().map(Answer::Deleted),
+            TAG_PAIRS => {
+                let (pairs, rest) = payload.as_chunks::<PAIR_BYTES>();
+                let pair = |mut numbers: Numbers<'_>| Pair { key: numbers.u32(), pointer: numbers.u32() };
+                let pairs = pairs.iter().map(|bytes| pair(Numbers(bytes))).collect();
+                rest.is_empty().then_some(Answer::Pairs(pairs))
+            }
+            TAG_REFUSED => <[u8; 1]>::try_from(payload).ok().map(|[number]| Answer::Refused(number)),
+            _ => None,
+        }
+    }
+}
+
+/// Reads answers one behind the other; nothing if they are not whole answers.
+pub fn parse_answers(bytes: &[u8]) -> Option<Vec<Answer>> {
+    split_answers(bytes)?.into_iter().map(Answer::from_piece).collect()
 }
 
 /// Lays a field whose payload is numbers of four bytes.
@@ -164,6 +189,23 @@ mod tests {
         ];
         assert_eq!(parse(&encode(&commands)), Some(commands.clone()));
         assert_eq!(answer_room(&commands), 7 + 7 + 7 + 3 + 8 * 32);
+    }
+
+    #[test]
+    fn answers_go_both_ways() {
+        let answers = vec![
+            Answer::Absent,
+            Answer::Got(1),
+            Answer::Replaced(u32::MAX),
+            Answer::Deleted(0),
+            Answer::Pairs(vec![]),
+            Answer::Pairs(vec![Pair { key: 3, pointer: 4 }, Pair { key: 5, pointer: 6 }]),
+            Answer::Refused(9),
+        ];
+        assert_eq!(parse_answers(&encode_answers(&answers)), Some(answers));
+        for wrong in [&[0x81, 0, 3, 1, 2, 3][..], &[0x80, 0, 1, 0], &[0x84, 0, 7, 0, 0, 0, 0, 0, 0, 0], &[0x85, 0, 0]] {
+            assert_eq!(parse_answers(wrong), None, "{wrong:?}");
+        }
     }
 
     #[test]

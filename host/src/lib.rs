@@ -3,7 +3,7 @@
 //! From bytes upwards: [`wire`], [`page`], [`node`], [`tree`]; [`mount`] reads a closed pool, [`flash`]
 //! is the store while a batch runs, [`book`] has the two entry points. [`books`] has the books by name, and
 //! [`both`] makes a call on both. [`reference`] is the model that charges are compared with, [`optimum`]
-//! the cheapest schedule.
+//! the cheapest schedule. [`tool`] is the program for a person, over any book.
 
 pub mod account;
 pub mod audit;
@@ -11,6 +11,7 @@ pub mod bench;
 pub mod book;
 pub mod books;
 pub mod both;
+pub mod chart;
 pub mod command;
 pub mod damage;
 pub mod flash;
@@ -18,6 +19,7 @@ pub mod foreign;
 pub mod fuzz;
 pub mod layout;
 pub mod markdown;
+pub mod marks;
 pub mod meter;
 pub mod metered;
 pub mod mount;
@@ -25,15 +27,19 @@ pub mod node;
 pub mod observe;
 pub mod optimum;
 pub mod page;
-pub mod picture;
 #[cfg(proved_book)]
 pub mod proved;
 pub mod random;
 pub mod reference;
 pub mod refusal;
+pub mod repair;
 pub mod report;
 pub mod shell;
+pub mod sound;
+pub mod spell;
 pub mod stack;
+pub mod svg;
+pub mod tool;
 pub mod tree;
 pub mod wire;
 pub mod workload;

@@ -147,8 +147,8 @@ fn delete(pairs: &mut Vec<Pair>, key: u32) {
 pub struct Replay {
     pairs: Vec<Pair>,
     link: Option<(Shape, u32)>,
-    /// Whether some entry left more than 24 keys, or leaf and branch links were mixed.
-    broken: bool,
+    /// The first rule that an entry broke.
+    broken: Option<&'static str>,
 }
 
 impl Replay {
@@ -157,17 +157,39 @@ impl Replay {
             Change::Put(pair) => put(&mut self.pairs, pair),
             Change::Delete { key } => delete(&mut self.pairs, key),
             Change::Link(shape, link) => {
-                self.broken |= self.link.is_some_and(|(before, _)| before != shape);
+                if self.link.is_some_and(|(before, _)| before != shape) {
+                    self.broken = self.broken.or(Some("leaf and branch links mixed"));
+                }
                 self.link = Some((shape, link));
             }
         }
-        self.broken |= self.pairs.len() > MAX_KEYS;
+        if self.pairs.len() > MAX_KEYS {
+            self.broken = self.broken.or(Some("more than 24 keys after an entry"));
+        }
     }
 
-    /// The node, unless it broke a rule on the way or its link was never set.
-    pub fn finish(self) -> Option<Node> {
-        let (shape, link) = self.link?;
-        (!self.broken).then_some(Node { shape, pairs: self.pairs, link })
+    /// Whether an entry broke a rule.
+    pub fn is_broken(&self) -> bool {
+        self.broken.is_some()
+    }
+
+    /// The pairs so far, whatever rule was broken.
+    pub fn pairs(&self) -> &[Pair] {
+        &self.pairs
+    }
+
+    /// The shape that the last link gave.
+    pub fn shape(&self) -> Option<Shape> {
+        self.link.map(|(shape, _)| shape)
+    }
+
+    /// The node, or the rule that was broken on the way.
+    pub fn finish(self) -> Result<Node, &'static str> {
+        match (self.link, self.broken) {
+            (_, Some(broken)) => Err(broken),
+            (None, None) => Err("no entry sets the link"),
+            (Some((shape, link)), None) => Ok(Node { shape, pairs: self.pairs, link }),
+        }
     }
 }
 
@@ -208,7 +230,7 @@ mod tests {
         let replayed = |changes: &[Change]| {
             let mut replay = Replay::default();
             changes.iter().for_each(|&change| replay.apply(change));
-            replay.finish()
+            replay.finish().ok()
         };
         assert_eq!(replayed(&node.changes().collect::<Vec<_>>()), Some(node));
         assert_eq!(replayed(&[]), None, "no link");

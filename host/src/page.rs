@@ -1,12 +1,16 @@
 //! A page: its bytes and what they say.
 
-use crate::layout::{BLANK, FIRST_CHECKPOINT_SCORES, LOG_PAGE_ENTRIES, OTHER_CHECKPOINT_SCORES, PAGE_BYTES};
+mod read;
+
+use crate::layout::{BLANK, FIRST_CHECKPOINT_SCORES, OTHER_CHECKPOINT_SCORES, PAGE_BYTES};
 use crate::node::{Change, Node, Pair, Shape};
-use crate::wire::{next_field, page_sum, put_head, Field, Numbers, FIELD_HEAD};
+use crate::wire::{page_sum, put_head, FIELD_HEAD};
 use crate::wire::{
     COUNT_BYTES, ENTRY_BYTES, NODE_HEAD, PAIR_BYTES, SCORE_BYTES, SEQUENCE_BYTES, SUM_BYTES, TARIFF_BYTES,
 };
 use crate::wire::{TAG_COUNT, TAG_ENTRY, TAG_NODE, TAG_SCORE, TAG_SEQUENCE, TAG_SUM, TAG_TARIFF};
+
+pub use read::{decode, examine, is_blank, used, Flaw, Reading};
 
 /// The bytes of a page.
 pub type Image = [u8; PAGE_BYTES];
@@ -88,130 +92,33 @@ fn kind_of(shape: Shape) -> u8 {
     }
 }
 
-/// Why a page does not check.
-pub type Flaw = &'static str;
+/// Where a page's content begins.
+pub const CONTENT_START: usize = FIELD_HEAD + SEQUENCE_BYTES;
+/// Bytes of a log entry, its head included, and where its version and its kind stand.
+pub const ENTRY_FIELD_BYTES: usize = FIELD_HEAD + ENTRY_BYTES;
+pub const ENTRY_VERSION: usize = FIELD_HEAD + 2;
+pub const ENTRY_KIND: usize = ENTRY_VERSION + 4;
 
-/// Says whether these bytes are a blank page.
-pub fn is_blank(bytes: &[u8]) -> bool {
-    bytes.iter().all(|&byte| byte == BLANK)
+/// Where the log entry at a place begins.
+pub fn entry_start(place: usize) -> usize {
+    CONTENT_START + ENTRY_FIELD_BYTES * place
 }
 
-/// Reads a page: nothing if it is blank, or else what is wrong with it.
-///
-/// Question 5 as far as the page's own bytes decide it.
-pub fn decode(bytes: &[u8]) -> Result<Option<Page>, Flaw> {
-    if bytes[0] == BLANK {
-        return if is_blank(bytes) { Ok(None) } else { Err("FF first on a page that is not blank") };
-    }
-    let (sequence, rest) = decode_sequence(bytes)?;
-    let (field, after) = next_field(rest).ok_or("no valid field behind the sequence number")?;
-    let (content, rest) = match field.tag {
-        TAG_ENTRY => decode_log(rest, sequence)?,
-        TAG_NODE => (decode_node(field)?, after),
-        TAG_TARIFF | TAG_SCORE => decode_checkpoint(rest)?,
-        _ => return Err("no content behind the sequence number"),
-    };
-    decode_sum(bytes, rest)?;
-    Ok(Some(Page { sequence, content }))
+/// Where the pair at a place of a node page begins.
+pub fn pair_start(place: usize) -> usize {
+    CONTENT_START + FIELD_HEAD + NODE_HEAD + PAIR_BYTES * place
 }
 
-fn decode_sequence(bytes: &[u8]) -> Result<(u32, &[u8]), Flaw> {
-    match next_field(bytes) {
-        Some((Field { tag: TAG_SEQUENCE, payload }, rest)) => match Numbers(payload).u32() {
-            0 => Err("sequence number 0"),
-            sequence => Ok((sequence, rest)),
-        },
-        _ => Err("no sequence number first"),
-    }
-}
+/// Where a node page has its link.
+pub const LINK_START: usize = CONTENT_START + FIELD_HEAD + 3;
 
-/// Checks field 1F at the front of `rest`, and that FF follows it to the page's end.
-fn decode_sum(bytes: &[u8], rest: &[u8]) -> Result<(), Flaw> {
-    let Some((Field { tag: TAG_SUM, payload }, tail)) = next_field(rest) else {
-        return Err("no sum behind the content");
-    };
-    let before = &bytes[..bytes.len() - rest.len()];
-    if payload != page_sum(before) {
-        return Err("the sum differs");
-    }
-    if !is_blank(tail) {
-        return Err("a byte other than FF behind the sum");
-    }
-    Ok(())
-}
+/// Where the first tariff number stands on a checkpoint's first page.
+pub const TARIFF_START: usize = CONTENT_START + FIELD_HEAD;
 
-/// Reads entries until another tag comes.
-fn decode_log(mut rest: &[u8], sequence: u32) -> Result<(Content, &[u8]), Flaw> {
-    let mut entries = Vec::with_capacity(LOG_PAGE_ENTRIES);
-    while let Some((Field { tag: TAG_ENTRY, payload }, after)) = next_field(rest) {
-        entries.push(decode_entry(payload, sequence)?);
-        rest = after;
-    }
-    Ok((Content::Log(entries), rest))
-}
-
-fn decode_entry(payload: &[u8], sequence: u32) -> Result<Entry, Flaw> {
-    let mut numbers = Numbers(payload);
-    let (id, version, kind) = (numbers.u16(), numbers.u32(), numbers.u8());
-    let (key, pointer) = (numbers.u32(), numbers.u32());
-    if version == 0 || version >= sequence {
-        return Err("an entry's version is 0 or not below the page's sequence number");
-    }
-    let change = match (kind, key, pointer) {
-        (KIND_PUT, key, pointer) => Change::Put(Pair { key, pointer }),
-        (KIND_DELETE, key, 0) => Change::Delete { key },
-        (KIND_LEAF, 0, link) => Change::Link(Shape::Leaf, link),
-        (KIND_BRANCH, 0, link) => Change::Link(Shape::Branch, link),
-        _ => return Err("an entry's kind is unknown or goes with other numbers"),
-    };
-    Ok(Entry { id, version, change })
-}
-
-fn decode_node(field: Field<'_>) -> Result<Content, Flaw> {
-    let mut numbers = Numbers(field.payload);
-    let (id, shape, link) = (numbers.u16(), numbers.u8(), numbers.u32());
-    let shape = shape_of(shape).ok_or("a node page is neither leaf nor branch")?;
-    let count = (field.payload.len() - NODE_HEAD) / PAIR_BYTES;
-    let pairs = (0..count).map(|_| Pair { key: numbers.u32(), pointer: numbers.u32() }).collect();
-    Ok(Content::Node { id, node: Node { shape, pairs, link } })
-}
-
-/// Reads a checkpoint page: a tariff perhaps, scores, a count perhaps.
-fn decode_checkpoint(rest: &[u8]) -> Result<(Content, &[u8]), Flaw> {
-    let (tariff, mut rest) = match next_field(rest) {
-        Some((Field { tag: TAG_TARIFF, payload }, after)) => {
-            let mut numbers = Numbers(payload);
-            (Some(std::array::from_fn(|_| numbers.u32())), after)
-        }
-        _ => (None, rest),
-    };
-    let mut page = Checkpoint { tariff, scores: Vec::new(), count: None };
-    while let Some((Field { tag: TAG_SCORE, payload }, after)) = next_field(rest) {
-        let mut numbers = Numbers(payload);
-        page.scores.push(Score { id: numbers.u16(), score: numbers.u32() });
-        rest = after;
-    }
-    if let Some((Field { tag: TAG_COUNT, payload }, after)) = next_field(rest) {
-        page.count = Some(Numbers(payload).u16());
-        rest = after;
-    }
-    if page.scores.is_empty() || page.scores.len() > page.capacity() {
-        return Err("a checkpoint page has no score or too many");
-    }
-    if page.count.is_none() && page.scores.len() < page.capacity() {
-        return Err("a checkpoint page that is not the last is not full");
-    }
-    Ok((Content::Checkpoint(page), rest))
-}
-
-/// The used bytes of a page, up to the end of field 1F; all of them if it does not check.
-pub fn used(bytes: &[u8]) -> &[u8] {
-    let end = bytes.iter().rposition(|&byte| byte != BLANK).map_or(0, |last| last + 1);
-    match decode(bytes) {
-        // The sum itself may end in FF.
-        Ok(Some(page)) => &bytes[..page.length()],
-        _ => &bytes[..end],
-    }
+/// Where the score at a place of a checkpoint page begins, on the first of its set or on another.
+pub fn score_start(first: bool, place: usize) -> usize {
+    let tariff = if first { FIELD_HEAD + TARIFF_BYTES } else { 0 };
+    CONTENT_START + tariff + (FIELD_HEAD + SCORE_BYTES) * place
 }
 
 impl Page {
@@ -326,7 +233,7 @@ impl Checkpoint {
 #[cfg(test)]
 mod tests {
     use super::*;
-    use crate::layout::MAX_KEYS;
+    use crate::layout::{LOG_PAGE_ENTRIES, MAX_KEYS};
 
     fn log(entries: usize) -> Page {
         let entry = |i: usize| {
@@ -387,6 +294,29 @@ mod tests {
                 }
             }
         }
+    }
+
+    #[test]
+    fn what_is_left_of_a_broken_page_is_read() {
+        let page = log(9);
+        let left = |at: usize| {
+            let mut bytes = page.encode();
+            bytes[at] ^= 0x55;
+            let Reading { page, flaws } = examine(&bytes);
+            let entries = page.map(|page| match page.content {
+                Content::Log(entries) => entries.len(),
+                other => panic!("{other:?}"),
+            });
+            (entries, flaws.iter().map(|flaw| flaw.byte).collect::<Vec<_>>())
+        };
+        let sum = entry_start(9) + FIELD_HEAD;
+        assert_eq!(left(0), (Some(9), vec![0, sum]), "the sequence number's tag");
+        assert_eq!(left(entry_start(0)), (Some(8), vec![entry_start(0), sum]), "the first entry's tag");
+        assert_eq!(left(entry_start(4) + 1), (Some(8), vec![entry_start(4), sum]), "an entry's length");
+        assert_eq!(left(entry_start(4) + ENTRY_KIND), (Some(8), vec![entry_start(4) + ENTRY_KIND, sum]));
+        assert_eq!(left(entry_start(4) + 12), (Some(9), vec![sum]), "a key");
+        assert_eq!(left(sum), (Some(9), vec![sum]));
+        assert_eq!(left(500), (Some(9), vec![500]));
     }
 
     #[test]

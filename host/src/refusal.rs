@@ -23,12 +23,29 @@ impl Refusal {
     }
 }
 
+/// The refusal of a number in a sentence, for people; 9 is that of a single put.
+pub fn words(number: u8) -> &'static str {
+    match number {
+        1 => "the pool is not 4 to 64 blocks of 16,384 bytes",
+        2 => "the table has fewer than 1,024 bytes a block",
+        3 => "the batch is over 32,768 bytes or not valid",
+        4 => "the answers would not fit their buffer",
+        5 => "a page, or the pages together, break the layout",
+        6 => "the newest checkpoint is incomplete",
+        7 => "the tree that the pool spells is unsound",
+        8 => "the sequence numbers are used up",
+        9 => "too few node ids are left for the split that it needs",
+        10 => "a tariff number is out of range",
+        _ => "a number that no book should give",
+    }
+}
+
 /// A refusal of a pool with its reason, for people; the number alone is promised.
 #[derive(Clone, Copy, PartialEq, Eq, Debug)]
 pub struct Fault {
     pub refusal: Refusal,
     pub why: &'static str,
-    /// The page or the node that it was seen at.
+    /// Where it was seen.
     pub at: Place,
 }
 
@@ -36,19 +53,40 @@ pub struct Fault {
 pub enum Place {
     Pool,
     Page(usize),
+    Byte(Byte),
     Block(usize),
-    Node(usize),
+    /// A node, and where it shows if it lies on a page.
+    Node(usize, Option<Byte>),
+}
+
+/// A byte of a page.
+#[derive(Clone, Copy, PartialEq, Eq, Debug)]
+pub struct Byte {
+    pub page: usize,
+    pub byte: usize,
+}
+
+impl fmt::Display for Byte {
+    fn fmt(&self, out: &mut fmt::Formatter<'_>) -> fmt::Result {
+        write!(out, "page {}, byte {}", self.page, self.byte)
+    }
+}
+
+impl fmt::Display for Place {
+    fn fmt(&self, out: &mut fmt::Formatter<'_>) -> fmt::Result {
+        match self {
+            Place::Pool => out.write_str("the pool"),
+            Place::Page(page) => write!(out, "page {page}"),
+            Place::Byte(byte) => write!(out, "{byte}"),
+            Place::Block(block) => write!(out, "block {block}"),
+            Place::Node(id, None) => write!(out, "node {id}"),
+            Place::Node(id, Some(byte)) => write!(out, "node {id} ({byte})"),
+        }
+    }
 }
 
 impl fmt::Display for Fault {
     fn fmt(&self, out: &mut fmt::Formatter<'_>) -> fmt::Result {
-        write!(out, "{}: ", self.refusal.number())?;
-        match self.at {
-            Place::Pool => {}
-            Place::Page(page) => write!(out, "page {page}: ")?,
-            Place::Block(block) => write!(out, "block {block}: ")?,
-            Place::Node(id) => write!(out, "node {id}: ")?,
-        }
-        out.write_str(self.why)
+        write!(out, "{}: {}: {}", self.refusal.number(), self.at, self.why)
     }
 }

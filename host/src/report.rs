@@ -7,6 +7,7 @@ use std::time::Instant;
 
 use crate::book::{self, Book};
 use crate::books::by_name;
+use crate::chart::Chart;
 use crate::command::{answer_room, encode, Command};
 use crate::flash::Store;
 use crate::layout::{node_limit, table_bytes, LOG_PAGE_ENTRIES, PAGE_BYTES};
@@ -30,8 +31,13 @@ pub struct Section {
     pub name: &'static str,
     pub title: &'static str,
     pub papers: &'static str,
-    table: fn() -> Result<Vec<Vec<String>>, String>,
+    table: fn() -> Result<Rows, String>,
+    /// The table as a chart, where that shows more than the numbers.
+    chart: Option<fn(&Rows) -> Chart>,
 }
+
+/// The rows of a table; the first is its head.
+pub type Rows = Vec<Vec<String>>;
 
 /// All workloads; the last is a measurement of time, which no two runs share, and is printed when named.
 pub const SECTIONS: &[Section] = &[
@@ -41,12 +47,14 @@ pub const SECTIONS: &[Section] = &[
         papers: "Source 000, figure 10: Log 40% cheaper than Disk on FLASHCHIP, 80% on SD; Disk 38% cheaper than Log \
                  on CAPSULE, 32% on CF; self-tuning at least as good as the better, 10% below Log on FLASHCHIP.",
         table: builds_by_device,
+        chart: Some(|rows| charges_chart(rows, 1, 2)),
     },
     Section {
         name: "W2",
         title: "Three streams on FLASHCHIP: build alone, and each item queried 10 times afterwards",
         papers: "Source 000, figures 11 and 12: Log wins builds, Disk wins reads, self-tuning below both.",
         table: streams_on_flashchip,
+        chart: Some(|rows| charges_chart(rows, 2, 2)),
     },
     Section {
         name: "W3",
@@ -54,48 +62,57 @@ pub const SECTIONS: &[Section] = &[
         papers: "Source 000, figure 15: self-tuning always best; Log = Disk near write/read 4.7 at no reads (only \
                  ratios can be reproduced). Each cell: what the others pay, as multiples of the book's charge.",
         table: ratio_grid,
+        chart: Some(ratio_chart),
     },
     Section {
         name: "W4",
         title: "The book against the offline optimum, by device: build of LABDATA (synthetic) with one query an item",
         papers: "Source 000, figure 14 and section 6.4: within 1.25 to 1.3 of the optimum on ten nodes of one build.",
         table: against_optimum,
+        chart: Some(optimum_chart),
     },
     Section {
         name: "W5",
         title: "A plain list of log pages against the index: queries at which they cost the same",
         papers: "Source 000, figure 9: about 300 queries, 1% of 30,000 items.",
         table: list_against_index,
+        chart: Some(queries_chart),
     },
     Section {
         name: "W6",
         title: "Tree of 5,000 uniform keys, then 3,000 commands with some lookups per insert, CAPSULE: after the build",
         papers: "Source 004, figures 6 and 9: a FlashDB-like scheme loses to a tuned B+ tree on this chip.",
         table: lookups_per_insert,
+        // After the build alone: the optimum of the whole may have paid for this part before it.
+        chart: Some(|rows| Chart { y: "charge / what the optimum's grew by".into(), ..charges_chart(rows, 1, 1) }),
     },
     Section {
         name: "W7",
         title: "Random keys below 3N, build, then all looked up, SLC small block",
         papers: "Source 002, figures 9 to 14: FlashDB writes 44% of a B-tree's pages and reads more.",
         table: small_block_pages,
+        chart: Some(pages_chart),
     },
     Section {
         name: "W8",
         title: "Phases of P edits, then P reads, on one leaf, 40 phases, SLC small block",
         papers: "Source 002's criticism of 000: a counter without a floor gets stuck; short phases switch too often.",
         table: phases,
+        chart: Some(|rows| charges_chart(rows, 1, 3)),
     },
     Section {
         name: "W9",
         title: "Wear: 60,000 overwrites of 1,000 keys in 12 blocks, FLASHCHIP",
         papers: "The papers want erases even; document 01 does not promise it.",
         table: wear,
+        chart: Some(wear_chart),
     },
     Section {
         name: TIMES,
         title: "Times on this machine, a pool of 1,048,576 bytes after 6,000 puts and 16,000 overwrites",
         papers: "None: a figure to compare another book with in the same run.",
         table: times,
+        chart: None,
     },
 ];
 
@@ -103,11 +120,96 @@ pub const SECTIONS: &[Section] = &[
 pub const TIMES: &str = "TIMES";
 
 impl Section {
-    /// Runs the workload and gives it as a table in Markdown.
-    pub fn text(&self) -> Result<String, String> {
-        let rows = (self.table)()?;
-        Ok(format!("## {}. {}\n\n{}\n\n{}", self.name, self.title, self.papers, markdown::table(&rows)))
+    /// Runs the workload.
+    pub fn rows(&self) -> Result<Rows, String> {
+        (self.table)()
     }
+
+    /// Its rows as a table in Markdown.
+    pub fn text(&self, rows: &Rows) -> String {
+        format!("## {}. {}\n\n{}\n\n{}", self.name, self.title, self.papers, markdown::table(rows))
+    }
+
+    /// Its rows as a picture in SVG, if it has one.
+    pub fn picture(&self, rows: &Rows) -> Option<String> {
+        self.chart.map(|chart| chart(rows).bars(&format!("{}. {}", self.name, self.title)))
+    }
+}
+
+/// The charges of a table's rows as multiples of the optimum's; `first` is the column of the book's charge.
+fn charges_chart(rows: &Rows, names: usize, first: usize) -> Chart {
+    let optimum = first + 3;
+    let series = [first, first + 1, first + 2, first + 4];
+    let of = |column: usize| rows[1..].iter().map(|row| leading(&row[column]) / leading(&row[optimum])).collect();
+    Chart {
+        x: rows[0][..names].join(", "),
+        y: "charge / optimum's charge".to_string(),
+        groups: rows[1..].iter().map(|row| row[..names].to_vec()).collect(),
+        series: series.iter().map(|&column| (rows[0][column].clone(), of(column))).collect(),
+        cap: 4.0,
+    }
+}
+
+/// Columns of a table as they are, by the first.
+fn columns_chart(rows: &Rows, y: &str, columns: &[usize]) -> Chart {
+    let of = |column: usize| rows[1..].iter().map(|row| leading(&row[column])).collect();
+    Chart {
+        x: rows[0][0].clone(),
+        y: y.to_string(),
+        groups: rows[1..].iter().map(|row| vec![row[0].clone()]).collect(),
+        series: columns.iter().map(|&column| (rows[0][column].clone(), of(column))).collect(),
+        cap: f64::INFINITY,
+    }
+}
+
+fn optimum_chart(rows: &Rows) -> Chart {
+    columns_chart(rows, "charge / optimum's charge", &[1, 2])
+}
+
+fn queries_chart(rows: &Rows) -> Chart {
+    columns_chart(rows, "queries", &[5])
+}
+
+fn pages_chart(rows: &Rows) -> Chart {
+    columns_chart(rows, "pages", &[3])
+}
+
+/// What always log and always disk pay, without reads and with ten a write.
+fn ratio_chart(rows: &Rows) -> Chart {
+    let part = |cell: &str, name: &str| {
+        let part = cell.split(", ").find_map(|part| part.strip_prefix(name));
+        part.map_or(f64::NAN, |number| leading(number.trim()))
+    };
+    let of = |row: &Vec<String>, name: &str| row[1..].iter().map(|cell| part(cell, name)).collect();
+    let ends = [&rows[1], &rows[rows.len() - 1]];
+    let both = |row: &Vec<String>| {
+        ["log", "disk"].map(|name| (format!("always {name}, {} reads a write", row[0]), of(row, name)))
+    };
+    Chart {
+        x: "cost of a write / cost of a read".to_string(),
+        y: "charge / the book's charge".to_string(),
+        groups: rows[0][1..].iter().map(|head| vec![head.replace("write/read ", "")]).collect(),
+        series: ends.into_iter().flat_map(both).collect(),
+        cap: 4.0,
+    }
+}
+
+fn wear_chart(rows: &Rows) -> Chart {
+    let erases = |row: &Vec<String>| -> Vec<f64> { row[4].split(' ').map(leading).collect() };
+    let blocks = erases(&rows[1]).len();
+    Chart {
+        x: "block".to_string(),
+        y: "erases".to_string(),
+        groups: (0..blocks).map(|block| vec![block.to_string()]).collect(),
+        series: rows[1..].iter().map(|row| (row[0].clone(), erases(row))).collect(),
+        cap: f64::INFINITY,
+    }
+}
+
+/// The number that a cell begins with.
+fn leading(cell: &str) -> f64 {
+    let end = cell.find(|c: char| !c.is_ascii_digit() && c != '.').unwrap_or(cell.len());
+    cell[..end].parse().unwrap_or(f64::NAN)
 }
 
 fn header(first: &[&str], rest: &[&str]) -> Vec<String> {
@@ -147,7 +249,7 @@ fn row(names: &[&str], totals: &Totals) -> Vec<String> {
     names.chain(charges(totals)).chain(physical(totals)).collect()
 }
 
-fn builds_by_device() -> Result<Vec<Vec<String>>, String> {
+fn builds_by_device() -> Result<Rows, String> {
     let commands = build_with_reads(&Stream::SyntheticLab.keys(ITEMS), 0);
     let mut rows = vec![header(&["device", "unit (of 1/27 page)"], &[CHARGES.as_slice(), &PHYSICAL].concat())];
     for device in DEVICES {
@@ -156,7 +258,7 @@ fn builds_by_device() -> Result<Vec<Vec<String>>, String> {
     Ok(rows)
 }
 
-fn streams_on_flashchip() -> Result<Vec<Vec<String>>, String> {
+fn streams_on_flashchip() -> Result<Rows, String> {
     let mut rows = vec![header(&["stream", "queries an item"], &[CHARGES.as_slice(), &PHYSICAL].concat())];
     for stream in STREAMS {
         for reads in [0, 10] {
@@ -171,7 +273,7 @@ fn streams_on_flashchip() -> Result<Vec<Vec<String>>, String> {
 /// Costs of a write in tenths of a read.
 const WRITE_COSTS: [u32; 7] = [10, 20, 47, 100, 200, 500, 2000];
 
-fn ratio_grid() -> Result<Vec<Vec<String>>, String> {
+fn ratio_grid() -> Result<Rows, String> {
     let keys = Stream::SyntheticLab.keys(ITEMS / 2);
     let heads = WRITE_COSTS.map(|write| format!("write/read {}", f64::from(write) / 10.0));
     let mut rows = vec![header(&["reads per write"], &heads.each_ref().map(String::as_str))];
@@ -189,7 +291,7 @@ fn ratio_grid() -> Result<Vec<Vec<String>>, String> {
     Ok(rows)
 }
 
-fn against_optimum() -> Result<Vec<Vec<String>>, String> {
+fn against_optimum() -> Result<Rows, String> {
     let commands = build_with_reads(&Stream::SyntheticLab.keys(ITEMS), 1);
     let mut rows =
         vec![header(&["device", "book / optimum", "listing / optimum", "switches", "listing's switches"], &[])];
@@ -207,7 +309,7 @@ fn against_optimum() -> Result<Vec<Vec<String>>, String> {
 }
 
 /// The list is log pages of 27 items, written once, and read whole for each query.
-fn list_against_index() -> Result<Vec<Vec<String>>, String> {
+fn list_against_index() -> Result<Rows, String> {
     let keys = Stream::SyntheticLab.keys(ITEMS);
     let queries = 2000;
     let mut rows = vec![header(
@@ -237,7 +339,7 @@ fn list_against_index() -> Result<Vec<Vec<String>>, String> {
     Ok(rows)
 }
 
-fn lookups_per_insert() -> Result<Vec<Vec<String>>, String> {
+fn lookups_per_insert() -> Result<Rows, String> {
     let keys = Stream::Random.keys(5_000);
     let mut rows = vec![header(&["lookups per insert"], &[CHARGES.as_slice(), &PHYSICAL].concat())];
     for share in [0.01, 0.1, 0.5, 1.0, 2.0] {
@@ -259,7 +361,7 @@ fn lookups_per_insert() -> Result<Vec<Vec<String>>, String> {
     Ok(rows)
 }
 
-fn small_block_pages() -> Result<Vec<Vec<String>>, String> {
+fn small_block_pages() -> Result<Rows, String> {
     let mut random = Random::new(3);
     let mut keys: Vec<u32> = (0..3 * ITEMS as u32).collect();
     random.shuffle(&mut keys);
@@ -282,7 +384,7 @@ fn small_block_pages() -> Result<Vec<Vec<String>>, String> {
     Ok(rows)
 }
 
-fn phases() -> Result<Vec<Vec<String>>, String> {
+fn phases() -> Result<Rows, String> {
     let mut rows = vec![header(&["P", "switches", "listing's switches"], &CHARGES)];
     for length in [10, 1000] {
         let mut commands = Vec::new();
@@ -301,7 +403,7 @@ fn phases() -> Result<Vec<Vec<String>>, String> {
     Ok(rows)
 }
 
-fn wear() -> Result<Vec<Vec<String>>, String> {
+fn wear() -> Result<Rows, String> {
     let mut rows =
         vec![header(&["keys overwritten", "pages written", "copied", "erases", "erases of each block"], &[])];
     for (name, hot) in [("uniform", false), ("9 of 10 on 20 keys", true)] {
@@ -362,7 +464,7 @@ fn batch_time(book: &mut dyn Book, pool: &[u8], commands: &[Command]) -> f64 {
     (0..60).map(time).fold(f64::INFINITY, f64::min)
 }
 
-fn times() -> Result<Vec<Vec<String>>, String> {
+fn times() -> Result<Rows, String> {
     let keys = Stream::SyntheticLab.keys(ITEMS);
     let mut metered = Metered::new(BLOCKS, FLASHCHIP.tariff())?;
     let mut random = Random::new(8);
@@ -404,4 +506,28 @@ fn batch_rows(name: &str, pool: &[u8], gets: &[Command], puts: &[Command]) -> Ve
         vec![format!("{name} book: a batch of {what}"), format!("{time:.0}")]
     };
     [("nothing", &[][..]), ("2,000 gets", gets), ("2,000 puts", puts)].map(&mut row).to_vec()
+}
+
+#[cfg(test)]
+mod tests {
+    use super::*;
+
+    #[test]
+    fn a_table_of_charges_is_drawn_over_its_optimum() {
+        let section = SECTIONS.iter().find(|section| section.name == "W8").expect("is one");
+        let rows = section.rows().expect("runs");
+        let chart = section.chart.expect("has one")(&rows);
+        assert_eq!(chart.groups, [["10"], ["1000"]]);
+        let names: Vec<&str> = chart.series.iter().map(|(name, _)| name.as_str()).collect();
+        assert_eq!(names, ["book", "always log", "always disk", "source's listing"]);
+        assert!(chart.series.iter().all(|(_, values)| values.iter().all(|value| (1.0..100.0).contains(value))));
+        let picture = section.picture(&rows).expect("has one");
+        assert!(picture.contains("charge / optimum&apos;s charge") || picture.contains("charge / optimum's charge"));
+    }
+
+    #[test]
+    fn a_cell_begins_with_its_number() {
+        assert_eq!(["202 queries", "3.4%", "7", "128 (1 to 4)"].map(leading), [202.0, 3.4, 7.0, 128.0]);
+        assert!(leading("none").is_nan());
+    }
 }

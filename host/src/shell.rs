@@ -7,7 +7,7 @@ use crate::book::Book;
 use crate::layout::{page_at, table_bytes, BLANK, BLOCK_BYTES};
 use crate::mount::mount;
 use crate::page::used;
-use crate::picture;
+use crate::spell::spell;
 use crate::wire::{fnv1a64, from_hex, to_hex};
 
 /// The lines that the shell knows, for help and for errors.
@@ -119,7 +119,7 @@ impl Shell {
 
     fn spell(&self) -> Vec<String> {
         match mount(&self.pool) {
-            Ok(mounted) => picture::spell(&mounted),
+            Ok(mounted) => spell(&mounted),
             Err(fault) => one(format!("refused {}", fault.refusal.number())),
         }
     }

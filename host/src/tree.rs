@@ -1,4 +1,4 @@
-//! The tree over a table of nodes, indexed by id: what a command asks of which node, and soundness.
+//! The tree over a table of nodes, indexed by id: what a command asks of which node.
 //!
 //! Nothing here knows of pages, modes or charges.
 
@@ -226,84 +226,11 @@ pub fn pairs(nodes: &[Node]) -> Vec<Pair> {
     }
 }
 
-/// Says whether the tree below the root is sound, or else what is wrong with it.
-pub fn check(nodes: &[Node]) -> Result<(), &'static str> {
-    let mut walk = Walk { nodes, reached: vec![false; nodes.len()], leaf_depth: None, last_leaf: None };
-    walk.visit(ROOT as u32, Bounds { low: 0, end: 1 << 32 }, 0)?;
-    walk.finish()
-}
-
-/// The keys that a node may have: from `low`, below `end`.
-#[derive(Clone, Copy)]
-struct Bounds {
-    low: u64,
-    end: u64,
-}
-
-/// A walk over the tree from left to right, with what it has seen.
-struct Walk<'a> {
-    nodes: &'a [Node],
-    reached: Vec<bool>,
-    leaf_depth: Option<usize>,
-    last_leaf: Option<&'a Node>,
-}
-
-impl<'a> Walk<'a> {
-    fn visit(&mut self, id: u32, bounds: Bounds, depth: usize) -> Result<(), &'static str> {
-        let nodes = self.nodes;
-        let node = nodes.get(id as usize).ok_or("a pointer to no node")?;
-        if std::mem::replace(&mut self.reached[id as usize], true) {
-            return Err("a node is reached twice");
-        }
-        if !node.is_neat() {
-            return Err("keys do not ascend, or a branch has none");
-        }
-        let in_bounds = |pair: &Pair| (bounds.low..bounds.end).contains(&u64::from(pair.key));
-        if !node.pairs.iter().all(in_bounds) {
-            return Err("a key is out of its bounds");
-        }
-        match node.shape {
-            Shape::Leaf => self.visit_leaf(id, node, depth),
-            Shape::Branch => self.visit_children(node, bounds, depth),
-        }
-    }
-
-    fn visit_leaf(&mut self, id: u32, leaf: &'a Node, depth: usize) -> Result<(), &'static str> {
-        if *self.leaf_depth.get_or_insert(depth) != depth {
-            return Err("leaves at different depths");
-        }
-        if self.last_leaf.is_some_and(|before| before.link != id) {
-            return Err("a leaf's link is not the next leaf");
-        }
-        self.last_leaf = Some(leaf);
-        Ok(())
-    }
-
-    fn visit_children(&mut self, branch: &Node, bounds: Bounds, depth: usize) -> Result<(), &'static str> {
-        let mut low = bounds.low;
-        for pair in &branch.pairs {
-            let end = u64::from(pair.key);
-            self.visit(pair.pointer, Bounds { low, end }, depth + 1)?;
-            low = end;
-        }
-        self.visit(branch.link, Bounds { low, ..bounds }, depth + 1)
-    }
-
-    fn finish(&self) -> Result<(), &'static str> {
-        if !self.reached.iter().all(|&reached| reached) {
-            return Err("a node is not reached");
-        }
-        match self.last_leaf {
-            Some(leaf) if leaf.link == NO_LINK => Ok(()),
-            _ => Err("the last leaf has a link"),
-        }
-    }
-}
-
 #[cfg(test)]
 mod tests {
     use super::*;
     use crate::layout::{MAX_KEYS, MAX_SCAN_PAIRS};
+    use crate::sound::check;
 
     fn leaf(keys: std::ops::Range<u32>, link: u32) -> Node {
         Node { shape: Shape::Leaf, pairs: keys.map(|key| Pair { key, pointer: 0 }).collect(), link }
@@ -312,29 +239,6 @@ mod tests {
     fn branch(pairs: &[(u32, u32)], link: u32) -> Node {
         let pairs = pairs.iter().map(|&(key, pointer)| Pair { key, pointer }).collect();
         Node { shape: Shape::Branch, pairs, link }
-    }
-
-    #[test]
-    fn soundness() {
-        let sound = vec![branch(&[(5, 2)], 1), leaf(5..9, NO_LINK), leaf(0..5, 1)];
-        assert_eq!(check(&sound), Ok(()));
-        let with = |id: usize, node: Node| {
-            let mut nodes = sound.clone();
-            nodes[id] = node;
-            check(&nodes).is_ok()
-        };
-        assert!(with(2, leaf(5..5, 1)), "an empty leaf");
-        assert!(!with(2, leaf(0..6, 1)), "a key at the bound");
-        assert!(!with(2, leaf(0..5, 0)), "a wrong link");
-        assert!(!with(1, leaf(5..9, 2)), "the last leaf has a link");
-        assert!(!with(1, leaf(4..9, NO_LINK)), "a key below its bound");
-        assert!(!with(0, branch(&[(5, 2)], 2)), "reached twice");
-        assert!(!with(0, branch(&[(5, 2)], 65_537)), "a pointer has 32 bits");
-        assert!(!with(0, branch(&[(5, 0)], 1)), "the root counts as reached");
-        assert!(!with(0, leaf(0..0, NO_LINK)), "nodes that are not reached");
-        assert!(!with(0, branch(&[], 1)), "a branch with no key");
-        let lowest = vec![branch(&[(0, 2)], 1), leaf(0..9, NO_LINK), leaf(0..0, 1)];
-        assert_eq!(check(&lowest), Ok(()), "a branch key may equal its lower bound");
     }
 
     #[test]

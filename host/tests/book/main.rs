@@ -6,5 +6,6 @@ mod fuzz;
 mod library;
 mod refusals;
 mod stack;
+mod tool;
 mod traces;
 mod worked;

@@ -1,0 +1,41 @@
+//! Commands and their answers in words.
+
+use super::pool::Pool;
+use super::words::Options;
+use super::{Said, Stop};
+use crate::command::{Answer, Command};
+use crate::refusal::words;
+
+/// What an answer says to its command, and whether it is a no.
+pub(super) fn spoken(command: &Command, answer: &Answer) -> (String, bool) {
+    let text = match (command, answer) {
+        (Command::Get { key }, Answer::Got(value)) => format!("key {key} has value {value}"),
+        (Command::Put { key, value }, Answer::Absent) => format!("key {key} is new, with value {value}"),
+        (Command::Put { key, value }, Answer::Replaced(old)) => format!("key {key} has value {value}, before {old}"),
+        (Command::Delete { key }, Answer::Deleted(old)) => format!("key {key} is deleted, its value was {old}"),
+        (Command::Get { key } | Command::Delete { key }, Answer::Absent) => {
+            return (format!("key {key} is not there"), true);
+        }
+        (Command::Put { key, .. }, Answer::Refused(number)) => {
+            return (format!("key {key} is not put: refused with {number}: {}", words(*number)), true);
+        }
+        (Command::Scan { low, high, .. }, Answer::Pairs(pairs)) => {
+            let pairs: String = pairs.iter().map(|pair| format!("\n{},{}", pair.key, pair.pointer)).collect();
+            format!("keys {low} to {high}:{}", if pairs.is_empty() { " none" } else { &pairs })
+        }
+        _ => return (format!("{answer:?} is no answer to {command:?}"), true),
+    };
+    (text, false)
+}
+
+/// Runs one command as a batch of its own, and says its answer and its charge.
+pub(super) fn one(file: &str, options: &Options, command: Command) -> Result<Said, Stop> {
+    let mut pool = Pool::open(file, options)?;
+    let answers = pool.batch(&[command])?;
+    let [answer] = &answers[..] else {
+        return Err(Stop::no(format!("{file}: {} answers to one command", answers.len())));
+    };
+    pool.save()?;
+    let (text, no) = spoken(&command, answer);
+    Ok(Said { text: format!("{text}\ncharge {}\n", pool.charge), status: u8::from(no), ..Said::default() })
+}

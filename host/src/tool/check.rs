@@ -1,0 +1,219 @@
+//! `check`: every fault of a pool that can be told.
+
+use super::node::spelled;
+use super::pool::Pool;
+use super::words::{counted, Options, Words};
+use super::{Said, Stop, Verb};
+use crate::mount::examine;
+use crate::refusal::{words as refusal_words, Fault, Refusal};
+use crate::tree;
+
+pub(super) const VERB: Verb = Verb {
+    name: "check",
+    words: "FILE",
+    about: "every fault that can be told, with its page and byte",
+    more: "A line for each fault begins with the number that it is refused with; the least number is the book's.\n\
+           Faults from 6 on are told of the pages that check: where others do not, they may follow from those.\n\
+           The book is asked too, by an empty batch on a copy. Exit status 0 if there is no fault, 1 if there is.",
+    options: &["--book"],
+    run,
+};
+
+fn run(words: &mut Words<'_>, options: &Options) -> Result<Said, Stop> {
+    let name = words.word("a file")?;
+    words.end()?;
+    let pool = Pool::open(name, options)?;
+    let faults = examine(&pool.bytes).faults;
+    let mut text: String = faults.iter().map(|fault| format!("{fault}\n")).collect();
+    text.push_str(&match faults.first() {
+        None => fine(name, &pool.bytes)?,
+        Some(fault) => format!("{name}: {}, {}\n", counted(faults.len(), "fault"), refused(fault)),
+    });
+    let (own, book) = (faults.first().map_or(0, |fault| fault.refusal.number()), pool.number());
+    if own != book {
+        text.push_str(&format!("{name}: the book says {book}, where the faults say {own}: one of the two is wrong\n"));
+    }
+    Ok(Said { text, status: u8::from(own != 0 || book != 0), ..Said::default() })
+}
+
+fn fine(name: &str, bytes: &[u8]) -> Result<String, Stop> {
+    let mounted = spelled(name, bytes)?;
+    let (keys, nodes) = (tree::pairs(&mounted.nodes).len(), mounted.nodes.len());
+    Ok(format!("{name}: no fault; {} in {}\n", counted(keys, "key"), counted(nodes, "node")))
+}
+
+fn refused(fault: &Fault) -> String {
+    let number = Refusal::number(fault.refusal);
+    format!("refused with {number}: {}", refusal_words(number))
+}
+
+#[cfg(test)]
+mod tests {
+    use crate::damage;
+    use crate::foreign::{self, flaw::FLAWS, Build, PoolStyle};
+    use crate::layout::{page_range, BLANK, MIN_BLOCKS, PAGE_BYTES};
+    use crate::mount::examine;
+    use crate::random::Random;
+    use crate::refusal::{Byte, Place, Refusal};
+    use crate::tool::trial::{said, text, Folder};
+    use crate::tool::Said;
+
+    const SMALL: PoolStyle = PoolStyle { blocks: MIN_BLOCKS, build: Build::Any };
+
+    /// Checks a pool by way of a file.
+    fn checked(folder: &Folder, pool: &[u8]) -> Said {
+        let name = folder.file("p");
+        std::fs::write(&name, pool).expect("is written");
+        let said = said(&["check", &name]);
+        assert!(!said.text.contains("one of the two is wrong"), "{}", said.text);
+        said
+    }
+
+    /// What is found of each flaw, where its own name is not the word for it.
+    fn expected(flaw: &str) -> &[&str] {
+        match flaw {
+            "a sequence number twice" => &[
+                "a sequence number twice",
+                // The lower number that a page gets may be that of its entries.
+                "an entry's version is 0 or not below the page's sequence number",
+            ],
+            "a version that is a page's sequence number" => &["a version is a page's sequence number"],
+            "a version not below its page's sequence number" | "version 0" => {
+                &["an entry's version is 0 or not below the page's sequence number"]
+            }
+            "a log page without an entry" => &["no content behind the sequence number"],
+            "a checkpoint page neither full nor last" => &["a checkpoint page that is not the last is not full"],
+            "a checkpoint page with one score too many" => &["a checkpoint page has no score or too many"],
+            "a second partly written block" | "a partly written block without the newest page" => {
+                &["partly written without the newest page"]
+            }
+            "a blank page before a written one" => &["a written page behind a blank one"],
+            "an unknown kind" | "a delete with a pointer" | "a link with a key" => {
+                &["an entry's kind is unknown or goes with other numbers"]
+            }
+            "a node page neither leaf nor branch" => &["a node page is neither leaf nor branch"],
+            "a byte behind the sum" => &["a byte other than FF behind the sum"],
+            "a sum that is off" => &["the sum differs"],
+            "a newest page that is no checkpoint page" | "a log page within the checkpoint" => {
+                &["no checkpoint page among the newest"]
+            }
+            "an id with two scores" => &["two scores of one id"],
+            "a score of an id at the count" => &["a score of an id at or above the count"],
+            "a count on an older page" | "no count on the newest page" => {
+                &["the count is not on the newest page alone"]
+            }
+            "no tariff" => &["no tariff", "no checkpoint page among the newest"],
+            "a leaf's link that leads elsewhere" => &["a leaf's link is not the next leaf", "the last leaf has a link"],
+            "a leaf's key above its bounds" | "a leaf's key below its bounds" | "a branch's key above its bounds" => {
+                &["a key is out of its bounds"]
+            }
+            "a pointer to the root" | "a node reached twice" => &["a pointer to a node that was reached before"],
+            "a pointer to the count" | "a pointer above 16 bits" => &["a pointer to no node"],
+            "a node that is not reached" => &["a node is not reached"],
+            "a leaf deeper than the others" | "a leftmost path longer than the others" => {
+                &["a leaf at another depth than the first"]
+            }
+            "keys that descend" | "a key twice" => &["keys do not ascend"],
+            "a branch without a key" => &["a branch has no key"],
+            "a 25th key for a moment" => &["more than 24 keys after an entry"],
+            "no link" => &["no entry sets the link"],
+            "a score at the limit" => &["a score at the limit or above"],
+            "a tariff out of range" => &["the tariff is out of range"],
+            "a node on four log pages" => &["on more than three log pages"],
+            "a node on no page" => &["on no page"],
+            "a sequence number above 4,000,000,000" => &["sequence numbers are used up"],
+            _ => &[],
+        }
+    }
+
+    #[test]
+    fn every_flaw_is_found_and_named() {
+        let folder = Folder::new("flaws");
+        let mut random = Random::new(5);
+        for flaw in FLAWS {
+            let mut style = || PoolStyle { blocks: random.between(MIN_BLOCKS, 10), build: Build::Any };
+            let styles: Vec<PoolStyle> = (0..400).map(|_| style()).collect();
+            let pools: Vec<Vec<u8>> =
+                styles.into_iter().filter_map(|style| flaw.make(&mut random, style)).take(3).collect();
+            assert!(!pools.is_empty(), "{}", flaw.name);
+            for pool in pools {
+                let faults = examine(&pool).faults;
+                assert_eq!(faults.first().map(|fault| fault.refusal.number()), Some(flaw.number), "{}", flaw.name);
+                let own = [flaw.name];
+                let words = Some(expected(flaw.name)).filter(|words| !words.is_empty()).unwrap_or(&own);
+                let found = |number, why| number == flaw.number && words.contains(&why);
+                let found = faults.iter().any(|fault| found(fault.refusal.number(), fault.why));
+                assert!(found, "{}: {faults:?}", flaw.name);
+                let said = checked(&folder, &pool);
+                assert_eq!((said.status, said.text.lines().count()), (1, faults.len() + 1), "{}", said.text);
+            }
+        }
+    }
+
+    #[test]
+    fn a_changed_byte_is_found_on_its_page() {
+        let mut random = Random::new(3);
+        for _ in 0..200 {
+            let sound = foreign::make(&mut random, SMALL).pool;
+            let mut pool = sound.clone();
+            damage::change_byte(&mut random, &mut pool);
+            let changed = (0..pool.len()).find(|&at| pool[at] != sound[at]).expect("one changed") / PAGE_BYTES;
+            let fault = examine(&pool).faults[0];
+            assert_eq!(fault.refusal, Refusal::Pages);
+            assert!(matches!(fault.at, Place::Byte(Byte { page, .. }) if page == changed), "{fault}");
+        }
+    }
+
+    #[test]
+    fn bytes_with_mended_sums_and_moved_pages_are_judged_as_the_book_judges() {
+        let folder = Folder::new("mended");
+        let mut random = Random::new(4);
+        let mut faulty = 0;
+        for round in 0..120 {
+            let mut pool = foreign::make(&mut random, SMALL).pool;
+            match round % 2 {
+                0 => damage::change_mended(&mut random, &mut pool),
+                _ => damage::move_pages(&mut random, &mut pool),
+            }
+            let said = checked(&folder, &pool);
+            faulty += u32::from(said.status);
+            assert_eq!(said.status == 0, examine(&pool).faults.is_empty());
+        }
+        assert!(faulty >= 40, "{faulty} of 120 pools had a fault");
+    }
+
+    #[test]
+    fn a_hole_is_told_once() {
+        let folder = Folder::new("hole");
+        let pool = folder.prepared("p");
+        for value in ["100", "101", "102"] {
+            text(&["put", &pool, "7", value]);
+        }
+        let mut bytes = std::fs::read(&pool).expect("is there");
+        bytes[page_range(3)].fill(BLANK);
+        let hole = "5: page 4: a written page behind a blank one\n";
+        let said = checked(&folder, &bytes);
+        assert_eq!(said.text.matches("behind a blank one").count(), 1, "{}", said.text);
+        assert!(said.status == 1 && said.text.starts_with(hole), "{}", said.text);
+    }
+
+    #[test]
+    fn two_flaws_are_two_lines() {
+        let folder = Folder::new("two");
+        let pool = folder.prepared("p");
+        text(&["put", &pool, "7", "100"]);
+        assert_eq!(text(&["check", &pool]), format!("{pool}: no fault; 1 key in 1 node\n"));
+        let mut bytes = std::fs::read(&pool).expect("is there");
+        bytes[PAGE_BYTES + 10] ^= 1;
+        bytes[2 * PAGE_BYTES + 16] = 9;
+        std::fs::write(&pool, bytes).expect("is written");
+        let faults = "5: page 1, byte 59: the sum differs\n\
+                      5: page 2, byte 16: an entry's kind is unknown or goes with other numbers\n\
+                      5: page 2, byte 28: the sum differs\n";
+        let last = format!("{pool}: 3 faults, refused with 5: a page, or the pages together, break the layout\n");
+        let said = said(&["check", &pool]);
+        assert_eq!((said.status, said.text), (1, format!("{faults}{last}")));
+        let said = checked(&folder, &[0; 100]);
+        assert!(said.status == 1 && said.text.starts_with("1: the pool: no length of a pool\n"), "{}", said.text);
+    }
+}

@@ -1,0 +1,40 @@
+//! What the tool says of itself.
+
+use super::words::OPTIONS;
+use super::{named, Said, Stop, Verb, VERBS};
+
+/// All verbs, a line each.
+pub(super) fn all() -> String {
+    let mut out =
+        "usage: wallbook VERB FILE ..\n\nFILE is a pool; keys and values are decimal, or hexadecimal behind 0x.\n\n"
+            .to_string();
+    for verb in VERBS {
+        out.push_str(&format!("  {:<8} {:<23} {}\n", verb.name, verb.words, verb.about));
+    }
+    out.push_str("  help     [VERB]                  this, or all of one verb\n\n");
+    out.push_str("Exit status: 0 done; 1 refused, absent, faulty or different; 2 not understood, or no such file.\n");
+    out
+}
+
+/// One verb in full.
+pub(super) fn one(verb: &Verb) -> String {
+    let mut out = format!("usage: wallbook {} {}\n\n{}: {}.\n", verb.name, verb.words, verb.name, verb.about);
+    if !verb.more.is_empty() {
+        out.push_str(&format!("\n{}\n", verb.more));
+    }
+    let known = OPTIONS.iter().filter(|(name, _)| verb.options.contains(name));
+    let lines: String = known.map(|(name, what)| format!("  {name} {what}\n")).collect();
+    if !lines.is_empty() {
+        out.push_str(&format!("\n{lines}"));
+    }
+    out
+}
+
+/// Answers `help` and `help VERB`.
+pub(super) fn about(words: &[&str]) -> Result<Said, Stop> {
+    match words {
+        [] => Ok(Said::text(all())),
+        [name] => Ok(Said::text(one(named(name)?))),
+        [_, more, ..] => Err(Stop::wrong(format!("help: {more:?} is too much"))),
+    }
+}

@@ -1,0 +1,84 @@
+//! A pool file, and the calls on it.
+
+use super::words::Options;
+use super::{file, Stop};
+use crate::book::Book;
+use crate::command::{answer_room, encode, parse_answers, Answer, Command};
+use crate::layout::{table_bytes, BLANK, BLOCK_BYTES, MAX_BLOCKS};
+use crate::mount::mount;
+use crate::refusal::{words, Fault};
+
+/// The options of a verb that makes calls.
+pub(super) const CALL_OPTIONS: &[&str] = &["--book", "--dry"];
+
+/// A pool in memory: the file changes with `save` alone.
+pub(super) struct Pool<'a> {
+    name: &'a str,
+    book: Box<dyn Book>,
+    pub bytes: Vec<u8>,
+    /// What the batches so far were charged.
+    pub charge: u64,
+    dry: bool,
+}
+
+impl<'a> Pool<'a> {
+    /// The pool of a file, for calls on the book of the options.
+    pub fn open(name: &'a str, options: &Options) -> Result<Pool<'a>, Stop> {
+        let book = options.book()?;
+        Ok(Pool { name, book, bytes: file::read(name)?, charge: 0, dry: options.dry })
+    }
+
+    /// A new pool, prepared; more blocks than any book takes are cut to one too many.
+    pub fn prepared(name: &'a str, blocks: u32, tariff: [u32; 8], options: &Options) -> Result<Pool<'a>, Stop> {
+        let blocks = (blocks as usize).min(MAX_BLOCKS + 1);
+        let bytes = vec![BLANK; blocks * BLOCK_BYTES];
+        let mut pool = Pool { name, book: options.book()?, bytes, charge: 0, dry: options.dry };
+        match pool.book.prepare(&mut pool.bytes, tariff) {
+            0 => Ok(pool),
+            number => Err(pool.refused(number)),
+        }
+    }
+
+    /// Runs commands as one batch.
+    pub fn batch(&mut self, commands: &[Command]) -> Result<Vec<Answer>, Stop> {
+        self.batch_of_bytes(&encode(commands), answer_room(commands))
+    }
+
+    /// Runs the bytes of a batch with so much room for its answers.
+    pub fn batch_of_bytes(&mut self, batch: &[u8], room: usize) -> Result<Vec<Answer>, Stop> {
+        let mut table = vec![0; table_bytes(self.bytes.len())];
+        let mut answers = vec![0; room];
+        let outcome = self.book.batch(&mut self.bytes, &mut table, batch, &mut answers);
+        if outcome.number != 0 {
+            return Err(self.refused(outcome.number));
+        }
+        self.charge += outcome.charge;
+        let answers = answers.get(..outcome.length).and_then(parse_answers);
+        answers.ok_or_else(|| Stop::no(format!("{}: the book's answers cannot be read", self.name)))
+    }
+
+    /// The number that the book answers an empty batch on a copy with.
+    pub fn number(mut self) -> u8 {
+        let mut table = vec![0; table_bytes(self.bytes.len())];
+        self.book.batch(&mut self.bytes, &mut table, &[], &mut []).number
+    }
+
+    /// A refusal in words, with the first place that tells why.
+    fn refused(&self, number: u8) -> Stop {
+        let place = match number {
+            5..=8 => mount(&self.bytes)
+                .err()
+                .map(|Fault { at, why, .. }| format!(" ({at}: {why}; wallbook check tells all)")),
+            _ => None,
+        };
+        Stop::no(format!("{}: refused with {number}: {}{}", self.name, words(number), place.unwrap_or_default()))
+    }
+
+    /// Writes the file, unless the call was a dry one.
+    pub fn save(&self) -> Result<(), Stop> {
+        match self.dry {
+            true => Ok(()),
+            false => file::write(self.name, &self.bytes),
+        }
+    }
+}

@@ -1,0 +1,63 @@
+//! `run`: a batch given as bytes.
+
+use super::pool::{Pool, CALL_OPTIONS};
+use super::words::{Options, Words};
+use super::{answer, Said, Stop, Verb};
+use crate::command::{answer_room, parse};
+use crate::wire::from_hex;
+
+pub(super) const VERB: Verb = Verb {
+    name: "run",
+    words: "FILE HEX",
+    about: "runs a batch given in hexadecimal, and says each answer",
+    more: "- is the empty batch, which writes a checkpoint. Exit status 1 if the batch is refused; the answers in a\n\
+           batch that is not are told as they are.",
+    options: CALL_OPTIONS,
+    run,
+};
+
+fn run(words: &mut Words<'_>, options: &Options) -> Result<Said, Stop> {
+    let (file, hex) = (words.word("a file")?, words.word("a batch")?);
+    words.end()?;
+    let digits = if hex == "-" { "" } else { hex };
+    let batch = from_hex(digits).ok_or_else(|| Stop::wrong(not_hex(digits)))?;
+    let mut pool = Pool::open(file, options)?;
+    // A batch that cannot be read goes to the book all the same: the refusal is its own.
+    let commands = parse(&batch).unwrap_or_default();
+    let answers = pool.batch_of_bytes(&batch, answer_room(&commands))?;
+    pool.save()?;
+    let mut text: String =
+        commands.iter().zip(&answers).map(|(command, said)| answer::spoken(command, said).0 + "\n").collect();
+    text.push_str(&format!("charge {}\n", pool.charge));
+    Ok(Said::text(text))
+}
+
+fn not_hex(digits: &str) -> String {
+    match digits.chars().position(|digit| !digit.is_ascii_hexdigit()) {
+        Some(at) => format!("a batch is pairs of hexadecimal digits, and character {} is none", at + 1),
+        None => format!("a batch is pairs of hexadecimal digits, and {} digits are half a byte too many", digits.len()),
+    }
+}
+
+#[cfg(test)]
+mod tests {
+    use crate::tool::trial::{said, text, Folder};
+
+    #[test]
+    fn the_worked_batch_in_words() {
+        let folder = Folder::new("run");
+        let pool = folder.prepared("p");
+        let batch = "0200080000000700000064010004000000070300040000000701000400000007";
+        let words = "key 7 is new, with value 100\nkey 7 has value 100\nkey 7 is deleted, its value was 100\n\
+                     key 7 is not there\ncharge 14\n";
+        assert_eq!(text(&["run", &pool, batch]), words);
+        assert_eq!(text(&["run", &pool, "04000a00000009000000030001"]), "keys 9 to 3: none\ncharge 0\n");
+        assert_eq!(text(&["run", &pool, "-"]), "charge 0\n");
+        let refused = said(&["run", &pool, "05"]);
+        assert!(refused.status == 1 && refused.note.contains("refused with 3: the batch is over"), "{refused:?}");
+        for (hex, why) in [("0x", "character 2 is none"), ("000", "3 digits are half a byte too many")] {
+            let wrong = said(&["run", &pool, hex]);
+            assert!(wrong.status == 2 && wrong.note.contains(why), "{wrong:?}");
+        }
+    }
+}

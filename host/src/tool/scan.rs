@@ -1,0 +1,78 @@
+//! `scan`: the pairs of a range of keys.
+
+use super::pool::{Pool, CALL_OPTIONS};
+use super::progress::Progress;
+use super::words::{counted, Options, Words};
+use super::{csv, Said, Stop, Verb};
+use crate::command::{Answer, Command};
+use crate::layout::MAX_SCAN_PAIRS;
+use crate::node::Pair;
+
+pub(super) const VERB: Verb = Verb {
+    name: "scan",
+    words: "FILE LOW HIGH [MOST]",
+    about: "the pairs with keys from LOW to HIGH, the first MOST of them",
+    more:
+        "Prints key,value lines. A scan command gives 32 pairs at most, so a longer list takes a batch for each 32;\n\
+           the file is written once, at the end. The book counts these reads: --dry leaves the file as it is.",
+    options: CALL_OPTIONS,
+    run,
+};
+
+fn run(words: &mut Words<'_>, options: &Options) -> Result<Said, Stop> {
+    let file = words.word("a file")?;
+    let (low, high) = (words.number("a lowest key")?, words.number("a highest key")?);
+    let most = words.number_if_any("how many pairs at most")?.map_or(usize::MAX, |most| most as usize);
+    words.end()?;
+    let mut pool = Pool::open(file, options)?;
+    let pairs = pairs(&mut pool, low, high, most)?;
+    pool.save()?;
+    let note = format!("{}, charge {}\n", counted(pairs.len(), "pair"), pool.charge);
+    Ok(Said { text: csv::lines(&pairs), note, status: 0 })
+}
+
+/// The first `most` pairs of a range, a batch of one scan after another.
+pub(super) fn pairs(pool: &mut Pool<'_>, mut low: u32, high: u32, most: usize) -> Result<Vec<Pair>, Stop> {
+    let mut found: Vec<Pair> = Vec::new();
+    let mut progress = Progress::new("pairs read");
+    while found.len() < most {
+        let wanted = MAX_SCAN_PAIRS.min(most - found.len());
+        let answers = pool.batch(&[Command::Scan { low, high, most: wanted }])?;
+        let [Answer::Pairs(pairs)] = &answers[..] else {
+            return Err(Stop::no("a scan was not answered with pairs"));
+        };
+        found.extend(pairs);
+        progress.tell(found.len());
+        let next = pairs.last().filter(|_| pairs.len() == wanted).and_then(|pair| pair.key.checked_add(1));
+        match next {
+            Some(next) if next <= high => low = next,
+            _ => break,
+        }
+    }
+    Ok(found)
+}
+
+#[cfg(test)]
+mod tests {
+    use crate::tool::trial::{said, text, Folder};
+
+    #[test]
+    fn a_scan_pages_through_more_than_32_pairs() {
+        let folder = Folder::new("scan");
+        let pool = folder.prepared("p");
+        let line = |key: u32| format!("{key},{}\n", key + 1);
+        let keys = (0..100).chain([u32::MAX - 1]);
+        std::fs::write(folder.file("csv"), keys.map(line).collect::<String>()).expect("is written");
+        text(&["import", &pool, &folder.file("csv")]);
+        let lines = |keys: std::ops::Range<u32>| keys.map(line).collect::<String>();
+        assert_eq!(text(&["scan", &pool, "0", "99"]), lines(0..100));
+        assert_eq!(text(&["scan", &pool, "3", "98", "64"]), lines(3..67));
+        assert_eq!(text(&["scan", &pool, "3", "98", "65"]), lines(3..68));
+        assert_eq!(text(&["scan", &pool, "90", "0xffffffff"]), lines(90..100) + &line(u32::MAX - 1));
+        for (low, high, most) in [("9", "3", "5"), ("200", "300", "5"), ("0", "9", "0")] {
+            assert_eq!(text(&["scan", &pool, low, high, most]), "");
+        }
+        let said = said(&["scan", &pool, "0", "31"]);
+        assert!(said.note.starts_with("32 pairs, charge "), "{}", said.note);
+    }
+}

@@ -1,0 +1,156 @@
+//! `stats`: figures of a pool.
+
+use super::node::spelled;
+use super::room::{levels, room, Room};
+use super::words::{Options, Words};
+use super::{file, Said, Stop, Verb};
+use crate::account::Mode;
+use crate::layout::{block_count, node_limit, BLOCK_PAGES, MAX_KEYS, MAX_SEQUENCE};
+use crate::markdown::grouped;
+use crate::marks::{counts, marks, Mark};
+use crate::mount::Mounted;
+
+pub(super) const VERB: Verb = Verb {
+    name: "stats",
+    words: "FILE",
+    about: "depth, fill, modes, room, and live and dead pages",
+    more: "Room is for new keys, nothing being deleted: any keys at least, and no keys more than at most, before a\n\
+           put is refused with 9. A compaction is due when a page is needed, the block at hand is full and one block\n\
+           alone is blank.",
+    options: &[],
+    run,
+};
+
+fn run(words: &mut Words<'_>, _: &Options) -> Result<Said, Stop> {
+    let name = words.word("a file")?;
+    words.end()?;
+    let bytes = file::read(name)?;
+    let mounted = spelled(name, &bytes)?;
+    let marks = marks(&bytes);
+    let mut text = format!("{name}: {} bytes in {} blocks\n", grouped(bytes.len() as u128), marks.len() / BLOCK_PAGES);
+    let blocks = block_count(bytes.len()).unwrap_or_default();
+    for (what, figure) in [
+        ("tariff", tariff(&mounted)),
+        ("nodes", nodes(&mounted, node_limit(blocks))),
+        ("leaves", leaves(&mounted)),
+        ("room", room_line(&mounted, node_limit(blocks))),
+        ("pages", pages(&marks)),
+        ("compaction", compaction(&mounted)),
+        ("sequence", sequence(&mounted)),
+    ] {
+        text.push_str(&format!("{what:<11} {figure}\n"));
+    }
+    for (block, marks) in marks.chunks(BLOCK_PAGES).enumerate() {
+        text.push_str(&format!("{:<11} {}\n", format!("block {block}"), pages(marks)));
+    }
+    Ok(Said::text(text))
+}
+
+fn tariff(mounted: &Mounted) -> String {
+    let numbers = mounted.tariff.numbers().map(|number| number.to_string());
+    let [log, disk] = [&numbers[..3], &numbers[3..6]].map(|costs| costs.join(" "));
+    format!(
+        "{log} in log mode, {disk} in disk mode, switches {}; limit {}",
+        numbers[6..].join(" "),
+        mounted.tariff.limit()
+    )
+}
+
+fn nodes(mounted: &Mounted, limit: usize) -> String {
+    let all = mounted.nodes.len();
+    let leaves = mounted.nodes.iter().filter(|node| node.is_leaf()).count();
+    let log = mounted.rows.iter().filter(|row| row.account.mode == Mode::Log).count();
+    let depth = levels(&mounted.nodes).len();
+    let modes = format!("{log} in log mode, {} in disk mode", all - log);
+    format!("{all} of {limit}: leaves {leaves}, branches {}; {modes}; depth {depth}", all - leaves)
+}
+
+fn leaves(mounted: &Mounted) -> String {
+    let fill = &levels(&mounted.nodes)[0];
+    let keys: usize = fill.iter().sum();
+    let (least, most) = (fill.iter().min().unwrap_or(&0), fill.iter().max().unwrap_or(&0));
+    let (mean, share) = (keys as f64 / fill.len() as f64, 100 * keys / (MAX_KEYS * fill.len()));
+    format!("{keys} keys, {least} to {most} a leaf, {mean:.1} on average: {share}% full")
+}
+
+fn room_line(mounted: &Mounted, limit: usize) -> String {
+    let Room { least, most } = room(&mounted.nodes, limit);
+    format!("at least {least} and at most {most} new keys")
+}
+
+fn pages(marks: &[Mark]) -> String {
+    let (live, written) = counts(marks);
+    format!("{live} live, {} dead, {} blank", written - live, marks.len() - written)
+}
+
+fn compaction(mounted: &Mounted) -> String {
+    let blank = mounted.written.iter().filter(|&&written| written == 0).count();
+    let pages = BLOCK_PAGES - mounted.written[mounted.current] + BLOCK_PAGES * (blank - 1);
+    format!("due when {pages} more pages are written and one more is needed")
+}
+
+fn sequence(mounted: &Mounted) -> String {
+    let left = u128::from(MAX_SEQUENCE.saturating_sub(mounted.last_sequence));
+    format!("number {} is the last; {} are left", grouped(mounted.last_sequence.into()), grouped(left))
+}
+
+#[cfg(test)]
+mod tests {
+    use crate::tool::trial::{said, text, Folder};
+
+    #[test]
+    fn figures_of_a_small_pool() {
+        let folder = Folder::new("stats");
+        let pool = folder.prepared("p");
+        let csv: String = (0..30).map(|key| format!("{key},0\n")).collect();
+        std::fs::write(folder.file("csv"), csv).expect("is written");
+        text(&["import", &pool, &folder.file("csv")]);
+        let stats = text(&["stats", &pool]);
+        let mut lines = stats.lines();
+        assert_eq!(lines.next(), Some(format!("{pool}: 65,536 bytes in 4 blocks").as_str()));
+        let tariff = "tariff      3 1 2 in log mode, 1 4 4 in disk mode, switches 3 2; limit 5";
+        assert_eq!(lines.next(), Some(tariff));
+        let nodes = lines.next().expect("a line");
+        assert!(nodes.starts_with("nodes       3 of 20: leaves 2, branches 1; "), "{nodes}");
+        assert!(nodes.ends_with("; depth 2"), "{nodes}");
+        assert_eq!(lines.next(), Some("leaves      30 keys, 12 to 18 a leaf, 15.0 on average: 62% full"));
+        // 17 splits are left: the first after 7 keys more, each of the others after 12 more.
+        assert_eq!(lines.next(), Some("room        at least 210 and at most 426 new keys"));
+        let live: Vec<usize> = stats.lines().filter_map(live).collect();
+        assert_eq!(live[0], live[1..].iter().sum::<usize>(), "{stats}");
+        assert_eq!(live.len(), 5, "the pool and its four blocks");
+    }
+
+    /// The live pages of a line that has them.
+    fn live(line: &str) -> Option<usize> {
+        line.split(" live").next().filter(|_| line.contains(" live"))?.split(' ').next_back()?.parse().ok()
+    }
+
+    #[test]
+    fn a_compaction_comes_when_it_is_due() {
+        let folder = Folder::new("due");
+        let pool = folder.prepared("p");
+        let due = |stats: &str| -> usize {
+            let line = stats.lines().find(|line| line.starts_with("compaction")).expect("a line");
+            line.split(' ').find_map(|word| word.parse().ok()).expect("a number")
+        };
+        assert_eq!(due(&text(&["stats", &pool])), 94, "two pages of three blocks are written");
+        // An empty batch writes one page.
+        let blocks = |pool: &str| text(&["show", pool]).matches("0 live of  0").count();
+        for _ in 0..94 {
+            text(&["run", &pool, "-"]);
+        }
+        assert_eq!((due(&text(&["stats", &pool])), blocks(&pool)), (0, 1));
+        text(&["run", &pool, "-"]);
+        assert_eq!((due(&text(&["stats", &pool])), blocks(&pool)), (31, 1), "a block without a live page was erased");
+    }
+
+    #[test]
+    fn a_refused_pool_has_no_figures() {
+        let folder = Folder::new("no-stats");
+        let short = folder.file("short");
+        std::fs::write(&short, [0; 100]).expect("is written");
+        let refused = said(&["stats", &short]);
+        assert!(refused.status == 1 && refused.note.contains("refused with 1: "), "{refused:?}");
+    }
+}

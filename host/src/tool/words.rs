@@ -1,0 +1,147 @@
+//! The words of a command line: options apart, the others one by one.
+
+use super::Stop;
+use crate::book::Book;
+use crate::books::{by_name, BOOK_NAMES};
+
+/// The options that were given.
+#[derive(Default)]
+pub(super) struct Options {
+    /// The book's name, if one was named.
+    book: Option<String>,
+    pub dry: bool,
+    pub force: bool,
+    pub all: bool,
+    pub help: bool,
+}
+
+/// What each option does, for the help.
+pub(super) const OPTIONS: &[(&str, &str)] = &[
+    ("--book", "NAME  the book that does the work: proved (where not given) or second"),
+    ("--dry", "      leave the file as it is, whatever the call does"),
+    ("--force", "    even where the file is there already"),
+    ("--all", "      doubtful pairs as lines too"),
+];
+
+impl Options {
+    /// Takes the options out of a line.
+    pub fn of(line: &[String]) -> Result<(Vec<&str>, Options), Stop> {
+        let mut options = Options::default();
+        let mut words = Vec::new();
+        let mut line = line.iter().map(String::as_str);
+        while let Some(word) = line.next() {
+            match word {
+                "--help" | "-h" => options.help = true,
+                "--dry" => options.dry = true,
+                "--force" => options.force = true,
+                "--all" => options.all = true,
+                "--book" => {
+                    let name = line.next().ok_or_else(|| Stop::wrong(format!("--book needs one of: {BOOK_NAMES}")))?;
+                    options.book = Some(name.to_string());
+                }
+                _ if word.starts_with("--") => return Err(Stop::wrong(format!("no option is called {word}"))),
+                _ => words.push(word),
+            }
+        }
+        Ok((words, options))
+    }
+
+    /// Refuses the options that a verb does not know.
+    pub fn only(&self, known: &[&str]) -> Result<(), Stop> {
+        let given =
+            [("--book", self.book.is_some()), ("--dry", self.dry), ("--force", self.force), ("--all", self.all)];
+        match given.iter().find(|(name, given)| *given && !known.contains(name)) {
+            Some((name, _)) => Err(Stop::wrong(format!("{name} means nothing here"))),
+            None => Ok(()),
+        }
+    }
+
+    /// The book that was asked for.
+    pub fn book(&self) -> Result<Box<dyn Book>, Stop> {
+        let name = self.book.as_deref().unwrap_or("proved");
+        by_name(name).map_err(|missing| Stop::wrong(format!("{missing}; or take --book second")))
+    }
+}
+
+/// The words behind a verb.
+pub(super) struct Words<'a> {
+    rest: std::slice::Iter<'a, &'a str>,
+}
+
+impl<'a> Words<'a> {
+    pub fn of(words: &'a [&'a str]) -> Words<'a> {
+        Words { rest: words.iter() }
+    }
+
+    /// The next word, if there is one.
+    pub fn next(&mut self) -> Option<&'a str> {
+        self.rest.next().copied()
+    }
+
+    /// The next word, which must be there.
+    pub fn word(&mut self, what: &str) -> Result<&'a str, Stop> {
+        self.next().ok_or_else(|| Stop::wrong(format!("{what} expected")))
+    }
+
+    /// The next word, a number.
+    pub fn number(&mut self, what: &str) -> Result<u32, Stop> {
+        let word = self.word(what)?;
+        number(word).ok_or_else(|| Stop::wrong(format!("{what} expected, a number below 2^32, not {word:?}")))
+    }
+
+    /// The next word, a number, if there is one.
+    pub fn number_if_any(&mut self, what: &str) -> Result<Option<u32>, Stop> {
+        if self.rest.len() == 0 {
+            return Ok(None);
+        }
+        self.number(what).map(Some)
+    }
+
+    /// Nothing may follow.
+    pub fn end(&mut self) -> Result<(), Stop> {
+        match self.next() {
+            None => Ok(()),
+            Some(word) => Err(Stop::wrong(format!("{word:?} is too much"))),
+        }
+    }
+}
+
+/// A number in decimal, or in hexadecimal behind 0x.
+pub(super) fn number(word: &str) -> Option<u32> {
+    let (digits, base) = match word.strip_prefix("0x").or(word.strip_prefix("0X")) {
+        Some(digits) => (digits, 16),
+        None => (word, 10),
+    };
+    // The library would also take a sign.
+    let plain = digits.chars().all(|digit| digit.is_digit(base));
+    u32::from_str_radix(digits, base).ok().filter(|_| plain)
+}
+
+/// So many of a thing.
+pub(super) fn counted(count: usize, thing: &str) -> String {
+    format!("{count} {thing}{}", if count == 1 { "" } else { "s" })
+}
+
+#[cfg(test)]
+mod tests {
+    use super::*;
+
+    #[test]
+    fn numbers_are_decimal_or_hexadecimal() {
+        let read = ["0", "7", "4294967295", "0x0", "0xfF", "0XFFFFFFFF"].map(number);
+        assert_eq!(read, [0, 7, u32::MAX, 0, 255, u32::MAX].map(Some));
+        for wrong in ["", "0x", "-1", "+1", "0x+1", "4294967296", "0x100000000", "1e3", " 1", "ff"] {
+            assert_eq!(number(wrong), None, "{wrong:?}");
+        }
+    }
+
+    #[test]
+    fn options_stand_anywhere() {
+        let line = ["--dry", "get", "FILE", "--book", "second", "7"].map(str::to_string);
+        let (words, options) = Options::of(&line).expect("understood");
+        assert_eq!(words, ["get", "FILE", "7"]);
+        assert_eq!((options.dry, options.force, options.book.as_deref()), (true, false, Some("second")));
+        assert!(options.only(&["--dry", "--book"]).is_ok());
+        assert!(options.only(&["--dry"]).is_err());
+    }
+}

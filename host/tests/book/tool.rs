@@ -1,0 +1,98 @@
+//! The program `wallbook` as a shell calls it: what it prints, and its exit status.
+
+use std::path::PathBuf;
+use std::process::{Command, Output, Stdio};
+
+use yokehour_host::books::by_name;
+
+/// A folder of the test's own, with the program run in it.
+struct Folder(PathBuf);
+
+impl Folder {
+    fn new(test: &str) -> Folder {
+        let path = PathBuf::from(env!("CARGO_TARGET_TMPDIR")).join(format!("{test}-{}", std::process::id()));
+        std::fs::create_dir_all(&path).expect("a folder for tests");
+        Folder(path)
+    }
+
+    fn wallbook(&self, line: &str) -> Output {
+        let mut program = Command::new(env!("CARGO_BIN_EXE_wallbook"));
+        program.args(line.split_whitespace()).current_dir(&self.0).output().expect("runs")
+    }
+
+    /// The exit status of a line, and what it prints on standard output.
+    fn says(&self, line: &str) -> (Option<i32>, String) {
+        let output = self.wallbook(line);
+        (output.status.code(), String::from_utf8(output.stdout).expect("is text"))
+    }
+
+    fn status(&self, line: &str) -> Option<i32> {
+        self.wallbook(line).status.code()
+    }
+}
+
+impl Drop for Folder {
+    fn drop(&mut self) {
+        let _ = std::fs::remove_dir_all(&self.0);
+    }
+}
+
+#[test]
+fn exit_statuses_tell_scripts_how_it_went() {
+    let folder = Folder::new("statuses");
+    assert_eq!(folder.says("prepare p 4 --book second").0, Some(0));
+    let put = "key 7 is new, with value 100\ncharge 4\n".to_string();
+    assert_eq!(folder.says("put p 7 100 --book second"), (Some(0), put));
+    assert_eq!(folder.status("get p 7 --book second"), Some(0));
+    assert_eq!(folder.status("get p 8 --book second"), Some(1), "an absent key");
+    assert_eq!(folder.status("run p 05 --book second"), Some(1), "a refused batch");
+    assert_eq!(folder.status("get p --book second"), Some(2), "a word too few");
+    assert_eq!(folder.status("get q 7 --book second"), Some(2), "no such file");
+    assert_eq!(folder.status("help"), Some(0));
+    assert_eq!(folder.status("nonsense"), Some(2));
+    std::fs::copy(folder.0.join("p"), folder.0.join("q")).expect("is copied");
+    assert_eq!((folder.status("check q --book second"), folder.status("diff p q")), (Some(0), Some(0)));
+    let mut bytes = std::fs::read(folder.0.join("q")).expect("is there");
+    bytes[100] = 0;
+    std::fs::write(folder.0.join("q"), bytes).expect("is written");
+    assert_eq!((folder.status("check q --book second"), folder.status("diff p q")), (Some(1), Some(1)));
+    assert_eq!((folder.status("salvage p"), folder.status("salvage q")), (Some(0), Some(1)));
+    assert_eq!(folder.status("check r --book second"), Some(2), "no such file");
+}
+
+#[test]
+fn the_proved_book_does_the_work_where_it_is_here() {
+    let folder = Folder::new("proved");
+    let prepared = folder.wallbook("prepare p 4");
+    if by_name("proved").is_err() {
+        assert_eq!(prepared.status.code(), Some(2));
+        let why = String::from_utf8(prepared.stderr).expect("is text");
+        assert!(why.contains("no proved book") && why.contains("--book second"), "{why}");
+        return;
+    }
+    assert_eq!(prepared.status.code(), Some(0));
+    folder.status("prepare q 4 --book second");
+    let csv: String = (0..200).map(|key| format!("{},{key}\n", key * 7919 % 1000)).collect();
+    std::fs::write(folder.0.join("csv"), csv).expect("is written");
+    for line in ["import FILE csv", "get FILE 7", "delete FILE 21", "scan FILE 0 500"] {
+        let proved = folder.says(&line.replace("FILE", "p"));
+        let second = folder.says(&format!("{} --book second", line.replace("FILE", "q")));
+        assert_eq!(proved, second, "{line}");
+    }
+    assert_eq!(folder.says("diff p q"), (Some(0), "no byte differs\n".to_string()));
+    assert_eq!(folder.says("check p").0, Some(0));
+}
+
+#[test]
+fn a_reader_that_leaves_early_is_no_error() {
+    let folder = Folder::new("pipe");
+    folder.status("prepare p 64 --book second");
+    let csv: String = (0..6000).map(|key| format!("{key},{key}\n")).collect();
+    std::fs::write(folder.0.join("csv"), csv).expect("is written");
+    assert_eq!(folder.status("import p csv --book second"), Some(0));
+    let mut program = Command::new(env!("CARGO_BIN_EXE_wallbook"));
+    let program = program.args(["salvage", "p"]).current_dir(&folder.0).stdout(Stdio::piped());
+    let mut child = program.spawn().expect("runs");
+    drop(child.stdout.take());
+    assert_eq!(child.wait().expect("ends").code(), Some(0));
+}
