@@ -18,13 +18,6 @@ tableIn w = tableOf (w .pages) (w .table) (w .state)
 abbrev pub stepsIn : World → ℕ
 stepsIn w = w .state .nodes - 1
 
--- The path to a key in a world, and the leaf at its end.
-abbrev pub pathTo : ℕ → World → List ℕ
-pathTo k w = path (stepsIn w) (tableIn w) k 0
-
-abbrev pub leafAt : ℕ → World → ℕ
-leafAt k w = leafFor (stepsIn w) (tableIn w) k 0
-
 -- What the code of a way down finds in a table by at most so many steps: the ids from the root on stand in front of those in the lent array, and the
 -- leaf is in hand.
 pub record PathTo (table : Table) (steps k : ℕ) (lent : List ℕ) (r : Path) : Type 0 where

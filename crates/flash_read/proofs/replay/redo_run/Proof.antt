@@ -99,7 +99,8 @@ returns-2 c =
     let l = c .before .loop in
     record {
       is =
-          sym (from-done (a .framed) (a .id) (a .version) (a .bytes .now) (l .left) (l .place) (draftIn (l .r) (l .keys) (l .pointers)) (omega (arith, c .loop-test .left))) ∙
+          sym (from-done (a .framed) (a .id) (a .version) (a .bytes .now) (l .left) (l .place) (draftIn (l .r) (l .keys) (l .pointers))
+          (omega (arith, c .loop-test .left))) ∙
           l .inv .1 .1;
       held = l .inv .1 .0;
     }
