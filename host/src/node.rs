@@ -116,13 +116,6 @@ impl Node {
         let lower = Node { link: lower_link, ..self };
         Halves { lower, middle, upper }
     }
-
-    /// Says whether the content alone is one that a sound tree may have.
-    pub fn is_neat(&self) -> bool {
-        let ascending = self.pairs.is_sorted_by(|a, b| a.key < b.key);
-        let enough = self.is_leaf() || !self.pairs.is_empty();
-        ascending && enough && self.pairs.len() <= MAX_KEYS
-    }
 }
 
 fn find(pairs: &[Pair], key: u32) -> Result<usize, usize> {

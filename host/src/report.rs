@@ -522,7 +522,7 @@ mod tests {
         assert_eq!(names, ["book", "always log", "always disk", "source's listing"]);
         assert!(chart.series.iter().all(|(_, values)| values.iter().all(|value| (1.0..100.0).contains(value))));
         let picture = section.picture(&rows).expect("has one");
-        assert!(picture.contains("charge / optimum&apos;s charge") || picture.contains("charge / optimum's charge"));
+        assert!(picture.contains("charge / optimum's charge"));
     }
 
     #[test]

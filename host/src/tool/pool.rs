@@ -44,6 +44,14 @@ impl<'a> Pool<'a> {
         self.batch_of_bytes(&encode(commands), answer_room(commands))
     }
 
+    /// Runs commands as one batch on a copy: the pool stays as it is.
+    pub fn try_batch(&mut self, commands: &[Command]) -> Result<Vec<Answer>, Stop> {
+        let (bytes, charge) = (self.bytes.clone(), self.charge);
+        let answers = self.batch(commands);
+        (self.bytes, self.charge) = (bytes, charge);
+        answers
+    }
+
     /// Runs the bytes of a batch with so much room for its answers.
     pub fn batch_of_bytes(&mut self, batch: &[u8], room: usize) -> Result<Vec<Answer>, Stop> {
         let mut table = vec![0; table_bytes(self.bytes.len())];

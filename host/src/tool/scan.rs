@@ -25,31 +25,42 @@ fn run(words: &mut Words<'_>, options: &Options) -> Result<Said, Stop> {
     let most = words.number_if_any("how many pairs at most")?.map_or(usize::MAX, |most| most as usize);
     words.end()?;
     let mut pool = Pool::open(file, options)?;
-    let pairs = pairs(&mut pool, low, high, most)?;
-    pool.save()?;
+    let Scanned { pairs, commands } = scanned(&mut pool, low, high, most)?;
+    if !commands.is_empty() {
+        pool.batch(&commands)?;
+        pool.save()?;
+    }
     let note = format!("{}, charge {}\n", counted(pairs.len(), "pair"), pool.charge);
     Ok(Said { text: csv::lines(&pairs), note, status: 0 })
 }
 
-/// The first `most` pairs of a range, a batch of one scan after another.
-pub(super) fn pairs(pool: &mut Pool<'_>, mut low: u32, high: u32, most: usize) -> Result<Vec<Pair>, Stop> {
-    let mut found: Vec<Pair> = Vec::new();
+/// The pairs of a range, and the scans that give them.
+pub(super) struct Scanned {
+    pub pairs: Vec<Pair>,
+    commands: Vec<Command>,
+}
+
+/// The first `most` pairs of a range, a scan after another, each on a copy: the pool stays as it is.
+pub(super) fn scanned(pool: &mut Pool<'_>, mut low: u32, high: u32, most: usize) -> Result<Scanned, Stop> {
+    let mut scanned = Scanned { pairs: Vec::new(), commands: Vec::new() };
     let mut progress = Progress::new("pairs read");
-    while found.len() < most {
-        let wanted = MAX_SCAN_PAIRS.min(most - found.len());
-        let answers = pool.batch(&[Command::Scan { low, high, most: wanted }])?;
+    while scanned.pairs.len() < most {
+        let wanted = MAX_SCAN_PAIRS.min(most - scanned.pairs.len());
+        let command = Command::Scan { low, high, most: wanted };
+        let answers = pool.try_batch(&[command])?;
         let [Answer::Pairs(pairs)] = &answers[..] else {
             return Err(Stop::no("a scan was not answered with pairs"));
         };
-        found.extend(pairs);
-        progress.tell(found.len());
+        scanned.pairs.extend(pairs);
+        scanned.commands.push(command);
+        progress.tell(scanned.pairs.len());
         let next = pairs.last().filter(|_| pairs.len() == wanted).and_then(|pair| pair.key.checked_add(1));
         match next {
             Some(next) if next <= high => low = next,
             _ => break,
         }
     }
-    Ok(found)
+    Ok(scanned)
 }
 
 #[cfg(test)]
@@ -66,13 +77,16 @@ mod tests {
         text(&["import", &pool, &folder.file("csv")]);
         let lines = |keys: std::ops::Range<u32>| keys.map(line).collect::<String>();
         assert_eq!(text(&["scan", &pool, "0", "99"]), lines(0..100));
+        assert_eq!(text(&["scan", &pool, "0", "32"]), lines(0..33), "one more than a scan gives");
         assert_eq!(text(&["scan", &pool, "3", "98", "64"]), lines(3..67));
         assert_eq!(text(&["scan", &pool, "3", "98", "65"]), lines(3..68));
         assert_eq!(text(&["scan", &pool, "90", "0xffffffff"]), lines(90..100) + &line(u32::MAX - 1));
         for (low, high, most) in [("9", "3", "5"), ("200", "300", "5"), ("0", "9", "0")] {
             assert_eq!(text(&["scan", &pool, low, high, most]), "");
         }
+        let before = std::fs::read(&pool).expect("is there");
         let said = said(&["scan", &pool, "0", "31"]);
+        assert_ne!(std::fs::read(&pool).expect("is there"), before, "the reads are counted");
         assert!(said.note.starts_with("32 pairs, charge "), "{}", said.note);
     }
 }
