@@ -10,6 +10,7 @@ mod place;
 mod stack;
 mod times;
 
+pub use clock::timed;
 pub use copies::{Copies, Counter, Moved};
 
 use crate::{books, markdown};

@@ -4,6 +4,7 @@
 //! 2 a request that cannot be understood or a file that cannot be used.
 
 mod answer;
+mod bench;
 mod check;
 mod csv;
 mod delete;
@@ -52,7 +53,7 @@ pub struct Verb {
 pub const VERBS: &[Verb] = &[
     prepare::VERB, get::VERB, put::VERB, delete::VERB, scan::VERB, import::VERB, export::VERB, run::VERB,
     check::VERB, stats::VERB, show::VERB, page::VERB, node::VERB, diff::VERB, salvage::VERB,
-    picture::VERB,
+    picture::VERB, bench::VERB,
 ];
 
 /// What a verb says: on standard output, then on standard error; and its exit status.

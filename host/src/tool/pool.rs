@@ -1,7 +1,10 @@
 //! A pool file, and the calls on it.
 
+use std::time::Duration;
+
 use super::words::Options;
 use super::{file, Stop};
+use crate::bench::timed;
 use crate::book::Book;
 use crate::command::{answer_room, encode, parse_answers, Answer, Command};
 use crate::layout::{table_bytes, BLANK, BLOCK_BYTES, MAX_BLOCKS};
@@ -50,6 +53,19 @@ impl<'a> Pool<'a> {
         let answers = self.batch(commands);
         (self.bytes, self.charge) = (bytes, charge);
         answers
+    }
+
+    /// The processor time that a batch of commands takes on a copy: the pool stays as it is.
+    pub fn time(&mut self, commands: &[Command]) -> Result<Duration, Stop> {
+        let mut copy = self.bytes.clone();
+        let mut table = vec![0; table_bytes(copy.len())];
+        let batch = encode(commands);
+        let mut answers = vec![0; answer_room(commands)];
+        let (outcome, time) = timed(|| self.book.batch(&mut copy, &mut table, &batch, &mut answers));
+        match outcome.number {
+            0 => Ok(time),
+            number => Err(self.refused(number)),
+        }
     }
 
     /// Runs the bytes of a batch with so much room for its answers.
