@@ -15,7 +15,7 @@ fn two_to(k: usize) -> u8
     1u8 << k
 }
 
-// Whether a bit of a byte is set; a shift, since a division by a number that is not known costs ten times as much.
+// Whether a bit of a byte is set.
 fn has_bit(byte: u8, k: usize) -> bool
     requires { ⌜ k < 8 ⌝ }
     ensures { λ r. ⌜ r ≡ marked (getD (byteBits byte) k 0) ⌝ }
