@@ -27,9 +27,9 @@ use Rattle.store_laws.specs.Closing.{Closed, close-closed}
 use Rattle.book.specs.Book.{Book}
 use Rattle.model.specs.State.{State, bookOf}
 use Rattle.model.specs.Batch.{closed}
-use Rattle.model.specs.Mount.{stateOf, threePages, scoresBelow, treeSound, numbersLeft}
+use Rattle.model.specs.Mount.{stateOf, threePages, scoresBelow, treeSound}
 use Rattle.demands.specs.Says.{modes, Says, bookOf-trimmed, score-is, says}
-use Rattle.demands.specs.Mount.{Mounts, Ready}
+use Rattle.demands.specs.Mount.{Sealed, Ready}
 
 pub three-below : (n : ℕ) (st : Store) → ((k : ℕ) → k < n → pages (view st) k ≤ mostLogPages) → threePages n st ≡ true
 unfolding threePages
@@ -47,17 +47,6 @@ scores-all most i zero score h = refl
 scores-all most i (suc k) score h =
     and-both (ltb (score i) most) (scoresBelow most (scoresFrom (suc i) k score)) (lt-ltb (score i) most (h i (omega arith)))
     (scores-all most (suc i) k score (λ n l. h n (omega arith)))
-
--- The questions of a pool but the eighth.
-pub record Sealed (blocks : ℕ) (c : Cells) (t : Tariff) : Type 0 where
-  pub pass : pagesPass blocks c ≡ true
-  pub complete : complete (checkpointOf (reopened blocks c)) ≡ true
-  pub tariff : tariffIn (checkpointOf (reopened blocks c)) ≡ some t
-  pub sound : treeSound blocks t (reopened blocks c) ≡ true
-
--- With sequence numbers left, the pool opens.
-pub sealed-mounts : {blocks : ℕ} {c : Cells} {t : Tariff} → Sealed blocks c t → numbersLeft (reopened blocks c) ≡ true → Mounts blocks c t
-sealed-mounts q l = record { pass = q .pass; complete = q .complete; tariff = q .tariff; sound = q .sound; left = l }
 
 module _ {blocks : ℕ} {t : Tariff} {s : State} {b : Book} {ps : List Pair} (few : blocks ≤ mostBlocks) (r : Ready blocks t s b ps) where
   -- The run holds the book itself.

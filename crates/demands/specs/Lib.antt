@@ -16,9 +16,12 @@ pub mod PoolBytes
 pub mod MountFits
 pub mod PrepareFits
 pub mod PoolAfter
-pub mod DemandOne
+pub mod Ends
+pub mod FirstNo
 pub mod CommandBytes
 pub mod OneCall
-pub mod DemandThree
+pub mod Obeys
+pub mod AllCalls
+pub mod AgainstSchedules
 pub mod PreparedPool
-pub mod DemandTwo
+pub mod TheBook

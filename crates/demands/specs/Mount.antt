@@ -41,6 +41,13 @@ use Rattle.model.specs.Mount.{refused, opened, stateOf, threePages, scoresBelow
 use Rattle.demands.specs.Says.{Sound, Says, bookOf-count, bookOf-table, bookOf-account}
 use Rattle.demands.specs.Run as Run
 
+-- The questions of a pool but the eighth, which is about sequence numbers left.
+pub record Sealed (blocks : ℕ) (c : Cells) (t : Tariff) : Type 0 where
+  pub pass : pagesPass blocks c ≡ true
+  pub complete : complete (checkpointOf (reopened blocks c)) ≡ true
+  pub tariff : tariffIn (checkpointOf (reopened blocks c)) ≡ some t
+  pub sound : treeSound blocks t (reopened blocks c) ≡ true
+
 -- The questions of a pool that opens, one by one.
 pub record Mounts (blocks : ℕ) (c : Cells) (t : Tariff) : Type 0 where
   pub pass : pagesPass blocks c ≡ true
@@ -48,6 +55,12 @@ pub record Mounts (blocks : ℕ) (c : Cells) (t : Tariff) : Type 0 where
   pub tariff : tariffIn (checkpointOf (reopened blocks c)) ≡ some t
   pub sound : treeSound blocks t (reopened blocks c) ≡ true
   pub left : numbersLeft (reopened blocks c) ≡ true
+
+pub mounts-sealed : {blocks : ℕ} {c : Cells} {t : Tariff} → Mounts blocks c t → Sealed blocks c t
+mounts-sealed m = record { pass = m .pass; complete = m .complete; tariff = m .tariff; sound = m .sound }
+
+pub sealed-mounts : {blocks : ℕ} {c : Cells} {t : Tariff} → Sealed blocks c t → numbersLeft (reopened blocks c) ≡ true → Mounts blocks c t
+sealed-mounts q l = record { pass = q .pass; complete = q .complete; tariff = q .tariff; sound = q .sound; left = l }
 
 -- They are the questions that mount asks: it opens exactly where they all pass.
 pub mounts-opened : {blocks : ℕ} {c : Cells} {t : Tariff} → Mounts blocks c t → mountCells blocks c ≡ opened t (stateOf (reopened blocks c))
@@ -146,7 +159,7 @@ keeps-same {run = run} e f v =
       neat = λ n l. rw (← e n l) (v .neat n l);
     }
 
-module _ {blocks : ℕ} {c : Cells} {t : Tariff} (four : fewestBlocks ≤ blocks) (m : Mounts blocks c t) where
+module _ {blocks : ℕ} {c : Cells} {t : Tariff} (four : fewestBlocks ≤ blocks) (m : Sealed blocks c t) where
   abbrev st : Store
   st = reopened blocks c
 
@@ -205,10 +218,10 @@ module _ {blocks : ℕ} {c : Cells} {t : Tariff} (four : fewestBlocks ≤ blocks
       made-content : (n : ℕ) → n < N → draftOf st n ≡ made (nodeOf st n)
       made-content n l = proper-made (draftOf st n) (proper n l)
 
-  -- ANY POOL THAT PASSES opens as a book that spells a map.
-  pub mounts-ready : Ready blocks t s (bookOf s) (mapOf (bookOf s .count) (bookOf s .table))
+  -- ANY POOL THAT PASSES says a book that spells a map.
+  pub sealed-ready : Ready blocks t s (bookOf s) (mapOf (bookOf s .count) (bookOf s .table))
   unfolding stateOf
-  mounts-ready =
+  sealed-ready =
       record {
         says = record { sound = sound-state; is = refl };
         holds = record { spells = spelled; most = kept };
@@ -219,3 +232,8 @@ module _ {blocks : ℕ} {c : Cells} {t : Tariff} (four : fewestBlocks ≤ blocks
             (score-below (limit t) n (scoresIn (checkpointOf st)) (limit-some ranged)
             (and-right (inRange t) (scoresBelow (limit t) (scoresIn (checkpointOf st))) range-tests));
       }
+
+pub mounts-ready : {blocks : ℕ} {c : Cells} {t : Tariff} → fewestBlocks ≤ blocks → Mounts blocks c t →
+    Ready blocks t (stateOf (reopened blocks c)) (bookOf (stateOf (reopened blocks c)))
+    (mapOf (bookOf (stateOf (reopened blocks c)) .count) (bookOf (stateOf (reopened blocks c)) .table))
+mounts-ready four m = sealed-ready four (mounts-sealed m)

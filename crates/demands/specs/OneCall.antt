@@ -13,7 +13,7 @@ use lib.ListN.{length}
 use Rattle.laws.specs.Tests.{and-left, and-right, and-both}
 use Rattle.laws.specs.Every.{Every, every-weaken}
 use Rattle.laws.specs.Every as Every
-use Rattle.laws.specs.Lay.{lay, lay-nil}
+use Rattle.laws.specs.Lay.{lay-nil}
 use Rattle.laws.specs.BigEndian.{Bytes}
 use Rattle.laws.specs.Options.{some-same}
 use Rattle.layout.specs.Layout.{blockBytes, fewestBlocks, mostBlocks, nodeLimit, mostLogPages, noLeaf}
@@ -29,7 +29,6 @@ use Rattle.store.specs.Run.{Moment}
 use Rattle.store.specs.Reopen.{Cells, poolOf, reopened}
 use Rattle.store_laws.specs.Good.{LeanAt}
 use Rattle.book.specs.Book.{Book}
-use Rattle.book.specs.Command.{Reply, repliesBytes}
 use Rattle.book.specs.Batch.{runBook, booksPassed, chargeBook, requestsBook}
 use Rattle.book.specs.Bound.{Scored, scored-all}
 use Rattle.book.specs.OrderedMap.{mapAnswers, mapRun}
@@ -38,18 +37,18 @@ use Rattle.model.specs.Batch.{run, closed}
 use Rattle.model.specs.Mount.{opened, stateOf, mountCells}
 use Rattle.model.specs.Bytes.{bytesOf, cellsOf}
 use Rattle.model.specs.Call.{Outcome, refuse, blocksOf, poolLength, mountBy, mountOf, accept}
-use Rattle.model.specs.Calls.{Lent, outcome, accepted, bookIn, Work, workBy, workOf, statesBy, momentsBy, Fed, commandsBy, commandsIn}
+use Rattle.model.specs.Calls.{Lent, outcome, answered, laidOver, accepted, bookIn, Work, workBy, workOf, statesBy, momentsBy, Fed, commandsBy, commandsIn}
 use Rattle.demands.specs.Says.{Says}
 use Rattle.demands.specs.Run as Run
 use Rattle.demands.specs.Run.{Batched, batch-batched, runBook-requests}
-use Rattle.demands.specs.Mount.{Ready, opened-mounts}
-use Rattle.demands.specs.Close.{Sealed, closed-says, closed-sealed, closed-ready}
-use Rattle.demands.specs.DemandOne.{Ends, asFound, tableCleared, done, batch-ends}
+use Rattle.demands.specs.Mount.{Sealed, Ready, opened-mounts}
+use Rattle.demands.specs.Close.{closed-says, closed-sealed, closed-ready}
+use Rattle.demands.specs.Ends.{Ends, asFound, tableCleared, done, batch-ends}
 use Rattle.demands.specs.CommandBytes.{Batch, commandsOf-batch}
 use Rattle.demands.specs.PoolAfter.{PoolAfter, batch-pool}
 
 -- A pool between calls: bytes of a length named in document 01, every page checks, questions 5 to 7 pass, and it says a book that spells a
--- map.
+-- map. What the induction over calls carries; it is the layout's `Obeys` in other words (Obeys `stands-obeys`, `obeys-stands`).
 pub record OpenPool (t : Tariff) (pool : List ℕ) (b : Book) (ps : List Pair) : Type 0 where
   pub bytes : Bytes pool
   pub size : poolLength pool ≡ true
@@ -93,9 +92,9 @@ whole-length pool blocks e l m =
     (and-both (leb blocks mostBlocks) (eqb (blockBytes * blocks) (length pool)) (le-leb blocks mostBlocks m) (eq-eqb _ _ (sym e))))
 
 -- The book that the pool spells is the book.
-pub bookIn-is : {t : Tariff} {pool : List ℕ} {b : Book} {ps : List Pair} → OpenPool t pool b ps → bookIn pool ≡ b
+pub bookIn-is : {t : Tariff} {pool : List ℕ} {b : Book} {ps : List Pair} → OpenPool t pool b ps → bookIn pool ≡ some b
 unfolding bookIn
-bookIn-is o = rw (o .reads) (o .ready .says .is)
+bookIn-is o = rw (o .reads) (ap some (o .ready .says .is))
 
 -- What the reference model is fed of a call.
 abbrev pub fedOf : List ℕ → Lent → Fed
@@ -108,7 +107,7 @@ pub record CalledBy (t : Tariff) (pool buffer : List ℕ) (b : Book) (ps : List 
   pub charge : r .charge ≡ chargeBook (nodeLimit (blocksOf pool)) t cs b
   pub passed : map bookOf (statesBy (blocksOf pool) w) ≡ booksPassed (nodeLimit (blocksOf pool)) t cs b
   pub thin : Every Thin (momentsBy (blocksOf pool) w)
-  pub answers : r .answers ≡ lay buffer 0 (repliesBytes (mapAnswers (nodeLimit (blocksOf pool)) t cs b ps))
+  pub answers : answered r ≡ laidOver buffer (mapAnswers (nodeLimit (blocksOf pool)) t cs b ps)
   pub fits :
       Fits (nodeLimit (blocksOf pool)) (requestsBook (nodeLimit (blocksOf pool)) t cs b) (b .table) (b .count)
       (runBook (nodeLimit (blocksOf pool)) t cs b .count)
@@ -144,7 +143,7 @@ module _ {t : Tariff} {pool : List ℕ} {b : Book} {ps : List Pair} (o : OpenPoo
         charge = refl;
         passed = refl;
         thin = Every.none;
-        answers = sym (lay-nil (l .buffer) 0);
+        answers = ap (λ (z : List ℕ). (z, 0)) (sym (lay-nil (l .buffer) 0));
         fits = refl;
       })
     where
@@ -238,7 +237,7 @@ module _ {t : Tariff} {pool : List ℕ} {b : Book} {ps : List Pair} (o : OpenPoo
           passed = ran .passed ∙ ap (booksPassed limit t cs) (start .says .is);
           thin = every-weaken lean-thin (closed-says (sized pool p .most) ended .sound .good .passed);
           answers =
-              ap (λ (rs : List Reply). lay (l .buffer) 0 (repliesBytes rs))
+              ap (laidOver (l .buffer))
               (ran .answers ∙ ap (λ (z : Book). mapAnswers limit t cs z ps) (start .says .is));
           fits = fits-after;
         })
@@ -259,4 +258,4 @@ module _ {t : Tariff} {pool : List ℕ} {b : Book} {ps : List Pair} (o : OpenPoo
       go : (r : Outcome) → outcome pool l ≡ r → Ends pool (l .table) (l .batch) (l .buffer) r → Called t pool l b ps
       go r e (asFound n x y) = refused-called n x (l .table) e
       go r e (tableCleared n x y) = refused-called n (omega arith) _ e
-      go r e (done t′ cs s p q x m) = accepted-called bytes cs t′ s p q m e
+      go r e (done t′ cs s p u q x m) = accepted-called bytes cs t′ s p q m e

@@ -16,7 +16,8 @@ use Rattle.model.specs.Call.{blocksOf, poolLength, Prepared, prepareOf}
 use Rattle.demands.specs.Prepare.{length-blocks, prepared-mounts, prepared-ready}
 use Rattle.demands.specs.PoolBytes.{length-bytesOf, bytes-bytesOf}
 use Rattle.demands.specs.PrepareFits.{prepared-fits, prepared-back}
-use Rattle.demands.specs.DemandOne.{Prepares, wrongLength, wrongTariff, fresh, prepare-ends}
+use Rattle.demands.specs.Mount.{mounts-sealed}
+use Rattle.demands.specs.Ends.{Prepares, wrongLength, wrongTariff, fresh, prepare-ends}
 use Rattle.demands.specs.OneCall.{OpenPool, sized, blocks-length, whole-length}
 
 module _ (pool : List ℕ) (t : Tariff) (r : Ranged t) (p : poolLength pool ≡ true) where
@@ -43,7 +44,7 @@ module _ (pool : List ℕ) (t : Tariff) (r : Ranged t) (p : poolLength pool ≡ 
         size = whole-length left B left-length (sized pool p .few) (sized pool p .most);
         cells = prepared B t;
         reads = prepared-back t r B;
-        sealed = rw same-blocks (record { pass = m .pass; complete = m .complete; tariff = m .tariff; sound = m .sound });
+        sealed = rw same-blocks (mounts-sealed m);
         ready = rw same-blocks (prepared-ready B t (sized pool p .few) r);
       }
 

@@ -5,6 +5,8 @@ use mathlib.Core.List.{List, [], _∷_, _++_}
 use mathlib.Core.Option.{Option, none, some}
 use Prim.Native.Nat.{ℕ, _+_}
 use lib.Dec.{eqb}
+use lib.ListN.{length}
+use Rattle.laws.specs.Lay.{lay}
 use Rattle.layout.specs.Layout.{nodeLimit}
 use Rattle.account.specs.declared.Tariff.{Tariff}
 use Rattle.pairs.specs.Pairs.{Pair}
@@ -14,13 +16,12 @@ use Rattle.tree.specs.NodeRequest.{NodeRequest}
 use Rattle.store.specs.Run.{Moment}
 use Rattle.store.specs.Reopen.{Cells, reopened}
 use Rattle.book.specs.Book.{Book}
-use Rattle.book.specs.Command.{Reply}
+use Rattle.book.specs.Command.{Reply, repliesBytes}
 use Rattle.book.specs.Batch.{runBook, booksPassed, chargeBook, requestsBook}
 use Rattle.book.specs.OrderedMap.{mapAnswers, mapRun}
 use Rattle.model.specs.State.{State, bookOf}
 use Rattle.model.specs.Batch.{run, statesPassed, closed}
 use Rattle.model.specs.Mount.{Mounted, refused, opened, stateOf}
-use Rattle.model.specs.Prepare.{firstBook}
 use Rattle.model.specs.Bytes.{cellsOf}
 use Rattle.model.specs.Call.{Outcome, blocksOf, mountOf, batchOf}
 
@@ -38,20 +39,30 @@ abbrev pub outcomes : List ℕ → List Lent → List Outcome
 outcomes pool [] = []
 outcomes pool (l ∷ ls) = outcome pool l ∷ outcomes (outcome pool l .pool) ls
 
-abbrev pub lastPool : List ℕ → List Lent → List ℕ
-lastPool pool [] = pool
-lastPool pool (l ∷ ls) = lastPool (outcome pool l .pool) ls
+-- What a call gives back in answers: the bytes of the answer buffer, and the length returned.
+abbrev pub answered : Outcome → List ℕ × ℕ
+answered o = (o .answers, o .length)
+
+-- Replies laid into a buffer from its start, and how long they are; bytes beyond them are as they were.
+abbrev pub laidOver : List ℕ → List Reply → List ℕ × ℕ
+laidOver buffer rs = (lay buffer 0 (repliesBytes rs), length (repliesBytes rs))
+
+-- The replies of each call of a list, each in the buffer lent to it.
+abbrev pub laid : List Lent → List (List Reply) → List (List ℕ × ℕ)
+laid [] rss = []
+laid (l ∷ ls) [] = []
+laid (l ∷ ls) (rs ∷ rss) = laidOver (l .buffer) rs ∷ laid ls rss
 
 -- "Accepted or refused": an accepted call returns number 0.
 abbrev pub accepted : Outcome → Bool
 accepted o = eqb (o .number) 0
 
--- The book that a pool spells between calls: contents and modes by its pages, scores by its checkpoint.
-abbrev pub bookBy : ℕ → Option Cells → Book
-bookBy blocks none = firstBook
-bookBy blocks (some c) = bookOf (stateOf (reopened blocks c))
+-- The book that a pool spells between calls: contents and modes by its pages, scores by its checkpoint; none where a page does not check.
+abbrev pub bookBy : ℕ → Option Cells → Option Book
+bookBy blocks none = none
+bookBy blocks (some c) = some (bookOf (stateOf (reopened blocks c)))
 
-unfoldable pub bookIn : List ℕ → Book
+unfoldable pub bookIn : List ℕ → Option Book
 bookIn pool = bookBy (blocksOf pool) (cellsOf pool)
 
 -- What an accepted call runs: its commands from the state that its pool mounts as.
@@ -138,9 +149,12 @@ module _ (blocks : ℕ) (t : Tariff) where
   mapReplies (f ∷ fs) b ps =
       mapAnswers limit t (commandsIn f) b ps ∷ mapReplies fs (fedBook f b) (mapRun limit t (commandsIn f) b ps)
 
-  abbrev pub lastMap : List Fed → Book → List Pair → List Pair
-  lastMap [] b ps = ps
-  lastMap (f ∷ fs) b ps = lastMap fs (fedBook f b) (mapRun limit t (commandsIn f) b ps)
+  -- .. and after each call.
+  abbrev pub mapsAfter : List Fed → Book → List Pair → List (List Pair)
+  mapsAfter [] b ps = []
+  mapsAfter (f ∷ fs) b ps =
+      let qs = mapRun limit t (commandsIn f) b ps in
+      qs ∷ mapsAfter fs (fedBook f b) qs
 
 abbrev pub sum : List ℕ → ℕ
 sum [] = 0

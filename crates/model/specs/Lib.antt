@@ -4,5 +4,6 @@ pub mod Mount
 pub mod Prepare
 pub mod Bytes
 pub mod Call
+pub mod Questions
 pub mod Calls
 pub mod Worked

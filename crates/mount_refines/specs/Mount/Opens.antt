@@ -19,7 +19,7 @@ use Rattle.store_laws.specs.Opening as Opening
 use Rattle.model.specs.State as Model
 use Rattle.model.specs.Mount.{refused, opened, stateOf, threePages, treeSound, numbersLeft, ask, mountCells}
 use Rattle.model.specs.Call.{mountOf}
-use Rattle.demands.specs.Mount.{Mounts, mounts-opened, mounts-ready, ranged}
+use Rattle.demands.specs.Mount.{Mounts, mounts-sealed, mounts-opened, mounts-ready, ranged}
 use Rattle.demands.specs.MountFits.{opened-enters}
 use Rattle.demands.specs.PoolBytes.{cellsOf-is}
 use Rattle.flash_rows.specs.Worktable.{Worktable}
@@ -152,7 +152,7 @@ module _ {pool : List ℕ} {blocks : ℕ} {c : Cells} {t : Tariff} {nodes since 
               };
           noCheckpointPage = refl;
           left = leb-true (s .last) lastSequence (p .numbers);
-          ranged = ranged (k .few) mounts;
+          ranged = ranged (k .few) (mounts-sealed mounts);
         }
 
   pub opened-later : refusalOf t s since pages ≡ 0 → (table : Worktable) → table ≡ tableFor s since pages → (tableLength : ℕ) →

@@ -1,6 +1,5 @@
--- DEMAND 2, the part about pools: "every pool that obeys the layout opens, any other is refused", whoever wrote it, and the map that it
--- spells is unique. (That commands answer as the ordered map does, batch after batch, and that the pool left behind spells that map, is in
--- DemandThree: `answers` and `stands`.) Assumes nothing.
+-- The layout as a definition, and that it is what mount asks: "every pool that obeys the layout opens, any other is refused", whoever wrote it;
+-- the map that a pool spells is unique. What stands between calls (OneCall `OpenPool`) obeys, and what obeys stands. Assumes nothing.
 use mathlib.Core.Path.{_≡_, refl, sym, ap, _∙_, subst}
 use mathlib.Core.Bool.{true}
 use mathlib.Core.List.{List, [], _∷_}
@@ -9,19 +8,16 @@ use Prim.Native.Nat.{ℕ, _*_, _≤_, _<_}
 use native.Mathlib.Omega.{arith}
 use borrow.Author.Tests.{leb-true, le-leb, ltb-true, lt-ltb}
 use lib.Dec.{ltb}
-use lib.ListN.{length}
 use Rattle.laws.specs.Tests.{and-left, and-right, and-both}
 use Rattle.laws.specs.Every.{Every, both}
 use Rattle.laws.specs.Every as Every
 use Rattle.laws.specs.BigEndian.{Bytes}
 use Rattle.laws.specs.Options.{some-same}
-use Rattle.layout.specs.Layout.{pagesInBlock, tableBytes, nodeLimit, mostLogPages, lastSequence}
+use Rattle.layout.specs.Layout.{pagesInBlock, nodeLimit, mostLogPages, lastSequence}
 use Rattle.account.specs.declared.Tariff.{Tariff}
 use Rattle.account.specs.Tariff.{limit}
 use Rattle.account.specs.Range.{inRange, Ranged, ranged-inRange}
 use Rattle.pairs.specs.Pairs.{Pair}
-use Rattle.command.specs.declared.Command.{Command}
-use Rattle.command.specs.Batch.{commandsOf, roomForAll}
 use Rattle.page.specs.Page.{Score}
 use Rattle.tree.specs.Spells.{Spells, mapOf}
 use Rattle.tree.specs.Sound.{sound}
@@ -37,17 +33,19 @@ use Rattle.store_laws.specs.CellLaws.{cells-blocksIn}
 use Rattle.store_laws.specs.PageTests.{passing-numbers, passing-versions}
 use Rattle.store_laws.specs.Versions.{VersionRules}
 use Rattle.store_laws.specs.Opening.{own-passes, complete-newest}
+use Rattle.book.specs.Book.{Book}
 use Rattle.model.specs.State.{State, bookOf}
-use Rattle.model.specs.Mount.{opened, stateOf, threePages, scoresBelow, treeSound}
+use Rattle.model.specs.Mount.{opened, stateOf, threePages, scoresBelow, treeSound, numbersLeft}
 use Rattle.model.specs.Bytes.{bytesOf, cellsOf}
-use Rattle.model.specs.Call.{blocksOf, poolLength, mountBy, mountOf, accept, batchOf}
-use Rattle.demands.specs.Mount.{Mounts, mounts-opened, opened-mounts, three-each, ranged, rest-tests, range-tests, kept}
+use Rattle.model.specs.Call.{blocksOf, poolLength, mountBy, mountOf}
+use Rattle.model.specs.Calls.{bookBy, bookIn}
+use Rattle.demands.specs.Mount.{Sealed, sealed-mounts, mounts-sealed, mounts-opened, opened-mounts, Ready, sealed-ready, three-each, ranged, rest-tests, range-tests, kept}
 use Rattle.demands.specs.Mount as Mount
 use Rattle.demands.specs.Close.{three-below}
-use Rattle.demands.specs.PoolBytes.{CellFits, cellsOf-bytesOf, IsPool, cellsOf-is}
-use Rattle.demands.specs.OneCall.{sized}
+use Rattle.demands.specs.PoolBytes.{CellFits, cellsOf-bytesOf, bytes-bytesOf, IsPool, cellsOf-is}
+use Rattle.demands.specs.OneCall.{OpenPool, sized}
 
--- THE LAYOUT: what document 01 asks of a pool, but for the greatest stamp.
+-- THE LAYOUT: what document 01 asks of a pool, but for question 8, whether its greatest sequence number is at most 4,000,000,000.
 pub record Obeys (pool : List ℕ) (t : Tariff) (ps : List Pair) : Type 0 where
   -- B blocks of 16,384 bytes, B from 4 to 64
   pub size : poolLength pool ≡ true
@@ -55,10 +53,10 @@ pub record Obeys (pool : List ℕ) (t : Tariff) (ps : List Pair) : Type 0 where
   pub blocks : Blocks
   pub is : pool ≡ bytesOf (cells pagesInBlock blocks)
   pub fits : Every CellFits (cells pagesInBlock blocks)
-  -- the rules on blocks and stamps, and those on versions
+  -- the rules on blocks and sequence numbers, and those on versions
   pub rules : BlockRules pagesInBlock (blocksOf pool) blocks (blockOf (newest blocks) blocks) (newest blocks)
   pub versions : VersionRules (storeOf blocks)
-  -- a complete closing set with a tariff in range and scores below the limit T
+  -- a complete checkpoint with a tariff in range and scores below the limit T
   pub set : complete (checkpointOf (storeOf blocks)) ≡ true
   pub tariff : tariffIn (checkpointOf (storeOf blocks)) ≡ some t
   pub ranged : Ranged t
@@ -104,19 +102,22 @@ module _ {pool : List ℕ} {t : Tariff} {ps : List Pair} (o : Obeys pool t ps) w
       (and-both (inRange t) (scoresBelow (limit t) (scoresIn (checkpointOf st))) (ranged-inRange t (o .ranged))
       (scores-test (limit t) (scoresIn (checkpointOf st)) (o .scores))))
 
-  -- EVERY POOL THAT OBEYS THE LAYOUT OPENS, with stamps left.
-  pub obeys-opens : newest (o .blocks) ≤ lastSequence → mountOf pool ≡ opened t (stateOf st)
-  unfolding mountOf
-  obeys-opens left =
-      ap (mountBy (blocksOf pool)) reads ∙
-      mounts-opened
-      (record {
+  -- It passes the questions 5 to 7.
+  obeys-sealed : Sealed (blocksOf pool) (cells pagesInBlock (o .blocks)) t
+  obeys-sealed =
+      record {
         pass = own-passes st (o .rules) (o .versions);
         complete = rw again (o .set);
         tariff = rw again (o .tariff);
         sound = rw again tree;
-        left = rw again (le-leb (newest (o .blocks)) lastSequence left);
-      }) ∙
+      }
+
+  -- EVERY POOL THAT OBEYS THE LAYOUT OPENS, with sequence numbers left.
+  pub obeys-opens : newest (o .blocks) ≤ lastSequence → mountOf pool ≡ opened t (stateOf st)
+  unfolding mountOf
+  obeys-opens left =
+      ap (mountBy (blocksOf pool)) reads ∙
+      mounts-opened (sealed-mounts obeys-sealed (rw again (le-leb (newest (o .blocks)) lastSequence left))) ∙
       ap (λ (z : Store). opened t (stateOf z)) again
 
   -- The map that it spells is unique: it is computed from the pages.
@@ -125,6 +126,26 @@ module _ {pool : List ℕ} {t : Tariff} {ps : List Pair} (o : Obeys pool t ps) w
 
   pub obeys-map : spelled ≡ ps
   obeys-map = map-unique (bookOf (stateOf st) .table) (bookOf (stateOf st) .count) ps (o .spells)
+
+  -- The book that it spells is that of its pages.
+  obeys-book : (b : Book) → bookIn pool ≡ some b → bookOf (stateOf st) ≡ b
+  unfolding bookIn
+  obeys-book b e = some-same (sym (ap (bookBy (blocksOf pool)) reads ∙ ap (λ (z : Store). some (bookOf (stateOf z))) again) ∙ e)
+
+  -- IT STANDS BETWEEN CALLS.
+  pub obeys-stands : (b : Book) → bookIn pool ≡ some b → OpenPool t pool b ps
+  obeys-stands b e =
+      record {
+        bytes = rw (o .is) (bytes-bytesOf (cells pagesInBlock (o .blocks)));
+        size = o .size;
+        cells = cells pagesInBlock (o .blocks);
+        reads = reads;
+        sealed = obeys-sealed;
+        ready =
+            subst (λ (z : Book). Ready (blocksOf pool) t (stateOf (reopened (blocksOf pool) (cells pagesInBlock (o .blocks)))) z ps) (ap (λ (z : Store). bookOf (stateOf z)) again ∙ obeys-book b e)
+            (subst (Ready (blocksOf pool) t (stateOf (reopened (blocksOf pool) (cells pagesInBlock (o .blocks)))) _) (ap (λ (z : Store). mapOf (bookOf (stateOf z) .count) (bookOf (stateOf z) .table)) again ∙ obeys-map)
+            (sealed-ready (sized pool (o .size) .few) obeys-sealed));
+      }
 
 -- Two readings of one pool find the same pages, and so the same map.
 pub obeys-unique : {pool : List ℕ} {t t′ : Tariff} {ps qs : List Pair} → Obeys pool t ps → Obeys pool t′ qs → ps ≡ qs
@@ -137,14 +158,15 @@ obeys-unique {pool} o p =
         ap (blocksIn pagesInBlock (blocksOf pool)) (some-same (sym (reads o) ∙ reads p)) ∙
         rules-blocks (p .rules)
 
--- A POOL THAT OPENS obeys the layout and has stamps left: any other is refused.
+-- A POOL THAT OPENS obeys the layout and has sequence numbers left: any other is refused.
 pub record Opening (pool : List ℕ) (t : Tariff) (s : State) : Type 0 where
   pub obeys : Obeys pool t (mapOf (bookOf s .count) (bookOf s .table))
   pub left : newest (obeys .blocks) ≤ lastSequence
+  pub book : bookIn pool ≡ some (bookOf s)
 
--- The pages of a pool that opens, by its questions.
+-- The pages of a pool that passes the questions 5 to 7.
 module _ (pool : List ℕ) (bytes : Bytes pool) (t : Tariff) (size : poolLength pool ≡ true) (c : Cells) (r : cellsOf pool ≡ some c)
-    (m : Mounts (blocksOf pool) c t) where
+    (m : Sealed (blocksOf pool) c t) where
   abbrev B : ℕ
   B = blocksOf pool
 
@@ -165,9 +187,9 @@ module _ (pool : List ℕ) (bytes : Bytes pool) (t : Tariff) (size : poolLength 
   image : IsPool pool c
   image = cellsOf-is pool bytes (32 * B) (omega (arith, sized pool size .bytes)) c r
 
-  is-mounts : Obeys pool t (mapOf (bookOf (stateOf (reopened B c)) .count) (bookOf (stateOf (reopened B c)) .table))
+  sealed-obeys : Obeys pool t (mapOf (bookOf (stateOf (reopened B c)) .count) (bookOf (stateOf (reopened B c)) .table))
   unfolding reopened
-  is-mounts =
+  sealed-obeys =
       let four = sized pool size .few in
       record {
         size = size;
@@ -190,31 +212,32 @@ module _ (pool : List ℕ) (bytes : Bytes pool) (t : Tariff) (size : poolLength 
       count-in : (n : ℕ) → n < bookOf (stateOf (storeOf bs)) .count → n < countIn (checkpointOf (storeOf bs))
       count-in n l = rw (count-of (storeOf bs)) at l
 
-  left-is : newest bs ≤ lastSequence
-  unfolding reopened
-  left-is = leb-true (newest bs) lastSequence (m .left)
+  module _ (l : numbersLeft (reopened B c) ≡ true) where
+    left-is : newest bs ≤ lastSequence
+    unfolding reopened
+    left-is = leb-true (newest bs) lastSequence l
 
-  mounts-opening : Opening pool t (stateOf (reopened B c))
-  unfolding is-mounts
-  mounts-opening = record { obeys = is-mounts; left = left-is }
+    sealed-opening : Opening pool t (stateOf (reopened B c))
+    unfolding sealed-obeys bookIn
+    sealed-opening = record { obeys = sealed-obeys; left = left-is; book = rw r refl }
 
 module _ (pool : List ℕ) (bytes : Bytes pool) (t : Tariff) (s : State) (size : poolLength pool ≡ true) where
   by-cells : (o : Option Cells) → cellsOf pool ≡ o → mountBy (blocksOf pool) o ≡ opened t s → Opening pool t s
   by-cells none r f = let z : _≡_ {A = ℕ} 0 1 = cc in absurd (omega arith)
   by-cells (some c) r f =
       let x = opened-mounts f in
-      subst (λ (z : State). Opening pool t z) (sym (x .is)) (mounts-opening pool bytes t size c r (x .mounts))
+      subst (λ (z : State). Opening pool t z) (sym (x .is))
+      (sealed-opening pool bytes t size c r (mounts-sealed (x .mounts)) (x .mounts .left))
 
   pub opens-obeys : mountOf pool ≡ opened t s → Opening pool t s
   unfolding mountOf
   opens-obeys e = by-cells (cellsOf pool) refl e
 
--- A pool opens, or is refused with a number from 5 to 8: there is no third way (`mount-judged`).
-
--- THE QUESTIONS ARE EXACT: where all of them pass, the batch is accepted.
-pub batch-accepted : (pool table batch buffer : List ℕ) (cs : List Command) (t : Tariff) (s : State) → poolLength pool ≡ true →
-    tableBytes (blocksOf pool) ≤ length table → commandsOf batch ≡ some cs → roomForAll cs ≤ length buffer → mountOf pool ≡ opened t s →
-    batchOf pool table batch buffer ≡ accept (blocksOf pool) t cs s table buffer
-unfolding batchOf
-batch-accepted pool table batch buffer cs t s p l q r m =
-    rw (p, le-leb (tableBytes (blocksOf pool)) (length table) l, q, le-leb (roomForAll cs) (length buffer) r, m) refl
+-- WHAT STANDS BETWEEN CALLS obeys the layout, and spells its map.
+pub stands-obeys : {t : Tariff} {pool : List ℕ} {b : Book} {ps : List Pair} → OpenPool t pool b ps → Obeys pool t ps
+stands-obeys {t} {pool} {b} {ps} o =
+    let s = stateOf (reopened (blocksOf pool) (o .cells)) in
+    let same : bookOf s ≡ b = o .ready .says .is in
+    subst (Obeys pool t)
+    (map-unique (bookOf s .table) (bookOf s .count) ps (subst (λ (z : Book). Spells (z .table) (z .count) ps) (sym same) (o .ready .holds .spells)))
+    (sealed-obeys pool (o .bytes) t (o .size) (o .cells) (o .reads) (o .sealed))

@@ -1,5 +1,4 @@
--- DEMAND 1. "Any caller, any bytes in any buffer: the work is done, or one numbered refusal, and a refusal leaves pool and answers as
--- found." Assumes nothing.
+-- The ways in which a call ends, whatever the bytes in its buffers: done, or refused with a number. Assumes nothing.
 use mathlib.Core.Path.{_≡_, refl}
 use mathlib.Core.Bool.{Bool, true, false}
 use mathlib.Core.List.{List}
@@ -24,13 +23,13 @@ use Rattle.model.specs.Bytes.{bytesOf, cellsOf}
 use Rattle.model.specs.Call.{Outcome, refuse, blocksOf, poolLength, cleared, mountBy, mountOf, accept, batchMounted, batchAsked, batchOf, Prepared, prepareOf}
 
 -- The three ways in which a batch ends. Refused with 1 or 2: every buffer is as found. Refused with 3 to 8: pool and answers are as found,
--- and the first 1,024 × B bytes of the table are zero. Done: the batch's bytes are commands, the answer buffer has room, the pool mounts, and
--- the outcome is that of an accepted batch.
+-- and the first 1,024 × B bytes of the table are zero. Done: the pool has a length named in document 01, the table is long enough, the batch's
+-- bytes are commands, the answer buffer has room, the pool mounts, and the outcome is that of an accepted batch.
 pub data Ends (pool table batch buffer : List ℕ) : Outcome → Type 0 where
   asFound : (n : ℕ) → 1 ≤ n → n ≤ 2 → Ends pool table batch buffer (refuse n pool table buffer)
   tableCleared : (n : ℕ) → 3 ≤ n → n ≤ 8 → Ends pool table batch buffer (refuse n pool (cleared (blocksOf pool) table) buffer)
-  done : (t : Tariff) (cs : List Command) (s : State) → poolLength pool ≡ true → commandsOf batch ≡ some cs →
-      leb (roomForAll cs) (length buffer) ≡ true → mountOf pool ≡ opened t s →
+  done : (t : Tariff) (cs : List Command) (s : State) → poolLength pool ≡ true → leb (tableBytes (blocksOf pool)) (length table) ≡ true →
+      commandsOf batch ≡ some cs → leb (roomForAll cs) (length buffer) ≡ true → mountOf pool ≡ opened t s →
       Ends pool table batch buffer (accept (blocksOf pool) t cs s table buffer)
 
 -- Mount refuses with a number from 5 to 8.
@@ -64,57 +63,33 @@ mount-judged pool = go (cellsOf pool)
     go (some c) = cells-judged (blocksOf pool) c
 
 module _ (pool table batch buffer : List ℕ) where
-  mounted-ends : (cs : List Command) → poolLength pool ≡ true → commandsOf batch ≡ some cs → leb (roomForAll cs) (length buffer) ≡ true →
-      (m : Mounted) → mountOf pool ≡ m → Judged m → Ends pool table batch buffer (batchMounted m cs pool table buffer)
-  mounted-ends cs p q r m e (unmounted n l h) = tableCleared n (omega arith) h
-  mounted-ends cs p q r m e (mounted t s) = done t cs s p q r e
+  module _ (p : poolLength pool ≡ true) (u : leb (tableBytes (blocksOf pool)) (length table) ≡ true) where
+    mounted-ends : (cs : List Command) → commandsOf batch ≡ some cs → leb (roomForAll cs) (length buffer) ≡ true → (m : Mounted) → mountOf pool ≡ m →
+        Judged m → Ends pool table batch buffer (batchMounted m cs pool table buffer)
+    mounted-ends cs q r m e (unmounted n l h) = tableCleared n (omega arith) h
+    mounted-ends cs q r m e (mounted t s) = done t cs s p u q r e
 
-  asked-ends : poolLength pool ≡ true → (o : Option (List Command)) → commandsOf batch ≡ o → Ends pool table batch buffer (batchAsked o pool table buffer)
-  asked-ends p none q = tableCleared 3 (omega arith) (omega arith)
-  asked-ends p (some cs) q = go (leb (roomForAll cs) (length buffer)) refl
-    where
-      go : (b : Bool) → leb (roomForAll cs) (length buffer) ≡ b →
-          Ends pool table batch buffer
-          (choose b (batchMounted (mountOf pool) cs pool table buffer) (refuse 4 pool (cleared (blocksOf pool) table) buffer))
-      go true r = mounted-ends cs p q r (mountOf pool) refl (mount-judged pool)
-      go false r = tableCleared 4 (omega arith) (omega arith)
+    asked-ends : (o : Option (List Command)) → commandsOf batch ≡ o → Ends pool table batch buffer (batchAsked o pool table buffer)
+    asked-ends none q = tableCleared 3 (omega arith) (omega arith)
+    asked-ends (some cs) q = go (leb (roomForAll cs) (length buffer)) refl
+      where
+        go : (b : Bool) → leb (roomForAll cs) (length buffer) ≡ b →
+            Ends pool table batch buffer
+            (choose b (batchMounted (mountOf pool) cs pool table buffer) (refuse 4 pool (cleared (blocksOf pool) table) buffer))
+        go true r = mounted-ends cs q r (mountOf pool) refl (mount-judged pool)
+        go false r = tableCleared 4 (omega arith) (omega arith)
 
   -- THE BATCH: for every byte in every buffer and every length.
   pub batch-ends : Ends pool table batch buffer (batchOf pool table batch buffer)
   unfolding batchOf
-  batch-ends = go (poolLength pool) refl (leb (tableBytes (blocksOf pool)) (length table))
+  batch-ends = go (poolLength pool) refl (leb (tableBytes (blocksOf pool)) (length table)) refl
     where
-      go : (a : Bool) → poolLength pool ≡ a → (b : Bool) →
+      go : (a : Bool) → poolLength pool ≡ a → (b : Bool) → leb (tableBytes (blocksOf pool)) (length table) ≡ b →
           Ends pool table batch buffer
           (choose a (choose b (batchAsked (commandsOf batch) pool table buffer) (refuse 2 pool table buffer)) (refuse 1 pool table buffer))
-      go false p b = asFound 1 (omega arith) (omega arith)
-      go true p false = asFound 2 (omega arith) (omega arith)
-      go true p true = asked-ends p (commandsOf batch) refl
-
--- The same in the demand's own words: a number of document 01's, and where it is a refusal's, nothing is changed or returned.
-pub record DemandOne (before buffer : List ℕ) (o : Outcome) : Type 0 where
-  pub numbered : o .number ≤ 8
-  pub pool : 1 ≤ o .number → o .pool ≡ before
-  pub answers : 1 ≤ o .number → o .answers ≡ buffer
-  pub length : 1 ≤ o .number → o .length ≡ 0
-  pub charge : 1 ≤ o .number → o .charge ≡ 0
-
-ends-demand : {pool table batch buffer : List ℕ} {o : Outcome} → Ends pool table batch buffer o → DemandOne pool buffer o
-ends-demand (asFound n l h) =
-    record { numbered = omega arith; pool = λ r. refl; answers = λ r. refl; length = λ r. refl; charge = λ r. refl }
-ends-demand (tableCleared n l h) =
-    record { numbered = h; pool = λ r. refl; answers = λ r. refl; length = λ r. refl; charge = λ r. refl }
-ends-demand (done t cs s p q r e) =
-    record {
-      numbered = omega arith;
-      pool = λ r. absurd (omega arith);
-      answers = λ r. absurd (omega arith);
-      length = λ r. absurd (omega arith);
-      charge = λ r. absurd (omega arith);
-    }
-
-pub demand-one : (pool table batch buffer : List ℕ) → DemandOne pool buffer (batchOf pool table batch buffer)
-demand-one pool table batch buffer = ends-demand (batch-ends pool table batch buffer)
+      go false p b u = asFound 1 (omega arith) (omega arith)
+      go true p false u = asFound 2 (omega arith) (omega arith)
+      go true p true u = asked-ends p u (commandsOf batch) refl
 
 -- PREPARE: done, or refused with 1 or 10, and then the pool is as found.
 pub data Prepares (pool : List ℕ) (t : Tariff) : Prepared → Type 0 where

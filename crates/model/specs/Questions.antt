@@ -1,0 +1,63 @@
+-- "Questions before the work", side by side in document 01's order, each with its number and its answer. `batchOf` and `prepareOf` ask one
+-- after the other; that they end with the number of the first "no" is proved in `demands`. Assumes nothing.
+use mathlib.Core.Bool.{Bool, true, false, _&&_}
+use mathlib.Core.List.{List, [], _∷_}
+use mathlib.Core.Option.{Option, none, some}
+use Prim.Native.Nat.{ℕ}
+use lib.Dec.{leb}
+use lib.ListN.{length}
+use Rattle.laws.specs.Tests.{choose}
+use Rattle.layout.specs.Layout.{tableBytes}
+use Rattle.account.specs.declared.Tariff.{Tariff}
+use Rattle.account.specs.Range.{inRange}
+use Rattle.command.specs.Batch.{commandsOf, roomForAll}
+use Rattle.store.specs.Checkpoint.{CheckpointPage, checkpointOf, tariffIn, complete}
+use Rattle.store.specs.Reopen.{Cells, reopened, pagesPass}
+use Rattle.model.specs.Mount.{treeSound, numbersLeft}
+use Rattle.model.specs.Bytes.{cellsOf}
+use Rattle.model.specs.Call.{blocksOf, poolLength}
+
+-- A number, and whether the answer is yes.
+abbrev pub Question : Type 0
+Question = ℕ × Bool
+
+-- "In this order; a 'no' ends it with the number": the number of the first no, and 0 where there is none.
+abbrev pub firstNo : List Question → ℕ
+firstNo [] = 0
+firstNo (q ∷ qs) = choose (q .1) (firstNo qs) (q .0)
+
+-- A question of what may not be there: then the answer is no.
+abbrev pub asked : {A : Type 0} → (A → Bool) → Option A → Bool
+asked f none = false
+asked f (some x) = f x
+
+-- What the caller lends, 1 to 4: "is the pool a length named above?", "is the work table long enough?", "is the batch within its length and made
+-- wholly of valid commands?", "has the answer buffer" room?
+unfoldable pub ofBuffers : List ℕ → List ℕ → List ℕ → List ℕ → List Question
+ofBuffers pool table batch buffer =
+    (1, poolLength pool) ∷
+    (2, leb (tableBytes (blocksOf pool)) (length table)) ∷
+    (3, asked (λ cs. true) (commandsOf batch)) ∷
+    (4, asked (λ cs. leb (roomForAll cs) (length buffer)) (commandsOf batch)) ∷
+    []
+
+-- "A complete closing set": it has the tariff too.
+abbrev pub closes : List CheckpointPage → Bool
+closes xs = complete xs && asked (λ t. true) (tariffIn xs)
+
+-- What is in the pool, 5 to 8, of so many blocks and its pages, where each of these checks by itself: "do all pages check?", "a complete
+-- closing set?", "is the tree sound?", "is the greatest stamp at most 4,000,000,000?"
+abbrev pub ofPages : ℕ → Option Cells → List Question
+ofPages blocks pages =
+    (5, asked (pagesPass blocks) pages) ∷
+    (6, asked (λ c. closes (checkpointOf (reopened blocks c))) pages) ∷
+    (7, asked (λ c. asked (λ t. treeSound blocks t (reopened blocks c)) (tariffIn (checkpointOf (reopened blocks c)))) pages) ∷
+    (8, asked (λ c. numbersLeft (reopened blocks c)) pages) ∷
+    []
+
+unfoldable pub ofPool : List ℕ → List Question
+ofPool pool = ofPages (blocksOf pool) (cellsOf pool)
+
+-- "Prepare asks question 1, then: is each tariff number in range? (10)".
+unfoldable pub ofPrepare : List ℕ → Tariff → List Question
+ofPrepare pool t = (1, poolLength pool) ∷ (10, inRange t) ∷ []
