@@ -1,10 +1,11 @@
 -- The ways in which a call ends, whatever the bytes in its buffers: done, or refused with a number. Assumes nothing.
 use mathlib.Core.Path.{_≡_, refl}
-use mathlib.Core.Bool.{Bool, true, false}
+use mathlib.Core.Bool.{Bool, true, false, _&&_}
 use mathlib.Core.List.{List}
 use mathlib.Core.Option.{Option, none, some}
 use Prim.Native.Nat.{ℕ, _≤_}
 use native.Mathlib.Omega.{arith}
+use borrow.Author.Tests.{le-leb, lt-leb}
 use lib.Dec.{leb}
 use lib.ListN.{length}
 use Rattle.laws.specs.Tests.{choose}
@@ -91,6 +92,27 @@ module _ (pool table batch buffer : List ℕ) where
       go true p false u = asFound 2 (omega arith) (omega arith)
       go true p true u = asked-ends p u (commandsOf batch) refl
 
+-- The table after a call that ended with a number: "After refusals 1 and 2 the work table too; otherwise its first 1,024 × B bytes are zero".
+abbrev pub tableAfter : ℕ → ℕ → List ℕ → List ℕ
+tableAfter number blocks table = choose (leb 1 number && leb number 2) table (cleared blocks table)
+
+pub ends-table : {pool table batch buffer : List ℕ} {o : Outcome} → Ends pool table batch buffer o → o .table ≡ tableAfter (o .number) (blocksOf pool) table
+ends-table (asFound n l h) = rw (le-leb 1 n l, le-leb n 2 h) refl
+ends-table (tableCleared n l h) = rw (le-leb 1 n (omega arith), lt-leb n 2 (omega arith)) refl
+ends-table (done t cs s p u q r m) = refl
+
+-- A refusal changes and returns nothing.
+pub record Found (before buffer : List ℕ) (o : Outcome) : Type 0 where
+  pub pool : o .pool ≡ before
+  pub answers : o .answers ≡ buffer
+  pub length : o .length ≡ 0
+  pub charge : o .charge ≡ 0
+
+pub refused-found : {pool table batch buffer : List ℕ} {o : Outcome} → Ends pool table batch buffer o → 1 ≤ o .number → Found pool buffer o
+refused-found (asFound n l h) r = record { pool = refl; answers = refl; length = refl; charge = refl }
+refused-found (tableCleared n l h) r = record { pool = refl; answers = refl; length = refl; charge = refl }
+refused-found (done t cs s p u q x m) r = absurd (omega arith)
+
 -- PREPARE: done, or refused with 1 or 10, and then the pool is as found.
 pub data Prepares (pool : List ℕ) (t : Tariff) : Prepared → Type 0 where
   wrongLength : Prepares pool t (record { number = 1; pool = pool })
@@ -109,3 +131,8 @@ prepare-ends pool t = go (poolLength pool) refl (inRange t) refl
     go false p b q = wrongLength
     go true p false q = wrongTariff
     go true p true q = fresh q p
+
+pub prepare-found : {pool : List ℕ} {t : Tariff} {p : Prepared} → Prepares pool t p → 1 ≤ p .number → p .pool ≡ pool
+prepare-found wrongLength r = refl
+prepare-found wrongTariff r = refl
+prepare-found (fresh q l) r = absurd (omega arith)

@@ -39,7 +39,8 @@ use Rattle.model.specs.Mount.{opened, stateOf, threePages, scoresBelow, treeSou
 use Rattle.model.specs.Bytes.{bytesOf, cellsOf}
 use Rattle.model.specs.Call.{blocksOf, poolLength, mountBy, mountOf}
 use Rattle.model.specs.Calls.{bookBy, bookIn}
-use Rattle.demands.specs.Mount.{Sealed, sealed-mounts, mounts-sealed, mounts-opened, opened-mounts, Ready, sealed-ready, three-each, ranged, rest-tests, range-tests, kept}
+use Rattle.demands.specs.Mount.{Sealed, sealed-mounts, mounts-sealed, mounts-opened, opened-mounts, Ready, sealed-ready}
+use Rattle.demands.specs.Mount.{three-each, ranged, rest-tests, range-tests, kept}
 use Rattle.demands.specs.Mount as Mount
 use Rattle.demands.specs.Close.{three-below}
 use Rattle.demands.specs.PoolBytes.{CellFits, cellsOf-bytesOf, bytes-bytesOf, IsPool, cellsOf-is}
@@ -132,6 +133,10 @@ module _ {pool : List ℕ} {t : Tariff} {ps : List Pair} (o : Obeys pool t ps) w
   unfolding bookIn
   obeys-book b e = some-same (sym (ap (bookBy (blocksOf pool)) reads ∙ ap (λ (z : Store). some (bookOf (stateOf z))) again) ∙ e)
 
+  -- The state that its bytes are read back as.
+  abbrev reopening : State
+  reopening = stateOf (reopened (blocksOf pool) (cells pagesInBlock (o .blocks)))
+
   -- IT STANDS BETWEEN CALLS.
   pub obeys-stands : (b : Book) → bookIn pool ≡ some b → OpenPool t pool b ps
   obeys-stands b e =
@@ -142,8 +147,9 @@ module _ {pool : List ℕ} {t : Tariff} {ps : List Pair} (o : Obeys pool t ps) w
         reads = reads;
         sealed = obeys-sealed;
         ready =
-            subst (λ (z : Book). Ready (blocksOf pool) t (stateOf (reopened (blocksOf pool) (cells pagesInBlock (o .blocks)))) z ps) (ap (λ (z : Store). bookOf (stateOf z)) again ∙ obeys-book b e)
-            (subst (Ready (blocksOf pool) t (stateOf (reopened (blocksOf pool) (cells pagesInBlock (o .blocks)))) _) (ap (λ (z : Store). mapOf (bookOf (stateOf z) .count) (bookOf (stateOf z) .table)) again ∙ obeys-map)
+            subst (λ (z : Book). Ready (blocksOf pool) t reopening z ps) (ap (λ (z : Store). bookOf (stateOf z)) again ∙ obeys-book b e)
+            (subst (Ready (blocksOf pool) t reopening (bookOf reopening))
+            (ap (λ (z : Store). mapOf (bookOf (stateOf z) .count) (bookOf (stateOf z) .table)) again ∙ obeys-map)
             (sealed-ready (sized pool (o .size) .few) obeys-sealed));
       }
 

@@ -1,14 +1,11 @@
 -- THE BOOK. The customer's three demands, each as a theorem about `batchOf` and `prepareOf`, to which the two functions that C calls are proved
 -- equal: whatever a call is lent, and whatever list of calls is made. The links behind them are the other files of this crate. Assumes nothing.
-use mathlib.Core.Path.{_≡_, refl, sym, ap, _∙_, subst}
-use mathlib.Core.Bool.{Bool, true, false, _&&_}
-use mathlib.Core.List.{List, [], _∷_, _++_, map}
+use mathlib.Core.Path.{_≡_, sym, ap, _∙_}
+use mathlib.Core.Bool.{true}
+use mathlib.Core.List.{List, [], _++_, map}
 use mathlib.Core.Option.{some}
 use Prim.Native.Nat.{ℕ, _+_, _*_, _≤_}
 use native.Mathlib.Omega.{arith}
-use borrow.Author.Tests.{le-leb, lt-leb}
-use lib.Dec.{leb}
-use Rattle.laws.specs.Tests.{choose}
 use Rattle.laws.specs.Every.{Every}
 use Rattle.laws.specs.BigEndian.{Bytes}
 use Rattle.layout.specs.Layout.{lastSequence}
@@ -25,23 +22,19 @@ use Rattle.book.specs.Schedule.{paid}
 use Rattle.model.specs.State.{State, bookOf}
 use Rattle.model.specs.Mount.{opened}
 use Rattle.model.specs.Prepare.{firstBook}
-use Rattle.model.specs.Call.{Outcome, Prepared, blocksOf, poolLength, cleared, mountOf, batchOf, prepareOf}
+use Rattle.model.specs.Call.{Outcome, Prepared, blocksOf, poolLength, mountOf, batchOf, prepareOf}
 use Rattle.model.specs.Questions.{firstNo, ofBuffers, ofPool, ofPrepare}
 use Rattle.model.specs.Calls.{Lent, outcome, outcomes, answered, laid, bookIn, allStates, allMoments, fed}
 use Rattle.model.specs.Calls.{booksAfter, lastBook, allBooks, allCharges, allRequests, mapReplies, mapsAfter, sum}
-use Rattle.demands.specs.Ends.{Ends, asFound, tableCleared, done, batch-ends, Prepares, wrongLength, wrongTariff, fresh, prepare-ends}
+use Rattle.demands.specs.Ends.{Ends, asFound, tableCleared, done, batch-ends, tableAfter, refused-found, ends-table, prepare-ends, prepare-found}
 use Rattle.demands.specs.FirstNo.{numberOf, mount-first, batch-first, buffers-right, prepare-first}
 use Rattle.demands.specs.OneCall.{Thin, OpenPool, bookIn-is}
-use Rattle.demands.specs.Obeys.{Obeys, obeys-opens, obeys-unique, obeys-stands, stands-obeys, opens-obeys}
-use Rattle.demands.specs.AllCalls.{OfBytes, ThinPool, Spelled, charge, AllCalled, all-called}
+use Rattle.demands.specs.Obeys.{Obeys, obeys-opens, obeys-stands, stands-obeys, opens-obeys}
+use Rattle.demands.specs.AllCalls.{OfBytes, ThinPool, Spelled, charge, all-called}
 use Rattle.demands.specs.AgainstSchedules.{bound}
 use Rattle.demands.specs.PreparedPool.{prepare-stands}
 
 -- DEMAND 1. "Any caller, any bytes in any buffer: the work is done, or one numbered refusal, and a refusal leaves pool and answers as found."
-
--- "After refusals 1 and 2 the work table too; otherwise its first 1,024 × B bytes are zero .. and bytes beyond are untouched."
-abbrev pub tableAfter : ℕ → ℕ → List ℕ → List ℕ
-tableAfter number blocks table = choose (leb 1 number && leb number 2) table (cleared blocks table)
 
 pub record DemandOne (pool table batch buffer : List ℕ) (o : Outcome) : Type 0 where
   -- the number of the first question that is answered with no: so those before it passed; and 0 where there is none
@@ -51,59 +44,28 @@ pub record DemandOne (pool table batch buffer : List ℕ) (o : Outcome) : Type 0
   -- "A refused call returns its number, and 0 for both."
   pub noLength : 1 ≤ o .number → o .length ≡ 0
   pub noCharge : 1 ≤ o .number → o .charge ≡ 0
+  -- "After refusals 1 and 2 the work table too; otherwise its first 1,024 × B bytes are zero .. and bytes beyond are untouched."
   pub tableLeft : o .table ≡ tableAfter (o .number) (blocksOf pool) table
 
 pub record DemandOnePrepare (pool : List ℕ) (t : Tariff) (p : Prepared) : Type 0 where
   pub number : p .number ≡ firstNo (ofPrepare pool t)
   pub samePool : 1 ≤ p .number → p .pool ≡ pool
 
-as-found : (n blocks : ℕ) (table : List ℕ) → 1 ≤ n → n ≤ 2 → table ≡ tableAfter n blocks table
-as-found n blocks table l h = rw (le-leb 1 n l, le-leb n 2 h) refl
-
-table-cleared : (n blocks : ℕ) (table : List ℕ) → 3 ≤ n → cleared blocks table ≡ tableAfter n blocks table
-table-cleared n blocks table l = rw (le-leb 1 n (omega arith), lt-leb n 2 (omega arith)) refl
-
 pub demand-one : (pool table batch buffer : List ℕ) → DemandOne pool table batch buffer (batchOf pool table batch buffer)
 demand-one pool table batch buffer =
-    go (batchOf pool table batch buffer) (batch-first pool table batch buffer) (batch-ends pool table batch buffer)
-  where
-    go : (o : Outcome) → o .number ≡ firstNo (ofBuffers pool table batch buffer ++ ofPool pool) → Ends pool table batch buffer o →
-        DemandOne pool table batch buffer o
-    go o e (asFound n l h) =
-        record {
-          number = e;
-          samePool = λ r. refl;
-          sameAnswers = λ r. refl;
-          noLength = λ r. refl;
-          noCharge = λ r. refl;
-          tableLeft = as-found n (blocksOf pool) table l h;
-        }
-    go o e (tableCleared n l h) =
-        record {
-          number = e;
-          samePool = λ r. refl;
-          sameAnswers = λ r. refl;
-          noLength = λ r. refl;
-          noCharge = λ r. refl;
-          tableLeft = table-cleared n (blocksOf pool) table l;
-        }
-    go o e (done t cs s p u q r m) =
-        record {
-          number = e;
-          samePool = λ r. absurd (omega arith);
-          sameAnswers = λ r. absurd (omega arith);
-          noLength = λ r. absurd (omega arith);
-          noCharge = λ r. absurd (omega arith);
-          tableLeft = refl;
-        }
+    let e = batch-ends pool table batch buffer in
+    record {
+      number = batch-first pool table batch buffer;
+      samePool = λ r. refused-found e r .pool;
+      sameAnswers = λ r. refused-found e r .answers;
+      noLength = λ r. refused-found e r .length;
+      noCharge = λ r. refused-found e r .charge;
+      tableLeft = ends-table e;
+    }
 
 pub demand-one-prepare : (pool : List ℕ) (t : Tariff) → DemandOnePrepare pool t (prepareOf pool t)
-demand-one-prepare pool t = go (prepareOf pool t) (prepare-first pool t) (prepare-ends pool t)
-  where
-    go : (p : Prepared) → p .number ≡ firstNo (ofPrepare pool t) → Prepares pool t p → DemandOnePrepare pool t p
-    go p e wrongLength = record { number = e; samePool = λ r. refl }
-    go p e wrongTariff = record { number = e; samePool = λ r. refl }
-    go p e (fresh q l) = record { number = e; samePool = λ r. absurd (omega arith) }
+demand-one-prepare pool t =
+    record { number = prepare-first pool t; samePool = prepare-found (prepare-ends pool t) }
 
 -- THE POOLS that demands 2 and 3 begin with: a pool obeys the layout, and spells a book and a map.
 pub record Stands (t : Tariff) (pool : List ℕ) (b : Book) (ps : List Pair) : Type 0 where
@@ -132,7 +94,8 @@ pub record DemandTwo (t : Tariff) (pool : List ℕ) (b : Book) (ps : List Pair) 
   -- the pool after every call, past 4,000,000,000 too
   pub left : Spelled t (outcomes pool ls) (mapsAfter (blocksOf pool) t (fed pool ls) b ps)
 
-pub demand-two : {t : Tariff} {pool : List ℕ} {b : Book} {ps : List Pair} → Stands t pool b ps → (ls : List Lent) → OfBytes ls → DemandTwo t pool b ps ls
+pub demand-two : {t : Tariff} {pool : List ℕ} {b : Book} {ps : List Pair} → Stands t pool b ps → (ls : List Lent) → OfBytes ls →
+    DemandTwo t pool b ps ls
 demand-two {t} {pool} {b} {ps} s ls bytes =
     let d = all-called ls pool b ps bytes (stands-open s) in
     record { answers = d .answers; left = d .left }
@@ -162,10 +125,6 @@ module _ (pool : List ℕ) (bytes : Bytes pool) (l : Lent) where
           let x = opens-obeys pool bytes t s p m in
           record { tariff = t; pairs = mapOf (bookOf s .count) (bookOf s .table); obeys = x .obeys; left = x .left }
 
--- The map that a pool spells is unique.
-pub one-map : {pool : List ℕ} {t t′ : Tariff} {ps qs : List Pair} → Obeys pool t ps → Obeys pool t′ qs → ps ≡ qs
-one-map o p = obeys-unique o p
-
 -- DEMAND 3, "a single claim about a whole list: batches of any bytes, accepted or refused, with any work table and answer buffer, each on the
 -- pool as the last call left it."
 pub record DemandThree (t : Tariff) (pool : List ℕ) (b : Book) (ls : List Lent) : Type 0 where
@@ -180,7 +139,8 @@ pub record DemandThree (t : Tariff) (pool : List ℕ) (b : Book) (ls : List Lent
   -- .. and after every call."
   pub thinCalls : Every (λ (o : Outcome). ThinPool (o .pool)) (outcomes pool ls)
 
-pub demand-three : {t : Tariff} {pool : List ℕ} {b : Book} {ps : List Pair} → Stands t pool b ps → (ls : List Lent) → OfBytes ls → DemandThree t pool b ls
+pub demand-three : {t : Tariff} {pool : List ℕ} {b : Book} {ps : List Pair} → Stands t pool b ps → (ls : List Lent) → OfBytes ls →
+    DemandThree t pool b ls
 demand-three {t} {pool} {b} {ps} s ls bytes =
     let d = all-called ls pool b ps bytes (stands-open s) in
     record { charges = d .charges; requests = d .requests; calls = d .calls; thin = d .thin; thinCalls = d .thinCalls }
