@@ -81,7 +81,9 @@ module _ (pool table batch buffer : List ℕ) where
   batch-first = go (poolLength pool) (leb (tableBytes (blocksOf pool)) (length table))
     where
       go : (a b : Bool) →
-          choose {A = Outcome} a (choose {A = Outcome} b (batchAsked (commandsOf batch) pool table buffer) (refuse 2 pool table buffer)) (refuse 1 pool table buffer) .number ≡
+          choose {A = Outcome} a
+          (choose {A = Outcome} b (batchAsked (commandsOf batch) pool table buffer) (refuse 2 pool table buffer))
+          (refuse 1 pool table buffer) .number ≡
           firstNo
           ((1, a) ∷
           (2, b) ∷

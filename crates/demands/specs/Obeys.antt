@@ -212,7 +212,9 @@ module _ (pool : List ℕ) (bytes : Bytes pool) (t : Tariff) (size : poolLength 
             (and-right (inRange t) (scoresBelow (limit t) (scoresIn (checkpointOf (storeOf bs)))) (range-tests four m));
         spells = Mount.spelled four m;
         kept = kept four m;
-        three = λ n l. three-each _ (storeOf bs) (and-left (threePages (countIn (checkpointOf (storeOf bs))) (storeOf bs)) _ (rest-tests four m)) n (count-in n l);
+        three =
+            λ n l.
+            three-each _ (storeOf bs) (and-left (threePages (countIn (checkpointOf (storeOf bs))) (storeOf bs)) _ (rest-tests four m)) n (count-in n l);
       }
     where
       count-in : (n : ℕ) → n < bookOf (stateOf (storeOf bs)) .count → n < countIn (checkpointOf (storeOf bs))

@@ -20,6 +20,7 @@ abbrev pub modeByte : Mode → ℕ
 modeByte Log = 0
 modeByte Disk = 1
 
+-- Total: every byte but 0 is read as disk. Rows are written by `encode` alone, so there is none but 0 and 1.
 unfoldable pub modeFrom : ℕ → Mode
 modeFrom b = choose (eqb b 0) Log Disk
 

@@ -13,7 +13,7 @@ use mount_checkpoint::find::find_checkpoint;
 use mount_restore::questions::refusal;
 use mount_survey::survey;
 
-// Mounts a pool, with a table lent for the rows; of a pool that is refused, what the table holds means nothing.
+// Mounts a pool, with a table lent for the rows. Of a pool that is refused the number is said; table, tariff and state are left open.
 pub fn mount(pool: &[u8], table: &mut [u8], blocks: usize) -> Mount
     requires { ⌜ Sized (length (now pool)) (length (now table)) blocks ⌝ }
     ensures { λ r. ⌜ MountedAs (now (pool .entry)) (length (now (table .exit))) blocks

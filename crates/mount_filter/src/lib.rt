@@ -108,7 +108,7 @@ fn set_marks(table: &mut [u8], n: usize, blocks: usize)
     }
 }
 
-// Marks a row's numbers, and no other.
+// Marks a row's numbers, and clears all other marks. The marks are left open but for this: one that rules a number out is right.
 pub fn mark(table: &mut [u8], n: usize, blocks: usize)
     requires { ⌜ Room (now table) n blocks ⌝ }
     ensures { λ _. ⌜ Marking (now (table .entry)) (now (table .exit)) n blocks ⌝ }

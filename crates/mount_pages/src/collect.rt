@@ -59,7 +59,7 @@ fn see(pool: &[u8], page: usize) -> Seen
     seen_in(view_page(page_part(pool, page)))
 }
 
-// Judges so many pages, and lays the sequence numbers of the written ones in a row.
+// Judges so many pages, and lays the sequence numbers of the written ones in a row. Where a page is bad, the row is left open; so is the table behind it.
 pub fn collect(pool: &[u8], table: &mut [u8], pages: usize) -> Collected
     requires { ⌜ (pageBytes * pages ≤ length (now pool)) × (4 * pages ≤ length (now table)) ⌝ }
     ensures { λ r. ⌜ Collecting (pagesOf (now (pool .entry))) pages (now (table .exit)) r ⌝ }

@@ -70,7 +70,7 @@ fn tree_passes(pool: &[u8], table: &mut [u8], state: State, tariff: Tariff, sinc
     rows_pass(pool, table, state, tariff)
 }
 
-// Questions 7 and 8 of a state to begin with: the number of the one that fails, or 0.
+// Questions 7 and 8 of a state to begin with: the number of the one that fails, or 0. After a refusal the table is left open.
 pub fn refusal(pool: &[u8], table: &mut [u8], state: State, tariff: Tariff, since: u32) -> u32
     requires { ⌜ (fewestBlocks ≤ state .blocks) × (state .blocks ≤ mostBlocks)
         × (length (now pool) ≡ blockBytes * state .blocks) × (length (now table) ≡ tableBytes (state .blocks))

@@ -34,7 +34,7 @@ fn numbers_pass(pool: &[u8], table: &mut [u8], n: usize, blocks: usize, newest: 
     versions_are_new(pool, table, n, blocks, PAGES_IN_BLOCK * blocks)
 }
 
-// Surveys a pool, with a table lent for the work; what the table holds afterwards means nothing.
+// Surveys a pool, with a table lent for the work: what the table holds afterwards is left open, and means nothing.
 pub fn survey(pool: &[u8], scratch: &mut [u8], blocks: usize) -> Survey
     requires { ⌜ (length (now pool) ≡ blockBytes * blocks) × (fewestBlocks ≤ blocks) × (blocks ≤ mostBlocks)
         × (length (now scratch) ≡ tableBytes blocks) ⌝ }

@@ -46,7 +46,7 @@ pub fn gather<'a>(
         let leaf_keys = leaf.keys;
         let leaf_values = leaf.pointers;
         let mut i: usize = 0;
-        while i < leaf.count {
+        'keys: while i < leaf.count {
             let key = leaf_keys[i];
             if high < key {
                 break 'leaves;

@@ -13,12 +13,12 @@ use Rattle.run_scan.specs.Gathering.{gathered-high, gathered-last, gathe
 use Rattle.run_scan.proofs.gather.gather.Statement.{statement}
 use Rattle.run_scan.proofs.gather.gather.Tie as tie
 
-abbrev Inv-loop : tie.InvT-loop
-Inv-loop pool table state first low high most leaves keys₀ values₀ count₀ visited leaf leaf-keys leaf-values i₀ keys values
+abbrev Inv-keys : tie.InvT-keys
+Inv-keys pool table state first low high most leaves keys₀ values₀ count₀ visited leaf leaf-keys leaf-values i₀ keys values
     count i = Taking low high most leaf keys₀ values₀ count₀ keys values count i
 
-abbrev μ-loop : tie.MeasureT-loop
-μ-loop pool table state first low high most leaves keys₀ values₀ count₀ visited leaf leaf-keys leaf-values i₀ keys values count i = leaf .count - i
+abbrev μ-keys : tie.MeasureT-keys
+μ-keys pool table state first low high most leaves keys₀ values₀ count₀ visited leaf leaf-keys leaf-values i₀ keys values count i = leaf .count - i
 
 abbrev Inv-leaves : tie.InvT-leaves
 Inv-leaves pool table state first low high most leaves₀ keys₀ values₀ count₀ visited₀ leaf₀ leaves keys values count
@@ -27,70 +27,70 @@ Inv-leaves pool table state first low high most leaves₀ keys₀ values₀ coun
 abbrev μ-leaves : tie.MeasureT-leaves
 μ-leaves pool table state first low high most leaves₀ keys₀ values₀ count₀ visited₀ leaf₀ leaves keys values count visited leaf = state .nodes - visited
 
-node-at-requires : tie.Need-node-at-requires Inv-loop μ-loop Inv-leaves μ-leaves
+node-at-requires : tie.Need-node-at-requires Inv-keys μ-keys Inv-leaves μ-leaves
 node-at-requires c κs = c .before .before .pre .0
 
-leaves-holds : tie.Need-leaves-holds Inv-loop μ-loop Inv-leaves μ-leaves
+leaves-holds : tie.Need-leaves-holds Inv-keys μ-keys Inv-leaves μ-leaves
 leaves-holds c = let entry = c .before .before .before in
     along-start _ _ _ _ _ _ _ _ _ _ (c .node-at .ensures) (entry .pre .4) (search needs) (search needs) (entry .pre .2)
 
-loop-holds : tie.Need-loop-holds Inv-loop μ-loop Inv-leaves μ-leaves
-loop-holds c = let a = c .before .before .leaves .inv in
+keys-holds : tie.Need-keys-holds Inv-keys μ-keys Inv-leaves μ-leaves
+keys-holds c = let a = c .before .before .leaves .inv in
     taking-start _ _ _ _ _ _ _ (a .keyRoom) (a .valueRoom) (a .wanted)
 
-mul-key : tie.Need-mul-key Inv-loop μ-loop Inv-leaves μ-leaves
+mul-key : tie.Need-mul-key Inv-keys μ-keys Inv-leaves μ-leaves
 mul-key c = let s = c .before .before .before .before .before .leaves .inv .here .held .sized in omega (arith, s .size, c .if1 .taken)
 
-array-read-key : tie.Need-array-read-key Inv-loop μ-loop Inv-leaves μ-leaves
+array-read-key : tie.Need-array-read-key Inv-keys μ-keys Inv-leaves μ-leaves
 array-read-key c = let s = c .before .before .before .before .before .leaves .inv .here .held .sized in omega (arith, s .size, s .keyRoom, c .if1 .taken)
 
-mul-keys : tie.Need-mul-keys Inv-loop μ-loop Inv-leaves μ-leaves
+mul-keys : tie.Need-mul-keys Inv-keys μ-keys Inv-leaves μ-leaves
 mul-keys c =
     let c4 = c .before .before .before .before in
     let c11 = c4 .before .before .before .before .before .before .before in
-    let t = c4 .loop .inv in omega (arith, t .wanted, c11 .pre .3)
+    let t = c4 .keys .inv in omega (arith, t .wanted, c11 .pre .3)
 
-array-write-keys : tie.Need-array-write-keys Inv-loop μ-loop Inv-leaves μ-leaves
+array-write-keys : tie.Need-array-write-keys Inv-keys μ-keys Inv-leaves μ-leaves
 array-write-keys c =
     let c4 = c .before .before .before .before in
     let c11 = c4 .before .before .before .before .before .before .before in
-    let t = c4 .loop .inv in omega (arith, t .wanted, t .keyRoom, c11 .pre .3)
+    let t = c4 .keys .inv in omega (arith, t .wanted, t .keyRoom, c11 .pre .3)
 
-mul-values : tie.Need-mul-values Inv-loop μ-loop Inv-leaves μ-leaves
+mul-values : tie.Need-mul-values Inv-keys μ-keys Inv-leaves μ-leaves
 mul-values c = let s = c .before .before .before .before .before .before .before .leaves .inv .here .held .sized in
     omega (arith, s .size, c .before .before .if1 .taken)
 
-array-read-values : tie.Need-array-read-values Inv-loop μ-loop Inv-leaves μ-leaves
+array-read-values : tie.Need-array-read-values Inv-keys μ-keys Inv-leaves μ-leaves
 array-read-values c = let s = c .before .before .before .before .before .before .before .leaves .inv .here .held .sized in
     omega (arith, s .size, s .pointerRoom, c .before .before .if1 .taken)
 
-mul-values-2 : tie.Need-mul-values-2 Inv-loop μ-loop Inv-leaves μ-leaves
+mul-values-2 : tie.Need-mul-values-2 Inv-keys μ-keys Inv-leaves μ-leaves
 mul-values-2 c =
     let c4 = c .before .before .before .before in
     let c11 = c4 .before .before .before .before .before .before .before in
-    let t = c4 .loop .inv in omega (arith, t .wanted, c11 .pre .3)
+    let t = c4 .keys .inv in omega (arith, t .wanted, c11 .pre .3)
 
-array-write-values : tie.Need-array-write-values Inv-loop μ-loop Inv-leaves μ-leaves
+array-write-values : tie.Need-array-write-values Inv-keys μ-keys Inv-leaves μ-leaves
 array-write-values c =
     let c4 = c .before .before .before .before in
     let c11 = c4 .before .before .before .before .before .before .before in
-    let t = c4 .loop .inv in omega (arith, t .wanted, t .valueRoom, c11 .pre .3)
+    let t = c4 .keys .inv in omega (arith, t .wanted, t .valueRoom, c11 .pre .3)
 
-add-count : tie.Need-add-count Inv-loop μ-loop Inv-leaves μ-leaves
+add-count : tie.Need-add-count Inv-keys μ-keys Inv-leaves μ-leaves
 add-count c =
     let c4 = c .before .before .before .before in
     let c11 = c4 .before .before .before .before .before .before .before in
-    let t = c4 .loop .inv in omega (arith, t .wanted, c11 .pre .3)
+    let t = c4 .keys .inv in omega (arith, t .wanted, c11 .pre .3)
 
-add-i : tie.Need-add-i Inv-loop μ-loop Inv-leaves μ-leaves
+add-i : tie.Need-add-i Inv-keys μ-keys Inv-leaves μ-leaves
 add-i c = let s = c .before .before .before .before .before .before .before .leaves .inv .here .held .sized in omega
     (arith, s .size, c .before .before .if1 .taken)
 
-loop-less : tie.Need-loop-less Inv-loop μ-loop Inv-leaves μ-leaves
-loop-less c = omega (arith, c .before .before .if1 .taken)
+keys-less : tie.Need-keys-less Inv-keys μ-keys Inv-leaves μ-leaves
+keys-less c = omega (arith, c .before .before .if1 .taken)
 
-loop-again : tie.Need-loop-again Inv-loop μ-loop Inv-leaves μ-leaves
-loop-again c =
+keys-again : tie.Need-keys-again Inv-keys μ-keys Inv-leaves μ-leaves
+keys-again c =
     let c1 = c .before in
     let c2 = c1 .before in
     let c4 = c2 .before .before in
@@ -98,40 +98,40 @@ loop-again c =
     let c11 = c7 .before .before .before .before in
     let p = c11 .pre in
     let s = c7 .leaves .inv .here .held .sized in
-    let t = c4 .loop .inv in
+    let t = c4 .keys .inv in
     ⊎-elim
     (λ w. rw (w .2, w .3, w .4) (taking-more (p .3) s t (c2 .if1 .taken) (w .0 .taken) (c1 .if2 .left) (w .1 .left)))
     (λ w. rw (w .1, w .2, w .3) (taking-skip (p .3) s t (c2 .if1 .taken) (p .1) (w .0 .left)))
     (c .if3 .came)
 
-mul-leaves : tie.Need-mul-leaves Inv-loop μ-loop Inv-leaves μ-leaves
+mul-leaves : tie.Need-mul-leaves Inv-keys μ-keys Inv-leaves μ-leaves
 mul-leaves c =
     let c8 = c .before .before .before .before .before .before .before .before in
     let c12 = c8 .before .before .before .before in
     let a = c8 .leaves .inv in omega (arith, a .links, c12 .pre .0 .nodes)
 
-element-write-leaves : tie.Need-element-write-leaves Inv-loop μ-loop Inv-leaves μ-leaves
+element-write-leaves : tie.Need-element-write-leaves Inv-keys μ-keys Inv-leaves μ-leaves
 element-write-leaves c =
     let c8 = c .before .before .before .before .before .before .before .before in
     let c12 = c8 .before .before .before .before in
     let a = c8 .leaves .inv in omega (arith, a .links, a .room, c .if6 .left, c12 .pre .0 .nodes)
 
-add-visited : tie.Need-add-visited Inv-loop μ-loop Inv-leaves μ-leaves
+add-visited : tie.Need-add-visited Inv-keys μ-keys Inv-leaves μ-leaves
 add-visited c =
     let c8 = c .before .before .before .before .before .before .before .before in
     let c12 = c8 .before .before .before .before in
     let a = c8 .leaves .inv in omega (arith, a .links, c12 .pre .0 .nodes)
 
-cast-node-at : tie.Need-cast-node-at Inv-loop μ-loop Inv-leaves μ-leaves
+cast-node-at : tie.Need-cast-node-at Inv-keys μ-keys Inv-leaves μ-leaves
 cast-node-at c = search needs
 
-node-at-requires-2 : tie.Need-node-at-requires-2 Inv-loop μ-loop Inv-leaves μ-leaves
+node-at-requires-2 : tie.Need-node-at-requires-2 Inv-keys μ-keys Inv-leaves μ-leaves
 node-at-requires-2 c κs = c .before .before .before .before .before .before .before .before .before .before .before .before .pre .0
 
-leaves-less : tie.Need-leaves-less Inv-loop μ-loop Inv-leaves μ-leaves
+leaves-less : tie.Need-leaves-less Inv-keys μ-keys Inv-leaves μ-leaves
 leaves-less c = let a = c .before .before .before .before .before .before .before .before .before .leaves .inv in omega (arith, a .links, c .before .if6 .left)
 
-leaves-again : tie.Need-leaves-again Inv-loop μ-loop Inv-leaves μ-leaves
+leaves-again : tie.Need-leaves-again Inv-keys μ-keys Inv-leaves μ-leaves
 leaves-again c =
     let c1 = c .before in
     let c3 = c1 .before .before in
@@ -140,19 +140,19 @@ leaves-again c =
     let c9 = c6 .before .before .before in
     let c13 = c9 .before .before .before .before in
     let p = c13 .pre in
-    gathering-next (p .1) (p .3) (c9 .leaves .inv) (c6 .loop .inv) (c4 .if1 .left) (p .0 .nodes) (c3 .if5 .left)
+    gathering-next (p .1) (p .3) (c9 .leaves .inv) (c6 .keys .inv) (c4 .if1 .left) (p .0 .nodes) (c3 .if5 .left)
     (c1 .if6 .left) (c .node-at2 .result) (c .node-at2 .ensures)
 
-returns : tie.Need-returns Inv-loop μ-loop Inv-leaves μ-leaves
+returns : tie.Need-returns Inv-keys μ-keys Inv-leaves μ-leaves
 returns c =
     let c1 = c .before in
     let c3 = c1 .before .before in
     let c6 = c3 .before .before .before in
     let c10 = c6 .before .before .before .before in
     let p = c10 .pre in
-    gathered-high (p .1) (p .3) (c6 .leaves .inv) (c3 .loop .inv) (c1 .if1 .taken) (c .if2 .taken)
+    gathered-high (p .1) (p .3) (c6 .leaves .inv) (c3 .keys .inv) (c1 .if1 .taken) (c .if2 .taken)
 
-returns-2 : tie.Need-returns-2 Inv-loop μ-loop Inv-leaves μ-leaves
+returns-2 : tie.Need-returns-2 Inv-keys μ-keys Inv-leaves μ-leaves
 returns-2 c =
     let c1 = c .before in
     let c2 = c1 .before in
@@ -161,37 +161,37 @@ returns-2 c =
     let c8 = c5 .before .before .before in
     let c12 = c8 .before .before .before .before in
     let p = c12 .pre in
-    gathered-last (p .1) (p .3) (c8 .leaves .inv) (c5 .loop .inv) (c3 .if1 .taken) (c1 .if3 .taken) (c2 .if2 .left) (c .if4 .taken)
+    gathered-last (p .1) (p .3) (c8 .leaves .inv) (c5 .keys .inv) (c3 .if1 .taken) (c1 .if3 .taken) (c2 .if2 .left) (c .if4 .taken)
 
-returns-3 : tie.Need-returns-3 Inv-loop μ-loop Inv-leaves μ-leaves
+returns-3 : tie.Need-returns-3 Inv-keys μ-keys Inv-leaves μ-leaves
 returns-3 c =
     let c1 = c .before in
     let c3 = c1 .before .before in
     let c6 = c3 .before .before .before in
     let c10 = c6 .before .before .before .before in
     let p = c10 .pre in
-    gathered-end (p .1) (p .3) (c6 .leaves .inv) (c3 .loop .inv) (c1 .if1 .left) (c .if5 .taken)
+    gathered-end (p .1) (p .3) (c6 .leaves .inv) (c3 .keys .inv) (c1 .if1 .left) (c .if5 .taken)
 
-returns-4 : tie.Need-returns-4 Inv-loop μ-loop Inv-leaves μ-leaves
+returns-4 : tie.Need-returns-4 Inv-keys μ-keys Inv-leaves μ-leaves
 returns-4 c =
     let c3 = c .before .before .before in
     let c5 = c3 .before .before in
     let c8 = c5 .before .before .before in
     let c12 = c8 .before .before .before .before in
     let p = c12 .pre in
-    gathered-out (p .1) (p .3) (c8 .leaves .inv) (c5 .loop .inv) (c3 .if1 .left) (c .if6 .taken)
+    gathered-out (p .1) (p .3) (c8 .leaves .inv) (c5 .keys .inv) (c3 .if1 .left) (c .if6 .taken)
 
 pub gather-spec : {M : Type 1} → statement M
 gather-spec =
     tie.close
     (tie.spec
-    Inv-loop
-    μ-loop
+    Inv-keys
+    μ-keys
     Inv-leaves
     μ-leaves
     node-at-requires
     leaves-holds
-    loop-holds
+    keys-holds
     mul-key
     array-read-key
     mul-keys
@@ -202,8 +202,8 @@ gather-spec =
     array-write-values
     add-count
     add-i
-    loop-less
-    loop-again
+    keys-less
+    keys-again
     mul-leaves
     element-write-leaves
     add-visited
