@@ -30,11 +30,14 @@ pub record BlockRules (width B : ℕ) (bs : Blocks) (current last : ℕ) : Type 
   pub size : length bs ≡ B
   pub inside : current < B
   pub most : (i : ℕ) → length (block bs i) ≤ width
+  -- "At least one block is wholly blank"
   pub spare : BlankAt bs (λ i. Unit {0})
+  -- "at most one is partly written, and it holds the greatest stamp"
   pub whole : (i : ℕ) → (i ≡ current → ⊥) → Whole width (block bs i)
   pub newest : ℕ
   pub newestHere : 0 < count (numbered newest) (block bs current)
   pub noneNewer : tally (above newest) bs ≡ 0
+  -- "Page stamps all differ", "from 1"
   pub once : (s : ℕ) → tally (numbered s) bs ≤ 1
   pub fromOne : tally (numbered 0) bs ≡ 0
   pub within : tally (above last) bs ≡ 0

@@ -54,10 +54,15 @@ late (page s (log es)) = positive (count (lateIn s) es)
 late (page s (whole n x)) = false
 late (page s (checkpoint t scores k)) = false
 
+-- The rules on versions, each as a count.
 pub record VersionRules (st : Store) : Type 0 where
+  -- "A version .. is below the page's stamp"
   pub early : tally late (st .blocks) ≡ 0
+  -- "from 1"
   pub fromOne : said 0 st ≡ 0
+  -- "Page stamps .. none is the version of a log entry."
   pub apart : (v : ℕ) → 0 < said v st → tally (numbered v) (st .blocks) ≡ 0
+  -- none is above the last number taken
   pub within : (v : ℕ) → st .last < v → said v st ≡ 0
 
 positive-le : (n : ℕ) → bit (positive n) ≤ n
