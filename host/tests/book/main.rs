@@ -10,6 +10,7 @@ mod page_limits;
 mod refusals;
 mod spelled;
 mod stack;
+mod sums;
 mod tool;
 mod traces;
 mod worked;
