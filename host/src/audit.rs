@@ -11,7 +11,7 @@ use crate::account::{Mode, Request, Served};
 use crate::layout::{block_range, page_range, BLANK, BLOCK_PAGES, LOG_PAGE_ENTRIES, MAX_LOG_PAGES, PAGE_BYTES};
 use crate::node::Change;
 use crate::observe::{Event, Observer, State};
-use crate::page::{decode, is_blank, Content, Entry, Page};
+use crate::page::{decode, is_blank, sums_wrap, Content, Entry, Page};
 use crate::reference::Line;
 
 /// What was seen how often.
@@ -20,6 +20,8 @@ pub struct Seen {
     pub states: u64,
     pub requests: u64,
     pub pages_written: u64,
+    /// Of these, the pages whose sum b or a passes its modulus.
+    pub sums_wrapped: [u64; 2],
     pub pages_copied: u64,
     /// Blocks erased by compaction, which is once for each.
     pub compactions: u64,
@@ -47,6 +49,7 @@ impl Seen {
         self.states += other.states;
         self.requests += other.requests;
         self.pages_written += other.pages_written;
+        add_wraps(&mut self.sums_wrapped, other.sums_wrapped);
         self.pages_copied += other.pages_copied;
         self.compactions += other.compactions;
         self.nodes_created += other.nodes_created;
@@ -54,6 +57,13 @@ impl Seen {
         self.three_page_edits += other.three_page_edits;
         self.switches_to_disk += other.switches_to_disk;
         self.switches_to_log += other.switches_to_log;
+    }
+}
+
+/// Adds how often the sums b and a wrapped.
+pub fn add_wraps<T: Into<u64>>(counts: &mut [u64; 2], more: [T; 2]) {
+    for (count, more) in counts.iter_mut().zip(more) {
+        *count += more.into();
     }
 }
 
@@ -404,6 +414,7 @@ impl Observer for Audit<'_> {
         match event {
             Event::PageWritten { page } => {
                 self.seen.pages_written += 1;
+                add_wraps(&mut self.seen.sums_wrapped, sums_wrap(&state.pool[page_range(page)]));
                 self.written(page, &state);
             }
             Event::PageCopied { from, to } => {

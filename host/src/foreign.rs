@@ -33,6 +33,8 @@ pub enum Build {
     /// As many levels as may be, each node in log mode; one full branch stands over another. From [`DEEP_BLOCKS`]
     /// blocks on.
     Deep,
+    /// Keys, values and sequence numbers whose bytes are mostly FF, each node in log mode: the pages' sums wrap.
+    High,
 }
 
 /// Blocks of the smallest pool whose limit a full root over a full branch comes near.
@@ -46,9 +48,13 @@ impl PoolStyle {
         self.build == Build::Tight
     }
 
+    fn is_high(&self) -> bool {
+        self.build == Build::High
+    }
+
     /// Whether no node has a page of its own.
     fn is_log_only(&self) -> bool {
-        matches!(self.build, Build::Tight | Build::Deep)
+        matches!(self.build, Build::Tight | Build::Deep | Build::High)
     }
 }
 

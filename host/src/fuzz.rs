@@ -51,7 +51,7 @@ fn random_blocks(random: &mut Random) -> usize {
 /// Batches on a prepared pool.
 fn prepared_case(random: &mut Random, tally: &mut Tally) -> Result<(), String> {
     let mut checked = CheckedPool::prepared(random, tally)?;
-    let style = CommandStyle::random(random);
+    let style = checked.random_style(random);
     let rounds = if checked.blocks() > 16 { 6 } else { random.pick(&[3, 12, 30]) };
     if random.once_in(3) {
         checked.fill(random, tally, &style)?;
@@ -65,7 +65,7 @@ fn prepared_case(random: &mut Random, tally: &mut Tally) -> Result<(), String> {
 /// Batches on a foreign pool.
 fn foreign_case(random: &mut Random, tally: &mut Tally) -> Result<(), String> {
     let mut checked = CheckedPool::foreign(random, tally);
-    let style = CommandStyle::random(random);
+    let style = checked.random_style(random);
     for _ in 0..random.pick(&[1, 4, 10]) {
         checked.any_call(random, tally, &style)?;
     }
@@ -91,7 +91,7 @@ fn damaged_case(random: &mut Random, tally: &mut Tally) -> Result<(), String> {
     let prepared = random.once_in(2);
     let mut checked =
         if prepared { CheckedPool::prepared(random, tally)? } else { CheckedPool::foreign(random, tally) };
-    let style = CommandStyle::random(random);
+    let style = checked.random_style(random);
     checked.any_call(random, tally, &style)?;
     for _ in 0..6 {
         damage_once(random, tally, checked.pool().to_vec(), &style)?;

@@ -4,7 +4,7 @@ mod read;
 
 use crate::layout::{BLANK, FIRST_CHECKPOINT_SCORES, OTHER_CHECKPOINT_SCORES, PAGE_BYTES};
 use crate::node::{Change, Node, Pair, Shape};
-use crate::wire::{page_sum, put_head, FIELD_HEAD};
+use crate::wire::{page_sum, put_head, unreduced_sums, FIELD_HEAD, SUM_MODULUS};
 use crate::wire::{
     COUNT_BYTES, ENTRY_BYTES, NODE_HEAD, PAIR_BYTES, SCORE_BYTES, SEQUENCE_BYTES, SUM_BYTES, TARIFF_BYTES,
 };
@@ -167,6 +167,12 @@ pub fn seal(mut out: Vec<u8>) -> Image {
     let mut image = [BLANK; PAGE_BYTES];
     image[..out.len()].copy_from_slice(&out);
     image
+}
+
+/// Whether the sums b and a of a written page pass the modulus.
+pub fn sums_wrap(bytes: &[u8]) -> [bool; 2] {
+    let end = used(bytes).len() - SUM_FIELD_BYTES;
+    unreduced_sums(&bytes[..end]).map(|sum| sum >= SUM_MODULUS)
 }
 
 impl Entry {

@@ -124,11 +124,19 @@ pub fn put_head(out: &mut Vec<u8>, tag: u8, length: usize) {
     out.extend(length.to_be_bytes());
 }
 
+/// What the two sums of a page are taken modulo.
+pub const SUM_MODULUS: u32 = 65_535;
+
 /// The two sums of field 1F, b then a, over the bytes before it.
-///
-/// A page is short enough that neither sum overflows 32 bits unreduced, so they are reduced once.
 pub fn page_sum(bytes: &[u8]) -> [u8; SUM_BYTES] {
-    const MODULUS: u32 = 65_535;
+    let [b, a] = unreduced_sums(bytes).map(|sum| ((sum % SUM_MODULUS) as u16).to_be_bytes());
+    [b[0], b[1], a[0], a[1]]
+}
+
+/// The two sums, b then a, as they would be without a modulus.
+///
+/// A page is short enough that neither overflows 32 bits, so that they need to be reduced only once.
+pub fn unreduced_sums(bytes: &[u8]) -> [u32; 2] {
     debug_assert!(bytes.len() <= PAGE_BYTES);
     let (mut a, mut b) = (1u32, 0u32);
     let mut chunks = bytes.chunks_exact(SUM_CHUNK);
@@ -146,8 +154,7 @@ pub fn page_sum(bytes: &[u8]) -> [u8; SUM_BYTES] {
         a += u32::from(byte);
         b += a;
     }
-    let [b, a] = [b % MODULUS, a % MODULUS].map(|sum| (sum as u16).to_be_bytes());
-    [b[0], b[1], a[0], a[1]]
+    [b, a]
 }
 
 /// Bytes summed side by side, so that the compiler can use vector instructions.

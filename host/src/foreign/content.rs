@@ -4,6 +4,7 @@ use std::collections::HashSet;
 
 use super::draft::PlannedPage;
 use super::spelling::Spelling;
+use super::PoolStyle;
 use crate::layout::{LOG_PAGE_ENTRIES, MAX_KEYS, MAX_SEQUENCE};
 use crate::node::{Change, Node, Pair, Shape};
 use crate::page::{checkpoint_capacity, Checkpoint, Content, Entry, Page, Score};
@@ -15,11 +16,11 @@ pub(super) fn number_pages(
     spelling: &Spelling,
     planned: &[PlannedPage],
     checkpoint: Vec<Checkpoint>,
+    sequences: &[u32],
 ) -> Vec<Page> {
-    let sequences = random_sequences(random, planned.len() + checkpoint.len());
-    let versions = Versions::random(random, spelling, planned, &sequences);
+    let versions = Versions::random(random, spelling, planned, sequences);
     let mut pages: Vec<Page> = Vec::with_capacity(sequences.len());
-    for (page, &sequence) in planned.iter().zip(&sequences) {
+    for (page, &sequence) in planned.iter().zip(sequences) {
         let content = page.content(random, spelling, sequence, &versions);
         pages.push(Page { sequence, content });
     }
@@ -28,20 +29,25 @@ pub(super) fn number_pages(
     pages
 }
 
+/// Numbers just below this one are mostly bytes FF.
+const HIGH_SEQUENCE: u32 = 0xDFFF_FFFF;
+
 /// Ascending sequence numbers, never two in a row, so that there are versions between them.
-fn random_sequences(random: &mut Random, count: usize) -> Vec<u32> {
-    let gap = random.pick(&[2, 3, 50, 100_000]);
+pub(super) fn random_sequences(random: &mut Random, count: usize, style: PoolStyle) -> Vec<u32> {
+    let gap = if style.is_high() { 3 } else { random.pick(&[2, 3, 50, 100_000]) };
     let mut sequences = Vec::with_capacity(count);
     let mut last = 0;
     for _ in 0..count {
         last += random.between(2, gap) as u32;
         sequences.push(last);
     }
-    if random.once_in(4) {
-        // Shift them up to the greatest that opens, or just below.
-        let up = MAX_SEQUENCE - last - random.pick(&[0, 0, 1, 1000]);
-        sequences.iter_mut().for_each(|sequence| *sequence += up);
-    }
+    // Shift some up to the greatest that opens, or just below.
+    let up = match style.is_high() {
+        true => HIGH_SEQUENCE - last - random.pick(&[0, 300, 3000]),
+        false if random.once_in(4) => MAX_SEQUENCE - last - random.pick(&[0, 0, 1, 1000]),
+        false => 0,
+    };
+    sequences.iter_mut().for_each(|sequence| *sequence += up);
     sequences
 }
 
@@ -152,7 +158,10 @@ pub(super) fn dead_checkpoint_page(random: &mut Random) -> Checkpoint {
     let last = random.once_in(2);
     let capacity = checkpoint_capacity(first);
     let count = if last { random.between(1, capacity) } else { capacity };
-    let scores = (0..count).map(|_| Score { id: random.next_u32() as u16, score: random.next_u32() }).collect();
+    // Now and then such that sum a wraps.
+    let filled = if random.once_in(4) { u32::MAX } else { 0 };
+    let mut number = || random.next_u32() | filled;
+    let scores = (0..count).map(|_| Score { id: number() as u16, score: number() }).collect();
     Checkpoint {
         tariff: first.then(|| std::array::from_fn(|_| random.next_u32())),
         scores,

@@ -2,7 +2,7 @@
 
 use std::collections::VecDeque;
 
-use super::content::number_pages;
+use super::content::{number_pages, random_sequences};
 use super::spelling::Spelling;
 use super::PoolStyle;
 use crate::account::Mode;
@@ -42,7 +42,8 @@ impl Draft {
         let dead = if style.is_tight() { room } else { random.pick(&[0, 1, room / 8, room / 2, room]).min(room) };
         planned.extend((0..dead).map(|_| random.pick(&[DeadLog, DeadNode, DeadCheckpoint])));
         let planned = shuffle_keeping_logs(random, planned);
-        let pages = number_pages(random, spelling, &planned, checkpoint);
+        let sequences = random_sequences(random, planned.len() + checkpoint.len(), style);
+        let pages = number_pages(random, spelling, &planned, checkpoint, &sequences);
         let indexes = random_indexes(random, style.blocks, pages.len());
         Draft { blocks: style.blocks, pages, indexes }
     }

@@ -3,6 +3,7 @@
 mod block;
 mod byte;
 mod checkpoint;
+mod field;
 mod log_page;
 mod node;
 mod sequence;
@@ -52,11 +53,27 @@ pub const FLAWS: &[Flaw] = &[
     flaw(5, "a node page neither leaf nor branch", Bytes(byte::neither_leaf_nor_branch)),
     flaw(5, "a byte behind the sum", Bytes(byte::byte_behind_sum)),
     flaw(5, "a sum that is off", Bytes(byte::sum_off)),
+    flaw(5, "no sum", Bytes(field::no_sum)),
+    flaw(5, "FF first on a page that is not blank", Bytes(field::blank_first)),
+    flaw(5, "no field 10", Bytes(field::no_sequence)),
+    flaw(5, "field 10 twice", Bytes(field::sequence_twice)),
+    flaw(5, "a field that no page has", Bytes(field::unknown)),
+    flaw(5, "a field of another length", Bytes(field::other_length)),
+    flaw(5, "two kinds of content", Bytes(field::two_kinds)),
+    flaw(5, "two nodes on a node page", Bytes(field::node_twice)),
+    flaw(5, "25 keys on a node page", Bytes(field::node_of_25_keys)),
+    flaw(5, "28 entries on a log page", Bytes(field::entry_28)),
+    flaw(5, "a checkpoint page without a score", Pages(checkpoint::no_score)),
+    flaw(5, "a tariff behind a score", Bytes(field::tariff_behind_score)),
+    flaw(5, "a count before a score", Bytes(field::count_before_score)),
+    flaw(5, "two tariffs on a page", Bytes(field::tariff_twice)),
+    flaw(5, "two counts on a page", Bytes(field::count_twice)),
     flaw(6, "a newest page that is no checkpoint page", Pages(checkpoint::newest_is_other)),
     flaw(6, "a log page within the checkpoint", Pages(checkpoint::log_page_within)),
     flaw(6, "an id with two scores", Pages(checkpoint::id_twice)),
     flaw(6, "a score of an id at the count", Pages(checkpoint::id_at_count)),
     flaw(6, "an id without a score", Pages(checkpoint::id_missing)),
+    flaw(6, "a count of 0", Pages(checkpoint::count_zero)),
     flaw(6, "a count on an older page", Pages(checkpoint::count_twice)),
     flaw(6, "no count on the newest page", Pages(checkpoint::count_missing)),
     flaw(6, "no tariff", Pages(checkpoint::no_tariff)),
@@ -64,6 +81,7 @@ pub const FLAWS: &[Flaw] = &[
     flaw(7, "a leaf's key above its bounds", Spelled(tree::leaf_key_above)),
     flaw(7, "a leaf's key below its bounds", Spelled(tree::leaf_key_below)),
     flaw(7, "a branch's key above its bounds", Spelled(tree::branch_key_above)),
+    flaw(7, "a branch's key below its bounds", Spelled(tree::branch_key_below)),
     flaw(7, "a pointer to the root", Spelled(tree::pointer_to_root)),
     flaw(7, "a node reached twice", Spelled(tree::pointer_twice)),
     flaw(7, "a pointer to the count", Spelled(tree::pointer_to_count)),

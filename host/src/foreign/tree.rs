@@ -11,7 +11,7 @@ use crate::random::Random;
 pub(super) fn random_tree(random: &mut Random, style: PoolStyle) -> Vec<Node> {
     let limit = node_limit(style.blocks);
     let levels = match style.build {
-        Build::Any => {
+        Build::Any | Build::High => {
             let most = if random.once_in(2) { limit } else { limit.min(30) };
             let leaves = random.between(1, most);
             levels_within(random, limit, leaves)
@@ -20,7 +20,27 @@ pub(super) fn random_tree(random: &mut Random, style: PoolStyle) -> Vec<Node> {
         Build::Brink => brink_levels(random, limit),
         Build::Deep => deep_levels(),
     };
-    tree_of_levels(random, &levels)
+    // High keys are made low first, and raised to the greatest there are.
+    let end = if style.is_high() { (64 * levels[0].len()) as u64 } else { KEYS_END };
+    let mut nodes = tree_of_levels(random, &levels, end);
+    if style.is_high() {
+        raise(&mut nodes, (KEYS_END - end) as u32);
+    }
+    nodes
+}
+
+/// The end of all keys.
+const KEYS_END: u64 = 1 << 32;
+
+/// Raises all keys by so much, and values to almost the greatest.
+fn raise(nodes: &mut [Node], by: u32) {
+    for node in nodes {
+        let is_leaf = node.is_leaf();
+        for pair in &mut node.pairs {
+            pair.key += by;
+            pair.pointer |= if is_leaf { 0xFFFF_FFF0 } else { 0 };
+        }
+    }
 }
 
 /// Levels over so many leaves, or as few fewer as keep to the limit.
@@ -34,8 +54,8 @@ fn levels_within(random: &mut Random, limit: usize, mut leaves: usize) -> Vec<Ve
     levels
 }
 
-fn tree_of_levels(random: &mut Random, levels: &[Vec<usize>]) -> Vec<Node> {
-    let bounds = random_bounds(random, levels[0].len(), levels);
+fn tree_of_levels(random: &mut Random, levels: &[Vec<usize>], end: u64) -> Vec<Node> {
+    let bounds = random_bounds(random, levels, end);
     let mut ids: Vec<usize> = (1..node_count(levels)).collect();
     random.shuffle(&mut ids);
     ids.push(0);
@@ -98,14 +118,15 @@ fn node_count(levels: &[Vec<usize>]) -> usize {
 
 /// The least key that each leaf may have, and the end of the last one's keys: ascending, but that a leaf which
 /// is its parent's first child may have no room at all.
-fn random_bounds(random: &mut Random, leaves: usize, levels: &[Vec<usize>]) -> Vec<u64> {
-    let span = random.pick(&[leaves as u64, 30 * leaves as u64, 1 << 20, 1 << 32]).max(leaves as u64);
+fn random_bounds(random: &mut Random, levels: &[Vec<usize>], end: u64) -> Vec<u64> {
+    let leaves = levels[0].len();
+    let span = random.pick(&[leaves as u64, 30 * leaves as u64, 1 << 20, KEYS_END]).clamp(leaves as u64, end);
     let mut chosen = BTreeSet::new();
     while chosen.len() + 1 < leaves {
         chosen.insert(random.next_u64() % span);
     }
     let mut bounds: Vec<u64> = std::iter::once(0).chain(chosen).collect();
-    bounds.push(1 << 32);
+    bounds.push(end);
     if random.once_in(2) {
         let mut first = 0;
         for children in levels.get(1).into_iter().flatten() {

@@ -8,14 +8,15 @@ use super::commands::{Chooser, MAX_PUTS};
 use super::style::CommandStyle;
 use super::{random_blocks, Tally};
 use crate::account::{Account, Tariff};
-use crate::audit::{Audit, Seen};
+use crate::audit::{add_wraps, Audit, Seen};
 use crate::book::Outcome;
 use crate::both::{self, Call};
 use crate::command::{encode, encode_answers, Answer, Command};
 use crate::foreign::{self, random_tariff, Build, PoolStyle, BRINK_BLOCKS};
-use crate::layout::{node_limit, BLOCK_BYTES, FIRST_CHECKPOINT_SCORES, MAX_SEQUENCE};
+use crate::layout::{node_limit, BLOCK_BYTES, FIRST_CHECKPOINT_SCORES, MAX_SEQUENCE, PAGE_BYTES};
 use crate::mount::{read, Mounted};
 use crate::node::Pair;
+use crate::page::{is_blank, sums_wrap};
 use crate::random::Random;
 use crate::reference::{Ledger, Run};
 use crate::refusal::Refusal;
@@ -32,6 +33,8 @@ pub(super) struct CheckedPool {
     puts: u32,
     /// The pool's greatest sequence number; above the limit no batch is accepted any more.
     last_sequence: u32,
+    /// Whether its keys and values are high, and those of its puts are to be.
+    high: bool,
 }
 
 impl CheckedPool {
@@ -52,16 +55,15 @@ impl CheckedPool {
     }
 
     pub fn foreign(random: &mut Random, tally: &mut Tally) -> CheckedPool {
-        let style = match random.below(6) {
+        let style = match random.below(7) {
             0 | 1 => PoolStyle { blocks: random_blocks(random), build: Build::Tight },
             2 => PoolStyle { blocks: random.between(BRINK_BLOCKS, 16), build: Build::Brink },
+            3 => PoolStyle { blocks: random_blocks(random), build: Build::High },
             _ => PoolStyle { blocks: random_blocks(random), build: Build::Any },
         };
-        tally.foreign_pools += 1;
-        tally.tight_pools += u64::from(style.build == Build::Tight);
-        tally.brink_pools += u64::from(style.build == Build::Brink);
         let foreign = foreign::make(random, style);
-        CheckedPool::with(foreign.pool, foreign.ledger)
+        count_foreign(tally, style.build, &foreign.pool);
+        CheckedPool { high: style.build == Build::High, ..CheckedPool::with(foreign.pool, foreign.ledger) }
     }
 
     /// A pool that opens, compared with what it spells.
@@ -73,7 +75,7 @@ impl CheckedPool {
 
     fn with(pool: Vec<u8>, ledger: Ledger) -> CheckedPool {
         let map = tree::pairs(&ledger.nodes).into_iter().map(|pair| (pair.key, pair.pointer)).collect();
-        CheckedPool { pool, ledger, map, charges: None, puts: 0, last_sequence: 0 }
+        CheckedPool { pool, ledger, map, charges: None, puts: 0, last_sequence: 0, high: false }
     }
 
     pub fn pool(&self) -> &[u8] {
@@ -82,6 +84,16 @@ impl CheckedPool {
 
     pub fn blocks(&self) -> usize {
         self.pool.len() / BLOCK_BYTES
+    }
+
+    /// How to choose commands for this pool.
+    pub fn random_style(&self, random: &mut Random) -> CommandStyle {
+        let style = CommandStyle::random(random);
+        if self.high {
+            style.high()
+        } else {
+            style
+        }
     }
 
     /// A batch that is accepted, and now and then a call before it that is not.
@@ -198,6 +210,17 @@ impl CheckedPool {
         let Some(nodes) = &mut self.charges else { return Ok(()) };
         nodes.resize(self.ledger.nodes.len(), NodeCharges::default());
         charges::check(nodes, &self.ledger.tariff, &run.lines, tally)
+    }
+}
+
+/// Counts a foreign pool.
+fn count_foreign(tally: &mut Tally, build: Build, pool: &[u8]) {
+    tally.foreign_pools += 1;
+    tally.tight_pools += u64::from(build == Build::Tight);
+    tally.brink_pools += u64::from(build == Build::Brink);
+    tally.high_pools += u64::from(build == Build::High);
+    for page in pool.chunks_exact(PAGE_BYTES).filter(|page| !is_blank(page)) {
+        add_wraps(&mut tally.foreign_sums_wrapped, sums_wrap(page));
     }
 }
 

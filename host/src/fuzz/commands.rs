@@ -41,7 +41,7 @@ impl Chooser<'_> {
                 *self.puts += 1;
                 let likely = random.once_in(self.near);
                 let key = if likely { self.likely_key(random) } else { self.style.key(random, *self.puts) };
-                Command::Put { key, value: random.next_u32() }
+                Command::Put { key, value: self.style.value(random) }
             }
             Some(2) => Command::Delete { key: self.likely_key(random) },
             _ => self.scan(random),

@@ -1,7 +1,6 @@
 //! A random pool with random batches for it, for what is measured and not compared.
 
 use super::checked_pool::CheckedPool;
-use super::style::CommandStyle;
 use super::Tally;
 use crate::command::Command;
 use crate::random::Random;
@@ -19,7 +18,7 @@ impl Script {
         let prepared = random.once_in(2);
         let mut checked =
             if prepared { CheckedPool::prepared(random, tally)? } else { CheckedPool::foreign(random, tally) };
-        let style = CommandStyle::random(random);
+        let style = checked.random_style(random);
         let batches = (0..batches).map(|_| checked.random_commands(random, &style)).collect();
         Ok(Script { pool: checked.pool().to_vec(), batches })
     }

@@ -8,6 +8,8 @@ pub(super) struct CommandStyle {
     /// Shares of gets, puts, deletes and scans.
     pub shares: [usize; 4],
     pub longest: usize,
+    /// Whether the values of puts are almost the greatest.
+    pub high_values: bool,
 }
 
 #[derive(Clone, Copy)]
@@ -19,16 +21,19 @@ pub(super) enum Keys {
     Below(u32),
     /// A few clusters of near keys.
     Clusters,
+    /// So many of the greatest keys.
+    Last(u32),
 }
 
 impl CommandStyle {
     pub fn random(random: &mut Random) -> CommandStyle {
-        let keys = match random.below(6) {
+        let keys = match random.below(7) {
             0 => Keys::Ascending { step: random.pick(&[1, 7, 1000]) },
             1 => Keys::Descending,
             2 => Keys::Below(random.pick(&[30, 300, 3000])),
             3 => Keys::Below(20_000),
             4 => Keys::Clusters,
+            5 => Keys::Last(random.pick(&[30, 300, 3000])),
             _ => Keys::Below(u32::MAX),
         };
         let shares = random.pick(&[
@@ -40,12 +45,18 @@ impl CommandStyle {
             [1, 5, 4, 0],
             [9, 1, 0, 0],
         ]);
-        CommandStyle { keys, shares, longest: random.pick(&[3, 40, 300, 300, 1200]) }
+        let longest = random.pick(&[3, 40, 300, 300, 1200]);
+        CommandStyle { keys, shares, longest, high_values: random.once_in(4) }
     }
 
     /// Puts alone, in long batches, of the same keys.
     pub fn only_puts(&self) -> CommandStyle {
         CommandStyle { shares: [0, 1, 0, 0], longest: 1200, ..*self }
+    }
+
+    /// The same commands, but of the greatest keys and values.
+    pub fn high(self) -> CommandStyle {
+        CommandStyle { keys: Keys::Last(300), high_values: true, ..self }
     }
 
     /// The key of the put that comes at this place, or one like it.
@@ -54,8 +65,13 @@ impl CommandStyle {
             Keys::Ascending { step } => at.wrapping_mul(step),
             Keys::Descending => u32::MAX.wrapping_sub(at),
             Keys::Below(end) => random.next_u32() % end,
+            Keys::Last(count) => u32::MAX - random.next_u32() % count,
             Keys::Clusters => (random.next_u32() % 5 * 0x2000_0000).wrapping_add(random.next_u32() % 300),
         }
+    }
+
+    pub fn value(&self, random: &mut Random) -> u32 {
+        random.next_u32() | if self.high_values { 0xFFFF_FFF0 } else { 0 }
     }
 
     /// Which of the shares a number below their sum falls into.

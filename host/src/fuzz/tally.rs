@@ -24,6 +24,9 @@ pub struct Tally {
     pub foreign_pools: u64,
     pub tight_pools: u64,
     pub brink_pools: u64,
+    pub high_pools: u64,
+    /// Pages of foreign pools whose sum b or a passes its modulus.
+    pub foreign_sums_wrapped: [u64; 2],
     /// Puts answered with 9 although some ids were unused.
     pub too_few_ids: u64,
     /// Foreign pools made with each flaw.
@@ -54,7 +57,7 @@ impl Tally {
         lines
     }
 
-    fn plain_lines(&self) -> [(&'static str, u64); 26] {
+    fn plain_lines(&self) -> [(&'static str, u64); 31] {
         [
             ("cases", self.cases),
             ("batches accepted", self.batches),
@@ -71,6 +74,8 @@ impl Tally {
             ("switches to disk", self.seen.switches_to_disk),
             ("switches to log", self.seen.switches_to_log),
             ("pages written", self.seen.pages_written),
+            ("pages written whose sum b wraps", self.seen.sums_wrapped[0]),
+            ("pages written whose sum a wraps", self.seen.sums_wrapped[1]),
             ("compactions", self.seen.compactions),
             ("pages copied", self.seen.pages_copied),
             ("three-page edits", self.seen.three_page_edits),
@@ -78,6 +83,9 @@ impl Tally {
             ("foreign pools", self.foreign_pools),
             ("tight pools", self.tight_pools),
             ("pools on the brink of the limit", self.brink_pools),
+            ("pools of high numbers", self.high_pools),
+            ("foreign pages whose sum b wraps", self.foreign_sums_wrapped[0]),
+            ("foreign pages whose sum a wraps", self.foreign_sums_wrapped[1]),
             ("damaged pools", self.plain_damage),
             ("damaged pools with mended sums", self.mended_damage),
             ("of these opened", self.mended_that_opened),

@@ -94,19 +94,42 @@ mod tests {
             "a node page neither leaf nor branch" => &["a node page is neither leaf nor branch"],
             "a byte behind the sum" => &["a byte other than FF behind the sum"],
             "a sum that is off" => &["the sum differs"],
+            "no field 10" => &["no sequence number first"],
+            "field 10 twice" => &["no content behind the sequence number"],
+            "a field of another length" => &[
+                "no sequence number first",
+                "no valid field before a log entry",
+                "no valid field behind the sequence number",
+            ],
+            "25 keys on a node page" => &["no valid field behind the sequence number"],
+            "no sum"
+            | "a field that no page has"
+            | "two kinds of content"
+            | "two nodes on a node page"
+            | "28 entries on a log page"
+            | "a count before a score"
+            | "two counts on a page" => &["no sum behind the content"],
+            "a tariff behind a score" => {
+                &["no sum behind the content", "a checkpoint page that is not the last is not full"]
+            }
+            "two tariffs on a page" => &["a checkpoint page has no score or too many"],
+            "a checkpoint page without a score" => {
+                &["a checkpoint page has no score or too many", "no content behind the sequence number"]
+            }
             "a newest page that is no checkpoint page" | "a log page within the checkpoint" => {
                 &["no checkpoint page among the newest"]
             }
             "an id with two scores" => &["two scores of one id"],
-            "a score of an id at the count" => &["a score of an id at or above the count"],
+            "a score of an id at the count" | "a count of 0" => &["a score of an id at or above the count"],
             "a count on an older page" | "no count on the newest page" => {
                 &["the count is not on the newest page alone"]
             }
             "no tariff" => &["no tariff", "no checkpoint page among the newest"],
             "a leaf's link that leads elsewhere" => &["a leaf's link is not the next leaf", "the last leaf has a link"],
-            "a leaf's key above its bounds" | "a leaf's key below its bounds" | "a branch's key above its bounds" => {
-                &["a key is out of its bounds"]
-            }
+            "a leaf's key above its bounds"
+            | "a leaf's key below its bounds"
+            | "a branch's key above its bounds"
+            | "a branch's key below its bounds" => &["a key is out of its bounds"],
             "a pointer to the root" | "a node reached twice" => &["a pointer to a node that was reached before"],
             "a pointer to the count" | "a pointer above 16 bits" => &["a pointer to no node"],
             "a node that is not reached" => &["a node is not reached"],

@@ -3,8 +3,8 @@
 use yokehour_host::book::Outcome;
 use yokehour_host::both::{self, Call};
 use yokehour_host::command::{split_answers, Command};
-use yokehour_host::layout::{page_range, BLOCK_BYTES};
-use yokehour_host::page::{decode, used, Page};
+use yokehour_host::layout::{page_range, table_bytes, BLOCK_BYTES, MIN_BLOCKS};
+use yokehour_host::page::{decode, used, Checkpoint, Content, Entry, Page};
 use yokehour_host::wire::{fnv1a64, to_hex};
 
 /// The tariff of document 01's worked cases.
@@ -65,6 +65,67 @@ pub fn make(call: &mut Call) -> Outcome {
 /// The number that a get on a pool comes to, on both books.
 pub fn number_of(pool: Vec<u8>) -> u8 {
     make(&mut Call::new(pool, &[get(1)])).number
+}
+
+/// The length of the smallest pool, and of its table.
+pub const POOL_BYTES: usize = MIN_BLOCKS * BLOCK_BYTES;
+pub const TABLE_BYTES: usize = table_bytes(POOL_BYTES);
+
+/// The pages of [`good`]'s pool: prepare's two, and a log page and a checkpoint page of its batch.
+pub const FIRST_LOG_PAGE: usize = 0;
+pub const FIRST_CHECKPOINT_PAGE: usize = 1;
+pub const LOG_PAGE: usize = 2;
+pub const CHECKPOINT_PAGE: usize = 3;
+
+/// A call that is accepted, with bytes behind what it needs of table and answers.
+pub fn good() -> Call {
+    let mut fixture = Fixture::prepared(MIN_BLOCKS, WORKED);
+    fixture.batch(&[put(1, 2), put(3, 4)]);
+    let mut call = Call::new(fixture.pool, &[get(1)]);
+    call.table.extend([0x78; 100]);
+    call.answers.extend([0x67; 50]);
+    call
+}
+
+/// The number that a call comes to on both books; the books agree, and the buffers are as they should be.
+pub fn number(mut call: Call) -> u8 {
+    make(&mut call).number
+}
+
+/// The number that the good call comes to when a page is changed and its sum mended.
+pub fn number_with(page: usize, change: impl FnOnce(&mut Page)) -> u8 {
+    let mut call = good();
+    mend(&mut call.pool, page, change);
+    number(call)
+}
+
+/// Changes a page and mends its sum.
+pub fn mend(pool: &mut [u8], page: usize, change: impl FnOnce(&mut Page)) {
+    let bytes = &mut pool[page_range(page)];
+    let mut decoded = decode(bytes).expect("checks").expect("written");
+    change(&mut decoded);
+    bytes.copy_from_slice(&decoded.encode());
+}
+
+/// What a checkpoint page holds.
+pub fn checkpoint_of(page: &mut Page) -> &mut Checkpoint {
+    match &mut page.content {
+        Content::Checkpoint(content) => content,
+        other => panic!("no checkpoint page: {other:?}"),
+    }
+}
+
+/// The entries of a log page.
+pub fn entries_of(page: &mut Page) -> &mut Vec<Entry> {
+    match &mut page.content {
+        Content::Log(entries) => entries,
+        other => panic!("no log page: {other:?}"),
+    }
+}
+
+/// The number of the good call with its newest checkpoint page changed.
+pub fn number_with_checkpoint(change: impl FnOnce(&mut Checkpoint)) -> u8 {
+    number_with(CHECKPOINT_PAGE, |page| change(checkpoint_of(page)))
 }
 
 /// Prepares a pool with both books, which must agree in everything.

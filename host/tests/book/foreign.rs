@@ -2,11 +2,13 @@
 
 use crate::common::number_of;
 use yokehour_host::account::Mode;
+use yokehour_host::audit::add_wraps;
 use yokehour_host::damage;
 use yokehour_host::foreign::{self, flaw::FLAWS, Build, PoolStyle, BRINK_BLOCKS, DEEP_BLOCKS};
-use yokehour_host::layout::{node_limit, BLOCK_PAGES, MAX_BLOCKS, MAX_LEVELS, MAX_LOG_PAGES, MIN_BLOCKS};
+use yokehour_host::layout::{node_limit, BLOCK_PAGES, MAX_BLOCKS, MAX_LEVELS, MAX_LOG_PAGES, MIN_BLOCKS, PAGE_BYTES};
 use yokehour_host::mount::mount;
 use yokehour_host::node::Node;
+use yokehour_host::page::{is_blank, sums_wrap};
 use yokehour_host::random::Random;
 use yokehour_host::refusal::Refusal;
 
@@ -18,6 +20,7 @@ fn foreign_pools_open_as_what_they_spell() {
             0 => PoolStyle { blocks: MAX_BLOCKS, build: Build::Any },
             1 | 2 => PoolStyle { blocks: random.between(BRINK_BLOCKS, 20), build: Build::Brink },
             3..=6 => PoolStyle { blocks: random.between(MIN_BLOCKS, 12), build: Build::Tight },
+            7..=9 => PoolStyle { blocks: random.between(MIN_BLOCKS, 12), build: Build::High },
             _ => PoolStyle { blocks: random.between(MIN_BLOCKS, 12), build: Build::Any },
         };
         let foreign = foreign::make(&mut random, style);
@@ -38,6 +41,23 @@ fn tight_pools_have_one_blank_block_and_many_nodes_on_three_pages() {
     assert!(mounted.rows.iter().all(|row| row.account.mode == Mode::Log));
     assert!(mounted.rows.iter().filter(|row| row.pages.len() == MAX_LOG_PAGES).count() > 10);
     assert_eq!(number_of(foreign.pool), 0);
+}
+
+#[test]
+fn high_pools_have_pages_whose_sums_wrap() {
+    let mut random = Random::new(1);
+    let mut wrapped = [0; 2];
+    for _ in 0..20 {
+        let foreign = foreign::make(&mut random, PoolStyle { blocks: 8, build: Build::High });
+        let keys = foreign.ledger.nodes.iter().flat_map(|node| &node.pairs).map(|pair| pair.key);
+        assert!(keys.min().is_none_or(|least| least >= 0xFFFF_0000));
+        for page in foreign.pool.chunks_exact(PAGE_BYTES).filter(|page| !is_blank(page)) {
+            add_wraps(&mut wrapped, sums_wrap(page));
+        }
+        assert_eq!(number_of(foreign.pool), 0);
+    }
+    let [of_b, of_a] = wrapped;
+    assert!(of_b > 1000 && of_a > 100, "b wraps on {of_b} pages, a on {of_a}");
 }
 
 #[test]

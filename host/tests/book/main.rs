@@ -1,11 +1,16 @@
 //! The tests of the whole book, in one program so that it is linked once.
 
+mod blocks;
 mod common;
 mod foreign;
 mod fuzz;
 mod library;
+mod limits;
+mod page_limits;
 mod refusals;
+mod spelled;
 mod stack;
+mod sums;
 mod tool;
 mod traces;
 mod worked;

@@ -1,75 +1,24 @@
-//! Each refusal number on both books, with every buffer as document 01 leaves it.
+//! Each refusal number and their order on both books, with every buffer as document 01 leaves it.
 
-use crate::common::{get, make, prepare, put, scan, Fixture, FREE, WORKED};
+use crate::common::{checkpoint_of, entries_of, get, good, make, mend, number, number_with, number_with_checkpoint};
+use crate::common::{prepare, put, scan, Fixture, CHECKPOINT_PAGE, FIRST_CHECKPOINT_PAGE, FIRST_LOG_PAGE, LOG_PAGE};
+use crate::common::{FREE, POOL_BYTES, TABLE_BYTES, WORKED};
 use yokehour_host::both::Call;
-use yokehour_host::command::{answer_room, encode, Command};
-use yokehour_host::layout::{
-    page_range, table_bytes, BLANK, BLOCK_BYTES, BLOCK_PAGES, MAX_BATCH_BYTES, MAX_BLOCKS, MAX_SCAN_PAIRS,
-    MAX_SEQUENCE, MAX_TARIFF, MIN_BLOCKS, PAGE_BYTES,
-};
+use yokehour_host::command::encode;
+use yokehour_host::layout::{page_range, BLANK, BLOCK_BYTES, BLOCK_PAGES, MIN_BLOCKS, PAGE_BYTES};
 use yokehour_host::mount::mount;
 use yokehour_host::node::{Change, Shape};
-use yokehour_host::page::{decode, Checkpoint, Content, Entry, Page};
+use yokehour_host::page::Entry;
 use yokehour_host::tree::IDS_USED_UP;
-
-/// The length of the smallest pool, and of its table.
-const POOL_BYTES: usize = MIN_BLOCKS * BLOCK_BYTES;
-const TABLE_BYTES: usize = table_bytes(POOL_BYTES);
-
-/// The pages of [`good`]'s pool: prepare's two, and a log page and a checkpoint page of its batch.
-const FIRST_LOG_PAGE: usize = 0;
-const FIRST_CHECKPOINT_PAGE: usize = 1;
-const LOG_PAGE: usize = 2;
-const CHECKPOINT_PAGE: usize = 3;
-
-/// A call that is accepted, with bytes behind what it needs of table and answers.
-fn good() -> Call {
-    let mut fixture = Fixture::prepared(MIN_BLOCKS, WORKED);
-    fixture.batch(&[put(1, 2), put(3, 4)]);
-    let mut call = Call::new(fixture.pool, &[get(1)]);
-    call.table.extend([0x78; 100]);
-    call.answers.extend([0x67; 50]);
-    call
-}
-
-/// The number that a call comes to on both books; the books agree, and the buffers are as they should be.
-fn number(mut call: Call) -> u8 {
-    make(&mut call).number
-}
 
 /// The number that the good call comes to with another pool.
 fn number_with_pool(pool: Vec<u8>) -> u8 {
     number(Call { pool, ..good() })
 }
 
-/// The number that the good call comes to when a page is changed and its sum mended.
-fn number_with(page: usize, change: impl FnOnce(&mut Page)) -> u8 {
-    let mut call = good();
-    mend(&mut call.pool, page, change);
-    number(call)
-}
-
-fn mend(pool: &mut [u8], page: usize, change: impl FnOnce(&mut Page)) {
-    let bytes = &mut pool[page_range(page)];
-    let mut decoded = decode(bytes).expect("checks").expect("written");
-    change(&mut decoded);
-    bytes.copy_from_slice(&decoded.encode());
-}
-
-/// The number of the good call with its newest checkpoint page changed.
-fn number_with_checkpoint(change: fn(&mut Checkpoint)) -> u8 {
-    number_with(CHECKPOINT_PAGE, |page| match &mut page.content {
-        Content::Checkpoint(content) => change(content),
-        other => panic!("no checkpoint page: {other:?}"),
-    })
-}
-
 /// The number of the good call with the first log page's entry changed.
 fn number_with_entry(change: fn(&mut Entry)) -> u8 {
-    number_with(FIRST_LOG_PAGE, |page| match &mut page.content {
-        Content::Log(entries) => change(&mut entries[0]),
-        other => panic!("no log page: {other:?}"),
-    })
+    number_with(FIRST_LOG_PAGE, |page| change(&mut entries_of(page)[0]))
 }
 
 #[test]
@@ -83,23 +32,42 @@ fn a_good_call_is_accepted() {
     assert!(call.table[TABLE_BYTES..].iter().all(|&byte| byte == 0x78));
 }
 
+/// What is wrong with the good call for each question, in the order of the questions; any of them go together.
+const WRONGS: [fn(&mut Call); 8] = [
+    |call| call.pool.push(BLANK),
+    |call| call.table.truncate(TABLE_BYTES - 1),
+    |call| call.batch.push(0x05),
+    |call| call.answers.clear(),
+    |call| call.pool[PAGE_BYTES - 1] = 0,
+    |call| mend(&mut call.pool, CHECKPOINT_PAGE, |page| checkpoint_of(page).count = Some(2)),
+    |call| mend(&mut call.pool, CHECKPOINT_PAGE, |page| checkpoint_of(page).scores[0].score = 5),
+    |call| mend(&mut call.pool, CHECKPOINT_PAGE, |page| page.sequence = 4_000_000_001),
+];
+
 #[test]
-fn number_1_the_pool_has_no_named_length() {
-    let (too_few, too_many) = ((MIN_BLOCKS - 1) * BLOCK_BYTES, (MAX_BLOCKS + 1) * BLOCK_BYTES);
-    for length in [0, 1, too_few, POOL_BYTES - 1, POOL_BYTES + 1, too_many] {
-        assert_eq!(number_with_pool(vec![BLANK; length]), 1, "length {length}");
-        assert_eq!(prepare(&mut vec![0x11; length], WORKED), 1, "length {length}");
+fn the_first_question_that_fails_gives_the_number() {
+    for wrongs in 1..1 << WRONGS.len() {
+        let mut call = good();
+        let chosen = WRONGS.iter().enumerate().filter(|(at, _)| wrongs >> at & 1 == 1);
+        chosen.for_each(|(_, wrong)| wrong(&mut call));
+        let first = u32::trailing_zeros(wrongs) + 1;
+        assert_eq!(u32::from(number(call)), first, "wrong: questions {wrongs:08b}, the first on the right");
     }
-    // 1 is asked before 2 and before 10.
-    assert_eq!(number(Call { pool: vec![], table: vec![], ..good() }), 1);
-    assert_eq!(prepare(&mut [0; 5], [0; 8]), 1);
 }
 
 #[test]
-fn number_2_the_table_is_too_short() {
-    assert_eq!(number(Call { table: vec![0x77; TABLE_BYTES - 1], ..good() }), 2);
-    assert_eq!(number(Call { table: vec![0x77; TABLE_BYTES], ..good() }), 0);
-    assert_eq!(number(Call { table: vec![], batch: vec![9], ..good() }), 2, "2 before 3");
+fn prepare_asks_1_before_10() {
+    let (right, wrong) = (WORKED, [1_000_001; 8]);
+    let asked = [(POOL_BYTES, right), (POOL_BYTES, wrong), (POOL_BYTES + 1, right), (POOL_BYTES + 1, wrong)];
+    assert_eq!(asked.map(|(bytes, tariff)| prepare(&mut vec![0x11; bytes], tariff)), [0, 10, 1, 1]);
+}
+
+#[test]
+fn number_1_the_pool_has_no_named_length() {
+    for length in [0, 1, BLOCK_BYTES, POOL_BYTES - 1, POOL_BYTES + 1, POOL_BYTES + PAGE_BYTES] {
+        assert_eq!(number_with_pool(vec![BLANK; length]), 1, "length {length}");
+        assert_eq!(prepare(&mut vec![0x11; length], WORKED), 1, "length {length}");
+    }
 }
 
 #[test]
@@ -107,27 +75,13 @@ fn number_3_the_batch_is_not_wholly_valid() {
     for batch in [
         vec![0x05, 0, 0],
         vec![0x01, 0, 4, 0, 0, 0],
+        vec![0x01, 0, 5, 0, 0, 0, 0, 0],
         vec![0x80, 0, 0],
-        encode(&[get(1), scan(0, 9, 0)]),
-        encode(&[scan(9, 0, MAX_SCAN_PAIRS + 1)]),
-        encode(&vec![get(0); MAX_BATCH_BYTES / 7 + 1]),
+        [encode(&[get(1), scan(0, 9, 1)]), vec![0x04]].concat(),
         vec![0; 40_000],
     ] {
-        assert_eq!(number(Call { batch, answers: vec![], ..good() }), 3);
+        assert_eq!(number(Call { batch, answers: vec![0x66; 1_000], ..good() }), 3);
     }
-}
-
-#[test]
-fn number_4_the_answer_buffer_is_too_short() {
-    let lent = |commands: &[Command], length: usize| {
-        number(Call { batch: encode(commands), answers: vec![0x66; length], ..good() })
-    };
-    for commands in [[get(1)], [scan(0, 9, 3)], [scan(9, 0, 3)]] {
-        let room = answer_room(&commands);
-        assert_eq!((lent(&commands, room - 1), lent(&commands, room)), (4, 0), "{commands:?}");
-    }
-    assert_eq!(lent(&[], 0), 0);
-    assert_eq!(number(Call { answers: vec![], pool: vec![0; POOL_BYTES], ..good() }), 4, "4 before 5");
 }
 
 #[test]
@@ -179,27 +133,6 @@ fn number_7_the_tree_is_not_sound() {
 }
 
 #[test]
-fn number_7_the_tariff_or_a_score_is_out_of_range() {
-    let number_with_tariff = |at: usize, cost: u32| {
-        number_with(CHECKPOINT_PAGE, |page| match &mut page.content {
-            Content::Checkpoint(Checkpoint { tariff: Some(tariff), .. }) => tariff[at] = cost,
-            other => panic!("no tariff: {other:?}"),
-        })
-    };
-    assert_eq!(number_with_checkpoint(|page| page.scores[0].score = 5), 7, "a score at the limit");
-    assert_eq!(number_with_checkpoint(|page| page.scores[0].score = 4), 0);
-    assert_eq!(number_with_tariff(6, 0), 7, "a switch that costs nothing");
-    assert_eq!(number_with_tariff(0, MAX_TARIFF + 1), 7);
-}
-
-#[test]
-fn number_8_sequence_numbers_are_used_up() {
-    assert_eq!(number_with(CHECKPOINT_PAGE, |page| page.sequence = MAX_SEQUENCE), 0);
-    assert_eq!(number_with(CHECKPOINT_PAGE, |page| page.sequence = MAX_SEQUENCE + 1), 8);
-    assert_eq!(number_with(CHECKPOINT_PAGE, |page| page.sequence = u32::MAX), 8);
-}
-
-#[test]
 fn number_9_is_an_answer_and_changes_nothing() {
     let mut fixture = Fixture::prepared(MIN_BLOCKS, FREE);
     for key in 0..240 {
@@ -214,18 +147,4 @@ fn number_9_is_an_answer_and_changes_nothing() {
     assert_eq!((outcome.number, outcome.charge), (0, 0));
     assert_eq!(fixture.lines(), [format!("8f0001{IDS_USED_UP:02x}")]);
     assert_eq!(spelled(&fixture), before);
-}
-
-#[test]
-fn number_10_the_tariff_is_out_of_range() {
-    for at in 0..8 {
-        let mut pool = vec![0x11; POOL_BYTES];
-        let mut tariff = WORKED;
-        tariff[at] = MAX_TARIFF + 1;
-        assert_eq!(prepare(&mut pool, tariff), 10);
-        tariff[at] = 0;
-        let expected = if at < 6 { 0 } else { 10 };
-        assert_eq!(prepare(&mut pool, tariff), expected);
-        assert_eq!(mount(&pool).is_ok(), expected == 0);
-    }
 }

@@ -2,7 +2,6 @@
 
 use crate::common::{delete, get, put, scan, Fixture, WORKED};
 use yokehour_host::account::Mode;
-use yokehour_host::layout::BLOCK_BYTES;
 use yokehour_host::mount::mount;
 
 #[test]
@@ -57,15 +56,6 @@ fn twenty_four_keys_do_not_split_and_25_do() {
     let nodes = mount(&fixture.pool).expect("opens").nodes;
     let keys: Vec<usize> = nodes.iter().map(|node| node.pairs.len()).collect();
     assert_eq!(keys, [1, 12, 13]);
-}
-
-#[test]
-fn pools_of_every_named_length() {
-    for blocks in [4, 5, 63, 64] {
-        let mut fixture = Fixture::prepared(blocks, WORKED);
-        assert_eq!(fixture.pool.len(), blocks * BLOCK_BYTES);
-        assert_eq!(fixture.batch(&[put(1, 1)]).number, 0);
-    }
 }
 
 /// Puts ascending keys, one a batch, until one is refused; gives how many were taken.

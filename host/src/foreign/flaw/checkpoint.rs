@@ -24,6 +24,15 @@ pub(super) fn overfull(random: &mut Random, draft: &mut Draft) -> bool {
     true
 }
 
+pub(super) fn no_score(random: &mut Random, draft: &mut Draft) -> bool {
+    let mut page = dead_checkpoint_page(random);
+    page.count = Some(1);
+    page.scores.clear();
+    let at = random.below(draft.pages.len());
+    draft.pages[at].content = Content::Checkpoint(page);
+    true
+}
+
 /// Where the checkpoint's pages begin; they are the last.
 fn checkpoint_start(draft: &Draft) -> usize {
     let first = |page: &Page| matches!(&page.content, Content::Checkpoint(Checkpoint { tariff: Some(_), .. }));
@@ -83,12 +92,22 @@ pub(super) fn id_at_count(random: &mut Random, draft: &mut Draft) -> bool {
     })
 }
 
-pub(super) fn id_missing(_: &mut Random, draft: &mut Draft) -> bool {
-    let (newest, count) = (draft.pages.len() - 1, draft.node_count());
+/// Makes the count another.
+fn change_count(draft: &mut Draft, count: u16) -> bool {
+    let newest = draft.pages.len() - 1;
     change_checkpoint(draft, newest, |page| {
-        page.count = Some(count + 1);
+        page.count = Some(count);
         true
     })
+}
+
+pub(super) fn id_missing(_: &mut Random, draft: &mut Draft) -> bool {
+    let count = draft.node_count();
+    change_count(draft, count + 1)
+}
+
+pub(super) fn count_zero(_: &mut Random, draft: &mut Draft) -> bool {
+    change_count(draft, 0)
 }
 
 pub(super) fn count_twice(_: &mut Random, draft: &mut Draft) -> bool {

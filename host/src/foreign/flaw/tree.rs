@@ -68,16 +68,29 @@ pub(super) fn leaf_key_below(random: &mut Random, spelling: &mut Spelling, _: us
     true
 }
 
-pub(super) fn branch_key_above(random: &mut Random, spelling: &mut Spelling, _: usize) -> bool {
+/// A branch whose children are branches.
+fn pick_upper_branch(random: &mut Random, spelling: &Spelling) -> Option<usize> {
     let nodes = &spelling.nodes;
-    let over_branch = |_: usize, node: &Node| !node.is_leaf() && !nodes[node.link as usize].is_leaf();
-    let Some(id) = spelling.pick_node(random, over_branch) else { return false };
+    spelling.pick_node(random, |_, node| !node.is_leaf() && !nodes[node.link as usize].is_leaf())
+}
+
+pub(super) fn branch_key_above(random: &mut Random, spelling: &mut Spelling, _: usize) -> bool {
+    let Some(id) = pick_upper_branch(random, spelling) else { return false };
     let Pair { key, pointer } = spelling.nodes[id].pairs[0];
     let child = &mut spelling.nodes[pointer as usize];
     let last = child.pairs.len() - 1;
     child.pairs[last].key = key;
     spelling.rebuild_histories();
     true
+}
+
+pub(super) fn branch_key_below(random: &mut Random, spelling: &mut Spelling, _: usize) -> bool {
+    let Some(id) = pick_upper_branch(random, spelling) else { return false };
+    let Node { pairs, link, .. } = &spelling.nodes[id];
+    let (low, child) = (pairs[pairs.len() - 1].key, *link as usize);
+    spelling.nodes[child].pairs[0].key = low.saturating_sub(1);
+    spelling.rebuild_histories();
+    low > 0
 }
 
 /// Makes one of a branch's pointers another.
