@@ -5,4 +5,6 @@ pub mod Prepare
 pub mod Bytes
 pub mod Call
 pub mod Calls
+pub mod Computes
 pub mod Worked
+pub mod Traces
