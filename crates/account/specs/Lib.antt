@@ -7,5 +7,4 @@ pub mod Potential
 pub mod Bound
 pub mod Events
 pub mod Nodes
-pub mod Worked
 pub mod Tight

@@ -6,4 +6,6 @@ pub mod Bytes
 pub mod Call
 pub mod Questions
 pub mod Calls
+pub mod Computes
 pub mod Worked
+pub mod Traces

@@ -1,251 +1,112 @@
--- The cases that document 01 marks M, together, as one table with one theorem; and the two traces: a prepare and the worked batch, page by
--- page and byte by byte, and 25 puts that split the root. All by computation. Assumes nothing.
+-- The cases that document 01 marks M, together, as one table with one theorem: the requests of one node, and batches of bytes on the pool that
+-- prepare leaves. All by computation. Assumes nothing.
 use mathlib.Core.Path.{_≡_, refl}
 use mathlib.Core.List.{List, [], _∷_, _++_, map}
 use Prim.Native.Nat.{ℕ, zero, suc, _+_}
-use lib.ListN.{length, take}
+use lib.ListN.{length, take, replicate}
 use Rattle.account.specs.declared.Mode.{Mode}
 use Rattle.account.specs.declared.Mode.the-variants.{Log, Disk}
 use Rattle.account.specs.declared.Request.{Request}
 use Rattle.account.specs.declared.Request.the-variants.{Read, Edit}
 use Rattle.account.specs.declared.Tariff.{Tariff}
 use Rattle.account.specs.declared.Account.{Account}
-use Rattle.account.specs.Tariff.{tariffOf}
-use Rattle.account.specs.Serve.{serveOf}
-use Rattle.command.specs.declared.Command.{Command}
-use Rattle.command.specs.declared.Command.the-variants.{Get, Put, Delete, Scan}
+use Rattle.account.specs.declared.Served.{Served}
+use Rattle.account.specs.Tariff.{tariffOf, limit}
+use Rattle.account.specs.Serve.{serveOf, chargesOf}
 use Rattle.node.specs.Node.{pairsOf}
-use Rattle.page.specs.Page.{Page, sequence}
-use Rattle.page.specs.Image.{image}
-use Rattle.store.specs.Pool.{block}
 use Rattle.book.specs.Book.{Book}
-use Rattle.book.specs.Command.{repliesBytes}
-use Rattle.model.specs.State.{bookOf}
-use Rattle.model.specs.Batch.{run, chargeOf, answers, closed}
-use Rattle.model.specs.Mount.{Mounted, refused, opened, mountCells}
-use Rattle.model.specs.Prepare.{prepared}
-use Rattle.laws.specs.Update as lawsUpdate
-use Rattle.laws.specs.BigEndian as lawsBigEndian
-use Rattle.laws.specs.Lay as lawsLay
-use Rattle.pairs.specs.Pairs as pairsPairs
-use Rattle.node.specs.Replay as nodeReplay
-use Rattle.node.specs.Halves as nodeHalves
-use Rattle.node.specs.Ascends as nodeAscends
-use Rattle.node.specs.Search as nodeSearch
-use Rattle.account.specs.Serve as accountServe
-use Rattle.account.specs.Range as accountRange
-use Rattle.wire.specs.Field as wireField
-use Rattle.wire.specs.Tag as wireTag
-use Rattle.command.specs.Answer as commandAnswer
-use Rattle.page.specs.Image as pageImage
-use Rattle.tree.specs.Table as treeTable
-use Rattle.tree.specs.Get as treeGet
-use Rattle.tree.specs.Put as treePut
-use Rattle.tree.specs.Delete as treeDelete
-use Rattle.tree.specs.Scan as treeScan
-use Rattle.tree.specs.Sound as treeSound
-use Rattle.store.specs.View as storeView
-use Rattle.store.specs.Pool as storePool
-use Rattle.store.specs.Store as storeStore
-use Rattle.store.specs.Live as storeLive
-use Rattle.store.specs.Allocate as storeAllocate
-use Rattle.store.specs.Write as storeWrite
-use Rattle.store.specs.Run as storeRun
-use Rattle.store.specs.Serve as storeServe
-use Rattle.store.specs.Checkpoint as storeCheckpoint
-use Rattle.store.specs.Reopen as storeReopen
-use Rattle.book.specs.Book as bookBook
-use Rattle.book.specs.Command as bookCommand
-use Rattle.model.specs.State as modelState
-use Rattle.model.specs.Batch as modelBatch
-use Rattle.model.specs.Mount as modelMount
-use Rattle.model.specs.Prepare as modelPrepare
+use Rattle.model.specs.Call.{Outcome, prepareOf, batchOf}
+use Rattle.model.specs.Calls.{bookIn}
+use Rattle.model.specs.Computes.{computes}
 
 -- "Tariff 3 1 2, 1 4 4, 3 2; T = 5."
 abbrev pub tariff : Tariff
 tariff = tariffOf 3 1 2 1 4 4 3 2
 
--- What a served request leaves: its charge, and the mode and score after it.
-pub record Line : Type 0 where
-  pub charge : ℕ
-  pub mode : Mode
-  pub score : ℕ
+-- What a served request leaves: its charge, and the mode and the score after it. And that of each request of a list.
+abbrev pub line : ℕ → Mode → ℕ → Served
+line charge mode score = record { account = record { mode = mode; score = score }; charge = charge }
 
-abbrev line : ℕ → Mode → ℕ → Line
-line c m s = record { charge = c; mode = m; score = s }
+abbrev pub linesOf : Account → List Request → List Served
+linesOf a [] = []
+linesOf a (q ∷ qs) = serveOf tariff a q ∷ linesOf (serveOf tariff a q .account) qs
 
-abbrev lines : Account → List Request → List Line
-lines a [] = []
-lines a (q ∷ qs) =
-    line (serveOf tariff a q .charge) (serveOf tariff a q .account .mode) (serveOf tariff a q .account .score) ∷ lines (serveOf tariff a q .account) qs
+-- A batch on the pool of 65,536 bytes that a prepare leaves, whatever it held before, with a work table and an answer buffer long enough.
+abbrev pub preparedPool : Tariff → List ℕ
+preparedPool t = prepareOf (replicate 65536 0) t .pool
 
--- What a batch on a prepared pool of four blocks leaves: the answers' bytes, the charge, the number of keys of each node, and the pages of
--- block 0.
-pub record Left : Type 0 where
-  pub answers : List ℕ
-  pub charge : ℕ
-  pub sizes : List ℕ
-  pub pages : List Page
+abbrev pub batchOn : Tariff → List ℕ → Outcome
+batchOn t batch = batchOf (preparedPool t) (replicate 4096 7) batch (replicate 512 7)
 
-abbrev sizesOf : ℕ → Book → List ℕ
-sizesOf zero b = []
-sizesOf (suc n) b = sizesOf n b ++ (length (pairsOf (b .table n)) ∷ [])
+-- How many keys each node of a pool has, by id.
+abbrev sizesBelow : ℕ → Book → List ℕ
+sizesBelow zero b = []
+sizesBelow (suc n) b = sizesBelow n b ++ (length (pairsOf (b .table n)) ∷ [])
 
-abbrev leftBy : List Command → Mounted → Left
-leftBy cs (refused n) = record { answers = []; charge = 0; sizes = []; pages = [] }
-leftBy cs (opened t s) =
-    let b = bookOf (run 20 t cs s) in
-    record {
-      answers = repliesBytes (answers 20 t cs s);
-      charge = chargeOf 20 t cs s;
-      sizes = sizesOf (b .count) b;
-      pages = block (closed t (run 20 t cs s) .run .now .blocks) 0;
-    }
+abbrev pub sizesOf : List ℕ → List ℕ
+sizesOf pool = sizesBelow (bookIn pool .count) (bookIn pool)
 
-unfoldable pub leftOf : Tariff → List Command → Left
-leftOf t cs = leftBy cs (mountCells 4 (prepared 4 t))
-
--- The first n keys, each put with 100 more as its value.
-abbrev pub puts : ℕ → List Command
+-- The first n keys hung, each with 100 more as its word; a sweep from 9 to 3.
+abbrev pub puts : ℕ → List ℕ
 puts zero = []
-puts (suc n) = puts n ++ (Put n (100 + n) ∷ [])
+puts (suc n) = puts n ++ (0x02 ∷ 0 ∷ 8 ∷ 0 ∷ 0 ∷ 0 ∷ n ∷ 0 ∷ 0 ∷ 0 ∷ (100 + n) ∷ [])
 
--- A case: requests of one node from an account; the answers of a batch; the charge of a batch; the sizes of the nodes after a batch.
+abbrev pub sweep9to3 : List ℕ
+sweep9to3 = 0x04 ∷ 0 ∷ 10 ∷ 0 ∷ 0 ∷ 0 ∷ 9 ∷ 0 ∷ 0 ∷ 0 ∷ 3 ∷ 0 ∷ 5 ∷ []
+
+-- So many answers "80, length 0".
+abbrev pub newly : ℕ → List ℕ
+newly zero = []
+newly (suc n) = 0x80 ∷ 0 ∷ 0 ∷ newly n
+
+-- A case: requests of a node that is in a mode with a score; or the bytes of a batch.
 pub data Case : Type 0 where
-  serves : Mode → ℕ → List Request → Case
-  replies : List Command → Case
-  costs : List Command → Case
-  splits : List Command → Case
+  requests : Mode → ℕ → List Request → Case
+  batch : List ℕ → Case
 
+-- Its result: T, a line for each request, the charge of all; or number, answers and charge of the call, and the sizes of the nodes after it.
 pub data Result : Type 0 where
-  served : List Line → Result
-  numbers : List ℕ → Result
+  served : ℕ → List Served → ℕ → Result
+  left : ℕ → List ℕ → ℕ → List ℕ → Result
 
-unfoldable pub found : Case → Result
-found (serves m s qs) = served (lines (record { mode = m; score = s }) qs)
-found (replies cs) = numbers (leftOf tariff cs .answers)
-found (costs cs) = numbers (leftOf tariff cs .charge ∷ [])
-found (splits cs) = numbers (leftOf tariff cs .sizes)
+abbrev leftBy : Outcome → Result
+leftBy o = left (o .number) (take (o .length) (o .answers)) (o .charge) (sizesOf (o .pool))
 
--- THE TABLE: three reads; read, read, edit, read; a disk node, two edits; an edit at score 0; 25 keys and 24 keys; sweep 9 to 3; the empty
--- batch.
-abbrev pub cases : List Case
+-- The result that the definitions give.
+abbrev pub resultOf : Case → Result
+resultOf (requests mode score qs) =
+    let a : Account = record { mode = mode; score = score } in
+    served (limit tariff) (linesOf a qs) (chargesOf tariff qs a)
+resultOf (batch bytes) = leftBy (batchOn tariff bytes)
+
+pub record Row : Type 0 where
+  pub case : Case
+  pub result : Result
+
+abbrev row : Case → Result → Row
+row c r = record { case = c; result = r }
+
+-- THE TABLE.
+abbrev pub cases : List Row
 cases =
-    serves Log 0 (Read ∷ Read ∷ Read ∷ []) ∷
-    serves Log 0 (Read ∷ Read ∷ Edit ∷ Read ∷ []) ∷
-    serves Disk 0 (Edit ∷ Edit ∷ []) ∷
-    serves Log 0 (Edit ∷ []) ∷
-    splits (puts 25) ∷
-    splits (puts 24) ∷
-    replies (Scan 9 3 5 ∷ []) ∷
-    costs [] ∷
+    -- "three reads of a log node: charges 3, 3, 4; now disk, score 0"
+    row (requests Log 0 (Read ∷ Read ∷ Read ∷ [])) (served 5 (line 3 Log 2 ∷ line 3 Log 4 ∷ line 4 Disk 0 ∷ []) 10) ∷
+    -- "read, read, edit, read: scores 2, 4, 1, 3; charge 10"
+    row (requests Log 0 (Read ∷ Read ∷ Edit ∷ Read ∷ [])) (served 5 (line 3 Log 2 ∷ line 3 Log 4 ∷ line 1 Log 1 ∷ line 3 Log 3 ∷ []) 10) ∷
+    -- "disk node, two edits: 4, then 3; now log"
+    row (requests Disk 0 (Edit ∷ Edit ∷ [])) (served 5 (line 4 Disk 3 ∷ line 3 Log 0 ∷ []) 7) ∷
+    -- "edit at score 0, log: score 0"
+    row (requests Log 0 (Edit ∷ [])) (served 5 (line 1 Log 0 ∷ []) 1) ∷
+    -- "25 keys: 12 and 13", below a root of one key: 24 hangs at 3 + 1, the last at 3 + 2
+    row (batch (puts 25)) (left 0 (newly 25) 101 (1 ∷ 12 ∷ 13 ∷ [])) ∷
+    -- "24 keys: no split"
+    row (batch (puts 24)) (left 0 (newly 24) 96 (24 ∷ [])) ∷
+    -- "sweep 9 to 3: 840000"
+    row (batch sweep9to3) (left 0 (0x84 ∷ 0 ∷ 0 ∷ []) 0 (0 ∷ [])) ∷
+    -- "empty batch: charge 0"
+    row (batch []) (left 0 [] 0 (0 ∷ [])) ∷
     []
 
-abbrev pub results : List Result
-results =
-    served (line 3 Log 2 ∷ line 3 Log 4 ∷ line 4 Disk 0 ∷ []) ∷
-    served (line 3 Log 2 ∷ line 3 Log 4 ∷ line 1 Log 1 ∷ line 3 Log 3 ∷ []) ∷
-    served (line 4 Disk 3 ∷ line 3 Log 0 ∷ []) ∷
-    served (line 1 Log 0 ∷ []) ∷
-    numbers (1 ∷ 12 ∷ 13 ∷ []) ∷
-    numbers (24 ∷ []) ∷
-    numbers (0x84 ∷ 0 ∷ 0 ∷ []) ∷
-    numbers (0 ∷ []) ∷
-    []
-
-pub worked : map found cases ≡ results
-unfolding found leftOf lawsUpdate.update lawsBigEndian.numberAt lawsLay.lay lawsLay.part pairsPairs.lookup pairsPairs.insert pairsPairs.delete
-    pairsPairs.range pairsPairs.hasAbove pairsPairs.Within nodeReplay.redo nodeReplay.redoPiece nodeReplay.replayFrom nodeReplay.replay
-    nodeHalves.lowerHalf nodeHalves.upperHalf nodeHalves.middleKey nodeAscends.ascends nodeSearch.place accountServe.serveOf accountRange.withinRange
-    accountRange.costsInRange accountRange.inRange wireField.field wireField.fieldAt wireField.payloadAt wireField.standsAt wireTag.rows wireTag.find
-    wireTag.lengthOf wireTag.isNodeBytes commandAnswer.answerBytes commandAnswer.scanBytes pageImage.entryBytes pageImage.pairsBytes
-    pageImage.wholeBytes pageImage.tariffBytes pageImage.scoreBytes pageImage.fields pageImage.contentBytes pageImage.numbered pageImage.sumsField
-    pageImage.sealed pageImage.image pageImage.blankBytes treeTable.slot treeTable.path treeTable.leafFor treeGet.getAnswer treePut.renamed
-    treePut.settle treePut.work treePut.finish treePut.fullRun treePut.idsNeeded treePut.putRefused treePut.putRequests treeDelete.deleteRequests
-    treeScan.stopsIn treeScan.pairsFrom treeScan.leavesAfter treeScan.scanRequests treeScan.scanAnswer treeSound.inOrder treeSound.visitLeaf
-    treeSound.visitChildren treeSound.visitBranch treeSound.visit treeSound.leftmost treeSound.allMarked treeSound.complete treeSound.walkFrom
-    treeSound.sound storeView.greatest storeView.pieces storeView.buffered storeView.pages storePool.above storeStore.draftOf storeStore.nodeOf
-    storeStore.modeOf storeLive.carries storeLive.checkpointSince storeAllocate.spot storeWrite.found storeWrite.place storeWrite.flush
-    storeWrite.enter storeWrite.start storeWrite.nodePage storeRun.written storeRun.write storeRun.makeRoom storeRun.writeGroup storeRun.writeEdit
-    storeServe.serve storeServe.create storeCheckpoint.checkpointPages storeCheckpoint.close storeCheckpoint.collect storeCheckpoint.checkpointOf
-    storeCheckpoint.scoreIn storeCheckpoint.complete storeReopen.cellsIn storeReopen.reopened storeReopen.blocksPass storeReopen.pagesPass
-    bookBook.serve bookBook.charge bookCommand.requests bookCommand.refuses bookCommand.answer modelState.bookOf modelState.serve modelBatch.closed
-    modelMount.stateOf modelMount.threePages modelMount.scoresBelow modelMount.treeSound modelMount.mountCells modelPrepare.prepared
+pub worked : map (λ r. row (r .case) (resultOf (r .case))) cases ≡ cases
+unfolding computes
 worked = refl
-
--- THE FIRST TRACE: "hang 7 with 100, look up 7, strip 7, look up 7": the answers, the charge, and four pages with their first bytes.
-pub record Trace : Type 0 where
-  pub answers : List ℕ
-  pub charge : ℕ
-  pub images : List (List ℕ)
-
-abbrev imagesOf : List ℕ → List Page → List (List ℕ)
-imagesOf [] ps = []
-imagesOf (n ∷ ns) [] = []
-imagesOf (n ∷ ns) (p ∷ ps) = take n (image p) ∷ imagesOf ns ps
-
-unfoldable pub traced : List ℕ → Tariff → List Command → Trace
-traced ns t cs =
-    let l = leftOf t cs in
-    record { answers = l .answers; charge = l .charge; images = imagesOf ns (l .pages) }
-
-pub first-trace :
-    traced (32 ∷ 63 ∷ 50 ∷ 63 ∷ []) tariff (Put 7 100 ∷ Get 7 ∷ Delete 7 ∷ Get 7 ∷ []) ≡
-    record {
-      answers = 0x80 ∷ 0x00 ∷ 0x00 ∷ 0x81 ∷ 0x00 ∷ 0x04 ∷ 0x00 ∷ 0x00 ∷ 0x00 ∷ 0x64 ∷ 0x83 ∷ 0x00 ∷ 0x04 ∷ 0x00 ∷ 0x00 ∷ 0x00 ∷ 0x64 ∷ 0x80 ∷ 0x00 ∷ 0x00 ∷ [];
-      charge = 14;
-      images = (0x10 ∷ 0x00 ∷ 0x04 ∷ 0x00 ∷ 0x00 ∷ 0x00 ∷ 0x02 ∷ 0x12 ∷ 0x00 ∷ 0x0F ∷ 0x00 ∷ 0x00 ∷ 0x00 ∷ 0x00 ∷ 0x00 ∷ 0x01 ∷ 0x03 ∷ 0x00 ∷ 0x00 ∷ 0x00 ∷ 0x00 ∷ 0xFF ∷ 0xFF ∷ 0xFF ∷ 0xFF ∷ 0x1F ∷ 0x00 ∷ 0x04 ∷ 0x0E ∷ 0x7A ∷ 0x04 ∷ 0x38 ∷ []) ∷ (0x10 ∷ 0x00 ∷ 0x04 ∷ 0x00 ∷ 0x00 ∷ 0x00 ∷ 0x03 ∷ 0x13 ∷ 0x00 ∷ 0x20 ∷ 0x00 ∷ 0x00 ∷ 0x00 ∷ 0x03 ∷ 0x00 ∷ 0x00 ∷ 0x00 ∷ 0x01 ∷ 0x00 ∷ 0x00 ∷ 0x00 ∷ 0x02 ∷ 0x00 ∷ 0x00 ∷ 0x00 ∷ 0x01 ∷ 0x00 ∷ 0x00 ∷ 0x00 ∷ 0x04 ∷ 0x00 ∷ 0x00 ∷ 0x00 ∷ 0x04 ∷ 0x00 ∷ 0x00 ∷ 0x00 ∷ 0x03 ∷ 0x00 ∷ 0x00 ∷ 0x00 ∷ 0x02 ∷ 0x14 ∷ 0x00 ∷ 0x06 ∷ 0x00 ∷ 0x00 ∷ 0x00 ∷ 0x00 ∷ 0x00 ∷ 0x00 ∷ 0x15 ∷ 0x00 ∷ 0x02 ∷ 0x00 ∷ 0x01 ∷ 0x1F ∷ 0x00 ∷ 0x04 ∷ 0x12 ∷ 0xA5 ∷ 0x00 ∷ 0x91 ∷ []) ∷ (0x10 ∷ 0x00 ∷ 0x04 ∷ 0x00 ∷ 0x00 ∷ 0x00 ∷ 0x04 ∷ 0x12 ∷ 0x00 ∷ 0x0F ∷ 0x00 ∷ 0x00 ∷ 0x00 ∷ 0x00 ∷ 0x00 ∷ 0x01 ∷ 0x01 ∷ 0x00 ∷ 0x00 ∷ 0x00 ∷ 0x07 ∷ 0x00 ∷ 0x00 ∷ 0x00 ∷ 0x64 ∷ 0x12 ∷ 0x00 ∷ 0x0F ∷ 0x00 ∷ 0x00 ∷ 0x00 ∷ 0x00 ∷ 0x00 ∷ 0x01 ∷ 0x02 ∷ 0x00 ∷ 0x00 ∷ 0x00 ∷ 0x07 ∷ 0x00 ∷ 0x00 ∷ 0x00 ∷ 0x00 ∷ 0x1F ∷ 0x00 ∷ 0x04 ∷ 0x13 ∷ 0x50 ∷ 0x00 ∷ 0xD2 ∷ []) ∷ (0x10 ∷ 0x00 ∷ 0x04 ∷ 0x00 ∷ 0x00 ∷ 0x00 ∷ 0x05 ∷ 0x13 ∷ 0x00 ∷ 0x20 ∷ 0x00 ∷ 0x00 ∷ 0x00 ∷ 0x03 ∷ 0x00 ∷ 0x00 ∷ 0x00 ∷ 0x01 ∷ 0x00 ∷ 0x00 ∷ 0x00 ∷ 0x02 ∷ 0x00 ∷ 0x00 ∷ 0x00 ∷ 0x01 ∷ 0x00 ∷ 0x00 ∷ 0x00 ∷ 0x04 ∷ 0x00 ∷ 0x00 ∷ 0x00 ∷ 0x04 ∷ 0x00 ∷ 0x00 ∷ 0x00 ∷ 0x03 ∷ 0x00 ∷ 0x00 ∷ 0x00 ∷ 0x02 ∷ 0x14 ∷ 0x00 ∷ 0x06 ∷ 0x00 ∷ 0x00 ∷ 0x00 ∷ 0x00 ∷ 0x00 ∷ 0x03 ∷ 0x15 ∷ 0x00 ∷ 0x02 ∷ 0x00 ∷ 0x01 ∷ 0x1F ∷ 0x00 ∷ 0x04 ∷ 0x13 ∷ 0x1B ∷ 0x00 ∷ 0x96 ∷ []) ∷ [];
-    }
-unfolding traced leftOf lawsUpdate.update lawsBigEndian.numberAt lawsLay.lay lawsLay.part pairsPairs.lookup pairsPairs.insert pairsPairs.delete
-    pairsPairs.range pairsPairs.hasAbove pairsPairs.Within nodeReplay.redo nodeReplay.redoPiece nodeReplay.replayFrom nodeReplay.replay
-    nodeHalves.lowerHalf nodeHalves.upperHalf nodeHalves.middleKey nodeAscends.ascends nodeSearch.place accountServe.serveOf accountRange.withinRange
-    accountRange.costsInRange accountRange.inRange wireField.field wireField.fieldAt wireField.payloadAt wireField.standsAt wireTag.rows wireTag.find
-    wireTag.lengthOf wireTag.isNodeBytes commandAnswer.answerBytes commandAnswer.scanBytes pageImage.entryBytes pageImage.pairsBytes
-    pageImage.wholeBytes pageImage.tariffBytes pageImage.scoreBytes pageImage.fields pageImage.contentBytes pageImage.numbered pageImage.sumsField
-    pageImage.sealed pageImage.image pageImage.blankBytes treeTable.slot treeTable.path treeTable.leafFor treeGet.getAnswer treePut.renamed
-    treePut.settle treePut.work treePut.finish treePut.fullRun treePut.idsNeeded treePut.putRefused treePut.putRequests treeDelete.deleteRequests
-    treeScan.stopsIn treeScan.pairsFrom treeScan.leavesAfter treeScan.scanRequests treeScan.scanAnswer treeSound.inOrder treeSound.visitLeaf
-    treeSound.visitChildren treeSound.visitBranch treeSound.visit treeSound.leftmost treeSound.allMarked treeSound.complete treeSound.walkFrom
-    treeSound.sound storeView.greatest storeView.pieces storeView.buffered storeView.pages storePool.above storeStore.draftOf storeStore.nodeOf
-    storeStore.modeOf storeLive.carries storeLive.checkpointSince storeAllocate.spot storeWrite.found storeWrite.place storeWrite.flush
-    storeWrite.enter storeWrite.start storeWrite.nodePage storeRun.written storeRun.write storeRun.makeRoom storeRun.writeGroup storeRun.writeEdit
-    storeServe.serve storeServe.create storeCheckpoint.checkpointPages storeCheckpoint.close storeCheckpoint.collect storeCheckpoint.checkpointOf
-    storeCheckpoint.scoreIn storeCheckpoint.complete storeReopen.cellsIn storeReopen.reopened storeReopen.blocksPass storeReopen.pagesPass
-    bookBook.serve bookBook.charge bookCommand.requests bookCommand.refuses bookCommand.answer modelState.bookOf modelState.serve modelBatch.closed
-    modelMount.stateOf modelMount.threePages modelMount.scoresBelow modelMount.treeSound modelMount.mountCells modelPrepare.prepared
-first-trace = refl
-
--- THE SECOND TRACE: "tariff 0 0 0, 0 0 0, 1 1", keys 0 to 24: the sequences of the pages, how the nodes are filled, and page 0.
-pub record Second : Type 0 where
-  pub sequences : List ℕ
-  pub sizes : List ℕ
-  pub first : List ℕ
-
-unfoldable pub second : Left → Second
-second l = record { sequences = map sequence (l .pages); sizes = l .sizes; first = firstOf (l .pages) }
-  where
-    firstOf : List Page → List ℕ
-    firstOf [] = []
-    firstOf (p ∷ ps) = take 32 (image p)
-
-pub second-trace :
-    second (leftOf (tariffOf 0 0 0 0 0 0 1 1) (puts 25)) ≡
-    record { sequences = 2 ∷ 3 ∷ 4 ∷ 7 ∷ 9 ∷ 10 ∷ []; sizes = 1 ∷ 12 ∷ 13 ∷ []; first = 0x10 ∷ 0x00 ∷ 0x04 ∷ 0x00 ∷ 0x00 ∷ 0x00 ∷ 0x02 ∷ 0x12 ∷ 0x00 ∷ 0x0F ∷ 0x00 ∷ 0x00 ∷ 0x00 ∷ 0x00 ∷ 0x00 ∷ 0x01 ∷ 0x03 ∷ 0x00 ∷ 0x00 ∷ 0x00 ∷ 0x00 ∷ 0xFF ∷ 0xFF ∷ 0xFF ∷ 0xFF ∷ 0x1F ∷ 0x00 ∷ 0x04 ∷ 0x0E ∷ 0x7A ∷ 0x04 ∷ 0x38 ∷ [] }
-unfolding second leftOf lawsUpdate.update lawsBigEndian.numberAt lawsLay.lay lawsLay.part pairsPairs.lookup pairsPairs.insert pairsPairs.delete
-    pairsPairs.range pairsPairs.hasAbove pairsPairs.Within nodeReplay.redo nodeReplay.redoPiece nodeReplay.replayFrom nodeReplay.replay
-    nodeHalves.lowerHalf nodeHalves.upperHalf nodeHalves.middleKey nodeAscends.ascends nodeSearch.place accountServe.serveOf accountRange.withinRange
-    accountRange.costsInRange accountRange.inRange wireField.field wireField.fieldAt wireField.payloadAt wireField.standsAt wireTag.rows wireTag.find
-    wireTag.lengthOf wireTag.isNodeBytes commandAnswer.answerBytes commandAnswer.scanBytes pageImage.entryBytes pageImage.pairsBytes
-    pageImage.wholeBytes pageImage.tariffBytes pageImage.scoreBytes pageImage.fields pageImage.contentBytes pageImage.numbered pageImage.sumsField
-    pageImage.sealed pageImage.image pageImage.blankBytes treeTable.slot treeTable.path treeTable.leafFor treeGet.getAnswer treePut.renamed
-    treePut.settle treePut.work treePut.finish treePut.fullRun treePut.idsNeeded treePut.putRefused treePut.putRequests treeDelete.deleteRequests
-    treeScan.stopsIn treeScan.pairsFrom treeScan.leavesAfter treeScan.scanRequests treeScan.scanAnswer treeSound.inOrder treeSound.visitLeaf
-    treeSound.visitChildren treeSound.visitBranch treeSound.visit treeSound.leftmost treeSound.allMarked treeSound.complete treeSound.walkFrom
-    treeSound.sound storeView.greatest storeView.pieces storeView.buffered storeView.pages storePool.above storeStore.draftOf storeStore.nodeOf
-    storeStore.modeOf storeLive.carries storeLive.checkpointSince storeAllocate.spot storeWrite.found storeWrite.place storeWrite.flush
-    storeWrite.enter storeWrite.start storeWrite.nodePage storeRun.written storeRun.write storeRun.makeRoom storeRun.writeGroup storeRun.writeEdit
-    storeServe.serve storeServe.create storeCheckpoint.checkpointPages storeCheckpoint.close storeCheckpoint.collect storeCheckpoint.checkpointOf
-    storeCheckpoint.scoreIn storeCheckpoint.complete storeReopen.cellsIn storeReopen.reopened storeReopen.blocksPass storeReopen.pagesPass
-    bookBook.serve bookBook.charge bookCommand.requests bookCommand.refuses bookCommand.answer modelState.bookOf modelState.serve modelBatch.closed
-    modelMount.stateOf modelMount.threePages modelMount.scoresBelow modelMount.treeSound modelMount.mountCells modelPrepare.prepared
-second-trace = refl
