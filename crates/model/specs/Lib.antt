@@ -9,3 +9,4 @@ pub mod Calls
 pub mod Computes
 pub mod Worked
 pub mod Traces
+pub mod ForeignPool

@@ -2,6 +2,7 @@
 -- prepare leaves. All by computation. Assumes nothing.
 use mathlib.Core.Path.{_≡_, refl}
 use mathlib.Core.List.{List, [], _∷_, _++_, map}
+use mathlib.Core.Option.{Option, none, some}
 use Prim.Native.Nat.{ℕ, zero, suc, _+_}
 use lib.ListN.{length, take, replicate}
 use Rattle.account.specs.declared.Mode.{Mode}
@@ -43,8 +44,12 @@ abbrev sizesBelow : ℕ → Book → List ℕ
 sizesBelow zero b = []
 sizesBelow (suc n) b = sizesBelow n b ++ (length (pairsOf (b .table n)) ∷ [])
 
+abbrev sizesBy : Option Book → List ℕ
+sizesBy none = []
+sizesBy (some b) = sizesBelow (b .count) b
+
 abbrev pub sizesOf : List ℕ → List ℕ
-sizesOf pool = sizesBelow (bookIn pool .count) (bookIn pool)
+sizesOf pool = sizesBy (bookIn pool)
 
 -- The first n keys hung, each with 100 more as its word; a sweep from 9 to 3.
 abbrev pub puts : ℕ → List ℕ
