@@ -2,6 +2,7 @@
 
 mod common;
 mod foreign;
+mod format;
 mod fuzz;
 mod library;
 mod refusals;
