@@ -7,7 +7,7 @@ use std::process::ExitCode;
 use yokehour_host::bench::{Section, Setup, SECTIONS};
 use yokehour_host::output::say;
 
-/// Rounds where none are asked for: about a minute and a half on one core.
+/// Rounds where none are asked for: about 20 seconds on one core.
 const ROUNDS: usize = 100;
 
 fn usage() -> String {
