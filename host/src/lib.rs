@@ -26,6 +26,7 @@ pub mod mount;
 pub mod node;
 pub mod observe;
 pub mod optimum;
+pub mod output;
 pub mod page;
 #[cfg(proved_book)]
 pub mod proved;

@@ -1,6 +1,7 @@
 //! Measures a run: charges against other ways to choose modes, and pages and erases beside them.
 
-use crate::account::{Mode, Request, Tariff};
+use crate::account::{Account, Mode, Request, Tariff};
+use crate::mount::Mounted;
 use crate::observe::{Event, Observer, State};
 use crate::optimum::Optimum;
 
@@ -17,18 +18,58 @@ pub struct Meter {
 }
 
 /// What others would have paid for one node's requests.
-#[derive(Clone, Debug, Default)]
+///
+/// All begin with the node as it is when the measuring begins, so that none has less to pay for than the optimum.
+#[derive(Clone, Debug)]
 struct Rivals {
-    /// Whether there was a request yet.
-    asked: bool,
-    log: u64,
-    disk: u64,
+    log: Steady,
+    disk: Steady,
     optimum: Optimum,
     listing: Listing,
 }
 
+impl Rivals {
+    fn of(account: Account) -> Rivals {
+        Rivals {
+            log: Steady::new(Mode::Log, account.mode),
+            disk: Steady::new(Mode::Disk, account.mode),
+            optimum: Optimum::from_mode(account.mode),
+            listing: Listing { mode: account.mode, counter: account.score.into(), paid: 0, switches: 0 },
+        }
+    }
+
+    fn serve(&mut self, tariff: &Tariff, request: Request) {
+        self.log.serve(tariff, request);
+        self.disk.serve(tariff, request);
+        self.optimum.serve(tariff, request);
+        self.listing.serve(tariff, request);
+    }
+}
+
+/// The schedule that serves every request in one mode; a node in the other is switched at its first request.
+#[derive(Clone, Debug)]
+struct Steady {
+    wanted: Mode,
+    mode: Mode,
+    paid: u64,
+}
+
+impl Steady {
+    fn new(wanted: Mode, mode: Mode) -> Steady {
+        Steady { wanted, mode, paid: 0 }
+    }
+
+    fn serve(&mut self, tariff: &Tariff, request: Request) {
+        if self.mode != self.wanted {
+            self.mode = self.wanted;
+            self.paid += u64::from(tariff.switch_to(self.mode));
+        }
+        self.paid += u64::from(tariff.cost(self.mode, request));
+    }
+}
+
 /// The source's own rule: it serves first and switches afterwards, and its counter has no floor.
-#[derive(Clone, Debug, Default)]
+#[derive(Clone, Debug)]
 struct Listing {
     mode: Mode,
     counter: i64,
@@ -51,13 +92,13 @@ impl Listing {
     }
 }
 
-/// Charges and counts of a run, or of a part of one.
+/// Charges and counts since the measuring began.
 #[derive(Clone, Debug)]
 pub struct Totals {
     pub charge: u64,
-    /// What never leaving log mode would have paid.
+    /// What serving every request in log mode would have paid.
     pub log: u64,
-    /// What switching each node to disk at its first request, for good, would have paid.
+    /// What serving every request in disk mode would have paid.
     pub disk: u64,
     /// What the cheapest schedule would have paid.
     pub optimum: u64,
@@ -72,22 +113,6 @@ pub struct Totals {
 }
 
 impl Totals {
-    /// What came after an earlier moment; the optimum's part is what it grew by.
-    pub fn since(&self, before: &Totals) -> Totals {
-        Totals {
-            charge: self.charge - before.charge,
-            log: self.log - before.log,
-            disk: self.disk - before.disk,
-            optimum: self.optimum - before.optimum,
-            listing: self.listing - before.listing,
-            switches: self.switches - before.switches,
-            listing_switches: self.listing_switches - before.listing_switches,
-            pages_written: self.pages_written - before.pages_written,
-            pages_copied: self.pages_copied - before.pages_copied,
-            erases: self.erases.iter().zip(&before.erases).map(|(now, before)| now - before).collect(),
-        }
-    }
-
     /// Erases of all blocks, of the least erased and of the most erased.
     pub fn erase_spread(&self) -> (u64, u64, u64) {
         let least = self.erases.iter().min().copied().unwrap_or(0);
@@ -97,6 +122,7 @@ impl Totals {
 }
 
 impl Meter {
+    /// Measures from a fresh pool on.
     pub fn new(tariff: Tariff, blocks: usize) -> Meter {
         Meter {
             tariff,
@@ -109,13 +135,19 @@ impl Meter {
         }
     }
 
+    /// Measures from a pool on as it is: its nodes have their modes and scores.
+    pub fn of_pool(mounted: &Mounted) -> Meter {
+        let nodes = mounted.rows.iter().map(|row| Rivals::of(row.account)).collect();
+        Meter { nodes, ..Meter::new(mounted.tariff, mounted.written.len()) }
+    }
+
     /// What the run has come to so far.
     pub fn totals(&self) -> Totals {
         let sum = |of: fn(&Rivals) -> u64| self.nodes.iter().map(of).sum();
         Totals {
             charge: self.charge,
-            log: sum(|node| node.log),
-            disk: sum(|node| node.disk),
+            log: sum(|node| node.log.paid),
+            disk: sum(|node| node.disk.paid),
             optimum: sum(|node| node.optimum.paid()),
             listing: sum(|node| node.listing.paid),
             switches: self.switches,
@@ -128,16 +160,9 @@ impl Meter {
 
     fn request(&mut self, id: usize, request: Request) {
         if self.nodes.len() <= id {
-            self.nodes.resize(id + 1, Rivals::default());
+            self.nodes.resize(id + 1, Rivals::of(Account::default()));
         }
-        let (tariff, node) = (&self.tariff, &mut self.nodes[id]);
-        node.log += u64::from(tariff.cost(Mode::Log, request));
-        node.disk += u64::from(tariff.cost(Mode::Disk, request));
-        if !std::mem::replace(&mut node.asked, true) {
-            node.disk += u64::from(tariff.switch_to(Mode::Disk));
-        }
-        node.optimum.serve(tariff, request);
-        node.listing.serve(tariff, request);
+        self.nodes[id].serve(&self.tariff, request);
     }
 }
 
@@ -153,6 +178,70 @@ impl Observer for Meter {
                 self.request(id, request);
             }
             Event::Created { .. } | Event::WroteWhole { .. } => {}
+        }
+    }
+}
+
+#[cfg(test)]
+mod tests {
+    use super::*;
+    use crate::command::Command;
+    use crate::foreign::random_tariff;
+    use crate::layout::MIN_BLOCKS;
+    use crate::metered::Metered;
+    use crate::random::Random;
+
+    /// The book's charge, always log, always disk, the optimum and the listing.
+    fn charges(metered: &Metered) -> [u64; 5] {
+        let Totals { charge, log, disk, optimum, listing, .. } = metered.meter.totals();
+        [charge, log, disk, optimum, listing]
+    }
+
+    fn reads(count: usize) -> Vec<Command> {
+        vec![Command::Get { key: 1 }; count]
+    }
+
+    #[test]
+    fn all_begin_in_the_mode_that_a_node_has() {
+        let mut metered = Metered::new(MIN_BLOCKS, [3, 1, 2, 1, 4, 4, 3, 2]).expect("a pool");
+        metered.run(&reads(3)).expect("fits");
+        // The third read switches the node. On disk from the first on: 3 and three reads of 1.
+        assert_eq!(charges(&metered), [10, 9, 6, 6, 12]);
+        metered.measure_anew().expect("opens");
+        assert_eq!(charges(&metered), [0; 5]);
+        metered.run(&reads(2)).expect("fits");
+        // The node is on disk by now; always log has to fetch it back.
+        assert_eq!(charges(&metered), [2, 8, 2, 2, 2]);
+    }
+
+    /// Puts, gets and deletes of a few hundred keys, with long runs of one kind.
+    fn commands(random: &mut Random) -> Vec<Command> {
+        let mut kind = 0;
+        let mut one = |_| {
+            if random.once_in(20) {
+                kind = random.below(4);
+            }
+            let key = random.below(200) as u32;
+            match kind {
+                0 | 1 => Command::Put { key, value: random.next_u32() },
+                2 => Command::Get { key },
+                _ => Command::Delete { key },
+            }
+        };
+        (0..300).map(&mut one).collect()
+    }
+
+    #[test]
+    fn nobody_pays_less_than_the_optimum() {
+        let mut random = Random::new(6);
+        for round in 0..200 {
+            let mut metered = Metered::new(MIN_BLOCKS, random_tariff(&mut random)).expect("a pool");
+            for part in 0..3 {
+                metered.run(&commands(&mut random)).expect("fits");
+                let charges = charges(&metered);
+                assert!(charges.iter().all(|&paid| paid >= charges[3]), "round {round}, part {part}: {charges:?}");
+                metered.measure_anew().expect("opens");
+            }
         }
     }
 }

@@ -5,13 +5,14 @@ use crate::book;
 use crate::command::{answer_room, encode, split_answers, Answer, Command};
 use crate::layout::{table_bytes, BLANK, BLOCK_BYTES};
 use crate::meter::{Meter, Totals};
+use crate::mount::mount;
 use crate::observe::Unobserved;
 use crate::tree::IDS_USED_UP;
 
 /// Commands of a batch: a batch closes, and closing writes pages.
 pub const BATCH: usize = 2_000;
 
-/// A pool, and what was measured of it so far.
+/// A pool, and what was measured of it.
 pub struct Metered {
     pub pool: Vec<u8>,
     pub meter: Meter,
@@ -44,6 +45,12 @@ impl Metered {
                 return Err("the pool is too small for the workload".to_string());
             }
         }
+        Ok(())
+    }
+
+    /// Forgets what was measured: from here on everybody begins with the modes and scores that the nodes have now.
+    pub fn measure_anew(&mut self) -> Result<(), String> {
+        self.meter = Meter::of_pool(&mount(&self.pool).map_err(|fault| fault.to_string())?);
         Ok(())
     }
 

@@ -186,6 +186,23 @@ impl Replay {
     }
 }
 
+/// Nodes that tests are made of.
+#[cfg(test)]
+pub(crate) mod trial {
+    use super::{Node, Pair, Shape};
+
+    /// A leaf with these keys, each with value 0.
+    pub fn leaf(keys: std::ops::Range<u32>, link: u32) -> Node {
+        Node { shape: Shape::Leaf, pairs: keys.map(|key| Pair { key, pointer: 0 }).collect(), link }
+    }
+
+    /// A branch with these keys and pointers.
+    pub fn branch(pairs: &[(u32, u32)], link: u32) -> Node {
+        let pairs = pairs.iter().map(|&(key, pointer)| Pair { key, pointer }).collect();
+        Node { shape: Shape::Branch, pairs, link }
+    }
+}
+
 #[cfg(test)]
 mod tests {
     use super::*;

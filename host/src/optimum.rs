@@ -11,14 +11,25 @@ pub struct Optimum {
     disk: u64,
 }
 
+/// More than any schedule pays, and far enough from the end to be added to.
+const NOT_REACHED: u64 = u64::MAX / 2;
+
 impl Default for Optimum {
-    /// A node begins in log mode; disk mode is not reached yet.
+    /// A new node is in log mode.
     fn default() -> Optimum {
-        Optimum { log: 0, disk: u64::MAX / 2 }
+        Optimum::from_mode(Mode::Log)
     }
 }
 
 impl Optimum {
+    /// Begins with a node that is in this mode; the other one costs a switch.
+    pub fn from_mode(mode: Mode) -> Optimum {
+        match mode {
+            Mode::Log => Optimum { log: 0, disk: NOT_REACHED },
+            Mode::Disk => Optimum { log: NOT_REACHED, disk: 0 },
+        }
+    }
+
     /// Takes one more request: the schedule may switch before it.
     pub fn serve(&mut self, tariff: &Tariff, request: Request) {
         let switch = |mode| u64::from(tariff.switch_to(mode));
@@ -38,9 +49,9 @@ impl Optimum {
 mod tests {
     use super::*;
 
-    /// What one schedule pays; bit i of `modes` is set where request i is served in disk mode.
-    fn pays(tariff: &Tariff, requests: &[Request], modes: u32) -> u64 {
-        let mut before = Mode::Log;
+    /// What one schedule pays for a node that is in a mode `before`; bit i of `modes` is set where request i is served
+    /// in disk mode.
+    fn pays(tariff: &Tariff, mut before: Mode, requests: &[Request], modes: u32) -> u64 {
         let mut paid = 0;
         for (at, &request) in requests.iter().enumerate() {
             let mode = if modes >> at & 1 == 1 { Mode::Disk } else { Mode::Log };
@@ -61,10 +72,12 @@ mod tests {
             for seed in 0..200u32 {
                 let requests: Vec<Request> =
                     (0..8).map(|at| all[(seed.wrapping_mul(2_654_435_761) >> (2 * at)) as usize % 3]).collect();
-                let mut optimum = Optimum::default();
-                requests.iter().for_each(|&request| optimum.serve(&tariff, request));
-                let cheapest = (0..1 << 8).map(|modes| pays(&tariff, &requests, modes)).min();
-                assert_eq!(Some(optimum.paid()), cheapest);
+                for mode in [Mode::Log, Mode::Disk] {
+                    let mut optimum = Optimum::from_mode(mode);
+                    requests.iter().for_each(|&request| optimum.serve(&tariff, request));
+                    let cheapest = (0..1 << 8).map(|modes| pays(&tariff, mode, &requests, modes)).min();
+                    assert_eq!(Some(optimum.paid()), cheapest);
+                }
             }
         }
     }

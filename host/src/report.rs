@@ -81,10 +81,12 @@ pub const SECTIONS: &[Section] = &[
     Section {
         name: "W6",
         title: "Tree of 5,000 uniform keys, then 3,000 commands with some lookups per insert, CAPSULE: after the build",
-        papers: "Source 004, figures 6 and 9: a FlashDB-like scheme loses to a tuned B+ tree on this chip.",
+        papers:
+            "Source 004, figures 6 and 9: a FlashDB-like scheme loses to a tuned B+ tree on this chip. All columns \
+                 begin with the pool as the book has built it: with the modes that its nodes have then, and the \
+                 listing with their scores too.",
         table: lookups_per_insert,
-        // After the build alone: the optimum of the whole may have paid for this part before it.
-        chart: Some(|rows| Chart { y: "charge / what the optimum's grew by".into(), ..charges_chart(rows, 1, 1) }),
+        chart: Some(|rows| charges_chart(rows, 1, 1)),
     },
     Section {
         name: "W7",
@@ -345,7 +347,7 @@ fn lookups_per_insert() -> Result<Rows, String> {
     for share in [0.01, 0.1, 0.5, 1.0, 2.0] {
         let mut metered = Metered::new(BLOCKS, CAPSULE.tariff())?;
         metered.run(&build_with_reads(&keys, 0))?;
-        let built = metered.meter.totals();
+        metered.measure_anew()?;
         let mut random = Random::new(4);
         let mut one = || {
             let lookup = (random.next_u32() as f64 / 2f64.powi(32)) * (1.0 + share) < share;
@@ -356,7 +358,7 @@ fn lookups_per_insert() -> Result<Rows, String> {
             }
         };
         metered.run(&(0..3_000).map(|_| one()).collect::<Vec<_>>())?;
-        rows.push(row(&[&share.to_string()], &metered.meter.totals().since(&built)));
+        rows.push(row(&[&share.to_string()], &metered.meter.totals()));
     }
     Ok(rows)
 }
@@ -523,6 +525,21 @@ mod tests {
         assert!(chart.series.iter().all(|(_, values)| values.iter().all(|value| (1.0..100.0).contains(value))));
         let picture = section.picture(&rows).expect("has one");
         assert!(picture.contains("charge / optimum's charge"));
+    }
+
+    #[test]
+    fn no_charge_is_below_the_optimum() {
+        let mut tables = 0;
+        for section in SECTIONS.iter().filter(|section| ["W1", "W2", "W6", "W8"].contains(&section.name)) {
+            let rows = section.rows().expect("runs");
+            let book = rows[0].iter().position(|head| head == CHARGES[0]).expect("has charges");
+            for row in &rows[1..] {
+                let charges: Vec<u64> = row[book..][..5].iter().map(|cell| cell.parse().expect("is whole")).collect();
+                assert!(charges.iter().all(|&charge| charge >= charges[3]), "{}: {row:?}", section.name);
+            }
+            tables += 1;
+        }
+        assert_eq!(tables, 4);
     }
 
     #[test]

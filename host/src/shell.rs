@@ -11,8 +11,7 @@ use crate::spell::spell;
 use crate::wire::{fnv1a64, from_hex, to_hex};
 
 /// The lines that the shell knows, for help and for errors.
-pub const LINES: &str = "\
-  prepare B t0 .. t7     prepares B blocks of 16,384 bytes: number N pool H
+pub const LINES: &str = "  prepare B t0 .. t7     prepares B blocks of 16,384 bytes: number N pool H
   batch HEX              runs a batch: number N answers HEX charge C pool H
   load FILE              sets the pool from a file: loaded LENGTH
   save FILE              writes the pool to a file: saved LENGTH

@@ -155,15 +155,7 @@ fn children(from: usize, branch: &Node, bounds: Bounds, depth: usize) -> Vec<Due
 #[cfg(test)]
 mod tests {
     use super::*;
-
-    fn leaf(keys: std::ops::Range<u32>, link: u32) -> Node {
-        Node { shape: Shape::Leaf, pairs: keys.map(|key| Pair { key, pointer: 0 }).collect(), link }
-    }
-
-    fn branch(pairs: &[(u32, u32)], link: u32) -> Node {
-        let pairs = pairs.iter().map(|&(key, pointer)| Pair { key, pointer }).collect();
-        Node { shape: Shape::Branch, pairs, link }
-    }
+    use crate::node::trial::{branch, leaf};
 
     #[test]
     fn soundness() {

@@ -230,16 +230,8 @@ pub fn pairs(nodes: &[Node]) -> Vec<Pair> {
 mod tests {
     use super::*;
     use crate::layout::{MAX_KEYS, MAX_SCAN_PAIRS};
+    use crate::node::trial::{branch, leaf};
     use crate::sound::check;
-
-    fn leaf(keys: std::ops::Range<u32>, link: u32) -> Node {
-        Node { shape: Shape::Leaf, pairs: keys.map(|key| Pair { key, pointer: 0 }).collect(), link }
-    }
-
-    fn branch(pairs: &[(u32, u32)], link: u32) -> Node {
-        let pairs = pairs.iter().map(|&(key, pointer)| Pair { key, pointer }).collect();
-        Node { shape: Shape::Branch, pairs, link }
-    }
 
     #[test]
     fn scans_read_what_they_must() {

@@ -108,8 +108,8 @@ impl Aged {
 /// Puts all keys in random orders until so many blocks were erased.
 fn overwrite(metered: &mut Metered, keys: &mut [u32], erases: u64) -> Result<(), String> {
     let mut random = Random::new(3);
-    let built = metered.meter.totals();
-    while metered.meter.totals().since(&built).erase_spread().0 < erases {
+    metered.measure_anew()?;
+    while metered.meter.totals().erase_spread().0 < erases {
         random.shuffle(keys);
         metered.run(&puts(keys))?;
     }

@@ -5,6 +5,7 @@ use std::time::{Duration, Instant};
 
 use yokehour_host::books::proved_to_compare;
 use yokehour_host::fuzz::{case, Tally};
+use yokehour_host::output::say;
 use yokehour_host::random::Random;
 
 const USAGE: &str = "\
@@ -18,10 +19,7 @@ fn main() -> ExitCode {
     let words: Vec<String> = std::env::args().skip(1).collect();
     let words: Vec<&str> = words.iter().map(String::as_str).collect();
     match words[..] {
-        ["--help" | "-h"] => {
-            println!("{USAGE}");
-            ExitCode::SUCCESS
-        }
+        ["--help" | "-h"] => finish(say(&format!("{USAGE}\n")).map(drop)),
         ["--case", seed] => match seed.parse() {
             Ok(seed) => finish(run_case(seed, &mut Tally::default())),
             Err(_) => wrong("a seed expected"),
@@ -70,12 +68,19 @@ fn run(time: Duration, seed: u64) -> Result<(), String> {
             );
         }
     }
+    say(&summary(&tally)).map(drop)
+}
+
+/// What was exercised, and that nothing failed.
+fn summary(tally: &Tally) -> String {
+    let mut text = String::new();
     for (name, count) in tally.lines() {
-        println!("{count:>10}  {name}{}", if count == 0 { "   <- never exercised" } else { "" });
+        text.push_str(&format!("{count:>10}  {name}{}\n", if count == 0 { "   <- never exercised" } else { "" }));
     }
-    println!("worst charge over optimum: {}.{:03}", tally.worst_ratio / 1000, tally.worst_ratio % 1000);
-    println!("no failure in {} cases", tally.cases);
-    Ok(())
+    let (whole, thousandths) = (tally.worst_ratio / 1000, tally.worst_ratio % 1000);
+    text.push_str(&format!("worst charge over optimum: {whole}.{thousandths:03}\n"));
+    text.push_str(&format!("no failure in {} cases\n", tally.cases));
+    text
 }
 
 /// Runs one case; a panic is a failure too.

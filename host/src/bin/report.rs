@@ -4,6 +4,7 @@ use std::path::{Path, PathBuf};
 use std::process::ExitCode;
 use std::time::Instant;
 
+use yokehour_host::output::say;
 use yokehour_host::report::{Section, SECTIONS, TIMES};
 
 fn usage() -> String {
@@ -20,8 +21,7 @@ fn usage() -> String {
 fn main() -> ExitCode {
     let mut words: Vec<String> = std::env::args().skip(1).collect();
     if words.iter().any(|word| word == "--help" || word == "-h") {
-        println!("{}", usage());
-        return ExitCode::SUCCESS;
+        return finish(say(&format!("{}\n", usage())).map(drop));
     }
     let plots = match take_plots(&mut words) {
         Ok(plots) => plots,
@@ -34,13 +34,18 @@ fn main() -> ExitCode {
         true => section.name != TIMES,
         false => words.iter().any(|word| word == section.name),
     };
-    for section in SECTIONS.iter().filter(wanted) {
-        if let Err(why) = print(section, plots.as_deref()) {
-            eprintln!("report: {}: {why}", section.name);
-            return ExitCode::FAILURE;
+    let one = |section: &Section| print(section, plots.as_deref()).map_err(|why| format!("{}: {why}", section.name));
+    finish(SECTIONS.iter().filter(wanted).try_for_each(one))
+}
+
+fn finish(result: Result<(), String>) -> ExitCode {
+    match result {
+        Ok(()) => ExitCode::SUCCESS,
+        Err(why) => {
+            eprintln!("report: {why}");
+            ExitCode::FAILURE
         }
     }
-    ExitCode::SUCCESS
 }
 
 fn wrong(why: &str) -> ExitCode {
@@ -64,7 +69,7 @@ fn take_plots(words: &mut Vec<String>) -> Result<Option<PathBuf>, String> {
 fn print(section: &Section, plots: Option<&Path>) -> Result<(), String> {
     let start = Instant::now();
     let rows = section.rows()?;
-    println!("{}", section.text(&rows));
+    say(&format!("{}\n", section.text(&rows)))?;
     if let (Some(folder), Some(picture)) = (plots, section.picture(&rows)) {
         let file = folder.join(format!("{}.svg", section.name));
         std::fs::write(&file, picture).map_err(|error| format!("{}: {error}", file.display()))?;

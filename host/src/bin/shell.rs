@@ -1,9 +1,10 @@
 //! `shell`: prepares pools and runs batches, a line at a time.
 
-use std::io::{self, BufRead, Write};
+use std::io::{self, BufRead};
 use std::process::ExitCode;
 
 use yokehour_host::books::{by_name, BOOK_NAMES};
+use yokehour_host::output::{say, Reader};
 use yokehour_host::shell::{Shell, LINES};
 
 fn main() -> ExitCode {
@@ -19,7 +20,7 @@ fn main() -> ExitCode {
 fn usage() -> String {
     format!(
         "usage: shell [--book NAME]\n\nReads lines from standard input and answers each. \
-         NAME is one of: {BOOK_NAMES} (second if not given).\n\n{LINES}"
+         NAME is one of: {BOOK_NAMES} (second if not given).\n\n{LINES}\n"
     )
 }
 
@@ -29,21 +30,23 @@ fn run() -> Result<(), String> {
     while let Some(word) = words.next() {
         match word.as_str() {
             "--help" | "-h" => {
-                println!("{}", usage());
-                return Ok(());
+                return say(&usage()).map(drop);
             }
             "--book" => book = words.next().ok_or("--book needs a name; try --help")?,
             other => return Err(format!("unknown argument {other:?}; try --help")),
         }
     }
-    let mut shell = Shell::new(by_name(&book)?);
-    let mut out = io::stdout().lock();
+    answer_lines(Shell::new(by_name(&book)?))
+}
+
+/// Answers lines until they end, or nobody reads the answers any more.
+fn answer_lines(mut shell: Shell) -> Result<(), String> {
     for line in io::stdin().lock().lines() {
         let line = line.map_err(|error| format!("standard input: {error}"))?;
-        for answer in shell.answer(&line) {
-            writeln!(out, "{answer}").map_err(|error| format!("standard output: {error}"))?;
+        let answers: String = shell.answer(&line).iter().map(|answer| format!("{answer}\n")).collect();
+        if say(&answers)? == Reader::Left {
+            break;
         }
-        out.flush().map_err(|error| format!("standard output: {error}"))?;
     }
     Ok(())
 }

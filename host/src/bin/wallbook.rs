@@ -1,8 +1,8 @@
 //! `wallbook`: the book for a person.
 
-use std::io::{self, ErrorKind, Write};
 use std::process::ExitCode;
 
+use yokehour_host::output::say;
 use yokehour_host::tool;
 
 fn main() -> ExitCode {
@@ -12,11 +12,8 @@ fn main() -> ExitCode {
         return ExitCode::from(2);
     };
     let said = tool::run(&words);
-    let written = io::stdout().write_all(said.text.as_bytes());
-    // Whoever closed the pipe has read enough.
-    if let Err(error) = written.or_else(|error| if error.kind() == ErrorKind::BrokenPipe { Ok(()) } else { Err(error) })
-    {
-        eprintln!("wallbook: standard output: {error}");
+    if let Err(why) = say(&said.text) {
+        eprintln!("wallbook: {why}");
         return ExitCode::from(2);
     }
     eprint!("{}", said.note);

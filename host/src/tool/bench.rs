@@ -21,9 +21,9 @@ pub(super) const VERB: Verb = Verb {
     name: "bench",
     words: "FILE",
     about: "how long an empty batch, a get, a put and a scan take on a pool",
-    more: "Microseconds of processor time. Each batch runs 20 times on a copy of the pool, and the shortest counts. A get,\n\
-           a put of the value that is there and a scan for 32 pairs are a batch of 1,000 at keys taken at random, less an\n\
-           empty batch, divided. The program `bench` times both books on pools of its own.",
+    more: "Microseconds of processor time. Each batch runs 20 times on a copy of the pool, and the shortest counts.\n\
+           A get, a put of the value that is there and a scan for 32 pairs are a batch of 1,000 at keys taken at\n\
+           random, less an empty batch, divided. The program `bench` times both books on pools of its own.",
     options: &["--book"],
     run,
 };

@@ -16,7 +16,11 @@ pub(super) const VERB: Verb = Verb {
     about: "depth, fill, modes, room, and live and dead pages",
     more: "Room is for new keys, nothing being deleted: any keys at least, and no keys more than at most, before a\n\
            put is refused with 9. A compaction is due when a page is needed, the block at hand is full and one block\n\
-           alone is blank.",
+           alone is blank.\n\n\
+           Wear cannot be told: a pool keeps no count of how often its blocks were erased. What can be told: a block\n\
+           was not erased since the newest page in it was written, and that page's sequence number is given; of a\n\
+           blank block nothing is known. wallbook diff, with two copies of a pool that were taken at different times,\n\
+           names the blocks that were erased between them, but not how often.",
     options: &[],
     run,
 };
@@ -37,11 +41,12 @@ fn run(words: &mut Words<'_>, _: &Options) -> Result<Said, Stop> {
         ("pages", pages(&marks)),
         ("compaction", compaction(&mounted)),
         ("sequence", sequence(&mounted)),
+        ("wear", "not known: a pool keeps no count of how often its blocks were erased".to_string()),
     ] {
         text.push_str(&format!("{what:<11} {figure}\n"));
     }
     for (block, marks) in marks.chunks(BLOCK_PAGES).enumerate() {
-        text.push_str(&format!("{:<11} {}\n", format!("block {block}"), pages(marks)));
+        text.push_str(&format!("{:<11} {}{}\n", format!("block {block}"), pages(marks), newest(marks)));
     }
     Ok(Said::text(text))
 }
@@ -83,6 +88,14 @@ fn pages(marks: &[Mark]) -> String {
     format!("{live} live, {} dead, {} blank", written - live, marks.len() - written)
 }
 
+/// The greatest sequence number of a block that is not blank.
+fn newest(marks: &[Mark]) -> String {
+    match marks.iter().map(|mark| mark.sequence).max() {
+        None | Some(0) => String::new(),
+        Some(sequence) => format!("; newest {}", grouped(sequence.into())),
+    }
+}
+
 fn compaction(mounted: &Mounted) -> String {
     let blank = mounted.written.iter().filter(|&&written| written == 0).count();
     let pages = BLOCK_PAGES - mounted.written[mounted.current] + BLOCK_PAGES * (blank - 1);
@@ -119,6 +132,27 @@ mod tests {
         let live: Vec<usize> = stats.lines().filter_map(live).collect();
         assert_eq!(live[0], live[1..].iter().sum::<usize>(), "{stats}");
         assert_eq!(live.len(), 5, "the pool and its four blocks");
+        assert!(stats.contains("\nwear        not known: a pool keeps no count of how often its blocks were erased\n"));
+        assert!(text(&["help", "stats"]).contains("Wear cannot be told: a pool keeps no count"));
+    }
+
+    #[test]
+    fn a_block_was_not_erased_since_its_newest_page() {
+        let folder = Folder::new("newest");
+        let pool = folder.prepared("p");
+        for _ in 0..40 {
+            text(&["run", &pool, "-"]);
+        }
+        // Prepare's sequence numbers are 1 to 3, and an empty batch takes one for its page.
+        let stats = text(&["stats", &pool]);
+        let blocks: Vec<&str> = stats.lines().skip_while(|line| !line.starts_with("block 0")).collect();
+        let lines = [
+            "block 0     1 live, 31 dead, 0 blank; newest 33",
+            "block 1     1 live, 9 dead, 22 blank; newest 43",
+            "block 2     0 live, 0 dead, 32 blank",
+            "block 3     0 live, 0 dead, 32 blank",
+        ];
+        assert_eq!(blocks, lines);
     }
 
     /// The live pages of a line that has them.

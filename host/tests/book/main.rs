@@ -3,6 +3,7 @@
 mod blocks;
 mod common;
 mod foreign;
+mod format;
 mod fuzz;
 mod library;
 mod limits;

@@ -1,5 +1,6 @@
-//! The program `wallbook` as a shell calls it: what it prints, and its exit status.
+//! The programs as a shell calls them: what `wallbook` prints, and its exit status; readers that leave early.
 
+use std::io::Write;
 use std::path::PathBuf;
 use std::process::{Command, Output, Stdio};
 
@@ -95,4 +96,34 @@ fn a_reader_that_leaves_early_is_no_error() {
     let mut child = program.spawn().expect("runs");
     drop(child.stdout.take());
     assert_eq!(child.wait().expect("ends").code(), Some(0));
+}
+
+/// The exit status of a program that nobody reads, and what it says on standard error.
+fn unread(program: &str, words: &[&str], input: &str) -> (Option<i32>, String) {
+    let (reader, writer) = std::io::pipe().expect("a pipe");
+    drop(reader);
+    let mut program = Command::new(program);
+    program.args(words).stdin(Stdio::piped()).stdout(writer).stderr(Stdio::piped());
+    let mut child = program.spawn().expect("runs");
+    // It may have ended already.
+    let _ = child.stdin.take().expect("is piped").write_all(input.as_bytes());
+    let output = child.wait_with_output().expect("ends");
+    (output.status.code(), String::from_utf8(output.stderr).expect("is text"))
+}
+
+#[test]
+fn programs_that_nobody_reads_end_quietly() {
+    let quietly = (Some(0), String::new());
+    let shell = env!("CARGO_BIN_EXE_shell");
+    assert_eq!(unread(shell, &[], "prepare 4 3 1 2 1 4 4 3 2\nspell\n"), quietly);
+    let programs = [
+        shell,
+        env!("CARGO_BIN_EXE_wallbook"),
+        env!("CARGO_BIN_EXE_fuzz"),
+        env!("CARGO_BIN_EXE_report"),
+        env!("CARGO_BIN_EXE_bench"),
+    ];
+    for program in programs {
+        assert_eq!(unread(program, &["--help"], ""), quietly, "{program}");
+    }
 }

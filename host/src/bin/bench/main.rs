@@ -5,8 +5,9 @@ mod copies;
 use std::process::ExitCode;
 
 use yokehour_host::bench::{Section, Setup, SECTIONS};
+use yokehour_host::output::say;
 
-/// Rounds where none are asked for: about a minute and a half on one core.
+/// Rounds where none are asked for: about 20 seconds on one core.
 const ROUNDS: usize = 100;
 
 fn usage() -> String {
@@ -25,8 +26,7 @@ fn usage() -> String {
 fn main() -> ExitCode {
     let words: Vec<String> = std::env::args().skip(1).collect();
     if words.iter().any(|word| word == "--help" || word == "-h") {
-        println!("{}", usage());
-        return ExitCode::SUCCESS;
+        return finish(say(&format!("{}\n", usage())).map(drop));
     }
     let (rounds, sections) = match parse(&words) {
         Ok(asked) => asked,
@@ -35,7 +35,11 @@ fn main() -> ExitCode {
             return ExitCode::from(2);
         }
     };
-    match run(rounds, &sections) {
+    finish(run(rounds, &sections))
+}
+
+fn finish(result: Result<(), String>) -> ExitCode {
+    match result {
         Ok(()) => ExitCode::SUCCESS,
         Err(why) => {
             eprintln!("bench: {why}");
@@ -64,10 +68,10 @@ fn parse(words: &[String]) -> Result<(usize, Vec<&'static Section>), String> {
 
 fn run(rounds: usize, sections: &[&Section]) -> Result<(), String> {
     let setup = Setup { rounds, count_copies: copies::count, say: |line| eprintln!("bench: {line}") };
-    println!("{}\n", setup.preface()?);
+    say(&format!("{}\n\n", setup.preface()?))?;
     for section in sections {
         let text = section.text(&setup).map_err(|why| format!("{}: {why}", section.name))?;
-        println!("{text}");
+        say(&format!("{text}\n"))?;
     }
     Ok(())
 }
