@@ -8,3 +8,7 @@ pub mod Calls
 pub mod Computes
 pub mod Worked
 pub mod Traces
+pub mod Pools
+pub mod Cases
+pub mod Limits
+pub mod Orders
