@@ -1,17 +1,23 @@
--- Worked batches and answers of document 01, computed. Assumes nothing.
+-- Worked batches and answers of document 01, computed, and the longest batch there is. Assumes nothing.
 use mathlib.Core.Path.{_≡_, refl}
-use mathlib.Core.List.{List, [], _∷_, map}
-use mathlib.Core.Option.{some}
-use Prim.Native.Nat.{ℕ}
+use mathlib.Core.List.{List, [], _∷_, _++_, map}
+use mathlib.Core.Option.{none, some}
+use Prim.Native.Nat.{ℕ, zero, suc}
+use native.Mathlib.Omega.{arith}
+use lib.ListN.{length, replicate}
+use Rattle.laws.specs.Every.{Every, none as every-none, both, every-append}
 use Rattle.laws.specs.Lay.{part}
 use Rattle.laws.specs.BigEndian.{numberAt}
 use Rattle.wire.specs.Tag.{lengthOf, find, rows, isNodeBytes}
 use Rattle.wire.specs.Field.{field, fieldAt}
+use Rattle.command.specs.declared.Command.{Command}
 use Rattle.command.specs.declared.Command.the-variants.{Get, Put, Delete}
 use Rattle.command.specs.declared.Answer.the-variants.{Absent, Got, Replaced, Deleted, Refused}
 use Rattle.command.specs.declared.Asked.the-variants.{Bytes, Invalid}
-use Rattle.command.specs.Command.{inRange, commandOf, commandAt}
+use Rattle.command.specs.Command.{inRange, commandBytes, commandOf, commandAt}
 use Rattle.command.specs.Batch.{run, commandsFrom, commandsOf, askedOf}
+use Rattle.command.specs.BatchLaws.{commandsOf-long}
+use Rattle.command.specs.Spelled.{Valid, batchBytes, commandsOf-batchBytes}
 use Rattle.command.specs.Answer.{answerBytes, scanBytes}
 
 -- hang 7 with 100, look up 7, strip 7, look up 7
@@ -65,3 +71,27 @@ pub worked-sweeps :
     (0x84 ∷ 0 ∷ 0 ∷ []) ∷ (0x84 ∷ 0 ∷ 8 ∷ 0 ∷ 0 ∷ 0 ∷ 7 ∷ 0 ∷ 0 ∷ 0 ∷ 100 ∷ []) ∷ []
 unfolding scanBytes field
 worked-sweeps = refl
+
+-- "Batch: 0 to 32,768 bytes." Two hangs and 4,678 look ups have 2 × 11 + 4,678 × 7 = 32,768 bytes. They are read by the law of what is spelled, not
+-- command by command.
+pub longest : List Command
+longest = replicate 2 (Put 7 100) ++ replicate 4678 (Get 7)
+
+every-replicate : (n : ℕ) (c : Command) → Valid c → Every Valid (replicate n c)
+every-replicate zero c v = every-none
+every-replicate (suc n) c v = both v (every-replicate n c v)
+
+valid : Every Valid longest
+unfolding longest
+valid = every-append (every-replicate 2 (Put 7 100) (omega arith, omega arith)) (every-replicate 4678 (Get 7) (omega arith))
+
+pub worked-length : length (batchBytes longest) ≡ 32768
+unfolding longest commandBytes field
+worked-length = refl
+
+pub worked-longest : commandsOf (batchBytes longest) ≡ some longest
+worked-longest = commandsOf-batchBytes longest valid (omega (arith, worked-length))
+
+-- One byte more is not read, whatever it holds.
+pub worked-too-long : (s : List ℕ) → length s ≡ 32769 → commandsOf s ≡ none
+worked-too-long s e = commandsOf-long s (omega arith)

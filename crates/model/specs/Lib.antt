@@ -10,3 +10,7 @@ pub mod Computes
 pub mod Worked
 pub mod Traces
 pub mod ForeignPool
+pub mod Pools
+pub mod Cases
+pub mod Limits
+pub mod Orders

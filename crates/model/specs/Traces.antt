@@ -67,13 +67,14 @@ answers =
     0x83 ∷ 0 ∷ 4 ∷ 0 ∷ 0 ∷ 0 ∷ 100 ∷
     0x80 ∷ 0 ∷ 0 ∷ []
 
--- The pool after 25 puts at another tariff, and the sequence numbers of its first pages, each in the four bytes behind the page's first three.
-abbrev secondPool : List ℕ
-secondPool = batchOn (tariffOf 0 0 0 0 0 0 1 1) (puts 25) .pool
-
+-- The sequence numbers of a pool's first pages, each in the four bytes behind the page's first three.
 abbrev sequencesIn : ℕ → List ℕ → List ℕ
 sequencesIn zero pool = []
 sequencesIn (suc n) pool = numberAt 4 pool 3 ∷ sequencesIn n (drop 512 pool)
+
+-- Of a pool: how page 0 begins, the sequence numbers of six pages, how the nodes are filled.
+abbrev shownOf : List ℕ → List (List ℕ)
+shownOf pool = take 32 pool ∷ sequencesIn 6 pool ∷ sizesOf pool ∷ []
 
 pub record Traces : Type 0 where
   -- prepare
@@ -88,11 +89,10 @@ pub record Traces : Type 0 where
         length = 20;
         charge = 14;
       }
-  -- THE SECOND TRACE: "tariff 0 0 0, 0 0 0, 1 1", keys 0 to 24: the sequence numbers of the pages, page 0, how the nodes are filled
-  pub second : sequencesIn 6 secondPool ≡ 2 ∷ 3 ∷ 4 ∷ 7 ∷ 9 ∷ 10 ∷ []
-  pub start : take 32 secondPool ≡ firstPage
-  pub sizes : sizesOf secondPool ≡ 1 ∷ 12 ∷ 13 ∷ []
+  -- THE SECOND TRACE: "tariff 0 0 0, 0 0 0, 1 1", keys 0 to 24
+  pub second : shownOf (batchOn (tariffOf 0 0 0 0 0 0 1 1) (puts 25) .pool) ≡
+      firstPage ∷ (2 ∷ 3 ∷ 4 ∷ 7 ∷ 9 ∷ 10 ∷ []) ∷ (1 ∷ 12 ∷ 13 ∷ []) ∷ []
 
 pub traces : Traces
 unfolding computes
-traces = record { prepared = refl; first = refl; second = refl; start = refl; sizes = refl }
+traces = record { prepared = refl; first = refl; second = refl }

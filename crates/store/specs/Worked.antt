@@ -1,10 +1,10 @@
 -- The definitions run: a hundred and more edits of one node with the pages that they force out and a rewrite at three pages, a
--- checkpoint and its reading back, each computed. Assumes nothing.
+-- checkpoint and its reading back, the blocks that pages go to, each computed. Assumes nothing.
 use mathlib.Core.Path.{_≡_, refl}
-use mathlib.Core.Bool.{true}
+use mathlib.Core.Bool.{true, false}
 use mathlib.Core.List.{List, [], _∷_}
 use Prim.Native.Nat.{ℕ, zero, suc, _+_}
-use lib.ListN.{length}
+use lib.ListN.{length, set, replicate}
 use Rattle.account.specs.declared.Mode.the-variants.{Log, Disk}
 use Rattle.account.specs.declared.Tariff.{Tariff}
 use Rattle.layout.specs.Layout.{noLeaf}
@@ -15,7 +15,7 @@ use Rattle.node.specs.Change.{put, link}
 use Rattle.node.specs.Replay.{redo, redoPiece, replayFrom, replay}
 use Rattle.page.specs.Page.{Page, page, log, whole, checkpoint}
 use Rattle.store.specs.View.{greatest, pieces, pages}
-use Rattle.store.specs.Pool.{block, above}
+use Rattle.store.specs.Pool.{Blocks, block, above}
 use Rattle.store.specs.Store.{Store, view, draftOf, nodeOf, modeOf}
 use Rattle.store.specs.Live.{carries, checkpointSince}
 use Rattle.store.specs.Allocate.{spot}
@@ -102,6 +102,17 @@ foreign =
       last = 5;
     }
 
+-- Four blocks, those named full and the others blank; and the block that the next page goes to.
+abbrev fullBlock : List Page
+fullBlock = replicate 32 (page 5 (log []))
+
+abbrev fullAt : List ℕ → Blocks
+fullAt [] = replicate 4 []
+fullAt (i ∷ is) = set (fullAt is) i fullBlock
+
+abbrev nextOf : List ℕ → ℕ → ℕ
+nextOf full current = spot 32 (λ p. false) (fullAt full) current .current
+
 abbrev lengths : List (List Page) → List ℕ
 lengths [] = []
 lengths (b ∷ bs) = length b ∷ lengths bs
@@ -125,6 +136,14 @@ pub record Ran : Type 0 where
   pub moved : nodeOf (rewrites 1 spread .now) 1 ≡ node Leaf ((1, 1) ∷ []) noLeaf
   -- the old checkpoint's page in block 0 is dead while the new one is written: block 0 has the fewest live pages
   pub checkpointed : lengths (close tariff (λ n. n) drained .now .blocks) ≡ 0 ∷ 32 ∷ 32 ∷ 2 ∷ []
+  -- "take the next blank one upwards and round": block 2 behind a full block 1, though block 0 is blank; block 3 behind 2, though 0 and 1 are;
+  -- block 0 behind 3, and 1 where 0 is full; a block with room is kept
+  pub upwards : nextOf (1 ∷ []) 1 ∷ nextOf (2 ∷ []) 2 ∷ nextOf (1 ∷ 2 ∷ []) 1 ∷ [] ≡ 2 ∷ 3 ∷ 3 ∷ []
+  pub round : nextOf (3 ∷ []) 3 ∷ nextOf (0 ∷ 3 ∷ []) 3 ∷ nextOf (1 ∷ []) 0 ∷ [] ≡ 0 ∷ 1 ∷ 0 ∷ []
+  -- two blocks blank: the page goes to a blank one; one blank: the live pages of another are copied there first, and none of these is live
+  pub blankBlocks : lengths (spot 32 (λ p. false) (fullAt (0 ∷ 1 ∷ [])) 0 .blocks) ≡ 32 ∷ 32 ∷ 0 ∷ 0 ∷ []
+  pub lastBlank : lengths (spot 32 (λ p. false) (fullAt (0 ∷ 1 ∷ 2 ∷ [])) 1 .blocks) ≡ 0 ∷ 32 ∷ 32 ∷ 0 ∷ []
+  pub allLive : lengths (spot 32 (λ p. true) (fullAt (0 ∷ 1 ∷ 3 ∷ [])) 3 .blocks) ≡ 0 ∷ 32 ∷ 32 ∷ 32 ∷ []
   -- entries are taken by page number, wherever the pages lie
   pub order : nodeOf foreign 0 ≡ node Leaf ((7, 2) ∷ []) noLeaf
 
@@ -144,5 +163,10 @@ ran =
       copied = refl;
       moved = refl;
       checkpointed = refl;
+      upwards = refl;
+      round = refl;
+      blankBlocks = refl;
+      lastBlank = refl;
+      allLive = refl;
       order = refl;
     }
