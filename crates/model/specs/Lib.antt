@@ -8,9 +8,3 @@ pub mod Questions
 pub mod Calls
 pub mod Computes
 pub mod Worked
-pub mod Traces
-pub mod ForeignPool
-pub mod Pools
-pub mod Cases
-pub mod Limits
-pub mod Orders

@@ -12,10 +12,10 @@ use Rattle.account.specs.Serve.{serveOf}
 use Rattle.page.specs.Page.{Page, page, log, whole, checkpoint}
 use Rattle.store.specs.Checkpoint.{CheckpointPage, checkpointPages, scoresFrom}
 use Rattle.store.specs.Reopen.{Cells, cells, reopened}
 use Rattle.model.specs.Mount.{Mounted, refused, opened, numbersLeft, mountCells}
 use Rattle.model.specs.Bytes.{cellsOf}
 use Rattle.model.specs.Call.{Outcome, prepareOf, mountOf, batchOf}
-use Rattle.model.specs.Pools.{tariff, poolBytes}
+use Rattle.cases.specs.Pools.{tariff, poolBytes}
 
 -- What a call is lent: the pool, a work table of so many bytes, the batch, an answer buffer of so many bytes. Each byte of the two is 7.
 pub record Lent : Type 0 where

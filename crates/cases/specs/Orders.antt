@@ -11,10 +11,10 @@ use Rattle.node.specs.declared.Shape.the-variants.{Leaf}
 use Rattle.node.specs.Node.{node}
 use Rattle.node.specs.Change.{put}
 use Rattle.page.specs.Page.{Entry, Page, page, log, whole, checkpoint}
 use Rattle.model.specs.Bytes.{bytesOf}
-use Rattle.model.specs.Pools.{poolBytes, inFirst, tariff, score, scores, checkpointAt, treePages, treeOf, entry, alone, prepared, get}
-use Rattle.model.specs.Cases.{lent, prepares, calls, tables, buffers, mounts, mountsPages, number, bytes, Row, row, said, given}
+use Rattle.cases.specs.Pools.{poolBytes, inFirst, tariff, score, scores, checkpointAt, treePages, treeOf, entry, alone, prepared, get}
+use Rattle.cases.specs.Cases.{lent, prepares, calls, tables, buffers, mounts, mountsPages, number, bytes, Row, row, said, given}
 use Rattle.model.specs.Computes.{computes}
 
 -- A pool of zeros, no page of which checks; a batch that no tag begins.
 abbrev zeros : List ℕ

@@ -17,9 +17,9 @@ use Rattle.account.specs.Tariff.{tariffOf}
 use Rattle.node.specs.Change.{remove}
 use Rattle.store.specs.Checkpoint.{checkpointOf, tariffIn, complete}
 use Rattle.store.specs.Reopen.{Cells, reopened, pagesPass}
 use Rattle.model.specs.Mount.{refused, opened, stateOf, treeSound, mountCells}
 use Rattle.model.specs.Call.{poolLength, prepareOf, batchOf}
-use Rattle.model.specs.Pools.{
+use Rattle.cases.specs.Pools.{
   poolBytes,
   inFirst,
   tariff,
@@ -35,7 +35,7 @@ use Rattle.model.specs.Pools.{
   prepared,
   get,
 }
-use Rattle.model.specs.Cases.{
+use Rattle.cases.specs.Cases.{
   lent,
   prepares,
   calls,
