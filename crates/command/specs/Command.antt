@@ -9,6 +9,7 @@ use lib.ListN.{length, getD}
 use Rattle.laws.specs.Tests.{choose}
 use Rattle.laws.specs.Lay.{part}
 use Rattle.laws.specs.BigEndian.{bigEndian, numberAt}
+use Rattle.layout.specs.Layout.{mostPairs}
 use Rattle.wire.specs.Field.{field, fieldAt}
 use Rattle.wire.specs.declared.field.Field.{Field}
 use Rattle.wire.specs.declared.field.Field.the-variants.{Payload, Missing, Foreign, Overlong}
@@ -18,9 +19,6 @@ use Rattle.command.specs.declared.Step.{Step}
 use Rattle.command.specs.declared.Step.the-variants.{Next, Invalid}
 
 -- A sweep asks for 1 to 32 pairs.
-abbrev pub mostPairs : ℕ
-mostPairs = 32
-
 unfoldable pub inRange : ℕ → Bool
 inRange most = leb 1 most && leb most mostPairs
 

@@ -20,7 +20,8 @@ use Rattle.wire.specs.declared.field.Field.{Field}
 use Rattle.wire.specs.declared.field.Field.the-variants.{Payload, Missing, Foreign, Overlong}
 use Rattle.command.specs.declared.Command.the-variants.{Get, Put, Delete, Scan}
 use Rattle.command.specs.declared.Step.the-variants.{Next, Invalid}
-use Rattle.command.specs.Command.{mostPairs, inRange, commandOf, stepAs, fieldStep, commandAt, Onward}
+use Rattle.layout.specs.Layout.{mostPairs}
+use Rattle.command.specs.Command.{inRange, commandOf, stepAs, fieldStep, commandAt, Onward}
 
 -- The payload lengths of the four tags, as the table has them.
 payload-exact : (tag k n : ℕ) → lengthOf tag ≡ Exact k → allowed (lengthOf tag) n ≡ true → n ≡ k

@@ -10,7 +10,7 @@ use lib.ListN.{length, length-append}
 use Rattle.laws.specs.Every.{Every, none as every-none, both}
 use Rattle.laws.specs.Lay.{part, length-part, part-append, part-front, part-whole}
 use Rattle.laws.specs.BigEndian.{bigEndian, number, numberAt, number-bigEndian, length-bigEndian}
-use Rattle.layout.specs.Layout.{mostBatchBytes, bound32}
+use Rattle.layout.specs.Layout.{mostBatchBytes, bound32, mostPairs}
 use Rattle.wire.specs.Tag.{lengthOf, allowed, find, rows}
 use Rattle.wire.specs.Field.{field, fieldAt, payloadOf, payloadAt, isPayload, standsAt}
 use Rattle.wire.specs.FieldLaws.{stands-is, standsAt-field, payloadAt-field, length-field}
@@ -19,7 +19,7 @@ use Rattle.wire.specs.declared.field.Field.the-variants.{Payload, Missing, Fore
 use Rattle.command.specs.declared.Command.{Command}
 use Rattle.command.specs.declared.Command.the-variants.{Get, Put, Delete, Scan}
 use Rattle.command.specs.declared.Step.the-variants.{Next}
-use Rattle.command.specs.Command.{mostPairs, commandBytes, commandOf, stepAs, fieldStep, commandAt}
+use Rattle.command.specs.Command.{commandBytes, commandOf, stepAs, fieldStep, commandAt}
 use Rattle.command.specs.CommandLaws.{field-bounds, commandOf-get, commandOf-put, commandOf-delete, commandOf-scan}
 use Rattle.command.specs.Batch.{before, commandsFrom, commandsOf}
 use Rattle.command.specs.BatchLaws.{commandsFrom-end, commandsFrom-next, commandsOf-short}

@@ -8,7 +8,7 @@ use lib.Dec.{eqb}
 use lib.ListN.{length, take, drop, replicate, length-append, length-drop, length-replicate, take-append-drop}
 use lib.Seq.{take-at, drop-append-add, drop-drop, length-take-le}
 use borrow.Author.Tests.{eqb-true, eq-eqb}
-use Rattle.laws.specs.Tests.{and-left, and-right}
+use Rattle.laws.specs.Tests.{and-left, and-right, and-both}
 use Rattle.laws.specs.Lay.{part}
 use Rattle.laws.specs.BigEndian.{bigEndian, numberAt, Bytes, number-bigEndian, bigEndian-numberAt}
 use Rattle.wire.specs.Sum.{sumsOf, sumsOf-small}
@@ -73,7 +73,9 @@ module _ (body : List ℕ) (n : ℕ) where
   pub sealedAt-sealed : sealedAt bytes (length body) ≡ true
   unfolding sealedAt
   sealedAt-sealed =
-      rw (sums-found, body-found, rest-found, eq-eqb _ _ b-found, eq-eqb _ _ a-found) (allBlank-replicate n)
+      rw (sums-found, body-found, rest-found)
+      (and-both (eqb (numberAt 2 sums 0) (sumsOf body .b)) _ (eq-eqb _ _ b-found)
+      (and-both (eqb (numberAt 2 sums 2) (sumsOf body .a)) _ (eq-eqb _ _ a-found) (allBlank-replicate n)))
 
 -- What passes is a sealed body.
 module _ (s : List ℕ) (end : ℕ) (b : Bytes s) (t : sealedAt s end ≡ true) where

@@ -5,13 +5,12 @@ use mathlib.Core.List.{List, [], _∷_}
 use Prim.Native.Nat.{ℕ, _+_, _*_, _≤_}
 use lib.ListN.{length}
 use Rattle.laws.specs.Lay.{lay}
-use Rattle.layout.specs.Layout.{mostNodes}
+use Rattle.layout.specs.Layout.{mostNodes, mostPairs}
 use Rattle.account.specs.declared.Tariff.{Tariff}
 use Rattle.command.specs.declared.Answer.the-variants.{Got, Deleted}
 use Rattle.command.specs.declared.Command.{Command}
 use Rattle.command.specs.declared.Command.the-variants.{Get, Put, Delete, Scan}
 use Rattle.command.specs.Answer.{valueOr}
-use Rattle.command.specs.Command.{mostPairs}
 use Rattle.book.specs.Command.{Reply, short, listed, replyBytes, repliesBytes}
 use Rattle.flash_rows.specs.Worktable.{Worktable}
 use Rattle.flash_allocate.specs.World.{World, world}

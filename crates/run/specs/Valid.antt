@@ -15,7 +15,7 @@ use Rattle.laws.specs.Tests.{choose, and-left, and-right}
 use Rattle.laws.specs.Lay.{part}
 use Rattle.laws.specs.BigEndian.{numberAt}
 use Rattle.laws.specs.Options.{none-some}
-use Rattle.layout.specs.Layout.{mostBatchBytes}
+use Rattle.layout.specs.Layout.{mostBatchBytes, mostPairs}
 use Rattle.wire.specs.Field.{fieldAt}
 use Rattle.wire.specs.declared.field.Field.{Field}
 use Rattle.wire.specs.declared.field.Field.the-variants.{Payload, Missing, Foreign, Overlong}
@@ -24,7 +24,7 @@ use Rattle.command.specs.declared.Command.the-variants.{Get, Put, Delete, Scan}
 use Rattle.command.specs.declared.Asked.the-variants as invalid
 use Rattle.command.specs.declared.Step.{Step}
 use Rattle.command.specs.declared.Step.the-variants.{Next, Invalid}
-use Rattle.command.specs.Command.{mostPairs, inRange, commandOf, stepAs, fieldStep, commandAt}
+use Rattle.command.specs.Command.{inRange, commandOf, stepAs, fieldStep, commandAt}
 use Rattle.command.specs.Batch.{commandsFrom, commandsOf, roomForAll}
 use Rattle.command.specs.BatchLaws.{commandsOf-long, commandsOf-short}
 use Rattle.run.specs.Run.{InRange}

@@ -10,14 +10,13 @@ use borrow.Author.Tests.{le-leb, lt-leb, eq-eqb, ne-eqb}
 use lib.Dec.{eqb, leb}
 use lib.ListN.{length, take, set, length-set, length-append}
 use lib.Seq.{take-suc-set}
-use Rattle.layout.specs.Layout.{noLeaf, nodeLimit, mostBlocks}
+use Rattle.layout.specs.Layout.{noLeaf, nodeLimit, mostBlocks, mostPairs}
 use Rattle.pairs.specs.Pairs.{Pair, range, hasAbove}
 use Rattle.node.specs.declared.NodeValue.{NodeValue}
 use Rattle.node.specs.Node.{Node, linkOf}
 use Rattle.node.specs.Value.{pairsIn, nodeOf, Becomes}
 use Rattle.tree.specs.Table.{Table}
 use Rattle.tree.specs.Scan.{stopsIn, taken, pairsFrom, leavesAfter}
-use Rattle.command.specs.Command.{mostPairs}
 use Rattle.run_scan.specs.Pairs.{listed, listed-none, length-listed}
 use Rattle.run_scan.specs.Gathered.{GatheredFrom}
 

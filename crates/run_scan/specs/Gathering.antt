@@ -4,12 +4,11 @@ use mathlib.Core.List.{List}
 use Prim.Native.Nat.{ℕ, _+_, _-_, _≤_, _<_}
 use native.Mathlib.Omega.{arith}
 use lib.ListN.{length, getD, set, length-set}
-use Rattle.layout.specs.Layout.{noLeaf, nodeLimit, mostBlocks}
+use Rattle.layout.specs.Layout.{noLeaf, nodeLimit, mostBlocks, mostPairs}
 use Rattle.pairs.specs.Pairs.{range}
 use Rattle.node.specs.declared.NodeValue.{NodeValue}
 use Rattle.node.specs.Value.{pairsIn, Becomes}
 use Rattle.tree.specs.Table.{Table}
-use Rattle.command.specs.Command.{mostPairs}
 use Rattle.run_scan.specs.declared.gather.Gathered.{Gathered}
 use Rattle.run_scan.specs.Gathered.{GatheredFrom}
 use Rattle.run_scan.specs.InLeaf.{Taking, taking-high, taking-last, taking-end}

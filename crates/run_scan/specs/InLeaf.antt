@@ -13,7 +13,7 @@ use Rattle.pairs.specs.Clauses.{range-zero, range-skip, range-stop, range-take}
 use Rattle.node.specs.declared.NodeValue.{NodeValue}
 use Rattle.node.specs.Search.{keyAt-getD, pointerAt-getD}
 use Rattle.node.specs.Value.{pairsIn, Sized, length-pairsIn, keyAt-pairsIn, pointerAt-pairsIn}
-use Rattle.command.specs.Command.{mostPairs}
+use Rattle.layout.specs.Layout.{mostPairs}
 use Rattle.run_scan.specs.Pairs.{listed, listed-more}
 
 -- The pair at a place of a node, in front of those behind it.

@@ -8,7 +8,7 @@ use lib.ListN.{length, getD, take, set}
 use lib.Seq.{length-take-le, getD-take, take-suc-set}
 use Rattle.pairs.specs.Pairs.{Pair}
 use Rattle.node.specs.Splice.{zip, length-zip, getD-zip, zip-set}
-use Rattle.command.specs.Command.{mostPairs}
+use Rattle.layout.specs.Layout.{mostPairs}
 use Rattle.run_scan.specs.declared.Pairs.{Pairs}
 
 -- The first n keys with the values beside them.
