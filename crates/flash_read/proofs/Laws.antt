@@ -8,14 +8,16 @@ use native.Mathlib.Numerals.{add-one}
 use native.Mathlib.Omega.{arith}
 use lib.ListN.{length, getD, set, take, drop, length-drop, replicate, getD-replicate, List·getD-eq-default}
 use lib.Seq.{take-suc-set, length-take-le}
-use borrow.Author.Tests.{eq-eqb, ne-eqb, lt-ltb, le-ltb}
+use borrow.Author.Tests.{eq-eqb, ne-eqb, lt-ltb, le-ltb, le-leb}
 use Rattle.laws.specs.Lay.{part}
 use Rattle.laws.specs.Loops.{steps, steps-more}
 use Rattle.laws.specs.BigEndian.{number, numberAt}
 use Rattle.layout.specs.Layout.{mostEntries, bound32}
 use Rattle.pairs.specs.Pairs.{Pair}
-use Rattle.wire.specs.Field.{payloadAt}
+use Rattle.wire.specs.Tag.{lengthOf, find, rows}
+use Rattle.wire.specs.Field.{lengthAt, payloadOf, payloadAt}
 use Rattle.wire.specs.FieldLaws.{payloadAt-absent}
+use Rattle.wire.proofs.Cases.{is-foreign-length, is-payload}
 use Rattle.flash_blocks.specs.Pages.{pageAt, blankPage}
 use Rattle.account.specs.declared.Mode.{Mode}
 use Rattle.account.specs.declared.Mode.the-variants.{Log, Disk}
@@ -39,10 +41,6 @@ use Rattle.flash_read.specs.Replay.{isOwn, redoEntry, redoRun, entryIn, 
 use Rattle.flash_read.specs.Slots.{sequenceAt, slotAt, redoAt, redoTwo, redoThree}
 use Rattle.flash_read.specs.NodePage.{nodeOfPayload, nodePageAt}
 use Rattle.flash_read.specs.Content.{redoPages, logContent, contentBy}
-
--- A draft as it is.
-pub redone-same : (d : DraftValue) → Held (d .node) → Redone d (draftOf d)
-redone-same d h = record { is = refl; held = h }
 
 -- A draft known by an equation.
 pub redone-is : (r : DraftValue) (a b : Draft) → Redone r a → a ≡ b → Redone r b
@@ -76,10 +74,29 @@ module _ (id version : ℕ) (e : Entry) (d : Draft) (test : Bool) (t : test ≡ 
   unfolding redoEntry
   entry-other o = rw (sym t ∙ o) refl
 
--- Fifteen bytes of the buffer, lent as a part of it.
-pub part-lent : (bytes : List ℕ) (at : ℕ) → take (at + 15 - at) (drop at bytes) ≡ part bytes at 15
+-- An entry's fifteen bytes, lent as a part.
+part-lent : (bytes : List ℕ) (at to : ℕ) → to ≡ at + 15 → take (to - at) (drop at bytes) ≡ part bytes at 15
 unfolding part
-part-lent bytes at = let size : at + 15 - at ≡ 15 = omega arith in ap (λ (n : ℕ). take n (drop at bytes)) size
+part-lent bytes at to e = let size : to - at ≡ 15 = omega arith in ap (λ (n : ℕ). take n (drop at bytes)) size
+
+-- An entry in the buffer.
+pub entry-plain : (bytes : List ℕ) (at : ℕ) → at + 15 ≤ length bytes → take (at + 15 - at) (drop at bytes) ≡ entryIn false bytes at
+unfolding entryIn
+entry-plain bytes at h = rw (le-leb (at + 15) (length bytes) h) (part-lent bytes at (at + 15) refl)
+
+-- A field 12 is known by its tag and length: it has one length only.
+module _ (bytes : List ℕ) (at : ℕ) (h : at + 18 ≤ length bytes) (t : getD bytes at 0 ≡ 0x12) (n : ℕ) (e : n ≡ lengthAt bytes at) where
+  pub field-other : (n ≡ 15 → ⊥) → [] ≡ payloadAt bytes at 0x12
+  unfolding payloadAt lengthOf find rows
+  field-other f = ap (payloadOf bytes) (is-foreign-length bytes at 0x12 (omega arith) n t e (ne-eqb n 15 f))
+
+  pub field-there : n ≡ 15 → take (at + 18 - (at + 3)) (drop (at + 3) bytes) ≡ payloadAt bytes at 0x12
+  unfolding payloadAt lengthOf find rows
+  field-there f =
+      let size : at + 3 + n - (at + 3) ≡ 15 = omega arith in
+      part-lent bytes (at + 3) (at + 18) (omega arith) ∙
+      ap (part bytes (at + 3)) (sym size) ∙
+      ap (payloadOf bytes) (is-payload bytes at 0x12 (omega arith) n t e (eq-eqb n 15 f) (omega arith))
 
 -- The loop over entries.
 module _ (framed : Bool) (id version : ℕ) (bytes : List ℕ) where
