@@ -1,6 +1,6 @@
 -- A draft taken apart: its keys, its pointers, and its outline, which is the rest; and what the replay of each change makes of the three, where keys
 -- and pointers stand at the front, and where they stand from a place on. Assumes nothing.
-use mathlib.Core.Path.{_≡_, refl, sym, ap, ap₂, _∙_}
+use mathlib.Core.Path.{_≡_, refl, ap, ap₂, _∙_}
 use mathlib.Core.Bool.{Bool, true, false}
 use mathlib.Core.List.{List, []}
 use Prim.Native.Nat.{ℕ, _+_, _-_, _≤_, _<_}

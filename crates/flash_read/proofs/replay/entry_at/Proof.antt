@@ -1,6 +1,5 @@
 -- `replay::entry_at` meets its contract: a field's payload, or the part of the buffer. Assumes nothing.
-use native.Mathlib.Omega.{arith}
-use Rattle.flash_read.specs.Replay.{entryIn, strideOf}
+use Rattle.flash_read.specs.Replay.{entryIn}
 use Rattle.flash_read.proofs.Laws.{entry-plain}
 use borrow.Author.Needs.{needs}
 use Rattle.flash_read.proofs.replay.entry_at.Statement.{statement}

@@ -3,7 +3,6 @@ use mathlib.Core.Path.{refl, _∙_}
 use native.Mathlib.Omega.{arith}
 use Rattle.node_replay.specs.Outline.{draftIn}
 use Rattle.flash_read.specs.Replay.{redoBuffer, from-buffer, reach-buffer}
-use borrow.Author.Needs.{needs}
 use Rattle.flash_read.proofs.replay.redo_entries.Statement.{statement}
 use Rattle.flash_read.proofs.replay.redo_entries.Tie as tie
 

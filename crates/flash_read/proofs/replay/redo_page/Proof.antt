@@ -3,7 +3,6 @@ use mathlib.Core.Path.{_∙_}
 use native.Mathlib.Omega.{arith}
 use Rattle.node_replay.specs.Outline.{draftIn}
 use Rattle.flash_read.specs.Replay.{from-page, reach-page}
-use borrow.Author.Needs.{needs}
 use Rattle.flash_read.proofs.replay.redo_page.Statement.{statement}
 use Rattle.flash_read.proofs.replay.redo_page.Tie as tie
 

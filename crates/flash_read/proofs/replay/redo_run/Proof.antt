@@ -1,6 +1,6 @@
 -- `replay::redo_run` meets its contract. The invariant: the entries left, replayed from here, give them all. Assumes nothing.
 use mathlib.Core.Path.{_≡_, refl, sym, ap, _∙_}
-use Prim.Native.Nat.{_+_, _*_, _≤_}
+use Prim.Native.Nat.{_+_, _≤_}
 use native.Mathlib.Omega.{arith}
 use lib.ListN.{length}
 use Rattle.node_replay.specs.Outline.{draftIn, HeldIn}
