@@ -8,14 +8,16 @@ use native.Mathlib.Numerals.{add-one}
 use native.Mathlib.Omega.{arith}
 use lib.ListN.{length, getD, set, take, drop, length-drop, replicate, getD-replicate, List·getD-eq-default}
 use lib.Seq.{take-suc-set, length-take-le}
-use borrow.Author.Tests.{eq-eqb, ne-eqb, lt-ltb, le-ltb}
+use borrow.Author.Tests.{eq-eqb, ne-eqb, lt-ltb, le-ltb, le-leb, lt-leb}
 use Rattle.laws.specs.Lay.{part}
 use Rattle.laws.specs.Loops.{steps, steps-more}
 use Rattle.laws.specs.BigEndian.{number, numberAt}
 use Rattle.layout.specs.Layout.{mostEntries, bound32}
 use Rattle.pairs.specs.Pairs.{Pair}
-use Rattle.wire.specs.Field.{payloadAt}
+use Rattle.wire.specs.Tag.{lengthOf, find, rows}
+use Rattle.wire.specs.Field.{lengthAt, payloadOf, payloadAt}
 use Rattle.wire.specs.FieldLaws.{payloadAt-absent}
+use Rattle.wire.proofs.Cases.{is-foreign-length, is-payload}
 use Rattle.flash_blocks.specs.Pages.{pageAt, blankPage}
 use Rattle.account.specs.declared.Mode.{Mode}
 use Rattle.account.specs.declared.Mode.the-variants.{Log, Disk}
@@ -31,18 +33,14 @@ use Rattle.node.specs.Change.{put, remove, link}
 use Rattle.node.specs.Splice.{zip}
 use Rattle.node.specs.Ascends.{ascends, ascends-within}
 use Rattle.node.specs.Replay.{Draft, made, broken, redo}
-use Rattle.node.specs.Value.{pairsIn, nodeOf, Held, Stands}
-use Rattle.node.specs.Drafts.{draftOf, Redone}
+use Rattle.node.specs.Value.{pairsIn, Stands}
+use Rattle.node.specs.Drafts.{Redone}
 use Rattle.page.specs.Page.{Entry}
 use Rattle.page.specs.Decode as decode
 use Rattle.flash_read.specs.Replay.{isOwn, redoEntry, redoRun, entryIn, strideOf, redoFrom}
 use Rattle.flash_read.specs.Slots.{sequenceAt, slotAt, redoAt, redoTwo, redoThree}
-use Rattle.flash_read.specs.NodePage.{nodeOfPayload, nodePageAt}
+use Rattle.flash_read.specs.NodePage.{ifAscends, nodeOfPayload, nodePageAt}
 use Rattle.flash_read.specs.Content.{redoPages, logContent, contentBy}
-
--- A draft as it is.
-pub redone-same : (d : DraftValue) → Held (d .node) → Redone d (draftOf d)
-redone-same d h = record { is = refl; held = h }
 
 -- A draft known by an equation.
 pub redone-is : (r : DraftValue) (a b : Draft) → Redone r a → a ≡ b → Redone r b
@@ -76,10 +74,29 @@ module _ (id version : ℕ) (e : Entry) (d : Draft) (test : Bool) (t : test ≡ 
   unfolding redoEntry
   entry-other o = rw (sym t ∙ o) refl
 
--- Fifteen bytes of the buffer, lent as a part of it.
-pub part-lent : (bytes : List ℕ) (at : ℕ) → take (at + 15 - at) (drop at bytes) ≡ part bytes at 15
+-- An entry's fifteen bytes, lent as a part.
+part-lent : (bytes : List ℕ) (at to : ℕ) → to ≡ at + 15 → take (to - at) (drop at bytes) ≡ part bytes at 15
 unfolding part
-part-lent bytes at = let size : at + 15 - at ≡ 15 = omega arith in ap (λ (n : ℕ). take n (drop at bytes)) size
+part-lent bytes at to e = let size : to - at ≡ 15 = omega arith in ap (λ (n : ℕ). take n (drop at bytes)) size
+
+-- An entry in the buffer.
+pub entry-plain : (bytes : List ℕ) (at : ℕ) → at + 15 ≤ length bytes → take (at + 15 - at) (drop at bytes) ≡ entryIn false bytes at
+unfolding entryIn
+entry-plain bytes at h = rw (le-leb (at + 15) (length bytes) h) (part-lent bytes at (at + 15) refl)
+
+-- A field 12 is known by its tag and length: it has one length only.
+module _ (bytes : List ℕ) (at : ℕ) (h : at + 18 ≤ length bytes) (t : getD bytes at 0 ≡ 0x12) (n : ℕ) (e : n ≡ lengthAt bytes at) where
+  pub field-other : (n ≡ 15 → ⊥) → [] ≡ payloadAt bytes at 0x12
+  unfolding payloadAt lengthOf find rows
+  field-other f = ap (payloadOf bytes) (is-foreign-length bytes at 0x12 (omega arith) n t e (ne-eqb n 15 f))
+
+  pub field-there : n ≡ 15 → take (at + 18 - (at + 3)) (drop (at + 3) bytes) ≡ payloadAt bytes at 0x12
+  unfolding payloadAt lengthOf find rows
+  field-there f =
+      let size : at + 3 + n - (at + 3) ≡ 15 = omega arith in
+      part-lent bytes (at + 3) (at + 18) (omega arith) ∙
+      ap (part bytes (at + 3)) (sym size) ∙
+      ap (payloadOf bytes) (is-payload bytes at 0x12 (omega arith) n t e (eq-eqb n 15 f) (omega arith))
 
 -- The loop over entries.
 module _ (framed : Bool) (id version : ℕ) (bytes : List ℕ) where
@@ -228,7 +245,51 @@ module _ (p : List ℕ) (n : ℕ) where
       append-nil (zip (take i keys) (take i pointers)) ∙
       ap (λ (j : ℕ). zip (take j keys) (take j pointers)) same
 
--- A payload that spells no node, or one whose keys ascend, or do not.
+-- The keys read so far ascend: what is left, tested from the least key that may come, gives the whole test.
+module _ (p : List ℕ) (n i least key : ℕ) (h : i < n) (e : key ≡ numberAt 4 p (7 + 8 * i)) where
+  rest-more : decode.pairsFrom (n - i) p (7 + 8 * i) ≡ (key, numberAt 4 p (7 + 8 * i + 4)) ∷ decode.pairsFrom (n - (i + 1)) p (7 + 8 * (i + 1))
+  unfolding decode.pairsFrom
+  rest-more =
+      let turn : n - i ≡ suc (n - (i + 1)) = omega arith in
+      let next : 7 + 8 * (i + 1) ≡ 7 + 8 * i + 8 = omega arith in
+      ap (λ (m : ℕ). decode.pairsFrom m p (7 + 8 * i)) turn ∙
+      sym (ap₂ (λ (k at : ℕ). (k, numberAt 4 p (7 + 8 * i + 4)) ∷ decode.pairsFrom (n - (i + 1)) p at) e next)
+
+  pub rising-low : key < least → ascends least bound32 (decode.pairsFrom (n - i) p (7 + 8 * i)) ≡ false
+  unfolding ascends
+  rising-low l = ap (ascends least bound32) rest-more ∙ rw (lt-leb least key l) refl
+
+  pub rising-more : least ≤ key → key < bound32 →
+      ascends (key + 1) bound32 (decode.pairsFrom (n - (i + 1)) p (7 + 8 * (i + 1))) ≡ ascends least bound32 (decode.pairsFrom (n - i) p (7 + 8 * i))
+  unfolding ascends
+  rising-more l b =
+      ap (λ (k : ℕ). ascends k bound32 (decode.pairsFrom (n - (i + 1)) p (7 + 8 * (i + 1)))) (add-one key) ∙
+      sym (ap (ascends least bound32) rest-more ∙ rw (le-leb least key l, lt-ltb key bound32 b) refl)
+
+pub rising-done : (p : List ℕ) (n i least : ℕ) → n ≤ i → ascends least bound32 (decode.pairsFrom (n - i) p (7 + 8 * i)) ≡ true
+unfolding ascends decode.pairsFrom
+rising-done p n i least h =
+    let over : n - i ≡ 0 = omega arith in
+    ap (λ (m : ℕ). ascends least bound32 (decode.pairsFrom m p (7 + 8 * i))) over
+
+-- A node read, and one whose keys do not ascend.
+module _ (shape : Shape) (qs : List Pair) (link : ℕ) where
+  pub node-loose : ascends 0 bound32 qs ≡ false → broken ≡ ifAscends (node shape qs link)
+  unfolding ifAscends
+  node-loose a = rw a refl
+
+  pub node-read : (v : NodeValue) → Stands v (node shape qs link) → ascends 0 bound32 qs ≡ true →
+      Redone (record { state = Made; node = v }) (ifAscends (node shape qs link))
+  unfolding ifAscends
+  node-read v s a =
+      let e : pairsIn v ≡ qs = ap pairsOf (s .is) in
+      rw a
+      (record {
+        is = ap made (s .is);
+        held = record { sized = s .sized; ascending = ascends-within 0 bound32 (pairsIn v) (ap (ascends 0 bound32) e ∙ a) };
+      })
+
+-- A payload that spells no node, or one.
 module _ (p : List ℕ) where
   pub whole-short : length p < 7 → broken ≡ nodeOfPayload p
   unfolding nodeOfPayload
@@ -239,24 +300,10 @@ module _ (p : List ℕ) where
     unfolding nodeOfPayload
     whole-long l = rw (le-ltb (length p) 7 h, ← e, lt-ltb 24 n l) refl
 
-    module _ (l : n ≤ 24) (v : NodeValue) (shape : Shape) (link : ℕ) (k : shape ≡ decode.shapeOfNumber (getD p 2 0)) (m : link ≡ numberAt 4 p 3)
-        (s : Stands v (node shape (decode.pairsFrom n p 7) link)) where
-      pairs-are : pairsIn v ≡ decode.pairsFrom n p 7
-      pairs-are = ap pairsOf (s .is)
-
-      node-is : nodeOf v ≡ decode.nodeOf p
-      unfolding decode.nodeOf
-      node-is = s .is ∙ rw (k, m, e) refl
-
-      pub whole-made : ascends 0 bound32 (pairsIn v) ≡ true → Redone (record { state = Made; node = v }) (nodeOfPayload p)
-      unfolding nodeOfPayload
-      whole-made a =
-          rw (le-ltb (length p) 7 h, ← e, le-ltb 24 n l, ← pairs-are, a)
-          (record { is = ap made node-is; held = record { sized = s .sized; ascending = ascends-within 0 bound32 (pairsIn v) a } })
-
-      pub whole-loose : ascends 0 bound32 (pairsIn v) ≡ false → broken ≡ nodeOfPayload p
-      unfolding nodeOfPayload
-      whole-loose a = rw (le-ltb (length p) 7 h, ← e, le-ltb 24 n l, ← pairs-are, a) refl
+    pub whole-read : n ≤ 24 → (shape : Shape) (to : ℕ) → shape ≡ decode.shapeOfNumber (getD p 2 0) → to ≡ numberAt 4 p 3 →
+        ifAscends (node shape (decode.pairsFrom n p 7) to) ≡ nodeOfPayload p
+    unfolding nodeOfPayload ifAscends decode.nodeOf
+    whole-read l shape to k m = rw (le-ltb (length p) 7 h, ← e, le-ltb 24 n l, k, m) refl
 
 -- The node of a page within the pool, and none behind its end.
 pub node-in : (pages : List (List ℕ)) (q : ℕ) (b : List ℕ) → b ≡ pageAt pages q → nodeOfPayload (payloadAt b 7 0x11) ≡ nodePageAt pages q

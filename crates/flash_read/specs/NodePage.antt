@@ -7,9 +7,14 @@ use Rattle.laws.specs.Tests.{choose}
 use Rattle.layout.specs.Layout.{mostKeys, bound32}
 use Rattle.flash_blocks.specs.Pages.{pageAt}
 use Rattle.wire.specs.Field.{payloadAt}
+use Rattle.node.specs.Node.{Node, pairsOf}
 use Rattle.node.specs.Replay.{Draft, made, broken}
 use Rattle.node.specs.Ascends.{ascends}
 use Rattle.page.specs.Decode.{pairsIn, pairsFrom, nodeOf}
+
+-- A node whose keys ascend; none where they do not.
+unfoldable pub ifAscends : Node → Draft
+ifAscends n = choose (ascends 0 bound32 (pairsOf n)) (made n) broken
 
 -- The node of a payload; none where it is too short for one, has too many pairs, or keys that do not ascend.
 unfoldable pub nodeOfPayload : List ℕ → Draft

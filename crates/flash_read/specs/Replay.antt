@@ -2,7 +2,7 @@
 use mathlib.Core.Bool.{Bool, true, false, _&&_}
 use mathlib.Core.Path.{_≡_, refl, ap, _∙_}
 use mathlib.Core.List.{List, []}
-use Prim.Native.Nat.{ℕ, zero, suc, _+_, _-_, _*_, _≤_}
+use Prim.Native.Nat.{ℕ, zero, suc, _+_, _-_, _*_, _≤_, _<_}
 use native.Mathlib.Numerals.{add-one}
 use native.Mathlib.Omega.{arith}
 use borrow.Author.Tests.{le-leb, eq-eqb}
@@ -51,9 +51,25 @@ abbrev pub strideOf : Bool → ℕ
 strideOf true = 18
 strideOf false = 15
 
-pub stride-most : (framed : Bool) → strideOf framed ≤ 18
-stride-most true = omega arith
-stride-most false = omega arith
+-- How far so many entries reach.
+unfoldable pub reach : Bool → ℕ → ℕ
+reach framed zero = 0
+reach framed (suc n) = strideOf framed + reach framed n
+
+pub reach-more : (framed : Bool) (n : ℕ) → 0 < n → reach framed n ≡ strideOf framed + reach framed (n - 1)
+unfolding reach
+reach-more framed zero h = absurd (omega arith)
+reach-more framed (suc n) h = let e : n ≡ suc n - 1 = omega arith in ap (λ (k : ℕ). strideOf framed + reach framed k) e
+
+pub reach-page : (n : ℕ) → reach true n ≡ 18 * n
+unfolding reach
+reach-page zero = refl
+reach-page (suc n) = omega (arith, reach-page n)
+
+pub reach-buffer : (n : ℕ) → reach false n ≡ 15 * n
+unfolding reach
+reach-buffer zero = refl
+reach-buffer (suc n) = omega (arith, reach-buffer n)
 
 -- The entries of either kind that stand one behind another from a place on, at most so many.
 unfoldable pub redoFrom : Bool → ℕ → ℕ → ℕ → List ℕ → ℕ → Draft → Draft

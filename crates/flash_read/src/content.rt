@@ -23,6 +23,7 @@ use flash_rows::table::buffer_part;
 use flash_rows::table::row_at;
 use layout::MOST_KEYS;
 use node::DraftValue;
+use node_replay::front::settle;
 use node_replay::outline::Outline;
 use node_replay::outline::draft_from;
 use node_replay::outline::empty_outline;
@@ -78,6 +79,7 @@ fn log_content<'a>(
         &mut pointers,
         written,
     );
+    settle(&mut keys, &mut pointers, all.first, all.count);
     draft_from(all, keys, pointers)
 }
 

@@ -1,14 +1,14 @@
 // A node read from its node page.
+ghost use mathlib.Core.Path.{_≡_};
 ghost use Prim.Native.Nat.{_+_, _*_, _≤_};
 ghost use lib.ListN.{length};
 ghost use Rattle.flash_blocks.specs.Pages.{pagesOf};
 ghost use Rattle.node.specs.Node.{node};
 ghost use Rattle.node.specs.Replay.{broken};
-ghost use Rattle.node.specs.Value.{Stands};
 ghost use Rattle.node.specs.Drafts.{Redone};
 ghost use Rattle.wire.specs.Field.{payloadAt};
 ghost use Rattle.page.specs.Decode as decode;
-ghost use Rattle.flash_read.specs.NodePage.{nodeOfPayload, nodePageAt};
+ghost use Rattle.flash_read.specs.NodePage.{ifAscends, nodeOfPayload, nodePageAt};
 ghost use Rattle.layout.specs.Layout.{mostKeys};
 use flash_blocks::page::has_page;
 use flash_blocks::page::page_part;
@@ -18,7 +18,6 @@ use node::DraftValue;
 use node::NodeValue;
 use node::Shape;
 use node::empty_node;
-use node::search::ascends;
 use page::shape_of;
 use wire::field::payload;
 use wire::number::read32;
@@ -34,27 +33,44 @@ fn no_node() -> DraftValue
     }
 }
 
-// A node of the first n pairs of a payload.
-fn read_pairs(p: &[u8], n: usize, shape: Shape, link: u32) -> NodeValue
+// A key widened, so that one more than the greatest key is a number too.
+fn wide(x: u32) -> u64
+    ensures { λ r. ⌜ r ≡ x ⌝ }
+{
+    x as u64
+}
+
+// A node of the first n pairs of a payload; none where their keys do not ascend, which is seen as they are read.
+fn read_pairs(p: &[u8], n: usize, shape: Shape, link: u32) -> DraftValue
     requires { ⌜ (n ≤ mostKeys) × (7 + 8 * n ≤ length (now p)) ⌝ }
-    ensures { λ r. ⌜ Stands r (node shape (decode.pairsFrom n (now (p .entry)) 7) link) ⌝ }
+    ensures { λ r. ⌜ Redone r (ifAscends (node shape (decode.pairsFrom n (now (p .entry)) 7) link)) ⌝ }
 {
     let mut keys = [0u32; MOST_KEYS];
     let mut pointers = [0u32; MOST_KEYS];
+    let mut least: u64 = 0;
     let mut i: usize = 0;
     while i < n {
         let key = read32(p, 7 + 8 * i);
         let pointer = read32(p, 11 + 8 * i);
+        let here = wide(key);
+        if here < least {
+            return no_node();
+        }
         keys[i] = key;
         pointers[i] = pointer;
+        least = here + 1;
         i += 1;
     }
-    NodeValue {
+    let node = NodeValue {
         shape,
         count: n,
         keys,
         pointers,
         link,
+    };
+    DraftValue {
+        state: DraftState::Made,
+        node,
     }
 }
 
@@ -72,14 +88,7 @@ fn node_of_payload(p: &[u8]) -> DraftValue
     }
     let shape = shape_of(p[2]);
     let link = read32(p, 3);
-    let v = read_pairs(p, n, shape, link);
-    if ascends(v, 0, 4294967296) {
-        return DraftValue {
-            state: DraftState::Made,
-            node: v,
-        };
-    }
-    no_node()
+    read_pairs(p, n, shape, link)
 }
 
 // The node of a page's field 11.

@@ -5,8 +5,9 @@ ghost use lib.ListN.{length};
 ghost use Rattle.layout.specs.Layout.{mostEntries, entrySize};
 ghost use Rattle.node.specs.Replay.{redo};
 ghost use Rattle.node_replay.specs.Outline.{draftIn, HeldIn, RedoneIn};
+ghost use Rattle.wire.specs.Field.{payloadAt};
 ghost use Rattle.page.specs.Decode.{entryOf};
-ghost use Rattle.flash_read.specs.Replay.{isOwn, entryIn, strideOf, redoFrom, redoRun, redoBuffer};
+ghost use Rattle.flash_read.specs.Replay.{isOwn, entryIn, strideOf, reach, redoFrom, redoRun, redoBuffer};
 use layout::ENTRY_BYTES;
 use layout::MOST_ENTRIES;
 use layout::MOST_KEYS;
@@ -15,7 +16,6 @@ use node_replay::outline::Outline;
 use node_replay::redo_delete;
 use node_replay::redo_link;
 use node_replay::redo_put;
-use wire::field::payload;
 use wire::number::read16;
 use wire::number::read32;
 
@@ -58,19 +58,30 @@ fn redo_entry(
     redo_link(outline, Shape::Branch, pointer)
 }
 
+// The entry on a page: the payload of the field 12 at a place. Its one length and the room for it spare the tests that a field has in general.
+fn framed_at<'a>(bytes: &'a [u8], at: usize) -> &'a [u8]
+    requires { ⌜ at + 18 ≤ length (now bytes) ⌝ }
+    ensures { λ r. ⌜ now r ≡ payloadAt (now (bytes .entry)) at 0x12 ⌝ }
+{
+    if bytes[at] != 0x12 {
+        return &bytes[..0];
+    }
+    let size = read16(bytes, at + 1) as usize;
+    if size != ENTRY_BYTES {
+        return &bytes[..0];
+    }
+    &bytes[at + 3..at + 18]
+}
+
 // The bytes of an entry: on a page the payload of the field 12 at a place, in the buffer the fifteen bytes there. Nothing where there is none.
 fn entry_at<'a>(bytes: &'a [u8], at: usize, framed: bool) -> &'a [u8]
-    requires { ⌜ at ≤ 4096 ⌝ }
+    requires { ⌜ at + strideOf framed ≤ length (now bytes) ⌝ }
     ensures { λ r. ⌜ now r ≡ entryIn framed (now (bytes .entry)) at ⌝ }
 {
     if framed {
-        return payload(bytes, at, 0x12);
+        return framed_at(bytes, at);
     }
-    let to = at + ENTRY_BYTES;
-    if to <= bytes.len() {
-        return &bytes[at..to];
-    }
-    &bytes[..0]
+    &bytes[at..at + ENTRY_BYTES]
 }
 
 // How far one entry lies behind another: on a page a field's head is between them.
@@ -83,7 +94,8 @@ fn stride(framed: bool) -> usize
     ENTRY_BYTES
 }
 
-// At most so many entries from a place on, in order. The one loop over entries, so that the compiler keeps the outline in registers.
+// At most so many entries from a place on, in order, with room for them all: so no test of the length stands in the loop. It is the one loop over
+// entries, so that the compiler keeps the outline in registers.
 fn redo_run(
     bytes: &[u8],
     at: usize,
@@ -95,7 +107,7 @@ fn redo_run(
     pointers: &mut [u32; MOST_KEYS],
     outline: Outline,
 ) -> Outline
-    requires { ⌜ (at + 18 * most ≤ 4096) × (HeldIn outline (now keys) (now pointers)) ⌝ }
+    requires { ⌜ (at + reach framed most ≤ length (now bytes)) × (HeldIn outline (now keys) (now pointers)) ⌝ }
     ensures { λ r. ⌜ RedoneIn r (now (keys .exit)) (now (pointers .exit))
         (redoFrom framed id version most (now (bytes .entry)) at (draftIn outline (now (keys .entry)) (now (pointers .entry)))) ⌝ }
 {
@@ -126,7 +138,7 @@ pub fn redo_page(
     pointers: &mut [u32; MOST_KEYS],
     outline: Outline,
 ) -> Outline
-    requires { ⌜ HeldIn outline (now keys) (now pointers) ⌝ }
+    requires { ⌜ (7 + 18 * mostEntries ≤ length (now page)) × (HeldIn outline (now keys) (now pointers)) ⌝ }
     ensures { λ r. ⌜ RedoneIn r (now (keys .exit)) (now (pointers .exit))
         (redoRun id version mostEntries (now (page .entry)) 7 (draftIn outline (now (keys .entry)) (now (pointers .entry)))) ⌝ }
 {

@@ -3,7 +3,10 @@ ghost use Rattle.node.specs.Change.{put, remove};
 ghost use Rattle.node.specs.Replay.{redo};
 ghost use Rattle.node.specs.Value.{Held};
 ghost use Rattle.node.specs.Drafts.{draftOf, changeOf, Redone};
-ghost use Rattle.node_replay.specs.Outline.{draftIn, HeldIn, RedoneIn, Links};
+ghost use Rattle.node_replay.specs.Outline.{nodeFrom, draftFrom, countedTo, draftIn, HeldIn, RedoneIn, Links};
+use front::is_behind;
+use front::is_first;
+use front::settle;
 use layout::MOST_KEYS;
 use node::ChangeValue;
 use node::DraftState;
@@ -16,13 +19,70 @@ use node::search::find_in_replay;
 use node::splice;
 use outline::Outline;
 use outline::broken;
+use outline::counted;
 use outline::draft_from;
 use outline::linked;
 use outline::outline_of;
 
+pub mod front;
 pub mod outline;
 
-// One put more: a 25th key breaks the draft.
+// One put more into a draft whose keys stand at the front. The answer is how many they are then: a 25th is not put in.
+fn put_in(
+    keys: &mut [u32; MOST_KEYS],
+    pointers: &mut [u32; MOST_KEYS],
+    outline: Outline,
+    key: u32,
+    pointer: u32,
+) -> usize
+    requires { ⌜ Held (nodeFrom outline (now keys) (now pointers)) ⌝ }
+    ensures { λ r. ⌜ Redone (draftFrom (countedTo outline r) (now (keys .exit)) (now (pointers .exit)))
+        (redo (draftOf (draftFrom outline (now (keys .entry)) (now (pointers .entry)))) (put key pointer)) ⌝ }
+{
+    let count = outline.count;
+    let found = find_behind(keys, count, key);
+    match found {
+        Found::At(i) => {
+            pointers[i] = pointer;
+            return count;
+        }
+        Found::Above(i) => {
+            if count < MOST_KEYS {
+                splice::insert(keys, count, i, key);
+                splice::insert(pointers, count, i, pointer);
+                return count + 1;
+            }
+            return MOST_KEYS + 1;
+        }
+    }
+}
+
+// One removal more from such a draft.
+fn delete_in(
+    keys: &mut [u32; MOST_KEYS],
+    pointers: &mut [u32; MOST_KEYS],
+    outline: Outline,
+    key: u32,
+) -> usize
+    requires { ⌜ Held (nodeFrom outline (now keys) (now pointers)) ⌝ }
+    ensures { λ r. ⌜ Redone (draftFrom (countedTo outline r) (now (keys .exit)) (now (pointers .exit)))
+        (redo (draftOf (draftFrom outline (now (keys .entry)) (now (pointers .entry)))) (remove key)) ⌝ }
+{
+    let count = outline.count;
+    let found = find_in_replay(keys, count, key);
+    match found {
+        Found::At(i) => {
+            splice::remove(keys, count, i);
+            splice::remove(pointers, count, i);
+            return count - 1;
+        }
+        Found::Above(_) => {
+            return count;
+        }
+    }
+}
+
+// One put more. Most keys are behind all others, as in a node written whole, or are the first.
 pub fn redo_put(
     keys: &mut [u32; MOST_KEYS],
     pointers: &mut [u32; MOST_KEYS],
@@ -35,26 +95,25 @@ pub fn redo_put(
         (redo (draftIn outline (now (keys .entry)) (now (pointers .entry))) (put key pointer)) ⌝ }
 {
     let mut r = outline;
+    let first = outline.first;
     let count = outline.count;
-    let found = find_behind(keys, count, key);
-    match found {
-        Found::At(i) => {
-            pointers[i] = pointer;
-            return r;
-        }
-        Found::Above(i) => {
-            if count < MOST_KEYS {
-                splice::insert(keys, count, i, key);
-                splice::insert(pointers, count, i, pointer);
-                r.count = count + 1;
-                return r;
-            }
-            return broken(outline);
-        }
+    if is_behind(keys, first, count, key) {
+        let end = first + count;
+        keys[end] = key;
+        pointers[end] = pointer;
+        r.count = count + 1;
+        return r;
     }
+    if is_first(keys, first, count, key) {
+        pointers[first] = pointer;
+        return r;
+    }
+    settle(keys, pointers, first, count);
+    let n = put_in(keys, pointers, outline, key, pointer);
+    counted(outline, n)
 }
 
-// One removal more.
+// One removal more. Leaves are emptied in key order.
 pub fn redo_delete(
     keys: &mut [u32; MOST_KEYS],
     pointers: &mut [u32; MOST_KEYS],
@@ -66,19 +125,16 @@ pub fn redo_delete(
         (redo (draftIn outline (now (keys .entry)) (now (pointers .entry))) (remove key)) ⌝ }
 {
     let mut r = outline;
+    let first = outline.first;
     let count = outline.count;
-    let found = find_in_replay(keys, count, key);
-    match found {
-        Found::At(i) => {
-            splice::remove(keys, count, i);
-            splice::remove(pointers, count, i);
-            r.count = count - 1;
-            return r;
-        }
-        Found::Above(_) => {
-            return r;
-        }
+    if is_first(keys, first, count, key) {
+        r.first = first + 1;
+        r.count = count - 1;
+        return r;
     }
+    settle(keys, pointers, first, count);
+    let n = delete_in(keys, pointers, outline, key);
+    counted(outline, n)
 }
 
 // One link more, whatever the keys and pointers: the first makes the node, one of the other shape breaks it.
@@ -103,20 +159,26 @@ pub fn redo_link(outline: Outline, shape: Shape, to: u32) -> Outline
     }
 }
 
-// One change more.
+// One change more of a draft whose keys stand at the front.
 fn redo_change(
     keys: &mut [u32; MOST_KEYS],
     pointers: &mut [u32; MOST_KEYS],
     outline: Outline,
     change: ChangeValue,
 ) -> Outline
-    requires { ⌜ HeldIn outline (now keys) (now pointers) ⌝ }
-    ensures { λ r. ⌜ RedoneIn r (now (keys .exit)) (now (pointers .exit))
-        (redo (draftIn outline (now (keys .entry)) (now (pointers .entry))) (changeOf change)) ⌝ }
+    requires { ⌜ Held (nodeFrom outline (now keys) (now pointers)) ⌝ }
+    ensures { λ r. ⌜ Redone (draftFrom r (now (keys .exit)) (now (pointers .exit)))
+        (redo (draftOf (draftFrom outline (now (keys .entry)) (now (pointers .entry)))) (changeOf change)) ⌝ }
 {
     match change {
-        ChangeValue::Put { key, pointer } => redo_put(keys, pointers, outline, key, pointer),
-        ChangeValue::Delete { key } => redo_delete(keys, pointers, outline, key),
+        ChangeValue::Put { key, pointer } => {
+            let n = put_in(keys, pointers, outline, key, pointer);
+            counted(outline, n)
+        }
+        ChangeValue::Delete { key } => {
+            let n = delete_in(keys, pointers, outline, key);
+            counted(outline, n)
+        }
         ChangeValue::Link { shape, link } => redo_link(outline, shape, link),
     }
 }

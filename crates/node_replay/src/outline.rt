@@ -1,6 +1,7 @@
-// A draft taken apart: its keys and pointers lie in arrays of their own, to be changed in place, and its outline is the rest.
+// A draft taken apart: its keys and pointers lie in arrays of their own, to be changed in place, and its outline is the rest. They stand from `first`
+// on: a removal of the first key, as of leaves that are emptied in key order, moves none.
 ghost use mathlib.Core.Path.{_≡_};
-ghost use Rattle.node_replay.specs.Outline.{emptyOutline, outlineOf, brokenAt, linkedAt, draftFrom};
+ghost use Rattle.node_replay.specs.Outline.{emptyOutline, outlineOf, brokenAt, linkedAt, countedTo, draftFrom};
 use layout::MOST_KEYS;
 use node::DraftState;
 use node::DraftValue;
@@ -11,6 +12,7 @@ use node::Shape;
 pub struct Outline {
     pub state: DraftState,
     pub shape: Shape,
+    pub first: usize,
     pub count: usize,
     pub link: u32,
 }
@@ -22,6 +24,7 @@ pub fn empty_outline() -> Outline
     Outline {
         state: DraftState::Unlinked,
         shape: Shape::Leaf,
+        first: 0,
         count: 0,
         link: 0,
     }
@@ -37,6 +40,7 @@ pub fn outline_of(d: DraftValue) -> Outline
     Outline {
         state,
         shape,
+        first: 0,
         count: v.count,
         link: v.link,
     }
@@ -50,6 +54,7 @@ pub fn broken(outline: Outline) -> Outline
     Outline {
         state: DraftState::Broken,
         shape,
+        first: outline.first,
         count: outline.count,
         link: outline.link,
     }
@@ -62,12 +67,26 @@ pub fn linked(outline: Outline, shape: Shape, to: u32) -> Outline
     Outline {
         state: DraftState::Made,
         shape,
+        first: outline.first,
         count: outline.count,
         link: to,
     }
 }
 
-// The draft put together.
+// The outline of a draft whose keys stand at the front, with so many of them; more than fit break it.
+pub fn counted(outline: Outline, n: usize) -> Outline
+    ensures { λ r. ⌜ r ≡ countedTo outline n ⌝ }
+{
+    let mut r = outline;
+    r.first = 0;
+    if MOST_KEYS < n {
+        return broken(r);
+    }
+    r.count = n;
+    r
+}
+
+// The draft put together, its keys and pointers at the front.
 pub fn draft_from(
     outline: Outline,
     keys: [u32; MOST_KEYS],

@@ -6,14 +6,20 @@ use Rattle.node_replay.proofs.redo_change.Tie as tie
 enum-known-change : tie.Need-enum-known-change
 enum-known-change c = search needs
 
-redo-put-requires : tie.Need-redo-put-requires
-redo-put-requires c κs = search needs
+put-in-requires : tie.Need-put-in-requires
+put-in-requires c κs = search needs
+
+counted-requires : tie.Need-counted-requires
+counted-requires c κs = search needs
 
 enum-known-change-2 : tie.Need-enum-known-change-2
 enum-known-change-2 c = search needs
 
-redo-delete-requires : tie.Need-redo-delete-requires
-redo-delete-requires c κs = search needs
+delete-in-requires : tie.Need-delete-in-requires
+delete-in-requires c κs = search needs
+
+counted-requires-2 : tie.Need-counted-requires-2
+counted-requires-2 c κs = search needs
 
 enum-known-change-3 : tie.Need-enum-known-change-3
 enum-known-change-3 c = search needs
@@ -22,10 +28,10 @@ redo-link-requires : tie.Need-redo-link-requires
 redo-link-requires c κs = search needs
 
 returns : tie.Need-returns
-returns c = rw (c .before .before .before .before .change .given .1) (c .redo-put .ensures)
+returns c = rw (c .counted .ensures, c .before .before .before .before .before .change .given .1) (c .before .put-in .ensures)
 
 returns-2 : tie.Need-returns-2
-returns-2 c = rw (c .before .before .before .before .change2 .given .1) (c .redo-delete .ensures)
+returns-2 c = rw (c .counted2 .ensures, c .before .before .before .before .before .change2 .given .1) (c .before .delete-in .ensures)
 
 returns-3 : tie.Need-returns-3
 returns-3 c =
@@ -38,9 +44,11 @@ redo-change-spec =
     tie.close
     (tie.spec
     enum-known-change
-    redo-put-requires
+    put-in-requires
+    counted-requires
     enum-known-change-2
-    redo-delete-requires
+    delete-in-requires
+    counted-requires-2
     enum-known-change-3
     redo-link-requires
     returns

@@ -1,86 +1,52 @@
--- `node_replay::redo_delete` meets its contract: the search says whether the key is there, and the pair at its place goes. Assumes nothing.
-use mathlib.Core.Path.{_≡_, refl, _∙_}
+-- `node_replay::redo_delete` meets its contract: the first key goes by the place alone; for another the keys are moved to the front. Assumes nothing.
 use native.Mathlib.Omega.{arith}
-use Rattle.node.specs.Found.{found}
-use Rattle.node.specs.Value.{pairsIn}
-use Rattle.node.specs.Edits.{at-inside}
-use Rattle.node_replay.specs.Outline.{nodeFrom, redone-removed, redone-kept}
+use Rattle.node_replay.specs.Outline.{redone-ahead, redone-counted}
 use borrow.Author.Needs.{needs}
 use Rattle.node_replay.proofs.redo_delete.Statement.{statement}
 use Rattle.node_replay.proofs.redo_delete.Tie as tie
 
--- What the search answers is what is found in the draft's pairs.
-answer :
-    (c : tie.After-find-in-replay) →
-    let a = c .before .before .args in
-    found (a .key) (pairsIn (nodeFrom (a .outline) (a .keys .now) (a .pointers .now))) ≡ c .find-in-replay .result
-answer c = let a = c .before .before .args in
-    c .find-in-replay .ensures .is (nodeFrom (a .outline) (a .keys .now) (a .pointers .now)) (c .before .before .pre) refl refl
+is-first-requires : tie.Need-is-first-requires
+is-first-requires c κs = search needs
 
-find-in-replay-requires : tie.Need-find-in-replay-requires
-find-in-replay-requires c κs = search needs
-
-enum-known-found : tie.Need-enum-known-found
-enum-known-found c = search needs
-
-remove-requires : tie.Need-remove-requires
-remove-requires c κs =
-    let known = c .before .before in
-    let searched = known .before .before in
-    let entry = searched .before .before in
-    let a = entry .args in
-    let e = answer searched ∙ known .found .given .1 in
-    (at-inside (nodeFrom (a .outline) (a .keys .now) (a .pointers .now)) (entry .pre) (a .key) _ e, entry .pre .sized .size, entry .pre .sized .keyRoom)
-
-remove-requires-2 : tie.Need-remove-requires-2
-remove-requires-2 c κs =
-    let known = c .before .before .before .before in
-    let searched = known .before .before in
-    let entry = searched .before .before in
-    let a = entry .args in
-    let e = answer searched ∙ known .found .given .1 in
-    (at-inside (nodeFrom (a .outline) (a .keys .now) (a .pointers .now)) (entry .pre) (a .key) _ e, entry .pre .sized .size, entry .pre .sized .pointerRoom)
+add-r : tie.Need-add-r
+add-r c = search needs
 
 sub-r : tie.Need-sub-r
-sub-r c =
-    let known = c .before .before .before .before .before in
-    let searched = known .before .before in
-    let entry = searched .before .before in
-    let a = entry .args in
-    let e = answer searched ∙ known .found .given .1 in
-    omega (arith, at-inside (nodeFrom (a .outline) (a .keys .now) (a .pointers .now)) (entry .pre) (a .key) _ e)
+sub-r c = omega (arith, c .before .is-first .ensures .some (c .if1 .taken))
 
 returns : tie.Need-returns
 returns c =
-    let known = c .before .before .before .before .before in
-    let searched = known .before .before in
-    let entry = searched .before .before in
+    let entry = c .before .before .before in
     let a = entry .args in
-    let e = answer searched ∙ known .found .given .1 in
-    let keys = c .before .before .remove in
-    let pointers = c .remove2 in
-    redone-removed (a .outline) (a .keys .now) (a .pointers .now) (entry .pre) (a .key) _ e (keys .last .0) (pointers .last .0)
-    (keys .ensures) (pointers .ensures)
+    let f = c .before .is-first .ensures in
+    redone-ahead (a .outline) (a .keys .now) (a .pointers .now) (entry .pre) (a .key) (f .some (c .if1 .taken)) (f .same (c .if1 .taken))
 
-enum-told : tie.Need-enum-told
-enum-told c = search needs
+settle-requires : tie.Need-settle-requires
+settle-requires c κs = search needs
+
+delete-in-requires : tie.Need-delete-in-requires
+delete-in-requires c κs =
+    let s = c .before .before .settle .ensures in
+    rw (s .0, s .1) (c .before .before .before .before .before .before .before .before .pre .held)
+
+counted-requires : tie.Need-counted-requires
+counted-requires c κs = search needs
 
 returns-2 : tie.Need-returns-2
 returns-2 c =
-    let searched = c .before .before in
-    let entry = searched .before .before in
-    let a = entry .args in
-    redone-kept (a .outline) (a .keys .now) (a .pointers .now) (entry .pre) (a .key) _ (answer searched ∙ c .enum-told .given .1)
+    let deleted = c .before in
+    let s = deleted .before .before .before .settle .ensures in
+    rw (c .counted .ensures) (redone-counted _ (deleted .delete-in .result) _ _ _ (rw (s .0, s .1) at (deleted .delete-in .ensures)))
 
 pub redo-delete-spec : {M : Type 1} → statement M
 redo-delete-spec =
     tie.close
     (tie.spec
-    find-in-replay-requires
-    enum-known-found
-    remove-requires
-    remove-requires-2
+    is-first-requires
+    add-r
     sub-r
     returns
-    enum-told
+    settle-requires
+    delete-in-requires
+    counted-requires
     returns-2)

@@ -1,119 +1,91 @@
--- `node_replay::redo_put` meets its contract: the search says whether the key is there; a 25th key breaks the draft. Assumes nothing.
-use mathlib.Core.Path.{_≡_, refl, _∙_}
+-- `node_replay::redo_put` meets its contract: a key behind all others, the first key, or any other once they are moved to the front. Assumes nothing.
 use native.Mathlib.Omega.{arith}
-use Rattle.node.specs.Found.{found}
-use Rattle.node.specs.Value.{pairsIn}
-use Rattle.node.specs.Edits.{at-inside, above-inside}
-use Rattle.node_replay.specs.Outline.{nodeFrom, redone-replaced, redone-added, redone-overfull}
+use Rattle.node_replay.specs.Outline.{redone-behind, redone-front, redone-counted}
 use borrow.Author.Needs.{needs}
 use Rattle.node_replay.proofs.redo_put.Statement.{statement}
 use Rattle.node_replay.proofs.redo_put.Tie as tie
 
--- What the search answers is what is found in the draft's pairs.
-answer :
-    (c : tie.After-find-behind) →
-    let a = c .before .before .args in
-    found (a .key) (pairsIn (nodeFrom (a .outline) (a .keys .now) (a .pointers .now))) ≡ c .find-behind .result
-answer c = let a = c .before .before .args in
-    c .find-behind .ensures .is (nodeFrom (a .outline) (a .keys .now) (a .pointers .now)) (c .before .before .pre) refl refl
+is-behind-requires : tie.Need-is-behind-requires
+is-behind-requires c κs = search needs
 
-find-behind-requires : tie.Need-find-behind-requires
-find-behind-requires c κs = search needs
+add-end : tie.Need-add-end
+add-end c = search needs
 
-enum-known-found : tie.Need-enum-known-found
-enum-known-found c = search needs
+mul-keys : tie.Need-mul-keys
+mul-keys c = search needs
+
+element-write-keys : tie.Need-element-write-keys
+element-write-keys c = c .before .is-behind .ensures .room (c .if1 .taken)
 
 mul-pointers : tie.Need-mul-pointers
-mul-pointers c =
-    let known = c .before in
-    let searched = known .before .before in
-    let entry = searched .before .before in
-    let a = entry .args in
-    let e = answer searched ∙ known .found .given .1 in
-    omega (arith, at-inside (nodeFrom (a .outline) (a .keys .now) (a .pointers .now)) (entry .pre) (a .key) _ e, entry .pre .sized .size)
+mul-pointers c = search needs
 
 element-write-pointers : tie.Need-element-write-pointers
-element-write-pointers c =
-    let known = c .before in
-    let searched = known .before .before in
-    let entry = searched .before .before in
-    let a = entry .args in
-    let e = answer searched ∙ known .found .given .1 in
-    omega (arith, at-inside (nodeFrom (a .outline) (a .keys .now) (a .pointers .now)) (entry .pre) (a .key) _ e, entry .pre .sized .size)
-
-returns : tie.Need-returns
-returns c =
-    let known = c .before in
-    let searched = known .before .before in
-    let entry = searched .before .before in
-    let a = entry .args in
-    let e = answer searched ∙ known .found .given .1 in
-    redone-replaced (a .outline) (a .keys .now) (a .pointers .now) (entry .pre) (a .key) _ (a .pointer) (search needs) e
-
-enum-known-found-2 : tie.Need-enum-known-found-2
-enum-known-found-2 c = search needs
-
-insert-requires : tie.Need-insert-requires
-insert-requires c κs =
-    let known = c .before .before .before in
-    let searched = known .before .before in
-    let entry = searched .before .before in
-    let a = entry .args in
-    let e = answer searched ∙ known .found2 .given .1 in
-    (above-inside (nodeFrom (a .outline) (a .keys .now) (a .pointers .now)) (entry .pre) (a .key) _ e, c .before .if1 .taken, entry .pre .sized .keyRoom)
-
-insert-requires-2 : tie.Need-insert-requires-2
-insert-requires-2 c κs =
-    let known = c .before .before .before .before .before in
-    let searched = known .before .before in
-    let entry = searched .before .before in
-    let a = entry .args in
-    let e = answer searched ∙ known .found2 .given .1 in (
-      above-inside (nodeFrom (a .outline) (a .keys .now) (a .pointers .now)) (entry .pre) (a .key) _ e,
-      c .before .before .before .if1 .taken,
-      entry .pre .sized .pointerRoom,
-    )
+element-write-pointers c = c .before .is-behind .ensures .room (c .if1 .taken)
 
 add-r : tie.Need-add-r
 add-r c = search needs
 
+returns : tie.Need-returns
+returns c =
+    let entry = c .before .before .before in
+    let a = entry .args in
+    let b = c .before .is-behind .ensures in
+    redone-behind (a .outline) (a .keys .now) (a .pointers .now) (entry .pre) (a .key) (a .pointer) (search needs) (b .room (c .if1 .taken))
+    (b .above (c .if1 .taken))
+
+is-first-requires : tie.Need-is-first-requires
+is-first-requires c κs = search needs
+
+mul-pointers-2 : tie.Need-mul-pointers-2
+mul-pointers-2 c = search needs
+
+element-write-pointers-2 : tie.Need-element-write-pointers-2
+element-write-pointers-2 c =
+    omega (arith, c .before .is-first .ensures .some (c .if2 .taken), c .before .before .before .before .before .before .pre .room)
+
 returns-2 : tie.Need-returns-2
 returns-2 c =
-    let known = c .before .before .before .before .before .before in
-    let searched = known .before .before in
-    let entry = searched .before .before in
+    let entry = c .before .before .before .before .before .before in
     let a = entry .args in
-    let e = answer searched ∙ known .found2 .given .1 in
-    let keys = c .before .before .insert in
-    let pointers = c .insert2 in
-    redone-added (a .outline) (a .keys .now) (a .pointers .now) (entry .pre) (a .key) _ (a .pointer) e (search needs)
-    (c .before .before .before .before .if1 .taken) (keys .last .0) (pointers .last .0) (keys .ensures) (pointers .ensures)
+    let f = c .before .is-first .ensures in
+    redone-front (a .outline) (a .keys .now) (a .pointers .now) (entry .pre) (a .key) (f .some (c .if2 .taken)) (f .same (c .if2 .taken)) (a .pointer)
+    (search needs)
 
-broken-requires : tie.Need-broken-requires
-broken-requires c κs = search needs
+settle-requires : tie.Need-settle-requires
+settle-requires c κs = search needs
+
+put-in-requires : tie.Need-put-in-requires
+put-in-requires c κs =
+    let s = c .before .before .settle .ensures in
+    rw (s .0, s .1) (c .before .before .before .before .before .before .before .before .before .before .before .pre .held)
+
+counted-requires : tie.Need-counted-requires
+counted-requires c κs = search needs
 
 returns-3 : tie.Need-returns-3
 returns-3 c =
-    let known = c .before .before .before in
-    let searched = known .before .before in
-    let entry = searched .before .before in
-    let a = entry .args in
-    let e = answer searched ∙ known .found2 .given .1 in
-    rw (c .broken .ensures) (redone-overfull (a .outline) (a .keys .now) (a .pointers .now) (entry .pre) (a .key) _ (a .pointer) e (c .before .if1 .left))
+    let added = c .before in
+    let s = added .before .before .before .settle .ensures in
+    rw (c .counted .ensures) (redone-counted _ (added .put-in .result) _ _ _ (rw (s .0, s .1) at (added .put-in .ensures)))
 
 pub redo-put-spec : {M : Type 1} → statement M
 redo-put-spec =
     tie.close
     (tie.spec
-    find-behind-requires
-    enum-known-found
+    is-behind-requires
+    add-end
+    mul-keys
+    element-write-keys
     mul-pointers
     element-write-pointers
-    returns
-    enum-known-found-2
-    insert-requires
-    insert-requires-2
     add-r
+    returns
+    is-first-requires
+    mul-pointers-2
+    element-write-pointers-2
     returns-2
-    broken-requires
+    settle-requires
+    put-in-requires
+    counted-requires
     returns-3)

@@ -1,4 +1,4 @@
--- `content::log_content` meets its contract: from nothing, the pages, then the buffer. Assumes nothing.
+-- `content::log_content` meets its contract: from nothing, the pages, then the buffer, and what they made moved to the front. Assumes nothing.
 use mathlib.Core.List.{[]}
 use Prim.Native.Nat.{ℕ}
 use lib.ListN.{replicate, length-replicate}
@@ -23,14 +23,21 @@ redo-pages-requires c κs = begun c .held
 redo-entries-requires : tie.Need-redo-entries-requires
 redo-entries-requires c κs = search needs
 
+settle-requires : tie.Need-settle-requires
+settle-requires c κs = search needs
+
 draft-from-requires : tie.Need-draft-from-requires
 draft-from-requires c κs = search needs
 
 returns : tie.Need-returns
 unfolding logContent
 returns c =
-    let pages = c .before .before .before .before in
-    rw (c .draft-from .ensures, ← begun (pages .before) .is, ← pages .redo-pages .ensures .is) (c .before .redo-entries .ensures)
+    let settled = c .before in
+    let buffer = settled .before .before .before in
+    let pages = buffer .before .before .before in
+    let x = buffer .redo-entries .ensures in
+    let s = settled .settle .ensures in
+    rw (c .draft-from .ensures, s .0, s .1, ← begun (pages .before) .is, ← pages .redo-pages .ensures .is) (record { is = x .is; held = x .held .held })
 
 pub log-content-spec : {M : Type 1} → statement M
 log-content-spec =
@@ -39,5 +46,6 @@ log-content-spec =
     empty-outline-requires
     redo-pages-requires
     redo-entries-requires
+    settle-requires
     draft-from-requires
     returns)

@@ -1,8 +1,8 @@
 -- `content::redo_pages` meets its contract: a case for each number of pages. Assumes nothing.
 use Rattle.flash_blocks.specs.Pages.{pagesOf}
-use Rattle.node_replay.specs.Outline.{draftFrom, draftIn}
+use Rattle.node_replay.specs.Outline.{draftIn, redone-as}
 use Rattle.flash_read.specs.Slots.{slotAt}
-use Rattle.flash_read.proofs.Laws.{redone-same, pages-none, pages-one, pages-two, pages-three}
+use Rattle.flash_read.proofs.Laws.{pages-none, pages-one, pages-two, pages-three}
 use borrow.Author.Needs.{needs}
 use Rattle.flash_read.proofs.content.redo_pages.Statement.{statement}
 use Rattle.flash_read.proofs.content.redo_pages.Tie as tie
@@ -12,7 +12,7 @@ returns c =
     let entry = c .before .before .before in
     let a = entry .args in
     rw (← pages-none (pagesOf (a .pool .now)) (a .row) (a .n) (draftIn (a .outline) (a .keys .now) (a .pointers .now)) (c .if1 .taken))
-    (redone-same (draftFrom (a .outline) (a .keys .now) (a .pointers .now)) (entry .pre))
+    (redone-as (a .outline) (a .keys .now) (a .pointers .now) (entry .pre))
 
 slot-at-requires : tie.Need-slot-at-requires
 slot-at-requires c κs = search needs

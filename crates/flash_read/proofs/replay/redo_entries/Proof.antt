@@ -2,13 +2,14 @@
 use mathlib.Core.Path.{refl, _∙_}
 use native.Mathlib.Omega.{arith}
 use Rattle.node_replay.specs.Outline.{draftIn}
-use Rattle.flash_read.specs.Replay.{redoBuffer, from-buffer}
-use borrow.Author.Needs.{needs}
+use Rattle.flash_read.specs.Replay.{redoBuffer, from-buffer, reach-buffer}
 use Rattle.flash_read.proofs.replay.redo_entries.Statement.{statement}
 use Rattle.flash_read.proofs.replay.redo_entries.Tie as tie
 
 redo-run-requires : tie.Need-redo-run-requires
-redo-run-requires c κs = search needs
+redo-run-requires c κs =
+    let entry = c .before .before .before in
+    (omega (arith, reach-buffer (entry .args .n), entry .pre .1), entry .pre .2)
 
 returns : tie.Need-returns
 unfolding redoBuffer

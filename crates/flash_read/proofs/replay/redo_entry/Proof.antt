@@ -1,5 +1,6 @@
 -- `replay::redo_entry` meets its contract: each kind of entry is one case. Assumes nothing.
 use mathlib.Core.Path.{refl}
+use Rattle.node_replay.specs.Outline.{links-in}
 use Rattle.flash_read.proofs.Laws.{change-put, change-remove, change-leaf, change-branch}
 use borrow.Author.Needs.{needs}
 use Rattle.flash_read.proofs.replay.redo_entry.Statement.{statement}
@@ -51,7 +52,7 @@ returns-3 c =
     let pointer = c .before .before .before .before .read322 in
     rw (← change-leaf (a .entry .now) _ (key .result) (pointer .result) refl (key .ensures .is) (pointer .ensures .is)
     (c .before .before .before .if1 .left) (c .before .before .if2 .left) (c .before .if3 .taken))
-    (c .redo-link .ensures .is (a .keys .now) (a .pointers .now) (entry .pre .1))
+    (links-in _ _ _ _ (c .redo-link .ensures) (a .keys .now) (a .pointers .now) (entry .pre .1))
 
 redo-link-requires-2 : tie.Need-redo-link-requires-2
 redo-link-requires-2 c κs = search needs
@@ -64,7 +65,7 @@ returns-4 c =
     let pointer = c .before .before .before .before .read322 in
     rw (← change-branch (a .entry .now) _ (key .result) (pointer .result) refl (key .ensures .is) (pointer .ensures .is)
     (c .before .before .before .if1 .left) (c .before .before .if2 .left) (c .before .if3 .left))
-    (c .redo-link2 .ensures .is (a .keys .now) (a .pointers .now) (entry .pre .1))
+    (links-in _ _ _ _ (c .redo-link2 .ensures) (a .keys .now) (a .pointers .now) (entry .pre .1))
 
 pub redo-entry-spec : {M : Type 1} → statement M
 redo-entry-spec =

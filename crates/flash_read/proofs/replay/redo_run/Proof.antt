@@ -1,16 +1,16 @@
 -- `replay::redo_run` meets its contract. The invariant: the entries left, replayed from here, give them all. Assumes nothing.
 use mathlib.Core.Path.{_≡_, refl, sym, ap, _∙_}
-use Prim.Native.Nat.{_+_, _*_, _≤_}
+use Prim.Native.Nat.{_+_, _≤_}
 use native.Mathlib.Omega.{arith}
 use lib.ListN.{length}
 use Rattle.node_replay.specs.Outline.{draftIn, HeldIn}
-use Rattle.flash_read.specs.Replay.{redoFrom, stride-most}
+use Rattle.flash_read.specs.Replay.{reach, redoFrom, reach-more}
 use Rattle.flash_read.proofs.Laws.{from-own, from-other, from-stop, from-done}
 use Rattle.flash_read.proofs.replay.redo_run.Statement.{statement}
 use Rattle.flash_read.proofs.replay.redo_run.Tie as tie
 
 abbrev Inv-loop : tie.InvT-loop
-Inv-loop bytes at most framed id version keys₀ pointers₀ step r₀ place₀ left₀ keys pointers r place left = (place + 18 * left ≤ 4096) ×
+Inv-loop bytes at most framed id version keys₀ pointers₀ step r₀ place₀ left₀ keys pointers r place left = (place + reach framed left ≤ length bytes) ×
     ((HeldIn r keys pointers) × (redoFrom framed id version left bytes place (draftIn r keys pointers) ≡ redoFrom framed id version most bytes at
     (draftIn r₀ keys₀ pointers₀)))
 
@@ -24,7 +24,9 @@ loop-holds : tie.Need-loop-holds Inv-loop μ-loop
 loop-holds c = (c .before .before .pre .0, (c .before .before .pre .1, refl))
 
 entry-at-requires : tie.Need-entry-at-requires Inv-loop μ-loop
-entry-at-requires c κs = omega (arith, c .before .loop .inv .0)
+entry-at-requires c κs =
+    let l = c .before .loop in
+    omega (arith, l .inv .0, reach-more (c .before .before .before .before .args .framed) (l .left) (c .loop-test .taken))
 
 returns : tie.Need-returns Inv-loop μ-loop
 returns c =
@@ -43,7 +45,8 @@ add-place : tie.Need-add-place Inv-loop μ-loop
 add-place c =
     let test = c .before .before in
     let stride = test .before .before in
-    omega (arith, test .before .loop .inv .0, stride .stride .ensures, stride-most (stride .before .before .args .framed))
+    let l = test .before .loop in
+    omega (arith, l .inv .0, stride .stride .ensures, reach-more (stride .before .before .args .framed) (l .left) (test .loop-test .taken))
 
 sub-left : tie.Need-sub-left Inv-loop μ-loop
 sub-left c = omega arith
@@ -72,7 +75,7 @@ loop-again c =
     let step = stride .stride in
     let turn = from-own (a .framed) (a .id) (a .version) (a .bytes .now) (l .left) (l .place) (test .loop-test .taken) (p .result .now) (p .ensures)
     (sized .if1 .left) (step .result) (step .ensures) (o .result) (o .ensures) d (c .before .before .before .if2 .taken) _ (x .is) in
-    (omega (arith, l .inv .0, step .ensures, stride-most (a .framed)), (x .held, turn ∙ l .inv .1 .1))
+    (omega (arith, l .inv .0, step .ensures, reach-more (a .framed) (l .left) (test .loop-test .taken)), (x .held, turn ∙ l .inv .1 .1))
 
 loop-less-2 : tie.Need-loop-less-2 Inv-loop μ-loop
 loop-less-2 c = omega arith
@@ -91,7 +94,7 @@ loop-again-2 c =
     let step = stride .stride in
     let turn = from-other (a .framed) (a .id) (a .version) (a .bytes .now) (l .left) (l .place) (test .loop-test .taken) (p .result .now) (p .ensures)
     (sized .if1 .left) (step .result) (step .ensures) (o .result) (o .ensures) d (c .if2 .left) in
-    (omega (arith, l .inv .0, step .ensures, stride-most (a .framed)), (l .inv .1 .0, turn ∙ l .inv .1 .1))
+    (omega (arith, l .inv .0, step .ensures, reach-more (a .framed) (l .left) (test .loop-test .taken)), (l .inv .1 .0, turn ∙ l .inv .1 .1))
 
 returns-2 : tie.Need-returns-2 Inv-loop μ-loop
 returns-2 c =
