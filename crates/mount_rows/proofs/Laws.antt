@@ -36,6 +36,14 @@ module _ (rows rows′ : List Row) (id version : ℕ) (mode : Mode) (page : ℕ)
     unfolding seen
     seen-same t a b = rw (← l, le-ltb (r .version) version h, ← a, b) (sym (ap (set rows id) l ∙ set-getD rows id noRow))
 
+-- An older version says nothing.
+pub seen-older : (rows : List Row) (id version : ℕ) (mode : Mode) (page newest : ℕ) → newest ≡ getD rows id noRow .version → version < newest →
+    rows ≡ set rows id (seen version mode page (getD rows id noRow))
+unfolding seen lacks
+seen-older rows id version mode page newest e h =
+    rw (le-ltb (getD rows id noRow .version) version (omega arith), ne-eqb (getD rows id noRow .version) version (λ z. omega arith))
+    (sym (set-getD rows id noRow))
+
 -- The node exists, or not.
 module _ (nodes id version : ℕ) (mode : Mode) (page : ℕ) (rows : List Row) where
   pub at-in : (rows′ : List Row) → id < nodes → rows′ ≡ set rows id (seen version mode page (getD rows id noRow)) →

@@ -33,12 +33,25 @@ fn lacks(row: Row, version: u32, page: u16) -> bool
     false
 }
 
-// The row of a node after a piece of a version was met on a page.
+// The version of a node's row.
+fn version_of(table: &[u8], id: usize) -> u32
+    requires { ⌜ rowBytes * id + rowBytes ≤ length (now table) ⌝ }
+    ensures { λ r. ⌜ r ≡ getD (rowsOf (now (table .entry))) id noRow .version ⌝ }
+{
+    let row = flash_rows::read_row(table, id);
+    row.version
+}
+
+// The row of a node after a piece of a version was met on a page. Most pieces in an aged pool are of older versions, and of these the row's other fields
+// are not read.
 fn see_row(table: &mut [u8], id: usize, version: u32, mode: Mode, page: u16)
     requires { ⌜ rowBytes * id + rowBytes ≤ length (now table) ⌝ }
     ensures { λ _. ⌜ rowsOf (now (table .exit)) ≡ set (rowsOf (now (table .entry))) id
         (def.seen version mode page (getD (rowsOf (now (table .entry))) id noRow)) ⌝ }
 {
+    if version < version_of(table, id) {
+        return;
+    }
     let row = flash_rows::read_row(table, id);
     if row.version < version {
         flash_rows::write_row(table, id, row.fresh(version, mode).note(page));
