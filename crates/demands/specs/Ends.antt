@@ -102,13 +102,13 @@ ends-table (tableCleared n l h) = rw (le-leb 1 n (omega arith), lt-leb n 2 (omeg
 ends-table (done t cs s p u q r m) = refl
 
 -- A refusal changes and returns nothing.
-pub record Found (before buffer : List ℕ) (o : Outcome) : Type 0 where
+pub record Unchanged (before buffer : List ℕ) (o : Outcome) : Type 0 where
   pub pool : o .pool ≡ before
   pub answers : o .answers ≡ buffer
   pub length : o .length ≡ 0
   pub charge : o .charge ≡ 0
 
-pub refused-found : {pool table batch buffer : List ℕ} {o : Outcome} → Ends pool table batch buffer o → 1 ≤ o .number → Found pool buffer o
+pub refused-found : {pool table batch buffer : List ℕ} {o : Outcome} → Ends pool table batch buffer o → 1 ≤ o .number → Unchanged pool buffer o
 refused-found (asFound n l h) r = record { pool = refl; answers = refl; length = refl; charge = refl }
 refused-found (tableCleared n l h) r = record { pool = refl; answers = refl; length = refl; charge = refl }
 refused-found (done t cs s p u q x m) r = absurd (omega arith)

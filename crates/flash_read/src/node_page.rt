@@ -18,6 +18,7 @@ use node::DraftValue;
 use node::NodeValue;
 use node::Shape;
 use node::empty_node;
+use node::search::wide;
 use page::shape_of;
 use wire::field::payload;
 use wire::number::read32;
@@ -31,13 +32,6 @@ fn no_node() -> DraftValue
         state: DraftState::Broken,
         node,
     }
-}
-
-// A key widened, so that one more than the greatest key is a number too.
-fn wide(x: u32) -> u64
-    ensures { λ r. ⌜ r ≡ x ⌝ }
-{
-    x as u64
 }
 
 // A node of the first n pairs of a payload; none where their keys do not ascend, which is seen as they are read.

@@ -12,7 +12,7 @@ use crate::NodeValue;
 use layout::MOST_KEYS;
 
 // A key widened, so that one more than the greatest key is a number too.
-fn wide(x: u32) -> u64
+pub fn wide(x: u32) -> u64
     ensures { λ r. ⌜ r ≡ x ⌝ }
 {
     x as u64

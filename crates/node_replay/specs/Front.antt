@@ -1,10 +1,11 @@
 -- Values that stand in an array from a place on, moved down to its front; and what is known of keys by the first and the last of them. Assumes nothing.
-use mathlib.Core.Bool.{Bool, true}
+use mathlib.Core.Bool.{Bool, true, _&&_, _||_}
 use mathlib.Core.Path.{_≡_, refl, sym, ap, _∙_}
 use mathlib.Core.List.{List, [], _∷_, _++_}
 use Prim.Native.Nat.{ℕ, zero, suc, _+_, _-_, _≤_, _<_}
 use native.Mathlib.Numerals.{add-one}
 use native.Mathlib.Omega.{arith}
+use lib.Dec.{eqb, ltb}
 use lib.ListN.{List·getD-append, length, getD, take, drop, set, length-drop, length-append, length-set, take-append-drop}
 use lib.Seq.{length-take-le, take-at, take-suc, take-suc-set, take-set-lt, drop-cons, drop-set-add, getD-take, getD-drop, getD-append-add, set-at, append-snoc}
 use Rattle.layout.specs.Layout.{mostKeys}
@@ -14,13 +15,21 @@ use Rattle.node.specs.Splice.{insertAt, removeAt}
 unfoldable pub lowered : ℕ → ℕ → List ℕ → List ℕ
 lowered first count xs = take count (drop first xs) ++ drop count xs
 
--- A key is behind all others, with room for one more.
+-- Whether a key is behind all others, with room for one more; what a yes says.
+unfoldable pub behindIn : List ℕ → ℕ → ℕ → ℕ → Bool
+behindIn ks first count key = ltb (first + count) mostKeys && (eqb count 0 || ltb (getD ks (first + count - 1) 0) key)
+
 pub record BehindIn (ks : List ℕ) (first count key : ℕ) (r : Bool) : Type 0 where
+  pub is : r ≡ behindIn ks first count key
   pub room : r ≡ true → first + count < mostKeys
   pub above : r ≡ true → 0 < count → getD ks (first + count - 1) 0 < key
 
--- A key is the first.
+-- Whether a key is the first; what a yes says.
+unfoldable pub firstIn : List ℕ → ℕ → ℕ → ℕ → Bool
+firstIn ks first count key = ltb 0 count && eqb (getD ks first 0) key
+
 pub record FirstIn (ks : List ℕ) (first count key : ℕ) (r : Bool) : Type 0 where
+  pub is : r ≡ firstIn ks first count key
   pub some : r ≡ true → 0 < count
   pub same : r ≡ true → getD ks first 0 ≡ key
 

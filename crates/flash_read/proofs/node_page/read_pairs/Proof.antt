@@ -27,8 +27,10 @@ abbrev μ-loop : tie.MeasureT-loop
 μ-loop p n shape link keys₀ pointers₀ least₀ i₀ keys pointers least i = n - i
 
 loop-holds : tie.Need-loop-holds Inv-loop μ-loop
-loop-holds c = let a = c .before .args in
-    (omega arith, (length-replicate {A = ℕ} 24 0, (length-replicate {A = ℕ} 24 0, (pairs-begin (a .p .now) (a .n), ap (ascends 0 bound32) (pairs-begin (a .p .now) (a .n))))))
+loop-holds c =
+    let a = c .before .args in
+    let begin = pairs-begin (a .p .now) (a .n) in
+    (omega arith, (length-replicate {A = ℕ} 24 0, (length-replicate {A = ℕ} 24 0, (begin, ap (ascends 0 bound32) begin))))
 
 mul-read32 : tie.Need-mul-read32 Inv-loop μ-loop
 mul-read32 c = omega arith

@@ -1,4 +1,5 @@
--- `row::see_row` meets its contract: an older version says nothing; else a fresh start, one page more, or the row as it was, which is then not stored. Assumes nothing.
+-- `row::see_row` meets its contract: an older version says nothing; else a fresh start, one page more, or the row as it was, which is then not stored.
+-- Assumes nothing.
 use Rattle.flash_rows.specs.Row.{rowsOf}
 use Rattle.mount_rows.proofs.Laws.{seen-fresh, seen-more, seen-same, seen-older}
 use borrow.Author.Needs.{needs}
