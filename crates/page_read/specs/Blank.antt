@@ -7,8 +7,8 @@ use native.Mathlib.Nat.{add-zero, sub-zero}
 use native.Mathlib.Numerals.{add-one}
 use native.Mathlib.Omega.{arith}
 use lib.Dec.{eqb}
-use lib.ListN.{length, getD, take, drop, drop-of-length-le, take-append-drop}
-use lib.Seq.{drop-cons, drop-drop}
+use lib.ListN.{length, getD, take, drop, length-drop, drop-of-length-le, take-append-drop}
+use lib.Seq.{drop-cons, drop-drop, take-all}
 use borrow.Author.Tests.{eqb-true, eq-eqb, ne-eqb}
 use Rattle.laws.specs.Tests.{test-same, and-left, and-right, and-both}
 use Rattle.laws.specs.Lay.{part, part-cons}
@@ -104,3 +104,21 @@ module _ (s : List ℕ) (i n : ℕ) where
 
   pub part-stop : false ≡ allBlank (part s i n) → false ≡ allBlank (drop i s)
   part-stop e = sym (rw (← e) at part-blank)
+
+-- Bytes that are FF from a place on are FF from any later place on.
+blank-later : (s : List ℕ) (i j : ℕ) → i ≤ j → allBlank (drop i s) ≡ true → allBlank (drop j s) ≡ true
+blank-later s i j h e =
+    let p : (allBlank (part s i (j - i)) && allBlank (drop (i + (j - i)) s)) ≡ true = sym (part-blank s i (j - i)) ∙ e in
+    ap (λ (k : ℕ). allBlank (drop k s)) (there i j h) ∙ and-right (allBlank (part s i (j - i))) (allBlank (drop (i + (j - i)) s)) p
+  where
+    there : (i j : ℕ) → i ≤ j → j ≡ i + (j - i)
+    there i j h = omega arith
+
+-- The last n bytes, where all bytes are FF that stand before some place among them.
+pub last-blank : (s : List ℕ) (i last n : ℕ) → last ≤ i → length s ≤ last + n → allBlank (drop i s) ≡ allBlank s →
+    allBlank (part s last n) ≡ allBlank s
+unfolding part
+last-blank s i last n h l e =
+    let all : take n (drop last s) ≡ drop last s = take-all n (drop last s) (rw (length-drop last s) (omega arith)) in
+    ap allBlank all ∙
+    test-same (allBlank (drop last s)) (allBlank s) (λ p. sym e ∙ blank-later s last i h p) (λ p. blank-later s 0 last (omega arith) p)

@@ -1,6 +1,8 @@
 // The fields of a content: log entries and scores, how many stand one behind another, and the values in them.
 ghost use mathlib.Core.Path.{_≡_};
 ghost use Prim.Native.Nat.{_+_, _≤_, _<_};
+ghost use lib.Dec.{eqb};
+ghost use Rattle.laws.specs.Tests.{choose};
 ghost use Rattle.layout.specs.Layout.{mostEntries};
 ghost use Rattle.page.specs.Decode.{changeOk, entryOk, scoreOk, run};
 use layout::ENTRY_BYTES;
@@ -9,23 +11,31 @@ use layout::SCORE_FIELD;
 use wire::field::payload;
 use wire::number::read32;
 
-// Whether a log entry's kind, key and pointer may stand together.
+// The number that a change of a kind leaves unused; none where it uses both.
+fn unused(kind: u8, key: u32, pointer: u32) -> u32
+    ensures { λ r. ⌜ r ≡ choose (eqb kind 1) 0 (choose (eqb kind 2) pointer key) ⌝ }
+{
+    if kind == 1 {
+        return 0;
+    }
+    if kind == 2 {
+        return pointer;
+    }
+    key
+}
+
+// Whether a log entry's kind, key and pointer may stand together. No branch is on the kind, which changes from entry to entry: a number is picked, and
+// it is 0 in all that check.
 fn change_ok(kind: u8, key: u32, pointer: u32) -> bool
     ensures { λ r. ⌜ r ≡ changeOk kind key pointer ⌝ }
 {
-    if kind == 1 {
-        return true;
+    if kind < 1 {
+        return false;
     }
-    if kind == 2 {
-        return pointer == 0;
+    if 4 < kind {
+        return false;
     }
-    if kind == 3 {
-        return key == 0;
-    }
-    if kind == 4 {
-        return key == 0;
-    }
-    false
+    unused(kind, key, pointer) == 0
 }
 
 // Whether a payload is that of an entry that a page of this sequence number may have.

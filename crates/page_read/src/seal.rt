@@ -28,12 +28,11 @@ fn sixteen_blank(s: &[u8], at: usize) -> bool
     sum == 4080
 }
 
-// Whether every byte from a place on is FF, byte by byte.
-fn rest_blank(s: &[u8], from: usize) -> bool
-    requires { ⌜ from ≤ length (now s) ⌝ }
-    ensures { λ r. ⌜ r ≡ allBlank (drop from (now (s .entry))) ⌝ }
+// Whether every byte is FF, byte by byte.
+fn few_blank(s: &[u8]) -> bool
+    ensures { λ r. ⌜ r ≡ allBlank (now (s .entry)) ⌝ }
 {
-    let mut i = from;
+    let mut i: usize = 0;
     while i < s.len() {
         if s[i] != 255 {
             return false;
@@ -43,18 +42,22 @@ fn rest_blank(s: &[u8], from: usize) -> bool
     true
 }
 
-// Whether every byte is FF: sixteen at a time, then the rest.
+// Whether every byte is FF: sixteen at a time, then the last sixteen, some of them for the second time. Fewer than sixteen go byte by byte.
 pub fn all_blank(s: &[u8]) -> bool
     ensures { λ r. ⌜ r ≡ allBlank (now (s .entry)) ⌝ }
 {
+    if s.len() < 16 {
+        return few_blank(s);
+    }
+    let last = s.len() - 16;
     let mut i: usize = 0;
-    while i + 16 <= s.len() {
+    while i < last {
         if sixteen_blank(s, i) {} else {
             return false;
         }
         i += 16;
     }
-    rest_blank(s, i)
+    sixteen_blank(s, last)
 }
 
 // The sequence number in field 10; 0 where there is no field 10.

@@ -1,11 +1,11 @@
 -- Laws of a list's total and of its running sums. Assumes nothing.
 use mathlib.Core.Path.{_≡_, refl, sym, ap, _∙_}
 use mathlib.Core.List.{List, [], _∷_, _++_}
-use Prim.Native.Nat.{ℕ, zero, suc, _+_, _*_, _%_, _≤_, _<_}
-use native.Mathlib.Nat.{add-zero, add-assoc}
+use Prim.Native.Nat.{ℕ, zero, suc, _+_, _-_, _*_, _%_, _≤_, _<_}
+use native.Mathlib.Nat.{add-zero, zero-add, add-assoc, suc-mul}
 use native.Mathlib.Numerals.{add-one}
 use native.Mathlib.Omega.{arith}
-use lib.ListN.{length, getD, take, drop, set, drop-of-length-le}
+use lib.ListN.{length, getD, take, drop, set, length-drop, drop-of-length-le}
 use lib.Seq.{drop-cons, take-suc, take-all}
 use Rattle.wire.specs.declared.sum.Sums.{Sums}
 use Rattle.wire.specs.Sum.{total, running, plainSums, sumsOf, sumsOf-plain}
@@ -49,7 +49,7 @@ total-next x i h = rw (add-one i, drop-cons x i 0 h) refl
 pub total-end : (x : List ℕ) (i : ℕ) → length x ≤ i → total (drop i x) ≡ 0
 total-end x i h = ap total (drop-of-length-le x {i = i} h)
 
-pub running-next : (x : List ℕ) (i a : ℕ) → i < length x →
+running-next : (x : List ℕ) (i a : ℕ) → i < length x →
     running a (drop i x) ≡ (a + getD x i 0) + running (a + getD x i 0) (drop (i + 1) x)
 running-next x i a h = rw (add-one i, drop-cons x i 0 h) refl
 
@@ -73,6 +73,26 @@ times (suc n) a = a + times n a
 running-lead : (x : List ℕ) (a c : ℕ) → running (a + c) x ≡ times (length x) a + running c x
 running-lead [] a c = omega arith
 running-lead (x ∷ xs) a c = rw (add-assoc a c x) (omega (arith, running-lead xs a (c + x)))
+
+times-mul : (n a : ℕ) → times n a ≡ n * a
+times-mul zero a = omega arith
+times-mul (suc n) a = omega (arith, times-mul n a, suc-mul n a)
+
+-- The first of what is left stands in each of the sums that are left.
+pub running-first : (x : List ℕ) (i : ℕ) → length x ≡ 16 → i < 16 →
+    running 0 (drop i x) ≡ (16 - i) * getD x i 0 + running 0 (drop (i + 1) x)
+running-first x i e h =
+    let v = getD x i 0 in
+    let rest = drop (i + 1) x in
+    let n : length rest ≡ 15 - i = length-drop (i + 1) x ∙ omega arith in
+    let p : running (v + 0) rest ≡ (15 - i) * v + running 0 rest =
+    running-lead rest v 0 ∙ ap (_+ running 0 rest) (times-mul (length rest) v ∙ ap (_* v) n) in
+    let q : running v rest ≡ running (v + 0) rest = ap (λ (z : ℕ). running z rest) (sym (add-zero v)) in
+    let r : (16 - i) * v ≡ (15 - i) * v + v = ap (_* v) (above i h) ∙ suc-mul (15 - i) v in
+    running-next x i 0 (omega arith) ∙ rw (zero-add v) (omega (arith, p, q, r))
+  where
+    above : (i : ℕ) → i < 16 → 16 - i ≡ suc (15 - i)
+    above i h = omega arith
 
 running-most : (x : List ℕ) (a : ℕ) → running a x ≤ times (length x) (a + total x)
 running-most [] a = omega arith

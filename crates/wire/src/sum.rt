@@ -11,7 +11,8 @@ pub struct Sums {
     pub b: u32,
 }
 
-// What the columns of so many rows add up to.
+// What the columns of so many rows add up to. A column stands in each running sum from its own on, so it is multiplied by their number: of
+// running sums each would wait for the one before.
 fn sum_columns(low: &[u32; 16], high: &[u32; 16], rows: usize) -> Sums
     requires { ⌜ (rows ≤ 256) × Few rows (now low) (now high) ⌝ }
     ensures { λ r. ⌜ r ≡ columnSums (now (low .entry)) (now (high .entry)) rows ⌝ }
@@ -22,7 +23,7 @@ fn sum_columns(low: &[u32; 16], high: &[u32; 16], rows: usize) -> Sums
     let mut j: usize = 0;
     while j < 16 {
         a += low[j];
-        b += a;
+        b += (16 - j) as u32 * low[j];
         c += high[j];
         j += 1;
     }

@@ -1,4 +1,4 @@
--- `page_read::seal::rest_blank` meets its contract. The invariant: whether the bytes that are left are FF is whether all from the place on are.
+-- `page_read::seal::few_blank` meets its contract. The invariant: whether the bytes that are left are FF is whether all are.
 -- Assumes nothing.
 use mathlib.Core.Path.{_≡_, refl, _∙_}
 use Prim.Native.Nat.{_-_, _≤_}
@@ -6,14 +6,14 @@ use native.Mathlib.Omega.{arith}
 use lib.ListN.{length, drop}
 use Rattle.page.specs.Decode.{allBlank}
 use Rattle.page_read.specs.Blank.{blank-next, blank-stop, blank-end}
-use Rattle.page_read.proofs.seal.rest_blank.Statement.{statement}
-use Rattle.page_read.proofs.seal.rest_blank.Tie as tie
+use Rattle.page_read.proofs.seal.few_blank.Statement.{statement}
+use Rattle.page_read.proofs.seal.few_blank.Tie as tie
 
 abbrev Inv-loop : tie.InvT-loop
-Inv-loop s from i₀ i = (i ≤ length s) × (allBlank (drop i s) ≡ allBlank (drop from s))
+Inv-loop s i₀ i = (i ≤ length s) × (allBlank (drop i s) ≡ allBlank s)
 
 abbrev μ-loop : tie.MeasureT-loop
-μ-loop s from i₀ i = length s - i
+μ-loop s i₀ i = length s - i
 
 loop-holds : tie.Need-loop-holds Inv-loop μ-loop
 loop-holds c = (omega arith, refl)
@@ -39,8 +39,8 @@ returns-2 : tie.Need-returns-2 Inv-loop μ-loop
 returns-2 c = let l = c .before .loop in
     blank-end (c .before .before .args .s .now) (l .i) (omega arith) ∙ l .inv .1
 
-pub rest-blank-spec : {M : Type 1} → statement M
-rest-blank-spec =
+pub few-blank-spec : {M : Type 1} → statement M
+few-blank-spec =
     tie.close
     (tie.spec
     Inv-loop
