@@ -12,8 +12,8 @@ use borrow.Author.Tests.{eq-eqb, ne-eqb, lt-ltb, le-ltb, le-leb, lt-leb}
 use Rattle.laws.specs.Lay.{part}
 use Rattle.laws.specs.Loops.{steps, steps-more}
 use Rattle.laws.specs.BigEndian.{number, numberAt}
-use Rattle.layout.specs.Layout.{mostEntries, bound32}
-use Rattle.pairs.specs.Pairs.{Pair}
+use Rattle.layout.specs.Layout.{mostEntries, mostKeys, bound32}
+use Rattle.pairs.specs.Pairs.{Pair, Within}
 use Rattle.wire.specs.Tag.{lengthOf, find, rows}
 use Rattle.wire.specs.Field.{lengthAt, payloadOf, payloadAt}
 use Rattle.wire.specs.FieldLaws.{payloadAt-absent}
@@ -23,7 +23,6 @@ use Rattle.account.specs.declared.Mode.{Mode}
 use Rattle.account.specs.declared.Mode.the-variants.{Log, Disk}
 use Rattle.flash_rows.specs.Step.{byMode}
 use Rattle.flash_rows.specs.declared.Row.{Row}
-use Rattle.node.specs.declared.DraftValue.{DraftValue}
 use Rattle.node.specs.declared.DraftState.the-variants.{Made}
 use Rattle.node.specs.declared.NodeValue.{NodeValue}
 use Rattle.node.specs.declared.Shape.{Shape}
@@ -35,16 +34,14 @@ use Rattle.node.specs.Ascends.{ascends, ascends-within}
 use Rattle.node.specs.Replay.{Draft, made, broken, redo}
 use Rattle.node.specs.Value.{pairsIn, Stands}
 use Rattle.node.specs.Drafts.{Redone}
+use Rattle.node_replay.specs.declared.outline.Outline.{Outline}
+use Rattle.node_replay.specs.Outline.{emptyOutline, brokenAt, draftFrom}
 use Rattle.page.specs.Page.{Entry}
 use Rattle.page.specs.Decode as decode
 use Rattle.flash_read.specs.Replay.{isOwn, redoEntry, redoRun, entryIn, strideOf, redoFrom}
 use Rattle.flash_read.specs.Slots.{sequenceAt, slotAt, redoAt, redoTwo, redoThree}
 use Rattle.flash_read.specs.NodePage.{ifAscends, nodeOfPayload, nodePageAt}
 use Rattle.flash_read.specs.Content.{redoPages, logContent, contentBy}
-
--- A draft known by an equation.
-pub redone-is : (r : DraftValue) (a b : Draft) → Redone r a → a ≡ b → Redone r b
-redone-is r a b x e = record { is = x .is ∙ e; held = x .held }
 
 -- The change that an entry says, by its kind.
 module _ (b : List ℕ) (kind key pointer : ℕ) (n : kind ≡ getD b 6 0) (k : key ≡ numberAt 4 b 7) (p : pointer ≡ numberAt 4 b 11) where
@@ -271,6 +268,13 @@ unfolding ascends decode.pairsFrom
 rising-done p n i least h =
     let over : n - i ≡ 0 = omega arith in
     ap (λ (m : ℕ). ascends least bound32 (decode.pairsFrom m p (7 + 8 * i))) over
+
+-- No node, whatever the arrays hold.
+pub redone-none : (o : Outline) → o ≡ brokenAt emptyOutline → (ks ps : List ℕ) → length ks ≡ mostKeys → length ps ≡ mostKeys →
+    (d : Draft) → broken ≡ d → Redone (draftFrom o ks ps) d
+unfolding pairsIn Within
+redone-none o e ks ps k p d f =
+    rw e (record { is = f; held = record { sized = record { size = omega arith; keyRoom = k; pointerRoom = p }; ascending = tt } })
 
 -- A node read, and one whose keys do not ascend.
 module _ (shape : Shape) (qs : List Pair) (link : ℕ) where

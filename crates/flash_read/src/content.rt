@@ -6,10 +6,10 @@ ghost use Rattle.flash_rows.specs.Row.{rowBytes};
 ghost use Rattle.flash_rows.specs.Worktable.{rowsAt, bufferBytes, tableFrom};
 ghost use Rattle.flash_blocks.specs.Pages.{pagesOf};
 ghost use Rattle.node.specs.Drafts.{Redone};
-ghost use Rattle.node_replay.specs.Outline.{draftIn, HeldIn, RedoneIn};
+ghost use Rattle.node_replay.specs.Outline.{draftFrom, draftIn, HeldIn, RedoneIn};
 ghost use Rattle.flash_read.specs.Content as def;
 ghost use Rattle.flash_read.specs.Content.{redoPages, logContent, contentBy};
-ghost use Rattle.layout.specs.Layout.{mostEntries};
+ghost use Rattle.layout.specs.Layout.{mostEntries, mostKeys};
 use super::node_page::node_page_at;
 use super::replay::redo_entries;
 use super::slot::redo_one;
@@ -56,34 +56,50 @@ fn redo_pages(
     redo_three(pool, a, b, c, n, row.version, keys, pointers, outline)
 }
 
-// The content of node n, whose row this is: its entries on pages, then those in the buffer.
-fn log_content<'a>(
+// The outline of node n, whose row this is: its entries on pages, then those in the buffer. Keys and pointers end at the front, where a draft has
+// them, wherever the replay left its first key.
+fn log_outline<'a>(
     pool: &'a [u8],
     buffer: &'a [u8],
     entries: usize,
     row: Row,
     n: usize,
-) -> DraftValue
-    requires { ⌜ (entries ≤ mostEntries) × (length (now buffer) ≡ bufferBytes) ⌝ }
-    ensures { λ r. ⌜ Redone r (logContent (pagesOf (now (pool .entry))) (now (buffer .entry)) entries row n) ⌝ }
+    keys: &mut [u32; MOST_KEYS],
+    pointers: &mut [u32; MOST_KEYS],
+) -> Outline
+    requires { ⌜ (entries ≤ mostEntries) × (length (now buffer) ≡ bufferBytes) × (length (now keys) ≡ mostKeys) × (length (now pointers) ≡ mostKeys) ⌝ }
+    ensures { λ r. ⌜ Redone (draftFrom r (now (keys .exit)) (now (pointers .exit)))
+        (logContent (pagesOf (now (pool .entry))) (now (buffer .entry)) entries row n) ⌝ }
 {
-    let mut keys = [0u32; MOST_KEYS];
-    let mut pointers = [0u32; MOST_KEYS];
-    let written = redo_pages(pool, row, n, &mut keys, &mut pointers, empty_outline());
-    let all = redo_entries(
-        buffer,
-        entries,
-        n,
-        row.version,
-        &mut keys,
-        &mut pointers,
-        written,
-    );
-    settle(&mut keys, &mut pointers, all.first, all.count);
-    draft_from(all, keys, pointers)
+    let written = redo_pages(pool, row, n, keys, pointers, empty_outline());
+    let all = redo_entries(buffer, entries, n, row.version, keys, pointers, written);
+    settle(keys, pointers, all.first, all.count);
+    all
 }
 
-// The content of node n, whose row this is.
+// The outline of node n by the mode of its row; keys and pointers lie at the front.
+fn outline_by<'a>(
+    pool: &'a [u8],
+    buffer: &'a [u8],
+    entries: usize,
+    row: Row,
+    n: usize,
+    keys: &mut [u32; MOST_KEYS],
+    pointers: &mut [u32; MOST_KEYS],
+) -> Outline
+    requires { ⌜ (entries ≤ mostEntries) × (length (now buffer) ≡ bufferBytes) × (length (now keys) ≡ mostKeys) × (length (now pointers) ≡ mostKeys) ⌝ }
+    ensures { λ r. ⌜ Redone (draftFrom r (now (keys .exit)) (now (pointers .exit)))
+        (contentBy (pagesOf (now (pool .entry))) (now (buffer .entry)) entries row n) ⌝ }
+{
+    let mode = row.mode;
+    match mode {
+        Mode::Log => log_outline(pool, buffer, entries, row, n, keys, pointers),
+        Mode::Disk => node_page_at(pool, row.first, keys, pointers),
+    }
+}
+
+// The content of node n, whose row this is. Both modes fill the same two arrays, and the draft is put together here alone: so its 200 bytes are not
+// copied at each return on the way.
 fn content_by<'a>(
     pool: &'a [u8],
     buffer: &'a [u8],
@@ -94,11 +110,10 @@ fn content_by<'a>(
     requires { ⌜ (entries ≤ mostEntries) × (length (now buffer) ≡ bufferBytes) ⌝ }
     ensures { λ r. ⌜ Redone r (contentBy (pagesOf (now (pool .entry))) (now (buffer .entry)) entries row n) ⌝ }
 {
-    let mode = row.mode;
-    match mode {
-        Mode::Log => log_content(pool, buffer, entries, row, n),
-        Mode::Disk => node_page_at(pool, row.first),
-    }
+    let mut keys = [0u32; MOST_KEYS];
+    let mut pointers = [0u32; MOST_KEYS];
+    let outline = outline_by(pool, buffer, entries, row, n, &mut keys, &mut pointers);
+    draft_from(outline, keys, pointers)
 }
 
 // The content of node n.

@@ -2,7 +2,7 @@
 use mathlib.Core.Path.{refl}
 use Prim.Native.Nat.{_-_, _/_}
 use lib.ListN.{length}
-use Rattle.flash_read.proofs.Laws.{redone-is, whole-short, whole-long, whole-read}
+use Rattle.flash_read.proofs.Laws.{redone-none, whole-short, whole-long, whole-read}
 use borrow.Author.Needs.{needs}
 use Rattle.flash_read.proofs.node_page.node_of_payload.Statement.{statement}
 use Rattle.flash_read.proofs.node_page.node_of_payload.Tie as tie
@@ -11,14 +11,22 @@ no-node-requires : tie.Need-no-node-requires
 no-node-requires c κs = search needs
 
 returns : tie.Need-returns
-returns c = redone-is (c .no-node .result) _ _ (c .no-node .ensures) (whole-short (c .before .before .before .args .p .now) (c .before .if1 .taken))
+returns c =
+    let entry = c .before .before .before in
+    let a = entry .args in
+    redone-none (c .no-node .result) (c .no-node .ensures) (a .keys .now) (a .pointers .now) (entry .pre .0) (entry .pre .1) _
+    (whole-short (a .p .now) (c .before .if1 .taken))
 
 no-node-requires-2 : tie.Need-no-node-requires-2
 no-node-requires-2 c κs = search needs
 
 returns-2 : tie.Need-returns-2
-returns-2 c = let p = c .before .before .before .before .args .p .now in
-    redone-is (c .no-node2 .result) _ _ (c .no-node2 .ensures) (whole-long p (c .before .before .if1 .left) ((length p - 7) / 8) refl (c .before .if2 .taken))
+returns-2 c =
+    let entry = c .before .before .before .before in
+    let a = entry .args in
+    let p = a .p .now in
+    redone-none (c .no-node2 .result) (c .no-node2 .ensures) (a .keys .now) (a .pointers .now) (entry .pre .0) (entry .pre .1) _
+    (whole-long p (c .before .before .if1 .left) ((length p - 7) / 8) refl (c .before .if2 .taken))
 
 shared-slice-read-shape-of : tie.Need-shared-slice-read-shape-of
 shared-slice-read-shape-of c = search needs
@@ -34,14 +42,15 @@ read-pairs-requires c κs = search needs
 
 returns-3 : tie.Need-returns-3
 returns-3 c =
-    let link = c .before in
+    let link = c .before .before .before in
     let shape = link .before in
     let long = shape .before .before in
     let short = long .before in
     let p = short .before .before .args .p .now in
-    redone-is (c .read-pairs .result) _ _ (c .read-pairs .ensures)
-    (whole-read p (short .if1 .left) ((length p - 7) / 8) refl (long .if2 .left) (shape .shape-of .result) (link .read32 .result)
-    (shape .shape-of .ensures) (link .read32 .ensures .is))
+    rw (
+    ← whole-read p (short .if1 .left) ((length p - 7) / 8) refl (long .if2 .left) (shape .shape-of .result) (link .read32 .result)
+    (shape .shape-of .ensures) (link .read32 .ensures .is)
+    ) (c .read-pairs .ensures)
 
 pub node-of-payload-spec : {M : Type 1} → statement M
 node-of-payload-spec =

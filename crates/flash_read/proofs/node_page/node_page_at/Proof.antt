@@ -3,7 +3,7 @@ use mathlib.Core.Path.{sym, _∙_}
 use borrow.Author.Tests.{ltb-false}
 use Rattle.flash_blocks.specs.Pages.{pagesOf}
 use Rattle.flash_blocks.proofs.Laws.{page-inside}
-use Rattle.flash_read.proofs.Laws.{redone-is, node-in, node-behind}
+use Rattle.flash_read.proofs.Laws.{redone-none, node-in, node-behind}
 use borrow.Author.Needs.{needs}
 use Rattle.flash_read.proofs.node_page.node_page_at.Statement.{statement}
 use Rattle.flash_read.proofs.node_page.node_page_at.Tie as tie
@@ -21,20 +21,20 @@ read-node-requires c κs = search needs
 
 returns : tie.Need-returns
 returns c =
-    let c1 = c .before in
-    let a = c1 .before .before .before .before .args in
-    redone-is (c .read-node .result) _ _ (c .read-node .ensures)
-    (node-in (pagesOf (a .pool .now)) (a .page) (c1 .page-part .result .now) (c1 .page-part .ensures .0))
+    let part = c .before .before .before in
+    let a = part .before .before .before .before .args in
+    rw (← node-in (pagesOf (a .pool .now)) (a .page) (part .page-part .result .now) (part .page-part .ensures .0)) (c .read-node .ensures)
 
 no-node-requires : tie.Need-no-node-requires
 no-node-requires c κs = search needs
 
 returns-2 : tie.Need-returns-2
 returns-2 c =
-    let c2 = c .before .before in
-    let a = c2 .before .before .args in
-    redone-is (c .no-node .result) _ _ (c .no-node .ensures)
-    (node-behind (pagesOf (a .pool .now)) (a .page) (ltb-false _ _ (sym (c2 .has-page .ensures) ∙ c .before .if1 .left)))
+    let test = c .before .before in
+    let entry = test .before .before in
+    let a = entry .args in
+    redone-none (c .no-node .result) (c .no-node .ensures) (a .keys .now) (a .pointers .now) (entry .pre .0) (entry .pre .1) _
+    (node-behind (pagesOf (a .pool .now)) (a .page) (ltb-false _ _ (sym (test .has-page .ensures) ∙ c .before .if1 .left)))
 
 pub node-page-at-spec : {M : Type 1} → statement M
 node-page-at-spec =

@@ -10,7 +10,7 @@ node-of-payload-requires : tie.Need-node-of-payload-requires
 node-of-payload-requires c κs = search needs
 
 returns : tie.Need-returns
-returns c = rw (← c .before .payload .ensures) (c .node-of-payload .ensures)
+returns c = rw (← c .before .before .before .payload .ensures) (c .node-of-payload .ensures)
 
 pub read-node-spec : {M : Type 1} → statement M
 read-node-spec = tie.close (tie.spec payload-requires node-of-payload-requires returns)

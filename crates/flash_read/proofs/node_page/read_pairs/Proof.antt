@@ -4,7 +4,7 @@ use mathlib.Core.Path.{_≡_, sym, ap, _∙_}
 use mathlib.Core.List.{List, _++_}
 use Prim.Native.Nat.{ℕ, _+_, _-_, _*_, _≤_}
 use native.Mathlib.Omega.{arith}
-use lib.ListN.{length, take, length-replicate, length-set}
+use lib.ListN.{length, take, length-set}
 use borrow.Author.Needs.{needs}
 use Rattle.layout.specs.Layout.{bound32}
 use Rattle.pairs.specs.Pairs.{Pair}
@@ -13,7 +13,7 @@ use Rattle.node.specs.Node.{node}
 use Rattle.node.specs.Splice.{zip}
 use Rattle.node.specs.Value.{pairsIn}
 use Rattle.page.specs.Decode as decode
-use Rattle.flash_read.proofs.Laws.{redone-is, pairs-begin, pairs-more, pairs-done, rising-low, rising-more, rising-done, node-loose, node-read}
+use Rattle.flash_read.proofs.Laws.{redone-none, pairs-begin, pairs-more, pairs-done, rising-low, rising-more, rising-done, node-loose, node-read}
 use Rattle.flash_read.proofs.node_page.read_pairs.Statement.{statement}
 use Rattle.flash_read.proofs.node_page.read_pairs.Tie as tie
 
@@ -30,7 +30,7 @@ loop-holds : tie.Need-loop-holds Inv-loop μ-loop
 loop-holds c =
     let a = c .before .args in
     let begin = pairs-begin (a .p .now) (a .n) in
-    (omega arith, (length-replicate {A = ℕ} 24 0, (length-replicate {A = ℕ} 24 0, (begin, ap (ascends 0 bound32) begin))))
+    (omega arith, (c .before .pre .2, (c .before .pre .3, (begin, ap (ascends 0 bound32) begin))))
 
 mul-read32 : tie.Need-mul-read32 Inv-loop μ-loop
 mul-read32 c = omega arith
@@ -62,7 +62,7 @@ returns c =
     let key = test .before .before .before .read32 in
     let l = test .before .before .before .before .before .loop in
     let a = test .before .before .before .before .before .before .before .args in
-    redone-is (c .no-node .result) _ _ (c .no-node .ensures)
+    redone-none (c .no-node .result) (c .no-node .ensures) (l .keys) (l .pointers) (l .inv .1 .0) (l .inv .1 .1 .0) _
     (node-loose (a .shape) (decode.pairsFrom (a .n) (a .p .now) 7) (a .link)
     (sym (l .inv .1 .1 .1 .1) ∙
     rising-low (a .p .now) (a .n) (l .i) (l .least) (key .result) (test .before .before .before .before .loop-test .taken) (key .ensures .is)
@@ -71,14 +71,14 @@ returns c =
 mul-keys : tie.Need-mul-keys Inv-loop μ-loop
 mul-keys c = omega arith
 
-array-write-keys : tie.Need-array-write-keys Inv-loop μ-loop
-array-write-keys c = omega arith
+element-write-keys : tie.Need-element-write-keys Inv-loop μ-loop
+element-write-keys c = omega arith
 
 mul-pointers : tie.Need-mul-pointers Inv-loop μ-loop
 mul-pointers c = omega arith
 
-array-write-pointers : tie.Need-array-write-pointers Inv-loop μ-loop
-array-write-pointers c = omega arith
+element-write-pointers : tie.Need-element-write-pointers Inv-loop μ-loop
+element-write-pointers c = omega arith
 
 add-least : tie.Need-add-least Inv-loop μ-loop
 add-least c = omega arith
@@ -145,9 +145,9 @@ read-pairs-spec =
     no-node-requires
     returns
     mul-keys
-    array-write-keys
+    element-write-keys
     mul-pointers
-    array-write-pointers
+    element-write-pointers
     add-least
     add-i
     loop-less
