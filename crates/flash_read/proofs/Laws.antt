@@ -6,11 +6,10 @@ use Prim.Native.Nat.{ℕ, suc, _+_, _-_, _*_, _≤_, _<_}
 use native.Mathlib.Nat.{sub-zero}
 use native.Mathlib.Numerals.{add-one}
 use native.Mathlib.Omega.{arith}
-use lib.ListN.{length, getD, set, take, drop, length-drop, replicate, getD-replicate, List·getD-eq-default}
+use lib.ListN.{length, getD, set, take, drop, replicate, getD-replicate, List·getD-eq-default}
 use lib.Seq.{take-suc-set, length-take-le}
 use borrow.Author.Tests.{eq-eqb, ne-eqb, lt-ltb, le-ltb, le-leb, lt-leb}
 use Rattle.laws.specs.Lay.{part}
-use Rattle.laws.specs.Loops.{steps, steps-more}
 use Rattle.laws.specs.BigEndian.{number, numberAt}
 use Rattle.layout.specs.Layout.{mostEntries, mostKeys, bound32}
 use Rattle.pairs.specs.Pairs.{Pair, Within}
@@ -105,7 +104,8 @@ module _ (framed : Bool) (id version : ℕ) (bytes : List ℕ) where
       let turn : left ≡ suc (left - 1) = omega arith in
       sym (ap (λ (k : ℕ). redoFrom framed id version k bytes at d) turn ∙ rw (eq-eqb (length (entryIn framed bytes at)) 15 e, redoFrom) refl)
 
-  pub from-stop : (left at : ℕ) (d : Draft) → 0 < left → (length (entryIn framed bytes at) ≡ 15 → ⊥) → redoFrom framed id version left bytes at d ≡ d
+  pub from-stop : (left at : ℕ) (d : Draft) → 0 < left → (length (entryIn framed bytes at) ≡ 15 → ⊥) →
+      redoFrom framed id version left bytes at d ≡ d
   unfolding redoFrom
   from-stop left at d h e =
       let turn : left ≡ suc (left - 1) = omega arith in
