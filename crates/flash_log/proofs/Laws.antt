@@ -39,7 +39,8 @@ record-entry id version c kind key pointer k y p =
 
 -- An entry more, where the buffer has room.
 pub append-in : (id version : ℕ) (c : Change) (t t′ : Worktable) (s s′ : State) → s .entries < 27 →
-    t′ ≡ laidAt (s .entries) (entryBytes (entryOf id version c)) t → s′ ≡ withEntries (s .entries + 1) s → logged t′ s′ ≡ append id version c (logged t s)
+    t′ ≡ laidAt (s .entries) (entryBytes (entryOf id version c)) t → s′ ≡ withEntries (s .entries + 1) s →
+    logged t′ s′ ≡ append id version c (logged t s)
 unfolding append entered
 append-in id version c t t′ s s′ h e f = rw (lt-ltb (s .entries) 27 h, e, f) refl
 

@@ -11,7 +11,7 @@ use lib.Seq.{take-suc-set, length-take-le}
 use borrow.Author.Tests.{eq-eqb, ne-eqb, lt-ltb, le-ltb, le-leb, lt-leb}
 use Rattle.laws.specs.Lay.{part}
 use Rattle.laws.specs.BigEndian.{number, numberAt}
-use Rattle.layout.specs.Layout.{mostEntries, mostKeys, bound32}
+use Rattle.layout.specs.Layout.{mostEntries, bound32}
 use Rattle.pairs.specs.Pairs.{Pair, Within}
 use Rattle.wire.specs.Tag.{lengthOf, find, rows}
 use Rattle.wire.specs.Field.{lengthAt, payloadOf, payloadAt}
@@ -34,6 +34,7 @@ use Rattle.node.specs.Replay.{Draft, made, broken, redo}
 use Rattle.node.specs.Value.{pairsIn, Stands}
 use Rattle.node.specs.Drafts.{Redone}
 use Rattle.node_replay.specs.declared.outline.Outline.{Outline}
+use Rattle.node_replay.specs.Front.{Arrays}
 use Rattle.node_replay.specs.Outline.{emptyOutline, brokenAt, draftFrom}
 use Rattle.page.specs.Page.{Entry}
 use Rattle.page.specs.Decode as decode
@@ -270,10 +271,10 @@ rising-done p n i least h =
     ap (λ (m : ℕ). ascends least bound32 (decode.pairsFrom m p (7 + 8 * i))) over
 
 -- No node, whatever the arrays hold.
-pub redone-none : (o : Outline) → o ≡ brokenAt emptyOutline → (ks ps : List ℕ) → length ks ≡ mostKeys → length ps ≡ mostKeys →
+pub redone-none : (o : Outline) → o ≡ brokenAt emptyOutline → (ks ps : List ℕ) → Arrays ks ps →
     (d : Draft) → broken ≡ d → Redone (draftFrom o ks ps) d
 unfolding pairsIn Within
-redone-none o e ks ps k p d f =
+redone-none o e ks ps (k, p) d f =
     rw e (record { is = f; held = record { sized = record { size = omega arith; keyRoom = k; pointerRoom = p }; ascending = tt } })
 
 -- A node read, and one whose keys do not ascend.

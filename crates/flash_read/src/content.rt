@@ -6,10 +6,11 @@ ghost use Rattle.flash_rows.specs.Row.{rowBytes};
 ghost use Rattle.flash_rows.specs.Worktable.{rowsAt, bufferBytes, tableFrom};
 ghost use Rattle.flash_blocks.specs.Pages.{pagesOf};
 ghost use Rattle.node.specs.Drafts.{Redone};
+ghost use Rattle.node_replay.specs.Front.{Arrays};
 ghost use Rattle.node_replay.specs.Outline.{draftFrom, draftIn, HeldIn, RedoneIn};
 ghost use Rattle.flash_read.specs.Content as def;
 ghost use Rattle.flash_read.specs.Content.{redoPages, logContent, contentBy};
-ghost use Rattle.layout.specs.Layout.{mostEntries, mostKeys};
+ghost use Rattle.layout.specs.Layout.{mostEntries};
 use super::node_page::node_page_at;
 use super::replay::redo_entries;
 use super::slot::redo_one;
@@ -67,7 +68,7 @@ fn log_outline<'a>(
     keys: &mut [u32; MOST_KEYS],
     pointers: &mut [u32; MOST_KEYS],
 ) -> Outline
-    requires { ⌜ (entries ≤ mostEntries) × (length (now buffer) ≡ bufferBytes) × (length (now keys) ≡ mostKeys) × (length (now pointers) ≡ mostKeys) ⌝ }
+    requires { ⌜ (entries ≤ mostEntries) × (length (now buffer) ≡ bufferBytes) × Arrays (now keys) (now pointers) ⌝ }
     ensures { λ r. ⌜ Redone (draftFrom r (now (keys .exit)) (now (pointers .exit)))
         (logContent (pagesOf (now (pool .entry))) (now (buffer .entry)) entries row n) ⌝ }
 {
@@ -87,7 +88,7 @@ fn outline_by<'a>(
     keys: &mut [u32; MOST_KEYS],
     pointers: &mut [u32; MOST_KEYS],
 ) -> Outline
-    requires { ⌜ (entries ≤ mostEntries) × (length (now buffer) ≡ bufferBytes) × (length (now keys) ≡ mostKeys) × (length (now pointers) ≡ mostKeys) ⌝ }
+    requires { ⌜ (entries ≤ mostEntries) × (length (now buffer) ≡ bufferBytes) × Arrays (now keys) (now pointers) ⌝ }
     ensures { λ r. ⌜ Redone (draftFrom r (now (keys .exit)) (now (pointers .exit)))
         (contentBy (pagesOf (now (pool .entry))) (now (buffer .entry)) entries row n) ⌝ }
 {

@@ -5,6 +5,7 @@ ghost use lib.ListN.{length};
 ghost use Rattle.flash_blocks.specs.Pages.{pagesOf};
 ghost use Rattle.node.specs.Node.{node};
 ghost use Rattle.node.specs.Drafts.{Redone};
+ghost use Rattle.node_replay.specs.Front.{Arrays};
 ghost use Rattle.node_replay.specs.Outline.{emptyOutline, brokenAt, draftFrom};
 ghost use Rattle.wire.specs.Field.{payloadAt};
 ghost use Rattle.page.specs.Decode as decode;
@@ -43,7 +44,7 @@ fn read_pairs(
     keys: &mut [u32; MOST_KEYS],
     pointers: &mut [u32; MOST_KEYS],
 ) -> Outline
-    requires { ⌜ (n ≤ mostKeys) × (7 + 8 * n ≤ length (now p)) × (length (now keys) ≡ mostKeys) × (length (now pointers) ≡ mostKeys) ⌝ }
+    requires { ⌜ (n ≤ mostKeys) × (7 + 8 * n ≤ length (now p)) × Arrays (now keys) (now pointers) ⌝ }
     ensures { λ r. ⌜ Redone (draftFrom r (now (keys .exit)) (now (pointers .exit)))
         (ifAscends (node shape (decode.pairsFrom n (now (p .entry)) 7) link)) ⌝ }
 {
@@ -76,7 +77,7 @@ fn node_of_payload(
     keys: &mut [u32; MOST_KEYS],
     pointers: &mut [u32; MOST_KEYS],
 ) -> Outline
-    requires { ⌜ (length (now keys) ≡ mostKeys) × (length (now pointers) ≡ mostKeys) ⌝ }
+    requires { ⌜ Arrays (now keys) (now pointers) ⌝ }
     ensures { λ r. ⌜ Redone (draftFrom r (now (keys .exit)) (now (pointers .exit))) (nodeOfPayload (now (p .entry))) ⌝ }
 {
     let bytes = p.len();
@@ -94,7 +95,7 @@ fn node_of_payload(
 
 // The node of a page's field 11.
 fn read_node(page: &[u8], keys: &mut [u32; MOST_KEYS], pointers: &mut [u32; MOST_KEYS]) -> Outline
-    requires { ⌜ (length (now keys) ≡ mostKeys) × (length (now pointers) ≡ mostKeys) ⌝ }
+    requires { ⌜ Arrays (now keys) (now pointers) ⌝ }
     ensures { λ r. ⌜ Redone (draftFrom r (now (keys .exit)) (now (pointers .exit))) (nodeOfPayload (payloadAt (now (page .entry)) 7 0x11)) ⌝ }
 {
     let p = payload(page, 7, 0x11);
@@ -108,7 +109,7 @@ pub fn node_page_at(
     keys: &mut [u32; MOST_KEYS],
     pointers: &mut [u32; MOST_KEYS],
 ) -> Outline
-    requires { ⌜ (length (now keys) ≡ mostKeys) × (length (now pointers) ≡ mostKeys) ⌝ }
+    requires { ⌜ Arrays (now keys) (now pointers) ⌝ }
     ensures { λ r. ⌜ Redone (draftFrom r (now (keys .exit)) (now (pointers .exit))) (nodePageAt (pagesOf (now (pool .entry))) page) ⌝ }
 {
     let place = page as usize;

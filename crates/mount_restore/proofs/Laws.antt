@@ -39,8 +39,8 @@ abbrev lent : List ℕ → List ℕ
 lent table = take (length table - rowsAt) (drop rowsAt table)
 
 -- The rows: an empty table, the scores, the pages. Each step is lent the rows as the last one left them.
-module _ (blocks nodes since : ℕ) (pages : List (List ℕ)) (table zeros : List ℕ) (few : fewestBlocks ≤ blocks) (size : length table ≡ tableBytes blocks)
-    (z : zeros ≡ replicate (length table) 0) where
+module _ (blocks nodes since : ℕ) (pages : List (List ℕ)) (table zeros : List ℕ) (few : fewestBlocks ≤ blocks)
+    (size : length table ≡ tableBytes blocks) (z : zeros ≡ replicate (length table) 0) where
   long : rowsAt ≤ length zeros
   long = omega (arith, ap length z, length-replicate {A = ℕ} (length table) 0)
 

@@ -11,6 +11,10 @@ use lib.Seq.{length-take-le, take-at, take-suc, take-suc-set, take-set-lt, drop-
 use Rattle.layout.specs.Layout.{mostKeys}
 use Rattle.node.specs.Splice.{insertAt, removeAt}
 
+-- The two arrays that are lent for the keys and pointers of a draft have their whole length.
+abbrev pub Arrays : List ℕ → List ℕ → Type 0
+Arrays ks ps = (length ks ≡ mostKeys) × (length ps ≡ mostKeys)
+
 -- The array once `count` values from `first` on have moved down.
 unfoldable pub lowered : ℕ → ℕ → List ℕ → List ℕ
 lowered first count xs = take count (drop first xs) ++ drop count xs

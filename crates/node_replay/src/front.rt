@@ -3,7 +3,7 @@ ghost use mathlib.Core.Path.{_≡_};
 ghost use Prim.Native.Nat.{_+_, _≤_};
 ghost use lib.ListN.{length};
 ghost use Rattle.layout.specs.Layout.{mostKeys};
-ghost use Rattle.node_replay.specs.Front.{lowered, BehindIn, FirstIn};
+ghost use Rattle.node_replay.specs.Front.{Arrays, lowered, BehindIn, FirstIn};
 use layout::MOST_KEYS;
 
 // Whether a key is behind all others, with room behind them.
@@ -52,7 +52,7 @@ pub fn settle(
     first: usize,
     count: usize,
 )
-    requires { ⌜ (first + count ≤ mostKeys) × (length (now keys) ≡ mostKeys) × (length (now pointers) ≡ mostKeys) ⌝ }
+    requires { ⌜ (first + count ≤ mostKeys) × Arrays (now keys) (now pointers) ⌝ }
     ensures { λ _. ⌜ (now (keys .exit) ≡ lowered first count (now (keys .entry)))
         × (now (pointers .exit) ≡ lowered first count (now (pointers .entry))) ⌝ }
 {

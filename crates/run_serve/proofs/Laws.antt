@@ -53,10 +53,11 @@ module _ {P T : ℕ} (from to : Mode) (n : ℕ) (x : Node) (w : World) where
   switch-by y w₁ f k = kept-is k (ap (λ (z : Node). switch from to n z w) f)
 
 -- The row loaded, its account served, the switch, and the score in the row that the switch leaves.
-module _ {P T T′ : ℕ} (t : Tariff) (q : Request) (n : ℕ) (x : Node) (w w₁ : World) (row : Row) (account : Account) (served : Served) (table₂ : Worktable)
-    (r : row ≡ getD (w .table .rows) n noRow) (a : account ≡ accountIn row) (f : Fair t account q served)
+module _ {P T T′ : ℕ} (t : Tariff) (q : Request) (n : ℕ) (x : Node) (w w₁ : World) (row : Row) (account : Account) (served : Served)
+    (table₂ : Worktable) (r : row ≡ getD (w .table .rows) n noRow) (a : account ≡ accountIn row) (f : Fair t account q served)
     (k : Kept P T (w .state) w₁ (switch (row .mode) (served .account .mode) n x w))
-    (e : table₂ ≡ rescored n (served .account .score) (w₁ .table)) (l : T′ ≡ T) (result : Settled) (g : result ≡ settledBy (w₁ .state) served) where
+    (e : table₂ ≡ rescored n (served .account .score) (w₁ .table)) (l : T′ ≡ T) (result : Settled)
+    (g : result ≡ settledBy (w₁ .state) served) where
   is-served : served ≡ servedAt t q n w
   is-served = f .is ∙ ap (λ (z : Account). serveOf t z q) (a ∙ ap accountIn r)
 

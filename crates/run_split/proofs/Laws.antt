@@ -151,7 +151,8 @@ module _ {P₀ T₀ : ℕ} (t : Tariff) (id : ℕ) (w : World) (g : Growing P₀
 
   pub two-edits : {P T P₁ T₁ : ℕ} (first second : Change) (pages₁ : List (List ℕ)) (table₁ : Worktable) (one : Charged) →
       ServedAs P₁ T₁ pages₁ table₁ one t id (edit first) w →
-      (pages : List (List ℕ)) (table : Worktable) (two : Charged) → ServedAs P T pages table two t id (edit second) (world pages₁ table₁ (one .state)) →
+      (pages : List (List ℕ)) (table : Worktable) (two : Charged) →
+      ServedAs P T pages table two t id (edit second) (world pages₁ table₁ (one .state)) →
       AbsorbedAs P T pages table (record { charged = both one two; pending = Nothing }) (w .state) (absorbEdits t id first second w)
   unfolding absorbEdits
   two-edits first second pages₁ table₁ one s pages table two s′ =

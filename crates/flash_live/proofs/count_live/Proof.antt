@@ -10,7 +10,8 @@ use Rattle.flash_live.proofs.count_live.Statement.{statement}
 use Rattle.flash_live.proofs.count_live.Tie as tie
 
 abbrev Inv-loop : tie.InvT-loop
-Inv-loop live block n₀ k₀ n k = ((k ≤ 32) × (n ≤ k)) × (n + sumFrom (liveBit (marksIn live) block) (32 - k) k ≡ sumFrom (liveBit (marksIn live) block) 32 0)
+Inv-loop live block n₀ k₀ n k =
+    ((k ≤ 32) × (n ≤ k)) × (n + sumFrom (liveBit (marksIn live) block) (32 - k) k ≡ sumFrom (liveBit (marksIn live) block) 32 0)
 
 abbrev μ-loop : tie.MeasureT-loop
 μ-loop live block n₀ k₀ n k = 32 - k

@@ -9,7 +9,8 @@ use Rattle.flash_log.proofs.claim.claim_entries.Statement.{statement}
 use Rattle.flash_log.proofs.claim.claim_entries.Tie as tie
 
 abbrev Inv-loop : tie.InvT-loop
-Inv-loop table₀ n nodes page k₀ table k = ((k ≤ n) × (length table ≡ length table₀)) × Claiming nodes page n k (tableFrom table₀) (tableFrom table)
+Inv-loop table₀ n nodes page k₀ table k =
+    ((k ≤ n) × (length table ≡ length table₀)) × Claiming nodes page n k (tableFrom table₀) (tableFrom table)
 
 abbrev μ-loop : tie.MeasureT-loop
 μ-loop table₀ n nodes page k₀ table k = n - k

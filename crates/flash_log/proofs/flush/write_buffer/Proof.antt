@@ -58,8 +58,9 @@ returns c =
     let n = c12 .next-sequence in
     let w = c8 .put-log in
     let k = c4 .claim-entries in
-    let page = ap (λ (b : List ℕ). set (pagesOf (a .pool .now)) (spot (a .state)) (logImage (n .result) (a .state .entries) b)) (c9 .buffer-part .ensures .0) in
-    buffer-written (pagesOf (a .pool .now)) (pagesOf (w .last .0)) (tableFrom (a .table .now)) (tableFrom (k .last .0))
+    let pages = pagesOf (a .pool .now) in
+    let page = ap (λ (b : List ℕ). set pages (spot (a .state)) (logImage (n .result) (a .state .entries) b)) (c9 .buffer-part .ensures .0) in
+    buffer-written pages (pagesOf (w .last .0)) (tableFrom (a .table .now)) (tableFrom (k .last .0))
     (a .state) (c1 .advance .result) (c .without-entries .result) (n .result) (p .0) (w .kept .0) (k .kept .0) (p .1)
     (n .ensures) (w .ensures ∙ page) (k .ensures) (c1 .advance .ensures) (c .without-entries .ensures)
 

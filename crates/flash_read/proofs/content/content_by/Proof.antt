@@ -8,7 +8,7 @@ use Rattle.flash_read.proofs.content.content_by.Tie as tie
 outline-by-requires : tie.Need-outline-by-requires
 outline-by-requires c κs =
     let entry = c .before .before .before .before in
-    (entry .pre .0, entry .pre .1, length-replicate {A = ℕ} 24 0, length-replicate {A = ℕ} 24 0)
+    (entry .pre .0, entry .pre .1, (length-replicate {A = ℕ} 24 0, length-replicate {A = ℕ} 24 0))
 
 draft-from-requires : tie.Need-draft-from-requires
 draft-from-requires c κs = search needs

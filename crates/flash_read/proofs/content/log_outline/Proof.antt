@@ -2,10 +2,9 @@
 use mathlib.Core.Path.{_≡_}
 use mathlib.Core.List.{List, []}
 use Prim.Native.Nat.{ℕ}
-use lib.ListN.{length}
-use Rattle.layout.specs.Layout.{mostKeys}
 use Rattle.node.specs.Replay.{unlinked}
 use Rattle.node_replay.specs.declared.outline.Outline.{Outline}
+use Rattle.node_replay.specs.Front.{Arrays}
 use Rattle.node_replay.specs.Outline.{emptyOutline, RedoneIn, redone-nothing}
 use Rattle.flash_read.specs.Content.{logContent}
 use borrow.Author.Needs.{needs}
@@ -16,8 +15,8 @@ empty-outline-requires : tie.Need-empty-outline-requires
 empty-outline-requires c κs = search needs
 
 -- Nothing is replayed yet, whatever the lent arrays hold.
-nothing : (o : Outline) → o ≡ emptyOutline → (ks ps : List ℕ) → length ks ≡ mostKeys → length ps ≡ mostKeys → RedoneIn o ks ps (unlinked [])
-nothing o e ks ps k p = rw e (redone-nothing ks ps k p)
+nothing : (o : Outline) → o ≡ emptyOutline → (ks ps : List ℕ) → Arrays ks ps → RedoneIn o ks ps (unlinked [])
+nothing o e ks ps (k, p) = rw e (redone-nothing ks ps k p)
 
 abbrev start : tie.After-empty-outline → tie.Start
 start c = c .before .before .before .before .before
@@ -25,7 +24,7 @@ start c = c .before .before .before .before .before
 begun : (c : tie.After-empty-outline) → RedoneIn (c .empty-outline .result) (start c .args .keys .now) (start c .args .pointers .now) (unlinked [])
 begun c =
     let a = start c .args in
-    nothing (c .empty-outline .result) (c .empty-outline .ensures) (a .keys .now) (a .pointers .now) (start c .pre .2) (start c .pre .3)
+    nothing (c .empty-outline .result) (c .empty-outline .ensures) (a .keys .now) (a .pointers .now) (start c .pre .2)
 
 redo-pages-requires : tie.Need-redo-pages-requires
 redo-pages-requires c κs = begun c .held

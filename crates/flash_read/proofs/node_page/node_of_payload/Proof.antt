@@ -14,7 +14,7 @@ returns : tie.Need-returns
 returns c =
     let entry = c .before .before .before in
     let a = entry .args in
-    redone-none (c .no-node .result) (c .no-node .ensures) (a .keys .now) (a .pointers .now) (entry .pre .0) (entry .pre .1) _
+    redone-none (c .no-node .result) (c .no-node .ensures) (a .keys .now) (a .pointers .now) (entry .pre) _
     (whole-short (a .p .now) (c .before .if1 .taken))
 
 no-node-requires-2 : tie.Need-no-node-requires-2
@@ -25,7 +25,7 @@ returns-2 c =
     let entry = c .before .before .before .before in
     let a = entry .args in
     let p = a .p .now in
-    redone-none (c .no-node2 .result) (c .no-node2 .ensures) (a .keys .now) (a .pointers .now) (entry .pre .0) (entry .pre .1) _
+    redone-none (c .no-node2 .result) (c .no-node2 .ensures) (a .keys .now) (a .pointers .now) (entry .pre) _
     (whole-long p (c .before .before .if1 .left) ((length p - 7) / 8) refl (c .before .if2 .taken))
 
 shared-slice-read-shape-of : tie.Need-shared-slice-read-shape-of

@@ -33,7 +33,7 @@ returns-2 c =
     let test = c .before .before in
     let entry = test .before .before in
     let a = entry .args in
-    redone-none (c .no-node .result) (c .no-node .ensures) (a .keys .now) (a .pointers .now) (entry .pre .0) (entry .pre .1) _
+    redone-none (c .no-node .result) (c .no-node .ensures) (a .keys .now) (a .pointers .now) (entry .pre) _
     (node-behind (pagesOf (a .pool .now)) (a .page) (ltb-false _ _ (sym (test .has-page .ensures) ∙ c .before .if1 .left)))
 
 pub node-page-at-spec : {M : Type 1} → statement M

@@ -30,7 +30,7 @@ loop-holds : tie.Need-loop-holds Inv-loop μ-loop
 loop-holds c =
     let a = c .before .args in
     let begin = pairs-begin (a .p .now) (a .n) in
-    (omega arith, (c .before .pre .2, (c .before .pre .3, (begin, ap (ascends 0 bound32) begin))))
+    (omega arith, (c .before .pre .2 .0, (c .before .pre .2 .1, (begin, ap (ascends 0 bound32) begin))))
 
 mul-read32 : tie.Need-mul-read32 Inv-loop μ-loop
 mul-read32 c = omega arith
@@ -62,7 +62,7 @@ returns c =
     let key = test .before .before .before .read32 in
     let l = test .before .before .before .before .before .loop in
     let a = test .before .before .before .before .before .before .before .args in
-    redone-none (c .no-node .result) (c .no-node .ensures) (l .keys) (l .pointers) (l .inv .1 .0) (l .inv .1 .1 .0) _
+    redone-none (c .no-node .result) (c .no-node .ensures) (l .keys) (l .pointers) (l .inv .1 .0, l .inv .1 .1 .0) _
     (node-loose (a .shape) (decode.pairsFrom (a .n) (a .p .now) 7) (a .link)
     (sym (l .inv .1 .1 .1 .1) ∙
     rising-low (a .p .now) (a .n) (l .i) (l .least) (key .result) (test .before .before .before .before .loop-test .taken) (key .ensures .is)

@@ -10,7 +10,8 @@ use Rattle.flash_read.proofs.replay.redo_run.Statement.{statement}
 use Rattle.flash_read.proofs.replay.redo_run.Tie as tie
 
 abbrev Inv-loop : tie.InvT-loop
-Inv-loop bytes at most framed id version keys₀ pointers₀ step r₀ place₀ left₀ keys pointers r place left = (place + reach framed left ≤ length bytes) ×
+Inv-loop bytes at most framed id version keys₀ pointers₀ step r₀ place₀ left₀ keys pointers r place left =
+    (place + reach framed left ≤ length bytes) ×
     ((HeldIn r keys pointers) × (redoFrom framed id version left bytes place (draftIn r keys pointers) ≡ redoFrom framed id version most bytes at
     (draftIn r₀ keys₀ pointers₀)))
 

@@ -15,7 +15,8 @@ use Rattle.run_path.proofs.descend.descend.Statement.{statement}
 use Rattle.run_path.proofs.descend.descend.Tie as tie
 
 abbrev Inv-loop : tie.InvT-loop
-Inv-loop pool₀ table₀ state tariff key s₀ charge₀ id₀ i₀ pool table s charge id i = (length pool ≡ length pool₀) × (length table ≡ length table₀) ×
+Inv-loop pool₀ table₀ state tariff key s₀ charge₀ id₀ i₀ pool table s charge id i =
+    (length pool ≡ length pool₀) × (length table ≡ length table₀) ×
     Descending (length pool) (length table) tariff key (world (pagesOf pool₀) (tableFrom table₀) state) i id
     (world (pagesOf pool) (tableFrom table) s) charge
 

@@ -25,7 +25,8 @@ Inv-leaves pool table state first low high most leaves₀ keys₀ values₀ coun
     visited leaf = Along first (tableOf (pagesOf pool) (tableFrom table) state) (state .nodes) low high most keys values count leaves visited leaf
 
 abbrev μ-leaves : tie.MeasureT-leaves
-μ-leaves pool table state first low high most leaves₀ keys₀ values₀ count₀ visited₀ leaf₀ leaves keys values count visited leaf = state .nodes - visited
+μ-leaves pool table state first low high most leaves₀ keys₀ values₀ count₀ visited₀ leaf₀ leaves keys values count visited leaf =
+    state .nodes - visited
 
 node-at-requires : tie.Need-node-at-requires Inv-keys μ-keys Inv-leaves μ-leaves
 node-at-requires c κs = c .before .before .pre .0
