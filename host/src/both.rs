@@ -5,6 +5,7 @@ use crate::books::proved_to_compare;
 use crate::command::{answer_room, encode, Command};
 use crate::layout::table_bytes;
 use crate::observe::{Observer, Unobserved};
+use crate::score_order;
 
 /// The buffers that a batch is lent.
 #[derive(Clone)]
@@ -53,9 +54,10 @@ impl Call {
         same("answers", &self.answers, &found.answers)
     }
 
-    /// An accepted call zeroes the table and leaves the bytes behind the answers.
+    /// An accepted call zeroes the table, leaves the bytes behind the answers, and writes the scores in node order.
     fn check_accepted(&self, found: &Call, outcome: Outcome) -> Result<(), String> {
         self.check_table(found)?;
+        score_order::check(&self.pool)?;
         let beyond = self.answers.get(outcome.length..).ok_or("the answers are longer than their buffer")?;
         if found.answers[outcome.length..] != *beyond {
             return Err("answer bytes behind the answers changed".to_string());
@@ -103,6 +105,9 @@ pub fn prepare(pool: &mut [u8], tariff: [u32; 8]) -> Result<u8, String> {
     }
     if number != 0 && *pool != *found {
         return Err(format!("a prepare refused with {number} changed the pool"));
+    }
+    if number == 0 {
+        score_order::check(pool)?;
     }
     Ok(number)
 }

@@ -1,4 +1,5 @@
-//! The wall book a second time: document 01 in Rust, written for clarity, to run beside the proved one.
+//! The wall book a second time: document 01, and what has landed of document 02, in Rust, written for clarity,
+//! to run beside the proved one.
 //!
 //! From bytes upwards: [`wire`], [`page`], [`node`], [`tree`]; [`mount`] reads a closed pool, [`flash`]
 //! is the store while a batch runs, [`book`] has the two entry points. [`books`] has the books by name, and
@@ -35,6 +36,7 @@ pub mod reference;
 pub mod refusal;
 pub mod repair;
 pub mod report;
+pub mod score_order;
 pub mod shell;
 pub mod sound;
 pub mod spell;

@@ -9,12 +9,12 @@ use Rattle.account.specs.declared.Request.{Request}
 use Rattle.account.specs.declared.Served.{Served}
 use Rattle.account.specs.declared.Tariff.{Tariff}
 use Rattle.account.specs.Serve.{serveOf}
-use Rattle.page.specs.Page.{Page, page, log, whole, checkpoint}
-use Rattle.store.specs.Checkpoint.{CheckpointPage, checkpointPages, scoresFrom}
+use Rattle.page.specs.Page.{Score, Page, page, log, whole, checkpoint}
+use Rattle.store.specs.Checkpoint.{CheckpointPage, checkpointPages, checkpointOf, scoresFrom, scoresIn}
 use Rattle.store.specs.Reopen.{Cells, cells, reopened}
 use Rattle.model.specs.Mount.{Mounted, refused, opened, numbersLeft, mountCells}
 use Rattle.model.specs.Bytes.{cellsOf}
-use Rattle.model.specs.Call.{Outcome, prepareOf, mountOf, batchOf}
+use Rattle.model.specs.Call.{Outcome, blocksOf, prepareOf, mountOf, batchOf}
 use Rattle.cases.specs.Pools.{tariff, poolBytes}
 
 -- What a call is lent: the pool, a work table of so many bytes, the batch, an answer buffer of so many bytes. Each byte of the two is 7.
@@ -44,8 +44,9 @@ pub data Case : Type 0 where
   serves : Mode → ℕ → Request → Case
   -- how many scores stand on each page of a checkpoint of so many nodes
   scored : ℕ → Case
-  -- how many entries stand on each log page of the pool that a batch leaves
+  -- how many entries stand on each log page of the pool that a batch leaves; the fields 14 of its newest checkpoint
   logged : Lent → Case
+  ordered : Lent → Case
 
 pub data Result : Type 0 where
   number : ℕ → Result
@@ -54,6 +55,7 @@ pub data Result : Type 0 where
   test : Bool → Result
   served : Served → Result
   sizes : List ℕ → Result
+  fields : List Score → Result
 
 abbrev outcomeOf : Lent → Outcome
 outcomeOf l = batchOf (l .pool) (replicate (l .table) 7) (l .batch) (replicate (l .buffer) 7)
@@ -80,6 +82,10 @@ abbrev entriesIn : Option Cells → List ℕ
 entriesIn none = []
 entriesIn (some c) = entriesOn c
 
+abbrev scoresLeft : ℕ → Option Cells → List Score
+scoresLeft blocks none = []
+scoresLeft blocks (some c) = scoresIn (checkpointOf (reopened blocks c))
+
 -- The result that the definitions give.
 abbrev pub resultOf : Case → Result
 resultOf (prepares pool t) = number (prepareOf pool t .number)
@@ -93,6 +99,7 @@ resultOf (numbers blocks) = test (numbersLeft (reopened (length blocks) (cells 3
 resultOf (serves mode score q) = served (serveOf tariff (record { mode = mode; score = score }) q)
 resultOf (scored nodes) = sizes (scoresOn (checkpointPages tariff (scoresFrom 0 nodes (λ n. 0))))
 resultOf (logged l) = sizes (entriesIn (cellsOf (outcomeOf l .pool)))
+resultOf (ordered l) = fields (scoresLeft (blocksOf (l .pool)) (cellsOf (outcomeOf l .pool)))
 
 -- A row of a table; the results that the rows say, and those that the definitions give.
 pub record Row : Type 0 where

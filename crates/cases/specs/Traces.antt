@@ -72,9 +72,20 @@ abbrev sequencesIn : ℕ → List ℕ → List ℕ
 sequencesIn zero pool = []
 sequencesIn (suc n) pool = numberAt 4 pool 3 ∷ sequencesIn n (drop 512 pool)
 
--- Of a pool: how page 0 begins, the sequence numbers of six pages, how the nodes are filled.
+-- The checkpoint of the second trace: the fields 14 of its three nodes, by ascending id.
+abbrev scoresPage : List ℕ
+scoresPage =
+    0x10 ∷ 0 ∷ 4 ∷ 0 ∷ 0 ∷ 0 ∷ 0x0A ∷
+    0x13 ∷ 0 ∷ 0x20 ∷ 0 ∷ 0 ∷ 0 ∷ 0 ∷ 0 ∷ 0 ∷ 0 ∷ 0 ∷ 0 ∷ 0 ∷ 0 ∷ 0 ∷ 0 ∷ 0 ∷ 0 ∷ 0 ∷ 0 ∷ 0 ∷ 0 ∷ 0 ∷ 0 ∷ 0 ∷ 0 ∷ 0 ∷ 0 ∷ 0 ∷ 0 ∷ 1 ∷ 0 ∷ 0 ∷ 0 ∷ 1 ∷
+    0x14 ∷ 0 ∷ 6 ∷ 0 ∷ 0 ∷ 0 ∷ 0 ∷ 0 ∷ 0 ∷
+    0x14 ∷ 0 ∷ 6 ∷ 0 ∷ 1 ∷ 0 ∷ 0 ∷ 0 ∷ 0 ∷
+    0x14 ∷ 0 ∷ 6 ∷ 0 ∷ 2 ∷ 0 ∷ 0 ∷ 0 ∷ 0 ∷
+    0x15 ∷ 0 ∷ 2 ∷ 0 ∷ 3 ∷
+    0x1F ∷ 0 ∷ 4 ∷ 0x1D ∷ 0x88 ∷ 0x00 ∷ 0xBF ∷ []
+
+-- Of a pool: how page 0 begins, page 5, the sequence numbers of six pages, how the nodes are filled.
 abbrev shownOf : List ℕ → List (List ℕ)
-shownOf pool = take 32 pool ∷ sequencesIn 6 pool ∷ sizesOf pool ∷ []
+shownOf pool = take 32 pool ∷ take 512 (drop 2560 pool) ∷ sequencesIn 6 pool ∷ sizesOf pool ∷ []
 
 pub record Traces : Type 0 where
   -- prepare
@@ -91,7 +102,7 @@ pub record Traces : Type 0 where
       }
   -- THE SECOND TRACE: "tariff 0 0 0, 0 0 0, 1 1", keys 0 to 24
   pub second : shownOf (batchOn (tariffOf 0 0 0 0 0 0 1 1) (puts 25) .pool) ≡
-      firstPage ∷ (2 ∷ 3 ∷ 4 ∷ 7 ∷ 9 ∷ 10 ∷ []) ∷ (1 ∷ 12 ∷ 13 ∷ []) ∷ []
+      firstPage ∷ filled 512 scoresPage ∷ (2 ∷ 3 ∷ 4 ∷ 7 ∷ 9 ∷ 10 ∷ []) ∷ (1 ∷ 12 ∷ 13 ∷ []) ∷ []
 
 pub traces : Traces
 unfolding computes

@@ -3,7 +3,6 @@
 use mathlib.Core.Path.{_≡_, refl, sym, ap, _∙_, subst}
 use mathlib.Core.Bool.{true}
 use mathlib.Core.List.{List}
-use mathlib.Core.Option.{none, some}
 use Prim.Native.Nat.{ℕ, zero, suc, _+_, _≤_, _<_}
 use native.Mathlib.Omega.{arith}
 use borrow.Author.Tests.{le-leb, lt-ltb}
@@ -20,9 +19,9 @@ use Rattle.store.specs.View.{pages}
 use Rattle.store.specs.Store.{Store, view}
 use Rattle.store_laws.specs.Changes.{Lean}
 use Rattle.store_laws.specs.Keeps.{Keeps}
-use Rattle.store.specs.Checkpoint.{scoresFrom, close, checkpointOf, tariffIn, scoresIn, countIn, complete}
+use Rattle.store.specs.Checkpoint.{scoresFrom, checkpointPages, close, checkpointOf, scoresIn, countIn, complete}
 use Rattle.store_laws.specs.CheckpointPageLaws.{scoresIn-checkpoint-pages}
-use Rattle.store.specs.Reopen.{Cells, poolOf, reopened, pagesPass}
+use Rattle.store.specs.Reopen.{Cells, poolOf, reopened}
 use Rattle.store_laws.specs.Closing.{Closed, close-closed}
 use Rattle.book.specs.Book.{Book}
 use Rattle.model.specs.State.{State, bookOf}
@@ -62,7 +61,7 @@ module _ {blocks : ℕ} {t : Tariff} {s : State} {b : Book} {ps : List Pair} (fe
   abbrev c : Cells
   c = poolOf st
 
-  score-of : (n : ℕ) → n < b .count → s .score n ≡ b .account n .score
+  pub score-of : (n : ℕ) → n < b .count → s .score n ≡ b .account n .score
   score-of n l =
       score-is s n (rw (r .says .is) l) ∙ ap (λ (z : Book). z .account n .score) (r .says .is)
 
@@ -121,6 +120,11 @@ module _ {blocks : ℕ} {t : Tariff} {s : State} {b : Book} {ps : List Pair} (fe
         tariff = rw again (shut .tariff);
         sound = rw again tree-sound;
       }
+
+  -- Its checkpoint has the scores by ascending id.
+  pub closed-checkpoint : checkpointOf (reopened blocks c) ≡ checkpointPages t (scoresFrom 0 (b .count) (s .score))
+  unfolding closed
+  closed-checkpoint = ap checkpointOf again ∙ shut .checkpoint
 
   -- The state that the next mount finds is worth as much as this one.
   pub closed-ready : Ready blocks t (stateOf (reopened blocks c)) b ps

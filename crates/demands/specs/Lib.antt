@@ -19,8 +19,10 @@ pub mod PoolAfter
 pub mod Ends
 pub mod FirstNo
 pub mod CommandBytes
+pub mod ScoreOrder
 pub mod OneCall
 pub mod Obeys
+pub mod Reordered
 pub mod AllCalls
 pub mod AgainstSchedules
 pub mod PreparedPool

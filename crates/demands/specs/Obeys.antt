@@ -129,9 +129,12 @@ module _ {pool : List ℕ} {t : Tariff} {ps : List Pair} (o : Obeys pool t ps) w
   obeys-map = map-unique (bookOf (stateOf st) .table) (bookOf (stateOf st) .count) ps (o .spells)
 
   -- The book that it spells is that of its pages.
-  obeys-book : (b : Book) → bookIn pool ≡ some b → bookOf (stateOf st) ≡ b
+  pub obeys-spelled : bookIn pool ≡ some (bookOf (stateOf st))
   unfolding bookIn
-  obeys-book b e = some-same (sym (ap (bookBy (blocksOf pool)) reads ∙ ap (λ (z : Store). some (bookOf (stateOf z))) again) ∙ e)
+  obeys-spelled = ap (bookBy (blocksOf pool)) reads ∙ ap (λ (z : Store). some (bookOf (stateOf z))) again
+
+  obeys-book : (b : Book) → bookIn pool ≡ some b → bookOf (stateOf st) ≡ b
+  obeys-book b e = some-same (sym obeys-spelled ∙ e)
 
   -- The state that its bytes are read back as.
   abbrev reopening : State

@@ -42,9 +42,10 @@ use Rattle.demands.specs.Says.{Says}
 use Rattle.demands.specs.Run as Run
 use Rattle.demands.specs.Run.{Batched, batch-batched, runBook-requests}
 use Rattle.demands.specs.Mount.{Sealed, Ready, opened-mounts}
-use Rattle.demands.specs.Close.{closed-says, closed-sealed, closed-ready}
+use Rattle.demands.specs.Close.{closed-says, closed-sealed, closed-ready, closed-checkpoint, score-of}
 use Rattle.demands.specs.Ends.{Ends, asFound, tableCleared, done, batch-ends}
 use Rattle.demands.specs.CommandBytes.{Batch, commandsOf-batch}
+use Rattle.demands.specs.ScoreOrder.{InNodeOrder, closed-in-order}
 use Rattle.demands.specs.PoolAfter.{PoolAfter, batch-pool}
 
 -- A pool between calls: bytes of a length named in document 01, every page checks, questions 5 to 7 pass, and it says a book that spells a
@@ -104,6 +105,7 @@ fedOf pool l = record { batch = l .batch; accepted = accepted (outcome pool l) }
 pub record CalledBy (t : Tariff) (pool buffer : List ℕ) (b : Book) (ps : List Pair) (r : Outcome) (w : Option Work) (cs : List Command) : Type 0 where
   pub length : blocksOf (r .pool) ≡ blocksOf pool
   pub stands : OpenPool t (r .pool) (runBook (nodeLimit (blocksOf pool)) t cs b) (mapRun (nodeLimit (blocksOf pool)) t cs b ps)
+  pub ordered : r .number ≡ 0 → InNodeOrder (r .pool)
   pub charge : r .charge ≡ chargeBook (nodeLimit (blocksOf pool)) t cs b
   pub passed : map bookOf (statesBy (blocksOf pool) w) ≡ booksPassed (nodeLimit (blocksOf pool)) t cs b
   pub thin : Every Thin (momentsBy (blocksOf pool) w)
@@ -140,6 +142,7 @@ module _ {t : Tariff} {pool : List ℕ} {b : Book} {ps : List Pair} (o : OpenPoo
       (record {
         length = refl;
         stands = o;
+        ordered = λ z. absurd (omega arith);
         charge = refl;
         passed = refl;
         thin = Every.none;
@@ -225,6 +228,11 @@ module _ {t : Tariff} {pool : List ℕ} {b : Book} {ps : List Pair} (o : OpenPoo
           ready = rw same-blocks (closed-ready (sized pool p .most) ended);
         }
 
+    ordered-left : InNodeOrder left
+    ordered-left =
+        closed-in-order left t book (bookIn-is stands-left) (poolOf (closed t after .run .now)) (pool-after .back) (after .score)
+        (rw same-blocks (closed-checkpoint (sized pool p .most) ended)) (score-of (sized pool p .most) ended)
+
     accepted-called : outcome pool l ≡ accept B t′ cs s (l .table) (l .buffer) → Called t pool l b ps
     unfolding workOf
     accepted-called e =
@@ -233,6 +241,7 @@ module _ {t : Tariff} {pool : List ℕ} {b : Book} {ps : List Pair} (o : OpenPoo
         (record {
           length = same-blocks;
           stands = stands-left;
+          ordered = λ z. ordered-left;
           charge = ran .charge ∙ ap (chargeBook limit t cs) (start .says .is);
           passed = ran .passed ∙ ap (booksPassed limit t cs) (start .says .is);
           thin = every-weaken lean-thin (closed-says (sized pool p .most) ended .sound .good .passed);

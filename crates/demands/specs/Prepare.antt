@@ -195,6 +195,11 @@ module _ (blocks : ℕ) (t : Tariff) (four : fewestBlocks ≤ blocks) where
     pub prepared-book : bookOf (stateOf (reopened blocks (prepared blocks t))) ≡ firstBook
     prepared-book = rw opened-is book-is
 
+    -- Its one field 14.
+    pub prepared-checkpoint : checkpointOf (reopened blocks (prepared blocks t)) ≡ Checkpoint.checkpointPages t (Checkpoint.scoresFrom 0 1 (λ n. 0))
+    unfolding Checkpoint.checkpointPages
+    prepared-checkpoint = rw opened-is set-is
+
     -- THE POOL OF A PREPARE opens as the first book, and spells the empty map.
     pub prepared-ready : Ready blocks t (stateOf (reopened blocks (prepared blocks t))) firstBook []
     unfolding pairsBelow pairsOfNode

@@ -1,4 +1,5 @@
--- The pool of an accepted prepare, as bytes, stands between calls: the first book, and the empty map. Assumes nothing.
+-- The pool of an accepted prepare, as bytes, stands between calls: the first book, and the empty map; its scores are in node order. Assumes
+-- nothing.
 use mathlib.Core.Path.{_≡_, refl, sym, ap, _∙_, subst}
 use mathlib.Core.Bool.{true}
 use mathlib.Core.List.{List, []}
@@ -13,12 +14,13 @@ use Rattle.store.specs.Prepare.{preparedBlocks}
 use Rattle.model.specs.Prepare.{prepared, firstBook}
 use Rattle.model.specs.Bytes.{bytesOf}
 use Rattle.model.specs.Call.{blocksOf, poolLength, Prepared, prepareOf}
-use Rattle.demands.specs.Prepare.{length-blocks, prepared-mounts, prepared-ready}
+use Rattle.demands.specs.Prepare.{length-blocks, prepared-mounts, prepared-checkpoint, prepared-ready}
 use Rattle.demands.specs.PoolBytes.{length-bytesOf, bytes-bytesOf}
 use Rattle.demands.specs.PrepareFits.{prepared-fits, prepared-back}
 use Rattle.demands.specs.Mount.{mounts-sealed}
 use Rattle.demands.specs.Ends.{Prepares, wrongLength, wrongTariff, fresh, prepare-ends}
-use Rattle.demands.specs.OneCall.{OpenPool, sized, blocks-length, whole-length}
+use Rattle.demands.specs.ScoreOrder.{InNodeOrder, closed-in-order}
+use Rattle.demands.specs.OneCall.{OpenPool, sized, blocks-length, whole-length, bookIn-is}
 
 module _ (pool : List ℕ) (t : Tariff) (r : Ranged t) (p : poolLength pool ≡ true) where
   abbrev B : ℕ
@@ -48,12 +50,23 @@ module _ (pool : List ℕ) (t : Tariff) (r : Ranged t) (p : poolLength pool ≡ 
         ready = rw same-blocks (prepared-ready B t (sized pool p .few) r);
       }
 
--- AN ACCEPTED PREPARE, on a pool of any bytes.
-pub prepare-stands : (pool : List ℕ) (t : Tariff) → prepareOf pool t .number ≡ 0 → OpenPool t (prepareOf pool t .pool) firstBook []
-prepare-stands pool t e = go (prepareOf pool t) refl (prepare-ends pool t)
-  where
-    go : (q : Prepared) → prepareOf pool t ≡ q → Prepares pool t q → OpenPool t (prepareOf pool t .pool) firstBook []
-    go q f wrongLength = absurd (omega (arith, e, ap (λ (z : Prepared). z .number) f))
-    go q f wrongTariff = absurd (omega (arith, e, ap (λ (z : Prepared). z .number) f))
-    go q f (fresh r p) =
-        subst (λ (z : List ℕ). OpenPool t z firstBook []) (sym (ap (λ (z : Prepared). z .pool) f)) (prepared-stands pool t (inRange-ranged t r) p)
+  prepared-ordered : InNodeOrder left
+  prepared-ordered =
+      closed-in-order left t firstBook (bookIn-is prepared-stands) (prepared B t) (prepared-back t r B) (λ n. 0)
+      (rw same-blocks (prepared-checkpoint B t (sized pool p .few) r)) (λ n l. refl)
+
+-- AN ACCEPTED PREPARE, on a pool of any bytes, leaves what every fresh pool is.
+module _ (pool : List ℕ) (t : Tariff) (done : prepareOf pool t .number ≡ 0) where
+  fresh-has : (P : List ℕ → Type 0) → (Ranged t → poolLength pool ≡ true → P (bytesOf (prepared (blocksOf pool) t))) → P (prepareOf pool t .pool)
+  fresh-has P h = go (prepareOf pool t) refl (prepare-ends pool t)
+    where
+      go : (q : Prepared) → prepareOf pool t ≡ q → Prepares pool t q → P (prepareOf pool t .pool)
+      go q f wrongLength = absurd (omega (arith, done, ap (λ (z : Prepared). z .number) f))
+      go q f wrongTariff = absurd (omega (arith, done, ap (λ (z : Prepared). z .number) f))
+      go q f (fresh r p) = subst P (sym (ap (λ (z : Prepared). z .pool) f)) (h (inRange-ranged t r) p)
+
+  pub prepare-stands : OpenPool t (prepareOf pool t .pool) firstBook []
+  prepare-stands = fresh-has (λ z. OpenPool t z firstBook []) (prepared-stands pool t)
+
+  pub prepare-ordered : InNodeOrder (prepareOf pool t .pool)
+  prepare-ordered = fresh-has InNodeOrder (prepared-ordered pool t)

@@ -1,5 +1,6 @@
--- THE BOOK. The customer's three demands, each as a theorem about `batchOf` and `prepareOf`, to which the two functions that C calls are proved
--- equal: whatever a call is lent, and whatever list of calls is made. The links behind them are the other files of this crate. Assumes nothing.
+-- THE BOOK. The customer's three demands, and behind them what document 02 adds, each as a theorem about `batchOf` and `prepareOf`, to which the two
+-- functions that C calls are proved equal: whatever a call is lent, and whatever list of calls is made. The links behind them are the other files of
+-- this crate. Assumes nothing.
 use mathlib.Core.Path.{_≡_, sym, ap, _∙_}
 use mathlib.Core.Bool.{true}
 use mathlib.Core.List.{List, [], _++_, map}
@@ -28,11 +29,13 @@ use Rattle.model.specs.Calls.{Lent, outcome, outcomes, answered, laid, bookIn, 
 use Rattle.model.specs.Calls.{booksAfter, lastBook, allBooks, allCharges, allRequests, mapReplies, mapsAfter, sum}
 use Rattle.demands.specs.Ends.{Ends, asFound, tableCleared, done, batch-ends, tableAfter, refused-found, ends-table, prepare-ends, prepare-found}
 use Rattle.demands.specs.FirstNo.{numberOf, mount-first, batch-first, buffers-right, prepare-first}
-use Rattle.demands.specs.OneCall.{Thin, OpenPool, bookIn-is}
-use Rattle.demands.specs.Obeys.{Obeys, obeys-opens, obeys-stands, stands-obeys, opens-obeys}
+use Rattle.demands.specs.ScoreOrder.{newestCheckpoint, InNodeOrder, one-order}
+use Rattle.demands.specs.OneCall.{Thin, OpenPool, bookIn-is, called}
+use Rattle.demands.specs.Obeys.{Obeys, obeys-opens, obeys-spelled, obeys-stands, stands-obeys, opens-obeys}
+use Rattle.demands.specs.Reordered.{ReorderedPool, same-number, reordered-stands}
 use Rattle.demands.specs.AllCalls.{OfBytes, ThinPool, Spelled, charge, all-called}
 use Rattle.demands.specs.AgainstSchedules.{bound}
-use Rattle.demands.specs.PreparedPool.{prepare-stands}
+use Rattle.demands.specs.PreparedPool.{prepare-stands, prepare-ordered}
 
 -- DEMAND 1. "Any caller, any bytes in any buffer: the work is done, or one numbered refusal, and a refusal leaves pool and answers as found."
 
@@ -159,3 +162,30 @@ module _ (pool : List ℕ) (t : Tariff) (done : prepareOf pool t .number ≡ 0) 
 
   pub prepared-bound : sum (map charge (outcomes left ls)) ≤ 3 * paid t plan requests 1 + switchTo t Log * nodes
   prepared-bound = bound left (prepare-stands pool t done) ls bytes plan
+
+-- DOCUMENT 02, P1. "From now on fields 14 are written by ascending node id. Pools with any order still open. The contract then no longer leaves this
+-- order to the program."
+
+-- After every accepted call, the empty batch too, whoever wrote the pool before it; and after every accepted prepare.
+pub scores-ascend : (pool : List ℕ) → Bytes pool → (l : Lent) → Bytes (l .batch) → outcome pool l .number ≡ 0 →
+    InNodeOrder (outcome pool l .pool)
+scores-ascend pool bytes l batch e =
+    let o = done-lawful pool bytes l e .obeys in
+    called (obeys-stands o _ (obeys-spelled o)) l batch .ordered e
+
+pub prepared-ascend : (pool : List ℕ) (t : Tariff) → prepareOf pool t .number ≡ 0 → InNodeOrder (prepareOf pool t .pool)
+prepared-ascend = prepare-ordered
+
+-- No order is left: two pools in node order with one tariff and one book have the same closing set.
+pub one-closing-set : {pool pool′ : List ℕ} (x : InNodeOrder pool) (y : InNodeOrder pool′) → x .tariff ≡ y .tariff →
+    bookIn pool ≡ bookIn pool′ → newestCheckpoint pool ≡ newestCheckpoint pool′
+one-closing-set = one-order
+
+-- Any order opens: of two pools that differ in it alone, each call returns the same number; and one stands as the other does, so that by demands 2
+-- and 3 both answer and charge the same ever after.
+pub any-order-opens : {pool pool′ : List ℕ} → ReorderedPool pool pool′ → (l : Lent) → outcome pool l .number ≡ outcome pool′ l .number
+any-order-opens r l = same-number r (l .table) (l .batch) (l .buffer)
+
+pub any-order-stands : {t : Tariff} {pool pool′ : List ℕ} {b : Book} {ps : List Pair} → ReorderedPool pool pool′ → Stands t pool b ps →
+    Stands t pool′ b ps
+any-order-stands r s = open-stands (reordered-stands r (stands-open s))

@@ -82,6 +82,17 @@ module _ {A : Type 0} where
   length-filter g [] = refl
   length-filter g (x ∷ xs) = length-consIf (g x) x (filter g xs) ∙ omega (arith, length-filter g xs)
 
+  -- two lists have the same elements, each as often: they differ in their order alone
+  abbrev pub Reordered : List A → List A → Type 0
+  Reordered xs ys = (f : A → Bool) → count f xs ≡ count f ys
+
+  count-all : (xs : List A) → count (λ x. true) xs ≡ length xs
+  count-all [] = refl
+  count-all (x ∷ xs) = omega (arith, count-all xs)
+
+  pub reordered-length : (xs ys : List A) → Reordered xs ys → length xs ≡ length ys
+  reordered-length xs ys r = omega (arith, r (λ x. true), count-all xs, count-all ys)
+
   -- how many elements of all the lists pass
   abbrev pub tally : (A → Bool) → List (List A) → ℕ
   tally f [] = 0

@@ -1,7 +1,8 @@
--- Lists by their length: empty ones, and the others; a store behind the seam of two; a part of the first elements. Assumes nothing.
+-- Lists by their length: empty ones, and the others; a store behind the seam of two; a part of the first elements; parts of a mapped list.
+-- Assumes nothing.
 use mathlib.Core.Path.{_≡_, refl, sym, ap, _∙_}
 use mathlib.Core.Logic.{_⊎_, inl, inr}
-use mathlib.Core.List.{List, [], _∷_, _++_}
+use mathlib.Core.List.{List, [], _∷_, _++_, map}
 use Prim.Native.Nat.{ℕ, zero, suc, _+_, _≤_}
 use native.Mathlib.Nat.{zero-add}
 use native.Mathlib.Omega.{arith}
@@ -29,3 +30,14 @@ drop-take (suc k) n [] = ap (drop (suc k)) (take-nil (suc k + n)) ∙ sym (take-
 drop-take (suc k) n (x ∷ l) =
     let e : suc k + n ≡ suc (k + n) = omega arith in
     ap (λ (m : ℕ). drop (suc k) (take m (x ∷ l))) e ∙ drop-take k n l
+
+-- The first elements mapped, and those behind them.
+pub take-map : {A B : Type 0} (f : A → B) (n : ℕ) (xs : List A) → take n (map f xs) ≡ map f (take n xs)
+take-map f zero xs = refl
+take-map f (suc n) [] = refl
+take-map {B = B} f (suc n) (x ∷ xs) = ap {B = List B} (λ z. f x ∷ z) (take-map f n xs)
+
+pub drop-map : {A B : Type 0} (f : A → B) (n : ℕ) (xs : List A) → drop n (map f xs) ≡ map f (drop n xs)
+drop-map f zero xs = refl
+drop-map f (suc n) [] = refl
+drop-map f (suc n) (x ∷ xs) = drop-map f n xs

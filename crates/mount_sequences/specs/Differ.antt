@@ -9,8 +9,8 @@ use lib.Dec.{eqb}
 use borrow.Author.Tests.{eqb-true, eq-eqb, ne-eqb}
 use Rattle.laws.specs.Tests.{and-left, and-right, and-both}
 use Rattle.laws.specs.Order.{eq-or}
-use Rattle.laws.specs.Counts.{bit, bit-le-one, count}
-use Rattle.mount_sequences.specs.Ascend.{Same, Ascends}
+use Rattle.laws.specs.Counts.{bit, bit-le-one, count, Reordered}
+use Rattle.mount_sequences.specs.Ascend.{Ascends}
 use Rattle.mount_sequences.specs.Digits.{self}
 use Rattle.mount_sequences.specs.Strict.{is, strict, strict-once, once-strict}
 
@@ -38,7 +38,7 @@ once-differs (x ∷ xs) h =
     (once-differs xs (λ v. omega (arith, h v)))
 
 -- THE NEIGHBOURS OF A SORTED LIST tell whether the numbers of the list differ.
-pub strict-differs : (sorted xs : List ℕ) → Same sorted xs → Ascends self sorted → strict sorted ≡ differs xs
+pub strict-differs : (sorted xs : List ℕ) → Reordered sorted xs → Ascends self sorted → strict sorted ≡ differs xs
 strict-differs sorted xs same a = go (strict sorted) refl (differs xs) refl
   where
     go : (s : Bool) → strict sorted ≡ s → (d : Bool) → differs xs ≡ d → s ≡ d

@@ -9,6 +9,7 @@ use native.Mathlib.Omega.{arith}
 use lib.Dec.{ltb}
 use lib.ListN.{length}
 use Rattle.laws.specs.BigEndian.{Bytes}
+use Rattle.laws.specs.Counts.{Reordered}
 use Rattle.laws.specs.Loops.{allFrom}
 use Rattle.laws.specs.Options.{some-same, none-some}
 use Rattle.layout.specs.Layout.{blockBytes, fewestBlocks, tableBytes}
@@ -18,7 +19,6 @@ use Rattle.store.specs.Reopen as Model
 use Rattle.model.specs.Bytes.{cellsOf}
 use Rattle.flash_blocks.specs.Pages.{pagesOf, pageAt}
 use Rattle.mount_sequences.specs.Row.{row}
-use Rattle.mount_sequences.specs.Ascend.{Same}
 use Rattle.mount_sequences.specs.Digits.{greatest}
 use Rattle.mount_sequences.specs.Strict.{is}
 use Rattle.mount_sequences.specs.Find.{has}
@@ -64,7 +64,7 @@ pub record Ready (pool table : List ℕ) (n blocks newest : ℕ) : Type 0 where
   pub top : greatest (row n 0 table) ≤ newest
 
 -- The entries are held against numbers in any order.
-pub apart-same : (xs ys : List ℕ) → Same xs ys → (n : ℕ) (pages : List (List ℕ)) → pagesApart xs n pages ≡ pagesApart ys n pages
+pub apart-same : (xs ys : List ℕ) → Reordered xs ys → (n : ℕ) (pages : List (List ℕ)) → pagesApart xs n pages ≡ pagesApart ys n pages
 unfolding pagesApart pageApart has
 apart-same xs ys same n pages =
     let e : has xs ≡ has ys = fun-ext (λ (v : ℕ). ap (ltb 0) (same (is v))) in

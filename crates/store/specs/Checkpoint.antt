@@ -28,7 +28,7 @@ checkpointPage t scores count = record { tariff = t; scores = scores; count = co
 abbrev pub checkpointPageContent : CheckpointPage → Content
 checkpointPageContent x = checkpoint (x .tariff) (x .scores) (x .count)
 
--- One score for every node, by ascending id, from node i on.
+-- One score for every node from node i on: "fields 14 are written by ascending node id" (document 02, P1).
 abbrev pub scoresFrom : ℕ → ℕ → (ℕ → ℕ) → List Score
 scoresFrom i zero score = []
 scoresFrom i (suc k) score = record { id = i; score = score i } ∷ scoresFrom (suc i) k score
@@ -54,7 +54,8 @@ laterParts scores = parts (length scores) otherScores (drop firstScores scores)
 -- "The first begins with field 13, the tariff"; 50 scores stand on it, 54 on each other page.
 unfoldable pub checkpointPages : Tariff → List Score → List CheckpointPage
 checkpointPages t scores =
-    checkpointPage (some t) (take firstScores scores) (countIfLast (length scores) (laterParts scores)) ∷ laterCheckpointPages (length scores) (laterParts scores)
+    checkpointPage (some t) (take firstScores scores) (countIfLast (length scores) (laterParts scores)) ∷
+    laterCheckpointPages (length scores) (laterParts scores)
 
 -- "Entries .. written .. at closing if not empty."
 abbrev pub drainBy : List Entry → Run → Run
@@ -114,7 +115,7 @@ unfoldable pub scoreIn : List Score → ℕ → ℕ
 scoreIn [] n = 0
 scoreIn (x ∷ xs) n = choose (eqb n (x .id)) (x .score) (scoreIn xs n)
 
--- "A complete closing set, each id below its count once": the count stands on the last page alone; every id below it has one score;
+-- "A complete closing set, each id below its count once": the count stands on the last page alone; every id below it has one score, in whatever order;
 -- and there are no more scores than that.
 abbrev pub noCount : Option ℕ → Bool
 noCount none = true

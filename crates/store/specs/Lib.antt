@@ -11,3 +11,4 @@ pub mod Checkpoint
 pub mod Reopen
 pub mod Prepare
 pub mod Worked
+pub mod ScoreOrder

@@ -2,7 +2,8 @@
 -- checkpoint and its reading back, the blocks that pages go to, each computed. Assumes nothing.
 use mathlib.Core.Path.{_≡_, refl}
 use mathlib.Core.Bool.{true, false}
-use mathlib.Core.List.{List, [], _∷_}
+use mathlib.Core.List.{List, [], _∷_, map}
+use mathlib.Core.Option.{some}
 use Prim.Native.Nat.{ℕ, zero, suc, _+_}
 use lib.ListN.{length, set, replicate}
 use Rattle.account.specs.declared.Mode.the-variants.{Log, Disk}
@@ -13,7 +14,7 @@ use Rattle.node.specs.declared.Shape.the-variants.{Leaf, Branch}
 use Rattle.node.specs.Node.{node}
 use Rattle.node.specs.Change.{put, link}
 use Rattle.node.specs.Replay.{redo, redoPiece, replayFrom, replay}
-use Rattle.page.specs.Page.{Page, page, log, whole, checkpoint}
+use Rattle.page.specs.Page.{Score, Page, page, log, whole, checkpoint}
 use Rattle.store.specs.View.{greatest, pieces, pages}
 use Rattle.store.specs.Pool.{Blocks, block, above}
 use Rattle.store.specs.Store.{Store, view, draftOf, nodeOf, modeOf}
@@ -22,7 +23,7 @@ use Rattle.store.specs.Allocate.{spot}
 use Rattle.store.specs.Write.{found, place, enter, start}
 use Rattle.store.specs.Run.{Run, written, write, flushRun, makeRoom, writeGroup, writeEdit}
 use Rattle.store.specs.Serve.{read, edit, rewrite, serve, create}
-use Rattle.store.specs.Checkpoint.{scoresFrom, checkpointPages, close, collect, checkpointOf, scoresIn}
+use Rattle.store.specs.Checkpoint.{CheckpointPage, checkpointPage, checkpointPages, close, collect, checkpointOf, scoresIn, scoreIn, complete}
 use Rattle.store.specs.Reopen.{cellsIn, poolOf, pagesPass, blocksPass}
 use Rattle.store.specs.Prepare.{prepared, preparedRun}
 
@@ -61,8 +62,15 @@ split =
     serve Log 0 (rewrite (node Branch ((12, 1) ∷ []) 2))
     (create 2 (node Leaf (keys 12 13) noLeaf) (create 1 (node Leaf (keys 0 12) 2) (puts 24)))
 
+abbrev score : ℕ → ℕ → Score
+score n s = record { id = n; score = s }
+
 abbrev closed : Run
 closed = close tariff (λ n. n) split
+
+-- A checkpoint that another writer made: its scores begin with that of node 2.
+abbrev foreignSet : List CheckpointPage
+foreignSet = checkpointPage (some tariff) (score 2 7 ∷ score 0 5 ∷ score 1 6 ∷ []) (some 3) ∷ []
 
 -- Number and size of each page: entries of a log page, scores of a checkpoint page.
 abbrev sizes : List Page → List (ℕ × ℕ)
@@ -127,9 +135,12 @@ pub record Ran : Type 0 where
   pub lower : nodeOf (closed .now) 1 ≡ node Leaf (keys 0 12) 2
   pub upper : nodeOf (closed .now) 2 ≡ node Leaf (keys 12 13) noLeaf
   pub root : nodeOf (closed .now) 0 ≡ node Branch ((12, 1) ∷ []) 2
-  -- the pool passes the tests, and gives the scores back
+  -- the pool passes the tests, and gives the scores back, by ascending id
   pub passes : pagesPass 4 (poolOf (closed .now)) ≡ true
-  pub scores : scoresIn (checkpointOf (closed .now)) ≡ scoresFrom 0 3 (λ n. n)
+  pub scores : scoresIn (checkpointOf (closed .now)) ≡ score 0 0 ∷ score 1 1 ∷ score 2 2 ∷ []
+  -- scores in another order are as complete, and each node has its own
+  pub anyOrder : complete foreignSet ≡ true
+  pub byId : map (scoreIn (scoresIn foreignSet)) (0 ∷ 1 ∷ 2 ∷ []) ≡ 5 ∷ 6 ∷ 7 ∷ []
   -- three of four blocks full, one live page in each of blocks 0 and 1, two in block 2: block 0 is compacted, its page copied, and
   -- the new page goes behind it
   pub copied : lengths (rewrites 1 spread .now .blocks) ≡ 0 ∷ 32 ∷ 32 ∷ 2 ∷ []
@@ -149,7 +160,7 @@ pub record Ran : Type 0 where
 
 pub ran : Ran
 unfolding prepared preparedRun above greatest pages pieces draftOf nodeOf modeOf carries checkpointSince spot found place enter start written write
-    makeRoom writeGroup writeEdit serve create checkpointPages close collect checkpointOf cellsIn blocksPass pagesPass Pairs.insert redo redoPiece
+    makeRoom writeGroup writeEdit serve create checkpointPages close collect checkpointOf scoreIn complete cellsIn blocksPass pagesPass Pairs.insert redo redoPiece
     replayFrom replay
 ran =
     record {
@@ -160,6 +171,8 @@ ran =
       root = refl;
       passes = refl;
       scores = refl;
+      anyOrder = refl;
+      byId = refl;
       copied = refl;
       moved = refl;
       checkpointed = refl;

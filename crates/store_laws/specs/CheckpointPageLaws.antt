@@ -7,7 +7,7 @@ use mathlib.Core.Option.{Option, none, some}
 use mathlib.Core.List.{List, [], _∷_, _++_}
 use Prim.Native.Nat.{ℕ, zero, suc, _+_, _*_, _-_, _≤_, _<_}
 use native.Mathlib.Omega.{arith}
-use borrow.Author.Tests.{eq-eqb, ne-eqb}
+use borrow.Author.Tests.{eq-eqb, ne-eqb, lt-ltb}
 use lib.Dec.{eqb}
 use lib.ListN.{length, take, drop, length-drop, take-append-drop, drop-of-length-le}
 use Rattle.laws.specs.Tests.{choose, and-both}
@@ -18,6 +18,7 @@ use Rattle.account.specs.declared.Tariff.{Tariff}
 use Rattle.page.specs.Page.{Score}
 use Rattle.store.specs.Checkpoint.{checkpointPage, scoresFrom, parts, countIfLast, laterCheckpointPages, laterParts, checkpointPages, tariffIn}
 use Rattle.store.specs.Checkpoint.{scoresIn, countIn, scoreIn, countLast, scoreOf, onceBelow, complete}
+use Rattle.store.specs.ScoreOrder.{scoresFrom-ids}
 use Rattle.store_laws.specs.Placing.{mostCheckpointPages}
 
 pub length-laterCheckpointPages : (n : ℕ) (xs : List (List Score)) → length (laterCheckpointPages n xs) ≡ length xs
@@ -102,19 +103,6 @@ scoreIn-scoresFrom i (suc k) f n a b = go (eq-or n i) (λ h. scoreIn-scoresFrom 
     go (inl e) r = rw (eq-eqb n i e) (ap f (sym e))
     go (inr e) r = rw (ne-eqb n i e) (r (omega arith))
 
-count-below : (i k : ℕ) (f : ℕ → ℕ) (n : ℕ) → n < i → count (scoreOf n) (scoresFrom i k f) ≡ 0
-count-below i zero f n l = refl
-count-below i (suc k) f n l = omega (arith, ap bit (ne-eqb n i (λ e. omega arith)), count-below (suc i) k f n (omega arith))
-
-count-once : (i k : ℕ) (f : ℕ → ℕ) (n : ℕ) → i ≤ n → n < i + k → count (scoreOf n) (scoresFrom i k f) ≡ 1
-count-once i zero f n a b = absurd (omega arith)
-count-once i (suc k) f n a b = go (eq-or n i) (λ h. count-once (suc i) k f n h (omega arith))
-  where
-    go : (n ≡ i) ⊎ (n ≡ i → ⊥) → (suc i ≤ n → count (scoreOf n) (scoresFrom (suc i) k f) ≡ 1) →
-        bit (eqb n i) + count (scoreOf n) (scoresFrom (suc i) k f) ≡ 1
-    go (inl e) r = omega (arith, ap bit (eq-eqb n i e), count-below (suc i) k f n (omega arith))
-    go (inr e) r = omega (arith, ap bit (ne-eqb n i e), r (omega arith))
-
 pub onceBelow-true : (n : ℕ) (scores : List Score) → ((i : ℕ) → i < n → count (scoreOf i) scores ≡ 1) → onceBelow n scores ≡ true
 onceBelow-true zero scores h = refl
 onceBelow-true (suc n) scores h =
@@ -136,4 +124,4 @@ checkpoint-pages-complete t n f =
     (countLast-checkpoint-pages (some t) (length scores) (take firstScores scores) (laterParts scores))
     (and-both (eqb (length (scoresIn xs)) (countIn xs)) (onceBelow (countIn xs) (scoresIn xs))
     (eq-eqb _ _ (ap length (scoresIn-checkpoint-pages t scores) ∙ length-scoresFrom 0 n f ∙ sym c))
-    (rw (c, scoresIn-checkpoint-pages t scores) (onceBelow-true n scores (λ i l. count-once 0 n f i (omega arith) (omega arith)))))
+    (rw (c, scoresIn-checkpoint-pages t scores) (onceBelow-true n scores (λ i l. scoresFrom-ids 0 n f i (omega arith) ∙ ap bit (lt-ltb i (0 + n) (omega arith))))))

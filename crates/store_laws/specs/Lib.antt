@@ -19,6 +19,7 @@ pub mod BlockTests
 pub mod PageTests
 pub mod Opening
 pub mod CheckpointPageLaws
+pub mod Unscored
 pub mod Closing
 pub mod Compaction
 pub mod StoreFits

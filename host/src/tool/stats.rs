@@ -9,6 +9,7 @@ use crate::layout::{block_count, node_limit, BLOCK_PAGES, MAX_KEYS, MAX_SEQUENCE
 use crate::markdown::grouped;
 use crate::marks::{counts, marks, Mark};
 use crate::mount::Mounted;
+use crate::score_order;
 
 pub(super) const VERB: Verb = Verb {
     name: "stats",
@@ -41,6 +42,7 @@ fn run(words: &mut Words<'_>, _: &Options) -> Result<Said, Stop> {
         ("pages", pages(&marks)),
         ("compaction", compaction(&mounted)),
         ("sequence", sequence(&mounted)),
+        ("scores", scores(&bytes)),
         ("wear", "not known: a pool keeps no count of how often its blocks were erased".to_string()),
     ] {
         text.push_str(&format!("{what:<11} {figure}\n"));
@@ -107,17 +109,33 @@ fn sequence(mounted: &Mounted) -> String {
     format!("number {} is the last; {} are left", grouped(mounted.last_sequence.into()), grouped(left))
 }
 
+/// Whether the newest checkpoint has its scores in node order, as every batch since document 02 writes them.
+fn scores(bytes: &[u8]) -> String {
+    match score_order::check(bytes) {
+        Ok(()) => "in node order".to_string(),
+        Err(_) => "in another order, which opens; the next batch writes them in node order".to_string(),
+    }
+}
+
 #[cfg(test)]
 mod tests {
+    use crate::layout::PAGE_BYTES;
+    use crate::page::{decode, Content, Page};
     use crate::tool::trial::{said, text, Folder};
 
-    #[test]
-    fn figures_of_a_small_pool() {
-        let folder = Folder::new("stats");
+    /// A pool of 30 keys in two leaves.
+    fn three_nodes(folder: &Folder) -> String {
         let pool = folder.prepared("p");
         let csv: String = (0..30).map(|key| format!("{key},0\n")).collect();
         std::fs::write(folder.file("csv"), csv).expect("is written");
         text(&["import", &pool, &folder.file("csv")]);
+        pool
+    }
+
+    #[test]
+    fn figures_of_a_small_pool() {
+        let folder = Folder::new("stats");
+        let pool = three_nodes(&folder);
         let stats = text(&["stats", &pool]);
         let mut lines = stats.lines();
         assert_eq!(lines.next(), Some(format!("{pool}: 65,536 bytes in 4 blocks").as_str()));
@@ -177,6 +195,30 @@ mod tests {
         assert_eq!((due(&text(&["stats", &pool])), blocks(&pool)), (0, 1));
         text(&["run", &pool, "-"]);
         assert_eq!((due(&text(&["stats", &pool])), blocks(&pool)), (31, 1), "a block without a live page was erased");
+    }
+
+    #[test]
+    fn scores_in_another_order_are_told_and_the_next_batch_mends_them() {
+        let folder = Folder::new("scores");
+        let pool = three_nodes(&folder);
+        let scores = || {
+            let stats = text(&["stats", &pool]);
+            stats.lines().find_map(|line| Some(line.strip_prefix("scores")?.trim().to_string())).expect("a line")
+        };
+        assert_eq!(scores(), "in node order");
+        let mut bytes = std::fs::read(&pool).expect("is read");
+        bytes.chunks_exact_mut(PAGE_BYTES).for_each(reverse_scores);
+        std::fs::write(&pool, bytes).expect("is written");
+        assert_eq!(scores(), "in another order, which opens; the next batch writes them in node order");
+        text(&["run", &pool, "-"]);
+        assert_eq!(scores(), "in node order");
+    }
+
+    /// Turns the scores of a checkpoint page round and mends its sums.
+    fn reverse_scores(bytes: &mut [u8]) {
+        let Ok(Some(Page { sequence, content: Content::Checkpoint(mut page) })) = decode(bytes) else { return };
+        page.scores.reverse();
+        bytes.copy_from_slice(&Page { sequence, content: Content::Checkpoint(page) }.encode());
     }
 
     #[test]

@@ -9,6 +9,7 @@ mod library;
 mod limits;
 mod page_limits;
 mod refusals;
+mod score_order;
 mod spelled;
 mod stack;
 mod sums;

@@ -7,14 +7,15 @@ use Prim.Native.Nat.{ℕ, zero, suc, _+_, _≤_, _<_}
 use native.Mathlib.Omega.{arith}
 use lib.Dec.{eqb, leb, ltb}
 use lib.ListN.{length}
-use borrow.Author.Tests.{eqb-true, eq-eqb, ne-eqb, le-leb, lt-leb, lt-ltb, le-ltb}
+use borrow.Author.Tests.{eq-eqb, ne-eqb, le-leb, lt-leb, lt-ltb, le-ltb}
 use native.Mathlib.Numerals.{lt-of-le-of-ne}
-use Rattle.laws.specs.Tests.{choose, and-left, and-right}
+use Rattle.laws.specs.Tests.{choose}
 use Rattle.laws.specs.Order.{eq-or, le-or}
 use Rattle.laws.specs.Counts.{bit, bit-le-one, count}
 use Rattle.laws.specs.Update.{sumBelow, sumBelow-ext, sumBelow-add}
 use Rattle.page.specs.Page.{Score}
 use Rattle.store.specs.Checkpoint.{scoreIn, scoreOf, onceBelow}
+use Rattle.store.specs.ScoreOrder.{once-at}
 use Rattle.model.specs.Mount.{scoresBelow}
 use Rattle.store_laws.specs.CheckpointPageLaws.{onceBelow-true}
 
@@ -108,14 +109,6 @@ sumBelow-more (suc n) f h k l = go (eq-or k n) (λ m. sumBelow-more n f (λ i q.
     go : (k ≡ n) ⊎ (k ≡ n → ⊥) → (k < n → n + f k ≤ sumBelow n f + 1) → suc n + f k ≤ sumBelow n f + f n + 1
     go (inl e) r = omega (arith, ap f e, sumBelow-ones n f (λ i q. h i (omega arith)))
     go (inr e) r = omega (arith, r (lt-of-le-of-ne (omega arith) e), h n (omega arith))
-
-pub once-at : (n : ℕ) (xs : List Score) → onceBelow n xs ≡ true → (i : ℕ) → i < n → count (scoreOf i) xs ≡ 1
-once-at zero xs e i l = absurd (omega arith)
-once-at (suc n) xs e i l = go (eq-or i n) (λ h. once-at n xs (and-right (eqb (count (scoreOf n) xs) 1) (onceBelow n xs) e) i h)
-  where
-    go : (i ≡ n) ⊎ (i ≡ n → ⊥) → (i < n → count (scoreOf i) xs ≡ 1) → count (scoreOf i) xs ≡ 1
-    go (inl q) r = rw q (eqb-true (count (scoreOf n) xs) 1 (and-left (eqb (count (scoreOf n) xs) 1) (onceBelow n xs) e))
-    go (inr q) r = r (lt-of-le-of-ne (omega arith) q)
 
 module _ (n : ℕ) (xs : List Score) (size : length xs ≡ n) where
   shared : sumBelow n (λ m. sumScores (ofId m one) xs) + sumScores (beyond n one) xs ≡ n

@@ -22,6 +22,7 @@ use Rattle.page.specs.Decode.{payloads}
 use Rattle.page_read.specs.Value.{scoreValue}
 use Rattle.store.specs.Pool.{pageIn}
 use Rattle.store.specs.Checkpoint.{CheckpointPage, scoresIn, scoreOf, onceBelow}
+use Rattle.store.specs.ScoreOrder.{once-at}
 use Rattle.store.specs.Reopen.{Cells, greatestOf}
 use Rattle.flash_blocks.specs.Pages.{pagesOf, pageAt}
 use Rattle.store_laws.specs.WrittenPages.{pagesIn}
@@ -31,7 +32,7 @@ use Rattle.mount_refines.specs.Checkpoint.Header.{scoresRead}
 use Rattle.mount_refines.specs.Checkpoint.Collect.{Reach, gathered, sumCheckpointPages}
 use Rattle.mount_refines.specs.Checkpoint.Pool.{Judged, headers}
 use Rattle.mount_refines.specs.Checkpoint.Totals.{fromBytes, by-checkpoint-pages}
-use Rattle.mount_refines.specs.Checkpoint.Ids.{sumScores, once-at, once-enough}
+use Rattle.mount_refines.specs.Checkpoint.Ids.{sumScores, once-enough}
 
 -- ---- the scores of a page, one by one and as a list
 
