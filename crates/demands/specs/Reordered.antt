@@ -28,7 +28,7 @@ use Rattle.tree_laws.specs.SoundLaws.{map-unique}
 use Rattle.store.specs.View.{View, pieces, pages}
 use Rattle.store.specs.Store.{Store, view, draftOf, nodeIn, nodeOf, modeOf, noNode}
 use Rattle.store.specs.Checkpoint.{CheckpointPage, checkpointOf, scoresIn, countIn, scoreIn, complete}
-use Rattle.store.specs.ScoreOrder.{ReorderedSet, complete-reordered, score-reordered}
+use Rattle.store_laws.specs.ScoreOrder.{ReorderedSet, complete-reordered, score-reordered}
 use Rattle.store.specs.Reopen.{Cells, reopened}
 use Rattle.store_laws.specs.Unscored.{unscoredCells, Alike, alike}
 use Rattle.book.specs.Book.{Book}

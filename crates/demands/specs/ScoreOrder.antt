@@ -15,7 +15,7 @@ use Rattle.laws.specs.Counts.{bit, count}
 use Rattle.account.specs.declared.Tariff.{Tariff}
 use Rattle.page.specs.Page.{Score}
 use Rattle.store.specs.Checkpoint.{CheckpointPage, scoresFrom, checkpointPages, checkpointOf, scoreIn, scoreOf}
-use Rattle.store.specs.ScoreOrder.{Ascending, scoresFrom-ascends, scoresFrom-ids, score-none, ascending-one}
+use Rattle.store_laws.specs.ScoreOrder.{Ascending, scoresFrom-ascends, scoresFrom-ids, score-none, ascending-one}
 use Rattle.store.specs.Reopen.{Cells, reopened}
 use Rattle.store_laws.specs.CheckpointPageLaws.{scoreIn-scoresFrom}
 use Rattle.book.specs.Book.{Book}

@@ -11,4 +11,3 @@ pub mod Checkpoint
 pub mod Reopen
 pub mod Prepare
 pub mod Worked
-pub mod ScoreOrder

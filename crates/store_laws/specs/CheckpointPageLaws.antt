@@ -18,7 +18,7 @@ use Rattle.account.specs.declared.Tariff.{Tariff}
 use Rattle.page.specs.Page.{Score}
 use Rattle.store.specs.Checkpoint.{checkpointPage, scoresFrom, parts, countIfLast, laterCheckpointPages, laterParts, checkpointPages, tariffIn}
 use Rattle.store.specs.Checkpoint.{scoresIn, countIn, scoreIn, countLast, scoreOf, onceBelow, complete}
-use Rattle.store.specs.ScoreOrder.{scoresFrom-ids}
+use Rattle.store_laws.specs.ScoreOrder.{scoresFrom-ids}
 use Rattle.store_laws.specs.Placing.{mostCheckpointPages}
 
 pub length-laterCheckpointPages : (n : ℕ) (xs : List (List Score)) → length (laterCheckpointPages n xs) ≡ length xs

@@ -18,6 +18,7 @@ pub mod WrittenPages
 pub mod BlockTests
 pub mod PageTests
 pub mod Opening
+pub mod ScoreOrder
 pub mod CheckpointPageLaws
 pub mod Unscored
 pub mod Closing

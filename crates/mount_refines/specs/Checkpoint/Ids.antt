@@ -15,7 +15,7 @@ use Rattle.laws.specs.Counts.{bit, bit-le-one, count}
 use Rattle.laws.specs.Update.{sumBelow, sumBelow-ext, sumBelow-add}
 use Rattle.page.specs.Page.{Score}
 use Rattle.store.specs.Checkpoint.{scoreIn, scoreOf, onceBelow}
-use Rattle.store.specs.ScoreOrder.{once-at}
+use Rattle.store_laws.specs.ScoreOrder.{once-at}
 use Rattle.model.specs.Mount.{scoresBelow}
 use Rattle.store_laws.specs.CheckpointPageLaws.{onceBelow-true}
 

@@ -22,7 +22,7 @@ use Rattle.page.specs.Decode.{payloads}
 use Rattle.page_read.specs.Value.{scoreValue}
 use Rattle.store.specs.Pool.{pageIn}
 use Rattle.store.specs.Checkpoint.{CheckpointPage, scoresIn, scoreOf, onceBelow}
-use Rattle.store.specs.ScoreOrder.{once-at}
+use Rattle.store_laws.specs.ScoreOrder.{once-at}
 use Rattle.store.specs.Reopen.{Cells, greatestOf}
 use Rattle.flash_blocks.specs.Pages.{pagesOf, pageAt}
 use Rattle.store_laws.specs.WrittenPages.{pagesIn}

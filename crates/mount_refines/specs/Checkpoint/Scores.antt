@@ -24,7 +24,7 @@ use Rattle.flash_rows.specs.declared.Row.{Row}
 use Rattle.page.specs.Page.{Score}
 use Rattle.store.specs.Pool.{pageIn}
 use Rattle.store.specs.Checkpoint.{CheckpointPage, checkpointOf, scoresIn, countIn, countLast, scoreIn, onceBelow, complete}
-use Rattle.store.specs.ScoreOrder.{once-at}
+use Rattle.store_laws.specs.ScoreOrder.{once-at}
 use Rattle.store.specs.Reopen.{Cells, reopened}
 use Rattle.model.specs.Mount.{scoresBelow}
 use Rattle.flash_blocks.specs.Pages.{pagesOf, pageAt}
