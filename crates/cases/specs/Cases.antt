@@ -46,7 +46,7 @@ pub data Case : Type 0 where
   scored : ℕ → Case
   -- how many entries stand on each log page of the pool that a batch leaves; the fields 14 of its newest checkpoint
   logged : Lent → Case
-  ordered : Lent → Case
+  scoresAfter : Lent → Case
 
 pub data Result : Type 0 where
   number : ℕ → Result
@@ -99,7 +99,7 @@ resultOf (numbers blocks) = test (numbersLeft (reopened (length blocks) (cells 3
 resultOf (serves mode score q) = served (serveOf tariff (record { mode = mode; score = score }) q)
 resultOf (scored nodes) = sizes (scoresOn (checkpointPages tariff (scoresFrom 0 nodes (λ n. 0))))
 resultOf (logged l) = sizes (entriesIn (cellsOf (outcomeOf l .pool)))
-resultOf (ordered l) = fields (scoresLeft (blocksOf (l .pool)) (cellsOf (outcomeOf l .pool)))
+resultOf (scoresAfter l) = fields (scoresLeft (blocksOf (l .pool)) (cellsOf (outcomeOf l .pool)))
 
 -- A row of a table; the results that the rows say, and those that the definitions give.
 pub record Row : Type 0 where

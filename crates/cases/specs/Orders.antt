@@ -13,7 +13,7 @@ use Rattle.node.specs.Change.{put}
 use Rattle.page.specs.Page.{Entry, Score, Page, page, log, whole, checkpoint}
 use Rattle.model.specs.Bytes.{bytesOf}
 use Rattle.cases.specs.Pools.{poolBytes, inFirst, tariff, score, scores, checkpointAt, treePages, treeOf, entry, alone, prepared, get}
-use Rattle.cases.specs.Cases.{Lent, lent, prepares, calls, tables, buffers, mounts, mountsPages, ordered}
+use Rattle.cases.specs.Cases.{Lent, lent, prepares, calls, tables, buffers, mounts, mountsPages, scoresAfter}
 use Rattle.cases.specs.Cases.{Result, number, bytes, fields, Row, row, said, given}
 use Rattle.model.specs.Computes.{computes}
 
@@ -41,10 +41,14 @@ abbrev strangePages : ℕ → ℕ → List Page
 strangePages zero s = []
 strangePages (suc n) s = strangePage s ∷ strangePages n (suc s)
 
--- Three nodes whose fields 14 stand in some order, lent with the empty batch; and their scores in node order, the score of node n being n.
-abbrev lentInOrder : List Score → Lent
-lentInOrder xs = lent (poolBytes (inFirst (treePages 3 ++ (checkpointAt 4 tariff xs 3 ∷ [])))) 4096 [] 0
+-- Three nodes and their checkpoint with these fields 14 as they stand; such a pool lent with the empty batch.
+abbrev threeNodes : List Score → List (List Page)
+threeNodes xs = inFirst (treePages 3 ++ (checkpointAt 4 tariff xs 3 ∷ []))
 
+abbrev emptyBatch : List Score → Lent
+emptyBatch xs = lent (poolBytes (threeNodes xs)) 4096 [] 0
+
+-- The scores 0, 1 and 2 of the nodes 0, 1 and 2, in node order.
 abbrev inNodeOrder : Result
 inNodeOrder = fields (score 0 0 ∷ score 1 1 ∷ score 2 2 ∷ [])
 
@@ -87,16 +91,16 @@ orders =
     (page 5 (checkpoint (some tariff) (scores 2) (some 3)) ∷ page 6 (checkpoint none (score 2 0 ∷ []) (some 3)) ∷ []))))
     (number 6) ∷
     -- "each id below its count once" (6): an id twice, one at the count, one more than the count, a count of 0
-    row (mountsPages (inFirst (treePages 3 ++ (checkpointAt 4 tariff (score 0 0 ∷ score 1 0 ∷ score 1 0 ∷ []) 3 ∷ [])))) (number 6) ∷
-    row (mountsPages (inFirst (treePages 3 ++ (checkpointAt 4 tariff (score 0 0 ∷ score 0 0 ∷ score 2 0 ∷ []) 3 ∷ [])))) (number 6) ∷
-    row (mountsPages (inFirst (treePages 3 ++ (checkpointAt 4 tariff (score 0 0 ∷ score 1 0 ∷ score 3 0 ∷ []) 3 ∷ [])))) (number 6) ∷
-    row (mountsPages (inFirst (treePages 3 ++ (checkpointAt 4 tariff (score 3 0 ∷ scores 3) 3 ∷ [])))) (number 6) ∷
+    row (mountsPages (threeNodes (score 0 0 ∷ score 1 0 ∷ score 1 0 ∷ []))) (number 6) ∷
+    row (mountsPages (threeNodes (score 0 0 ∷ score 0 0 ∷ score 2 0 ∷ []))) (number 6) ∷
+    row (mountsPages (threeNodes (score 0 0 ∷ score 1 0 ∷ score 3 0 ∷ []))) (number 6) ∷
+    row (mountsPages (threeNodes (score 3 0 ∷ scores 3))) (number 6) ∷
     row (mountsPages (inFirst (alone (checkpointAt 3 tariff (score 0 0 ∷ []) 0)))) (number 6) ∷
     -- document 02, P1: "pools with any order still open", and the empty batch writes the fields 14 "by ascending node id"
-    row (ordered (lentInOrder (score 0 0 ∷ score 1 1 ∷ score 2 2 ∷ []))) inNodeOrder ∷
-    row (ordered (lentInOrder (score 2 2 ∷ score 1 1 ∷ score 0 0 ∷ []))) inNodeOrder ∷
-    row (ordered (lentInOrder (score 1 1 ∷ score 2 2 ∷ score 0 0 ∷ []))) inNodeOrder ∷
-    row (ordered (lentInOrder (score 2 2 ∷ score 0 0 ∷ score 1 1 ∷ []))) inNodeOrder ∷
+    row (scoresAfter (emptyBatch (score 0 0 ∷ score 1 1 ∷ score 2 2 ∷ []))) inNodeOrder ∷
+    row (scoresAfter (emptyBatch (score 2 2 ∷ score 1 1 ∷ score 0 0 ∷ []))) inNodeOrder ∷
+    row (scoresAfter (emptyBatch (score 1 1 ∷ score 2 2 ∷ score 0 0 ∷ []))) inNodeOrder ∷
+    row (scoresAfter (emptyBatch (score 2 2 ∷ score 0 0 ∷ score 1 1 ∷ []))) inNodeOrder ∷
     -- "In a block blank pages follow written ones" (5)
     row (calls (lent (bytesOf (some (strangePage 2) ∷ none ∷ some (strangePage 3) ∷ replicate 125 none)) 4096 [] 0)) (number 5) ∷
     -- "At least one block is wholly blank" (5): two blocks full and one begun, then three

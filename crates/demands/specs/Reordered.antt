@@ -1,15 +1,17 @@
 -- "Pools with any order still open" (document 02, P1): two pools that differ in the order of their newest checkpoint's scores alone are asked the same
 -- questions with the same answers, and stand with the same tariff, book and map. Assumes nothing.
 use mathlib.Core.Path.{_≡_, refl, sym, ap, ap₂, _∙_, subst, fun-ext}
-use mathlib.Core.Bool.{Bool, true, false, not, _&&_}
+use mathlib.Core.Bool.{Bool, true, false, _&&_}
+use mathlib.Core.Logic.{_⊎_, inl, inr}
 use mathlib.Core.List.{List, [], _∷_, _++_}
 use mathlib.Core.Option.{Option, some}
-use Prim.Native.Nat.{ℕ, zero, suc, _+_, _/_}
+use Prim.Native.Nat.{ℕ, zero, suc, _+_, _/_, _≤_, _<_}
 use native.Mathlib.Omega.{arith}
 use lib.Dec.{eqb, leb, ltb}
 use lib.ListN.{length}
-use borrow.Author.Tests.{ne-eqb, ltb-true}
+use borrow.Author.Tests.{ne-eqb, ltb-true, lt-ltb, le-ltb, le-leb, lt-leb}
 use Rattle.laws.specs.Tests.{choose}
+use Rattle.laws.specs.Order.{le-or}
 use Rattle.laws.specs.Counts.{bit, count, Reordered}
 use Rattle.laws.specs.BigEndian.{Bytes}
 use Rattle.laws.specs.Options.{some-same}
@@ -41,7 +43,7 @@ use Rattle.demands.specs.Mount.{Sealed, Ready, sealed-ready}
 use Rattle.demands.specs.FirstNo.{batch-first}
 use Rattle.demands.specs.OneCall.{OpenPool, sized}
 
--- TWO POOLS THAT DIFFER IN THE ORDER OF SCORES ALONE.
+-- TWO POOLS THAT DIFFER IN THE ORDER OF SCORES ALONE, both made of bytes and of one length.
 pub record ReorderedPool (pool pool′ : List ℕ) : Type 0 where
   pub bytes : Bytes pool′
   pub length : length pool ≡ length pool′
@@ -65,18 +67,21 @@ unfolding threePages
 three-by-view a b e zero = refl
 three-by-view a b e (suc n) = ap₂ _&&_ (ap (λ (w : View). leb (pages w n) mostLogPages) e) (three-by-view a b e n)
 
--- The scores are below a limit where none is not: their order does not matter.
-below-counts : (most : ℕ) (xs : List Score) → scoresBelow most xs ≡ eqb (count (λ (x : Score). not (ltb (x .score) most)) xs) 0
+-- The scores are below a limit where none is at it or over it: their order does not matter.
+abbrev pub atLimit : ℕ → Score → Bool
+atLimit most x = leb most (x .score)
+
+pub below-counts : (most : ℕ) (xs : List Score) → scoresBelow most xs ≡ eqb (count (atLimit most) xs) 0
 unfolding scoresBelow
 below-counts most [] = refl
-below-counts most (x ∷ xs) = ap (λ (z : Bool). ltb (x .score) most && z) (below-counts most xs) ∙ go (ltb (x .score) most) _
+below-counts most (x ∷ xs) = ap (λ (z : Bool). ltb (x .score) most && z) (below-counts most xs) ∙ go (le-or most (x .score)) (count (atLimit most) xs)
   where
-    go : (t : Bool) (n : ℕ) → (t && eqb n 0) ≡ eqb (bit (not t) + n) 0
-    go true n = let e : n ≡ 0 + n = omega arith in ap (λ (z : ℕ). eqb z 0) e
-    go false n = sym (ne-eqb (1 + n) 0 (λ e. omega arith))
+    go : (most ≤ x .score) ⊎ (x .score < most) → (n : ℕ) → (ltb (x .score) most && eqb n 0) ≡ eqb (bit (leb most (x .score)) + n) 0
+    go (inl l) n = rw (le-ltb (x .score) most l, le-leb most (x .score) l) (sym (ne-eqb (1 + n) 0 (λ e. omega arith)))
+    go (inr l) n = let e : n ≡ 0 + n = omega arith in rw (lt-ltb (x .score) most l, lt-leb most (x .score) l) (ap (λ (z : ℕ). eqb z 0) e)
 
 below-reordered : (most : ℕ) (xs ys : List Score) → Reordered xs ys → scoresBelow most xs ≡ scoresBelow most ys
-below-reordered most xs ys r = below-counts most xs ∙ ap (λ (n : ℕ). eqb n 0) (r _) ∙ sym (below-counts most ys)
+below-reordered most xs ys r = below-counts most xs ∙ ap (λ (n : ℕ). eqb n 0) (r (atLimit most)) ∙ sym (below-counts most ys)
 
 module _ {pool pool′ : List ℕ} (r : ReorderedPool pool pool′) where
   abbrev B : ℕ

@@ -160,8 +160,8 @@ pub record Ran : Type 0 where
 
 pub ran : Ran
 unfolding prepared preparedRun above greatest pages pieces draftOf nodeOf modeOf carries checkpointSince spot found place enter start written write
-    makeRoom writeGroup writeEdit serve create checkpointPages close collect checkpointOf scoreIn complete cellsIn blocksPass pagesPass Pairs.insert redo redoPiece
-    replayFrom replay
+    makeRoom writeGroup writeEdit serve create checkpointPages close collect checkpointOf scoreIn complete cellsIn blocksPass pagesPass Pairs.insert redo
+    redoPiece replayFrom replay
 ran =
     record {
       three = refl;

@@ -5,7 +5,7 @@ use mathlib.Core.Bool.{true, _&&_}
 use mathlib.Core.Logic.{_⊎_, inl, inr}
 use mathlib.Core.Option.{Option, none, some}
 use mathlib.Core.List.{List, [], _∷_, _++_}
-use Prim.Native.Nat.{ℕ, zero, suc, _+_, _*_, _-_, _≤_, _<_}
+use Prim.Native.Nat.{ℕ, zero, suc, _+_, _*_, _≤_, _<_}
 use native.Mathlib.Omega.{arith}
 use borrow.Author.Tests.{eq-eqb, ne-eqb, lt-ltb}
 use lib.Dec.{eqb}
@@ -124,4 +124,5 @@ checkpoint-pages-complete t n f =
     (countLast-checkpoint-pages (some t) (length scores) (take firstScores scores) (laterParts scores))
     (and-both (eqb (length (scoresIn xs)) (countIn xs)) (onceBelow (countIn xs) (scoresIn xs))
     (eq-eqb _ _ (ap length (scoresIn-checkpoint-pages t scores) ∙ length-scoresFrom 0 n f ∙ sym c))
-    (rw (c, scoresIn-checkpoint-pages t scores) (onceBelow-true n scores (λ i l. scoresFrom-ids 0 n f i (omega arith) ∙ ap bit (lt-ltb i (0 + n) (omega arith))))))
+    (rw (c, scoresIn-checkpoint-pages t scores)
+    (onceBelow-true n scores (λ i l. scoresFrom-ids 0 n f i (omega arith) ∙ ap bit (lt-ltb i (0 + n) (omega arith))))))

@@ -83,32 +83,19 @@ complete-reordered xs ys a =
 abbrev scoreIs : ℕ → ℕ → Score → Bool
 scoreIs n s x = eqb n (x .id) && eqb s (x .score)
 
-score-stands : (n : ℕ) (xs : List Score) → 0 < count (scoreOf n) xs → 0 < count (scoreIs n (scoreIn xs n)) xs
+-- A score that a node has once is counted where it is looked up.
+count-score : (n s : ℕ) (xs : List Score) → count (scoreOf n) xs ≡ 1 → count (scoreIs n s) xs ≡ bit (eqb s (scoreIn xs n))
 unfolding scoreIn
-score-stands n [] l = l
-score-stands n (x ∷ xs) l = go (eqb n (x .id)) l (score-stands n xs)
-  where
-    go : (t : Bool) → 0 < bit t + count (scoreOf n) xs → (0 < count (scoreOf n) xs → 0 < count (scoreIs n (scoreIn xs n)) xs) →
-        0 < bit (t && eqb (choose t (x .score) (scoreIn xs n)) (x .score)) + count (scoreIs n (choose t (x .score) (scoreIn xs n))) xs
-    go true l r = omega (arith, ap bit (eq-eqb (x .score) (x .score) refl))
-    go false l r = omega (arith, r (omega arith))
-
-score-alone : (n s : ℕ) (xs : List Score) → count (scoreOf n) xs ≤ 1 → 0 < count (scoreIs n s) xs → scoreIn xs n ≡ s
-unfolding scoreIn
-score-alone n s [] m l = absurd (omega arith)
-score-alone n s (x ∷ xs) m l = go (eqb n (x .id)) m l (score-alone n s xs)
+count-score n s [] e = absurd (omega arith)
+count-score n s (x ∷ xs) e = go (eqb n (x .id)) e (count-score n s xs)
   where
     rest : count (scoreIs n s) xs ≤ count (scoreOf n) xs
     rest = count-mono (scoreIs n s) (scoreOf n) xs (λ y. and-left (eqb n (y .id)) (eqb s (y .score)))
 
-    here : (t : Bool) → eqb s (x .score) ≡ t → 0 < bit t → x .score ≡ s
-    here true e l = sym (eqb-true s (x .score) e)
-    here false e l = absurd (omega arith)
-
-    go : (t : Bool) → bit t + count (scoreOf n) xs ≤ 1 → 0 < bit (t && eqb s (x .score)) + count (scoreIs n s) xs →
-        (count (scoreOf n) xs ≤ 1 → 0 < count (scoreIs n s) xs → scoreIn xs n ≡ s) → choose t (x .score) (scoreIn xs n) ≡ s
-    go true m l r = here (eqb s (x .score)) refl (omega (arith, rest))
-    go false m l r = r (omega arith) (omega arith)
+    go : (t : Bool) → bit t + count (scoreOf n) xs ≡ 1 → (count (scoreOf n) xs ≡ 1 → count (scoreIs n s) xs ≡ bit (eqb s (scoreIn xs n))) →
+        bit (t && eqb s (x .score)) + count (scoreIs n s) xs ≡ bit (eqb s (choose t (x .score) (scoreIn xs n)))
+    go true f r = omega (arith, rest)
+    go false f r = omega (arith, r (omega arith))
 
 pub once-at : (n : ℕ) (xs : List Score) → onceBelow n xs ≡ true → (i : ℕ) → i < n → count (scoreOf i) xs ≡ 1
 once-at zero xs e i l = absurd (omega arith)
@@ -126,12 +113,23 @@ complete-once xs e =
 
 pub score-reordered : (xs ys : List CheckpointPage) → ReorderedSet xs ys → complete xs ≡ true → (n : ℕ) → n < countIn xs →
     scoreIn (scoresIn xs) n ≡ scoreIn (scoresIn ys) n
-score-reordered xs ys a e n l =
-    let once = complete-once xs e n l in
-    let s = scoreIn (scoresIn xs) n in
-    sym
-    (score-alone n s (scoresIn ys) (omega (arith, once, a .scores (scoreOf n)))
-    (omega (arith, a .scores (scoreIs n s), score-stands n (scoresIn xs) (omega (arith, once)))))
+score-reordered xs ys a e n l = go (eqb s (scoreIn (scoresIn ys) n)) refl
+  where
+    s : ℕ
+    s = scoreIn (scoresIn xs) n
+
+    once : count (scoreOf n) (scoresIn xs) ≡ 1
+    once = complete-once xs e n l
+
+    found : bit (eqb s (scoreIn (scoresIn ys) n)) ≡ bit (eqb s s)
+    found =
+        sym (count-score n s (scoresIn ys) (sym (a .scores (scoreOf n)) ∙ once)) ∙
+        sym (a .scores (scoreIs n s)) ∙
+        count-score n s (scoresIn xs) once
+
+    go : (t : Bool) → eqb s (scoreIn (scoresIn ys) n) ≡ t → s ≡ scoreIn (scoresIn ys) n
+    go true q = eqb-true s (scoreIn (scoresIn ys) n) q
+    go false q = absurd (omega (arith, found, ap bit q, ap bit (eq-eqb s s refl)))
 
 -- ASCENDING, THERE IS ONE LIST: it is fixed by which ids have a score, and which score each has.
 pub score-none : (n : ℕ) (xs : List Score) → count (scoreOf n) xs ≡ 0 → scoreIn xs n ≡ 0

@@ -20,6 +20,7 @@ use crate::page::{is_blank, sums_wrap};
 use crate::random::Random;
 use crate::reference::{Ledger, Run};
 use crate::refusal::Refusal;
+use crate::score_order;
 use crate::tree::{self, IDS_USED_UP};
 
 /// A pool, and what the reference model and an ordered map say of it.
@@ -219,6 +220,7 @@ fn count_foreign(tally: &mut Tally, build: Build, pool: &[u8]) {
     tally.tight_pools += u64::from(build == Build::Tight);
     tally.brink_pools += u64::from(build == Build::Brink);
     tally.high_pools += u64::from(build == Build::High);
+    tally.reordered_pools += u64::from(score_order::check(pool).is_err());
     for page in pool.chunks_exact(PAGE_BYTES).filter(|page| !is_blank(page)) {
         add_wraps(&mut tally.foreign_sums_wrapped, sums_wrap(page));
     }

@@ -25,6 +25,8 @@ pub struct Tally {
     pub tight_pools: u64,
     pub brink_pools: u64,
     pub high_pools: u64,
+    /// Foreign pools whose scores are not in node order.
+    pub reordered_pools: u64,
     /// Pages of foreign pools whose sum b or a passes its modulus.
     pub foreign_sums_wrapped: [u64; 2],
     /// Puts answered with 9 although some ids were unused.
@@ -57,7 +59,7 @@ impl Tally {
         lines
     }
 
-    fn plain_lines(&self) -> [(&'static str, u64); 31] {
+    fn plain_lines(&self) -> [(&'static str, u64); 32] {
         [
             ("cases", self.cases),
             ("batches accepted", self.batches),
@@ -84,6 +86,7 @@ impl Tally {
             ("tight pools", self.tight_pools),
             ("pools on the brink of the limit", self.brink_pools),
             ("pools of high numbers", self.high_pools),
+            ("pools with scores in another order", self.reordered_pools),
             ("foreign pages whose sum b wraps", self.foreign_sums_wrapped[0]),
             ("foreign pages whose sum a wraps", self.foreign_sums_wrapped[1]),
             ("damaged pools", self.plain_damage),

@@ -1,20 +1,16 @@
 //! Scores in node order (document 02, P1): any order opens, and the next accepted batch writes them by ascending id.
 
 use crate::common::{get, number_of, put, scan, Fixture, FREE, WORKED};
-use crate::spelled::{node_page, pool_of, tree};
+use crate::spelled::pool_of_scores;
 use yokehour_host::command::Command;
-use yokehour_host::layout::{MAX_BLOCKS, MIN_BLOCKS};
-use yokehour_host::page::{Checkpoint, Content, Page, Score};
+use yokehour_host::layout::MAX_BLOCKS;
+use yokehour_host::page::Score;
 use yokehour_host::random::Random;
 use yokehour_host::score_order::{newest_checkpoint, newest_scores};
 
-/// A pool of a sound tree of so many nodes whose checkpoint has these scores as they stand, under the worked tariff.
-fn pool_with(blocks: usize, nodes: usize, scores: &[Score]) -> Vec<u8> {
-    let written = tree(nodes).into_iter().enumerate();
-    let mut pages: Vec<Page> = written.map(|(id, node)| node_page(id as u32 + 1, id, node)).collect();
-    let checkpoint = Checkpoint::pages(WORKED, scores, nodes as u16).into_iter().zip(nodes as u32 + 1..);
-    pages.extend(checkpoint.map(|(page, sequence)| Page { sequence, content: Content::Checkpoint(page) }));
-    pool_of(blocks, &pages)
+/// A pool whose scores stand in this order, under the worked tariff.
+fn pool_in(order: &[usize]) -> Vec<u8> {
+    pool_of_scores(16, WORKED, &scores_in(order))
 }
 
 /// The score of a node in these pools: below the limit of 5, and not the same for all.
@@ -39,7 +35,7 @@ const ORDERS: [[usize; 3]; 4] = [[0, 1, 2], [2, 1, 0], [1, 2, 0], [2, 0, 1]];
 #[test]
 fn three_scores_open_in_any_order_and_the_empty_batch_writes_them_ascending() {
     for order in ORDERS {
-        let pool = pool_with(MIN_BLOCKS, 3, &scores_in(&order));
+        let pool = pool_in(&order);
         assert_eq!(newest_scores(&pool), scores_in(&order), "as they stand");
         assert_eq!(after(pool, &[]).2, scores_in(&[0, 1, 2]), "{order:?}");
     }
@@ -48,7 +44,7 @@ fn three_scores_open_in_any_order_and_the_empty_batch_writes_them_ascending() {
 #[test]
 fn a_batch_answers_and_charges_the_same_whatever_the_order_was() {
     let commands = [get(3), put(50, 1), get(50), scan(0, 400, 9), put(3, 7), get(104)];
-    let after_in = |order: [usize; 3]| after(pool_with(MIN_BLOCKS, 3, &scores_in(&order)), &commands);
+    let after_in = |order: [usize; 3]| after(pool_in(&order), &commands);
     let expected = after_in([0, 1, 2]);
     assert_eq!(expected.0.len(), commands.len());
     for order in ORDERS {
@@ -64,7 +60,7 @@ fn an_order_over_three_pages_opens_and_the_next_checkpoint_ascends_over_three() 
     let mut shuffled = ascending.clone();
     Random::new(9).shuffle(&mut shuffled);
     for order in [&ascending, &descending, &shuffled] {
-        let pool = pool_with(16, NODES, &scores_in(order));
+        let pool = pool_in(order);
         assert_eq!(newest_checkpoint(&pool).len(), 3);
         assert_eq!(after(pool, &[]).2, scores_in(&ascending));
     }
@@ -85,7 +81,7 @@ fn a_page_of_scores_is_filled_with_the_lowest_ids_before_the_next() {
 #[test]
 fn what_is_asked_of_the_ids_is_asked_in_any_order() {
     for ids in [[0, 1, 1], [0, 0, 2], [0, 1, 3], [1, 0, 1], [3, 1, 0], [2, 2, 0]] {
-        assert_eq!(number_of(pool_with(MIN_BLOCKS, 3, &scores_in(&ids))), 6, "{ids:?}");
+        assert_eq!(number_of(pool_in(&ids)), 6, "{ids:?}");
     }
-    assert_eq!(ORDERS.map(|order| number_of(pool_with(MIN_BLOCKS, 3, &scores_in(&order)))), [0; 4]);
+    assert_eq!(ORDERS.map(|order| number_of(pool_in(&order))), [0; 4]);
 }

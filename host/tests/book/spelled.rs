@@ -32,9 +32,17 @@ pub fn log_page(sequence: u32, changes: &[Change]) -> Page {
 
 /// The pages of a checkpoint with score 0 for each of so many nodes, from a sequence number on.
 pub fn checkpoint(sequence: u32, nodes: usize) -> Vec<Page> {
-    let scores: Vec<Score> = (0..nodes).map(|id| Score { id: id as u16, score: 0 }).collect();
-    let pages = Checkpoint::pages(FREE, &scores, nodes as u16).into_iter().zip(sequence..);
+    checkpoint_of_scores(sequence, FREE, &zeros(nodes))
+}
+
+/// The pages of a checkpoint with these scores as they stand, one for each node.
+fn checkpoint_of_scores(sequence: u32, tariff: [u32; 8], scores: &[Score]) -> Vec<Page> {
+    let pages = Checkpoint::pages(tariff, scores, scores.len() as u16).into_iter().zip(sequence..);
     pages.map(|(page, sequence)| Page { sequence, content: Content::Checkpoint(page) }).collect()
+}
+
+fn zeros(nodes: usize) -> Vec<Score> {
+    (0..nodes).map(|id| Score { id: id as u16, score: 0 }).collect()
 }
 
 /// A pool with these pages, one behind the other from the first.
@@ -54,9 +62,14 @@ pub fn pool_of_logs(logs: &[Page]) -> Vec<u8> {
 
 /// A pool of a sound tree of so many nodes, each on a page of its own.
 pub fn pool_of_tree(blocks: usize, count: usize) -> Vec<u8> {
-    let nodes = tree(count).into_iter().enumerate();
+    pool_of_scores(blocks, FREE, &zeros(count))
+}
+
+/// A pool of a sound tree with a node for each of these scores, which stand in its checkpoint as they do here.
+pub fn pool_of_scores(blocks: usize, tariff: [u32; 8], scores: &[Score]) -> Vec<u8> {
+    let nodes = tree(scores.len()).into_iter().enumerate();
     let mut pages: Vec<Page> = nodes.map(|(id, node)| node_page(id as u32 + 1, id, node)).collect();
-    pages.extend(checkpoint(count as u32 + 1, count));
+    pages.extend(checkpoint_of_scores(scores.len() as u32 + 1, tariff, scores));
     pool_of(blocks, &pages)
 }
 

@@ -1,13 +1,13 @@
 -- Scores by id: as many scores as ids, and each id with one at least, means each with exactly one, and none beyond. Assumes nothing.
 use mathlib.Core.Path.{_≡_, refl, sym, ap, _∙_}
-use mathlib.Core.Bool.{Bool, true, false, _&&_}
+use mathlib.Core.Bool.{Bool, true, false}
 use mathlib.Core.Logic.{_⊎_, inl, inr}
 use mathlib.Core.List.{List, [], _∷_, _++_}
 use Prim.Native.Nat.{ℕ, zero, suc, _+_, _≤_, _<_}
 use native.Mathlib.Omega.{arith}
-use lib.Dec.{eqb, leb, ltb}
+use lib.Dec.{eqb, leb}
 use lib.ListN.{length}
-use borrow.Author.Tests.{eq-eqb, ne-eqb, le-leb, lt-leb, lt-ltb, le-ltb}
+use borrow.Author.Tests.{eq-eqb, ne-eqb, le-leb, lt-leb}
 use native.Mathlib.Numerals.{lt-of-le-of-ne}
 use Rattle.laws.specs.Tests.{choose}
 use Rattle.laws.specs.Order.{eq-or, le-or}
@@ -18,6 +18,7 @@ use Rattle.store.specs.Checkpoint.{scoreIn, scoreOf, onceBelow}
 use Rattle.store_laws.specs.ScoreOrder.{once-at}
 use Rattle.model.specs.Mount.{scoresBelow}
 use Rattle.store_laws.specs.CheckpointPageLaws.{onceBelow-true}
+use Rattle.demands.specs.Reordered.{atLimit, below-counts}
 
 -- A sum over scores, and over those of one id.
 abbrev pub sumScores : (Score → ℕ) → List Score → ℕ
@@ -175,20 +176,13 @@ sum-once m g (x ∷ xs) e = go (eqb m (x .id)) e (sum-once m g xs)
 over : ℕ → ℕ → ℕ
 over limit n = bit (leb limit n)
 
+count-sum : (f : Score → Bool) (xs : List Score) → count f xs ≡ sumScores (λ x. bit (f x)) xs
+count-sum f [] = refl
+count-sum f (x ∷ xs) = ap (λ (n : ℕ). bit (f x) + n) (count-sum f xs)
+
 scoresBelow-sum : (limit : ℕ) (xs : List Score) → scoresBelow limit xs ≡ eqb (sumScores (λ x. over limit (x .score)) xs) 0
-unfolding scoresBelow over
-scoresBelow-sum limit [] = refl
-scoresBelow-sum limit (x ∷ xs) = go (le-or limit (x .score)) (scoresBelow-sum limit xs)
-  where
-    go : (limit ≤ x .score) ⊎ (x .score < limit) → scoresBelow limit xs ≡ eqb (sumScores (λ x. over limit (x .score)) xs) 0 →
-        (ltb (x .score) limit && scoresBelow limit xs) ≡ eqb (bit (leb limit (x .score)) + sumScores (λ x. over limit (x .score)) xs) 0
-    go (inl l) r =
-        ap (λ (t : Bool). t && scoresBelow limit xs) (le-ltb (x .score) limit l) ∙
-        sym (ne-eqb (bit (leb limit (x .score)) + sumScores (λ x. over limit (x .score)) xs) 0 (λ z. omega (arith, ap bit (le-leb limit (x .score) l))))
-    go (inr l) r =
-        let n = sumScores (λ x. over limit (x .score)) xs in
-        let e : n ≡ bit (leb limit (x .score)) + n = omega (arith, ap bit (lt-leb limit (x .score) l)) in
-        ap (λ (t : Bool). t && scoresBelow limit xs) (lt-ltb (x .score) limit l) ∙ r ∙ ap (λ (i : ℕ). eqb i 0) e
+unfolding over
+scoresBelow-sum limit xs = below-counts limit xs ∙ ap (λ (i : ℕ). eqb i 0) (count-sum (atLimit limit) xs)
 
 -- Each of n scores by id is below the limit exactly where all scores are.
 pub scoresBelow-ids : (limit n : ℕ) (xs : List Score) → length xs ≡ n → onceBelow n xs ≡ true →
