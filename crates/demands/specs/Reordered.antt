@@ -133,7 +133,7 @@ module _ {pool pool′ : List ℕ} (r : ReorderedPool pool pool′) where
       let eight = lasts in
       λ i. (5, five i) ∷ (6, six i) ∷ (7, seven i) ∷ (8, eight i) ∷ []
 
-  same-blocks : blocksOf pool′ ≡ B
+  pub same-blocks : blocksOf pool′ ≡ B
   same-blocks = ap (λ (n : ℕ). n / blockBytes) (sym (r .length))
 
   pool-asked : ofPool pool ≡ ofPool pool′

@@ -1,38 +1,43 @@
 -- THE BOOK. The customer's three demands, and behind them what document 02 adds, each as a theorem about `batchOf` and `prepareOf`, to which the two
 -- functions that C calls are proved equal: whatever a call is lent, and whatever list of calls is made. The links behind them are the other files of
 -- this crate. Assumes nothing.
-use mathlib.Core.Path.{_≡_, sym, ap, _∙_}
+use mathlib.Core.Path.{_≡_, sym, ap, ap₂, _∙_}
 use mathlib.Core.Bool.{true}
 use mathlib.Core.List.{List, [], _++_, map}
 use mathlib.Core.Option.{some}
 use Prim.Native.Nat.{ℕ, _+_, _*_, _≤_}
 use native.Mathlib.Omega.{arith}
+use lib.Dec.{eqb}
 use Rattle.laws.specs.Every.{Every}
 use Rattle.laws.specs.BigEndian.{Bytes}
-use Rattle.layout.specs.Layout.{lastSequence}
+use Rattle.layout.specs.Layout.{nodeLimit, lastSequence}
 use Rattle.account.specs.declared.Mode.the-variants.{Log}
 use Rattle.account.specs.declared.Tariff.{Tariff}
 use Rattle.account.specs.Tariff.{switchTo}
 use Rattle.account.specs.Schedule.{Schedule}
 use Rattle.pairs.specs.Pairs.{Pair}
+use Rattle.command.specs.declared.Command.{Command}
+use Rattle.command.specs.Batch.{commandsOf}
 use Rattle.tree.specs.NodeRequest.{NodeRequest}
 use Rattle.tree.specs.Spells.{mapOf}
 use Rattle.store.specs.Reopen.{newest}
 use Rattle.book.specs.Book.{Book}
+use Rattle.book.specs.Batch.{chargeBook}
+use Rattle.book.specs.OrderedMap.{mapAnswers}
 use Rattle.book.specs.Schedule.{paid}
 use Rattle.model.specs.State.{State, bookOf}
 use Rattle.model.specs.Mount.{opened}
 use Rattle.model.specs.Prepare.{firstBook}
 use Rattle.model.specs.Call.{Outcome, Prepared, blocksOf, poolLength, mountOf, batchOf, prepareOf}
 use Rattle.model.specs.Questions.{firstNo, ofBuffers, ofPool, ofPrepare}
-use Rattle.model.specs.Calls.{Lent, outcome, outcomes, answered, laid, bookIn, allStates, allMoments, fed}
+use Rattle.model.specs.Calls.{Lent, outcome, outcomes, answered, laidOver, laid, bookIn, allStates, allMoments, fed, commandsBy, commandsIn}
 use Rattle.model.specs.Calls.{booksAfter, lastBook, allBooks, allCharges, allRequests, mapReplies, mapsAfter, sum}
 use Rattle.demands.specs.Ends.{Ends, asFound, tableCleared, done, batch-ends, tableAfter, refused-found, ends-table, prepare-ends, prepare-found}
 use Rattle.demands.specs.FirstNo.{numberOf, mount-first, batch-first, buffers-right, prepare-first}
 use Rattle.demands.specs.ScoreOrder.{newestCheckpoint, InNodeOrder, one-order}
-use Rattle.demands.specs.OneCall.{Thin, OpenPool, bookIn-is, called}
+use Rattle.demands.specs.OneCall.{Thin, OpenPool, bookIn-is, fedOf, Called, called}
 use Rattle.demands.specs.Obeys.{Obeys, obeys-opens, obeys-spelled, obeys-stands, stands-obeys, opens-obeys}
-use Rattle.demands.specs.Reordered.{ReorderedPool, same-number, reordered-stands}
+use Rattle.demands.specs.Reordered.{ReorderedPool, same-blocks, same-number, reordered-stands}
 use Rattle.demands.specs.AllCalls.{OfBytes, ThinPool, Spelled, charge, all-called}
 use Rattle.demands.specs.AgainstSchedules.{bound}
 use Rattle.demands.specs.PreparedPool.{prepare-stands, prepare-ordered}
@@ -181,11 +186,34 @@ pub one-closing-set : {pool pool′ : List ℕ} (x : InNodeOrder pool) (y : InNo
     bookIn pool ≡ bookIn pool′ → newestCheckpoint pool ≡ newestCheckpoint pool′
 one-closing-set = one-order
 
--- Any order opens: of two pools that differ in it alone, each call returns the same number; and one stands as the other does, so that by demands 2
--- and 3 both answer and charge the same ever after.
+-- Any order opens: of two pools that differ in it alone, each call returns the same number; one stands as the other does, with the same tariff, book
+-- and map; and the call answers and charges the same.
 pub any-order-opens : {pool pool′ : List ℕ} → ReorderedPool pool pool′ → (l : Lent) → outcome pool l .number ≡ outcome pool′ l .number
 any-order-opens r l = same-number r (l .table) (l .batch) (l .buffer)
 
 pub any-order-stands : {t : Tariff} {pool pool′ : List ℕ} {b : Book} {ps : List Pair} → ReorderedPool pool pool′ → Stands t pool b ps →
     Stands t pool′ b ps
 any-order-stands r s = open-stands (reordered-stands r (stands-open s))
+
+module _ {t : Tariff} {pool pool′ : List ℕ} {b : Book} {ps : List Pair} (r : ReorderedPool pool pool′) (s : Stands t pool b ps)
+    (l : Lent) (bytes : Bytes (l .batch)) where
+  one : Called t pool l b ps
+  one = called (stands-open s) l bytes
+
+  other : Called t pool′ l b ps
+  other = called (reordered-stands r (stands-open s)) l bytes
+
+  same-commands : commandsIn (fedOf pool l) ≡ commandsIn (fedOf pool′ l)
+  same-commands = ap (λ (n : ℕ). commandsBy (eqb n 0) (commandsOf (l .batch))) (any-order-opens r l)
+
+  pub any-order-answers : answered (outcome pool l) ≡ answered (outcome pool′ l)
+  any-order-answers =
+      one .answers ∙
+      ap₂ (λ (k : ℕ) (cs : List Command). laidOver (l .buffer) (mapAnswers (nodeLimit k) t cs b ps)) (sym (same-blocks r)) same-commands ∙
+      sym (other .answers)
+
+  pub any-order-charges : outcome pool l .charge ≡ outcome pool′ l .charge
+  any-order-charges =
+      one .charge ∙
+      ap₂ (λ (k : ℕ) (cs : List Command). chargeBook (nodeLimit k) t cs b) (sym (same-blocks r)) same-commands ∙
+      sym (other .charge)
