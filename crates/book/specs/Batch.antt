@@ -1,30 +1,34 @@
--- A batch in the reference model: its commands one after another. Assumes nothing.
-use mathlib.Core.List.{List, [], _∷_, _++_}
-use Prim.Native.Nat.{ℕ, _+_}
+-- A batch in the reference model: its commands in turn. Assumes nothing.
+use mathlib.Core.List.{List}
+use Prim.Native.Nat.{ℕ}
 use Rattle.account.specs.declared.Tariff.{Tariff}
 use Rattle.command.specs.declared.Command.{Command}
 use Rattle.tree.specs.NodeRequest.{NodeRequest}
 use Rattle.book.specs.Book.{Book, serveAll, afterEach, charges}
-use Rattle.book.specs.Command.{requests}
+use Rattle.book.specs.Command.{requests, answer}
+use Rattle.book.specs.Session.{Session}
+use Rattle.book.specs.InTurn.{eachPanel, afterAll, inRow, chargeOn}
 
 module _ (limit : ℕ) (t : Tariff) where
-  -- The book after a command.
+  -- A command: the book after it, and what all its node requests are charged, their switches with them.
   abbrev pub doneBook : Command → Book → Book
   doneBook c b = serveAll t (requests limit c b) b
 
-  -- After a batch: the book, the books passed after each node request, the charge, all node requests in a row.
-  abbrev pub runBook : List Command → Book → Book
-  runBook [] b = b
-  runBook (c ∷ cs) b = runBook cs (doneBook c b)
+  abbrev pub costBook : Command → Book → ℕ
+  costBook c b = charges t (requests limit c b) b
 
-  abbrev pub booksPassed : List Command → Book → List Book
-  booksPassed [] b = []
-  booksPassed (c ∷ cs) b = afterEach t (requests limit c b) b ++ booksPassed cs (doneBook c b)
+  -- After a batch: the book, the books passed after each node request, all node requests in a row, the charge of one panel and of each.
+  abbrev pub runBook : List Command → Session → Book → Book
+  runBook = afterAll (answer limit) doneBook
 
-  abbrev pub chargeBook : List Command → Book → ℕ
-  chargeBook [] b = 0
-  chargeBook (c ∷ cs) b = charges t (requests limit c b) b + chargeBook cs (doneBook c b)
+  abbrev pub booksPassed : List Command → Session → Book → List Book
+  booksPassed = inRow (answer limit) doneBook (λ c b. afterEach t (requests limit c b) b)
 
-  abbrev pub requestsBook : List Command → Book → List NodeRequest
-  requestsBook [] b = []
-  requestsBook (c ∷ cs) b = requests limit c b ++ requestsBook cs (doneBook c b)
+  abbrev pub requestsBook : List Command → Session → Book → List NodeRequest
+  requestsBook = inRow (answer limit) doneBook (requests limit)
+
+  abbrev pub chargeBook : ℕ → List Command → Session → Book → ℕ
+  chargeBook = chargeOn (answer limit) doneBook costBook
+
+  abbrev pub chargesBook : List Command → Session → Book → List ℕ
+  chargesBook cs n b = eachPanel (λ q. chargeBook q cs n b)

@@ -1,6 +1,9 @@
 pub mod Book
 pub mod Command
+pub mod Session
+pub mod InTurn
 pub mod Batch
+pub mod PanelLaws
 pub mod OrderedMap
 pub mod Schedule
 pub mod Bound

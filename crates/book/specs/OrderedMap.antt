@@ -7,9 +7,10 @@ use Rattle.laws.specs.Tests.{choose}
 use Rattle.pairs.specs.Pairs.{Pair, lookup, insert, delete, range}
 use Rattle.account.specs.declared.Tariff.{Tariff}
 use Rattle.command.specs.declared.Command.{Command}
-use Rattle.command.specs.declared.Command.the-variants.{Get, Put, Delete, Scan}
+use Rattle.command.specs.declared.Command.the-variants.{Get, Put, Delete, Scan, Panel}
 use Rattle.book.specs.Book.{Book}
-use Rattle.book.specs.Command.{Reply, listed, getReply, putReply, deleteReply, refuses}
+use Rattle.book.specs.Command.{Reply, listed, silent, getReply, putReply, deleteReply, refuses}
+use Rattle.book.specs.Session.{Session, sessionAfter}
 use Rattle.book.specs.Batch.{doneBook}
 
 unfoldable pub mapAnswer : Bool → Command → List Pair → Reply
@@ -17,20 +18,25 @@ mapAnswer refused (Get k) ps = getReply (lookup k ps)
 mapAnswer refused (Put k v) ps = putReply refused (lookup k ps)
 mapAnswer refused (Delete k) ps = deleteReply (lookup k ps)
 mapAnswer refused (Scan low high most) ps = listed (range low high most ps)
+mapAnswer refused (Panel panel) ps = silent
 
 unfoldable pub mapAfter : Bool → Command → List Pair → List Pair
 mapAfter refused (Get k) ps = ps
 mapAfter refused (Put k v) ps = choose refused ps (insert k v ps)
 mapAfter refused (Delete k) ps = delete k ps
 mapAfter refused (Scan low high most) ps = ps
+mapAfter refused (Panel panel) ps = ps
 
 -- A batch.
 module _ (limit : ℕ) (t : Tariff) where
-  abbrev pub mapAnswers : List Command → Book → List Pair → List Reply
-  mapAnswers [] b ps = []
-  mapAnswers (c ∷ cs) b ps =
-      mapAnswer (refuses limit c b) c ps ∷ mapAnswers cs (doneBook limit t c b) (mapAfter (refuses limit c b) c ps)
+  abbrev reply : Command → Book → List Pair → Reply
+  reply c b ps = mapAnswer (refuses limit c b) c ps
 
-  abbrev pub mapRun : List Command → Book → List Pair → List Pair
-  mapRun [] b ps = ps
-  mapRun (c ∷ cs) b ps = mapRun cs (doneBook limit t c b) (mapAfter (refuses limit c b) c ps)
+  abbrev pub mapAnswers : List Command → Session → Book → List Pair → List Reply
+  mapAnswers [] n b ps = []
+  mapAnswers (c ∷ cs) n b ps =
+      reply c b ps ∷ mapAnswers cs (sessionAfter c (reply c b ps) n) (doneBook limit t c b) (mapAfter (refuses limit c b) c ps)
+
+  abbrev pub mapRun : List Command → Session → Book → List Pair → List Pair
+  mapRun [] n b ps = ps
+  mapRun (c ∷ cs) n b ps = mapRun cs (sessionAfter c (reply c b ps) n) (doneBook limit t c b) (mapAfter (refuses limit c b) c ps)

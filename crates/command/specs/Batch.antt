@@ -7,7 +7,7 @@ use lib.Dec.{leb}
 use lib.ListN.{length}
 use Rattle.layout.specs.Layout.{mostBatchBytes}
 use Rattle.command.specs.declared.Command.{Command}
-use Rattle.command.specs.declared.Command.the-variants.{Get, Put, Delete, Scan}
+use Rattle.command.specs.declared.Command.the-variants.{Get, Put, Delete, Scan, Panel}
 use Rattle.command.specs.declared.Step.the-variants.{Next, Invalid}
 use Rattle.command.specs.declared.Asked.{Asked}
 use Rattle.command.specs.declared.Asked.the-variants as asked
@@ -34,12 +34,13 @@ commandsFrom s at = run (suc (length s)) s at
 unfoldable pub commandsOf : List ℕ → Option (List Command)
 commandsOf s = elim (leb (length s) mostBatchBytes) [ true ↦ commandsFrom s 0 | false ↦ none ]
 
--- Question 4: 7 bytes for each command of tags 01 to 03, and 3 + 8 × most for each sweep.
+-- Question 4: 7 bytes for each command of tags 01 to 03, and 3 + 8 × most for each sweep; a panel "has no answer" (document 02, P2).
 abbrev pub roomFor : Command → ℕ
 roomFor (Get k) = 7
 roomFor (Put k v) = 7
 roomFor (Delete k) = 7
 roomFor (Scan low high most) = 3 + 8 * most
+roomFor (Panel panel) = 0
 
 abbrev pub roomForAll : List Command → ℕ
 roomForAll [] = 0

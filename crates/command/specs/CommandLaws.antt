@@ -2,13 +2,13 @@
 use mathlib.Core.Path.{_≡_, refl, sym, ap, _∙_}
 use mathlib.Core.Bool.{Bool, true, false, _&&_}
 use mathlib.Core.List.{List}
-use mathlib.Core.Option.{none, some}
+use mathlib.Core.Option.{Option, none, some}
 use Prim.Native.Nat.{ℕ, _+_, _-_, _≤_, _<_}
 use native.Mathlib.Omega.{arith}
-use borrow.Author.Tests.{eq-eqb, ne-eqb, eqb-true, le-leb, lt-leb, leb-true}
-use lib.Dec.{eqb, leb}
+use borrow.Author.Tests.{eq-eqb, ne-eqb, eqb-true, le-leb, lt-leb, leb-true, ltb-true, lt-ltb, le-ltb}
+use lib.Dec.{eqb, leb, ltb}
 use lib.ListN.{length, getD}
-use Rattle.laws.specs.Tests.{choose, and-right, test-clash}
+use Rattle.laws.specs.Tests.{choose, and-left, and-right, test-clash}
 use Rattle.laws.specs.Lay.{part, length-part}
 use Rattle.laws.specs.BigEndian.{numberAt}
 use Rattle.wire.specs.Tag.{lengthOf, allowed, find, rows}
@@ -18,12 +18,13 @@ use Rattle.wire.specs.declared.tag.Length.{Length}
 use Rattle.wire.specs.declared.tag.Length.the-variants.{Exact}
 use Rattle.wire.specs.declared.field.Field.{Field}
 use Rattle.wire.specs.declared.field.Field.the-variants.{Payload, Missing, Foreign, Overlong}
-use Rattle.command.specs.declared.Command.the-variants.{Get, Put, Delete, Scan}
+use Rattle.command.specs.declared.Command.{Command}
+use Rattle.command.specs.declared.Command.the-variants.{Get, Put, Delete, Scan, Panel}
 use Rattle.command.specs.declared.Step.the-variants.{Next, Invalid}
-use Rattle.layout.specs.Layout.{mostPairs}
+use Rattle.layout.specs.Layout.{mostPairs, panels}
 use Rattle.command.specs.Command.{inRange, commandOf, stepAs, fieldStep, commandAt, Onward}
 
--- The payload lengths of the four tags, as the table has them.
+-- The payload lengths of the commands' tags, as the table has them.
 payload-exact : (tag k n : ℕ) → lengthOf tag ≡ Exact k → allowed (lengthOf tag) n ≡ true → n ≡ k
 payload-exact tag k n e m = eqb-true n k (ap (λ (l : Length). allowed l n) (sym e) ∙ m)
 
@@ -47,6 +48,10 @@ module _ (tag n : ℕ) (m : allowed (lengthOf tag) n ≡ true) where
   unfolding lengthOf find rows
   payload-scan e = at-tag 4 10 e refl
 
+  pub payload-panel : tag ≡ 5 → n ≡ 1
+  unfolding lengthOf find rows
+  payload-panel e = at-tag 5 1 e refl
+
 -- The command of a tag and a payload, case by case.
 module _ (tag : ℕ) (p : List ℕ) where
   pub commandOf-get : tag ≡ 1 → commandOf tag p ≡ some (Get (numberAt 4 p 0))
@@ -61,9 +66,10 @@ module _ (tag : ℕ) (p : List ℕ) where
   unfolding commandOf
   commandOf-delete e = simp (ne-eqb tag 1 (omega arith), ne-eqb tag 2 (omega arith), eq-eqb tag 3 e)
 
-  pub commandOf-other : (tag ≡ 1 → ⊥) → (tag ≡ 2 → ⊥) → (tag ≡ 3 → ⊥) → (tag ≡ 4 → ⊥) → commandOf tag p ≡ none
+  pub commandOf-other :
+      (tag ≡ 1 → ⊥) → (tag ≡ 2 → ⊥) → (tag ≡ 3 → ⊥) → (tag ≡ 4 → ⊥) → (tag ≡ 5 → ⊥) → commandOf tag p ≡ none
   unfolding commandOf
-  commandOf-other a b c d = simp (ne-eqb tag 1 a, ne-eqb tag 2 b, ne-eqb tag 3 c, ne-eqb tag 4 d)
+  commandOf-other a b c d e = simp (ne-eqb tag 1 a, ne-eqb tag 2 b, ne-eqb tag 3 c, ne-eqb tag 4 d, ne-eqb tag 5 e)
 
 module _ (p : List ℕ) where
   pub commandOf-scan :
@@ -78,6 +84,14 @@ module _ (p : List ℕ) where
   pub commandOf-many : 1 ≤ numberAt 2 p 8 → mostPairs < numberAt 2 p 8 → commandOf 4 p ≡ none
   unfolding commandOf inRange
   commandOf-many h k = simp (le-leb 1 (numberAt 2 p 8) h, lt-leb (numberAt 2 p 8) mostPairs k)
+
+  pub commandOf-panel : getD p 0 0 < panels → commandOf 5 p ≡ some (Panel (getD p 0 0))
+  unfolding commandOf
+  commandOf-panel h = simp (lt-ltb (getD p 0 0) panels h)
+
+  pub commandOf-no-panel : panels ≤ getD p 0 0 → commandOf 5 p ≡ none
+  unfolding commandOf
+  commandOf-no-panel h = simp (le-ltb (getD p 0 0) panels h)
 
 -- The scan that was read number by number.
 pub scan-step :
@@ -124,28 +138,51 @@ payload-may s at tag start end e =
     length-part s start (end - start) (omega (arith, b .first, b .last, b .within)) ∙ omega (arith, b .first, b .last) in
     ap (λ (k : ℕ). allowed (lengthOf tag) k) n ∙ b .may
 
--- The command at a place ends further on, within the bytes.
-onward-commandOf :
-    (s : List ℕ) (at end tag : ℕ) (p : List ℕ) → at < end → end ≤ length s → Onward s at (stepAs end (commandOf tag p))
+-- What holds of no command, and of each command that a payload may say under its tag, holds of the one that it says.
+pub commandOf-each :
+    (P : Option Command → Type 0) (tag : ℕ) (p : List ℕ) → P none →
+    (tag ≡ 1 → P (some (Get (numberAt 4 p 0)))) →
+    (tag ≡ 2 → P (some (Put (numberAt 4 p 0) (numberAt 4 p 4)))) →
+    (tag ≡ 3 → P (some (Delete (numberAt 4 p 0)))) →
+    (tag ≡ 4 → (1 ≤ numberAt 2 p 8) × (numberAt 2 p 8 ≤ mostPairs) → P (some (Scan (numberAt 4 p 0) (numberAt 4 p 4) (numberAt 2 p 8)))) →
+    (tag ≡ 5 → getD p 0 0 < panels → P (some (Panel (getD p 0 0)))) → P (commandOf tag p)
 unfolding commandOf inRange
-onward-commandOf s at end tag p h k =
-    go (eqb tag 1) (eqb tag 2) (eqb tag 3) (eqb tag 4 && (leb 1 (numberAt 2 p 8) && leb (numberAt 2 p 8) mostPairs)) refl
+commandOf-each P tag p nothing get put delete scan panel =
+    go (eqb tag 1) refl (eqb tag 2) refl (eqb tag 3) refl (eqb tag 4 && asked) refl (eqb tag 5 && ltb (getD p 0 0) panels) refl
   where
-    go :
-        (a b c d : Bool) → (eqb tag 4 && (leb 1 (numberAt 2 p 8) && leb (numberAt 2 p 8) mostPairs)) ≡ d →
-        Onward s at
-        (stepAs end
+    most : ℕ
+    most = numberAt 2 p 8
+
+    asked : Bool
+    asked = leb 1 most && leb most mostPairs
+
+    go : (a : Bool) → eqb tag 1 ≡ a → (b : Bool) → eqb tag 2 ≡ b → (c : Bool) → eqb tag 3 ≡ c → (d : Bool) → (eqb tag 4 && asked) ≡ d →
+        (e : Bool) → (eqb tag 5 && ltb (getD p 0 0) panels) ≡ e →
+        P
         (choose a (some (Get (numberAt 4 p 0)))
         (choose b (some (Put (numberAt 4 p 0) (numberAt 4 p 4)))
         (choose c (some (Delete (numberAt 4 p 0)))
-        (choose d (some (Scan (numberAt 4 p 0) (numberAt 4 p 4) (numberAt 2 p 8))) none)))))
-    go true b c d e = (h, k, tt)
-    go false true c d e = (h, k, tt)
-    go false false true d e = (h, k, tt)
-    go false false false true e =
-        let r = and-right (eqb tag 4) (leb 1 (numberAt 2 p 8) && leb (numberAt 2 p 8) mostPairs) e in
-        (h, k, leb-true (numberAt 2 p 8) mostPairs (and-right (leb 1 (numberAt 2 p 8)) (leb (numberAt 2 p 8) mostPairs) r))
-    go false false false false e = tt
+        (choose d (some (Scan (numberAt 4 p 0) (numberAt 4 p 4) (numberAt 2 p 8)))
+        (choose e (some (Panel (getD p 0 0))) none)))))
+    go true h b i c j d k e l = get (eqb-true tag 1 h)
+    go false h true i c j d k e l = put (eqb-true tag 2 i)
+    go false h false i true j d k e l = delete (eqb-true tag 3 j)
+    go false h false i false j true k e l =
+        let r = and-right (eqb tag 4) asked k in
+        scan (eqb-true tag 4 (and-left (eqb tag 4) asked k)) (
+          leb-true 1 most (and-left (leb 1 most) (leb most mostPairs) r),
+          leb-true most mostPairs (and-right (leb 1 most) (leb most mostPairs) r),
+        )
+    go false h false i false j false k true l =
+        panel (eqb-true tag 5 (and-left (eqb tag 5) (ltb (getD p 0 0) panels) l)) (ltb-true (getD p 0 0) panels (and-right (eqb tag 5) (ltb (getD p 0 0) panels) l))
+    go false h false i false j false k false l = nothing
+
+-- The command at a place ends further on, within the bytes.
+onward-commandOf :
+    (s : List ℕ) (at end tag : ℕ) (p : List ℕ) → at < end → end ≤ length s → Onward s at (stepAs end (commandOf tag p))
+onward-commandOf s at end tag p h k =
+    commandOf-each (λ (o : Option Command). Onward s at (stepAs end o)) tag p tt (λ e. (h, k, tt)) (λ e. (h, k, tt)) (λ e. (h, k, tt)) (λ e r. (h, k, r))
+    (λ e r. (h, k, r))
 
 pub commandAt-onward : (s : List ℕ) (at : ℕ) → Onward s at (commandAt s at)
 unfolding commandAt

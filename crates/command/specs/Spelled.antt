@@ -10,26 +10,27 @@ use lib.ListN.{length, length-append}
 use Rattle.laws.specs.Every.{Every, none as every-none, both}
 use Rattle.laws.specs.Lay.{part, length-part, part-append, part-front, part-whole}
 use Rattle.laws.specs.BigEndian.{bigEndian, number, numberAt, number-bigEndian, length-bigEndian}
-use Rattle.layout.specs.Layout.{mostBatchBytes, bound32, mostPairs}
+use Rattle.layout.specs.Layout.{mostBatchBytes, bound32, mostPairs, panels}
 use Rattle.wire.specs.Tag.{lengthOf, allowed, find, rows}
 use Rattle.wire.specs.Field.{field, fieldAt, payloadOf, payloadAt, isPayload, standsAt}
 use Rattle.wire.specs.FieldLaws.{stands-is, standsAt-field, payloadAt-field, length-field}
 use Rattle.wire.specs.declared.field.Field.{Field}
 use Rattle.wire.specs.declared.field.Field.the-variants.{Payload, Missing, Foreign, Overlong}
 use Rattle.command.specs.declared.Command.{Command}
-use Rattle.command.specs.declared.Command.the-variants.{Get, Put, Delete, Scan}
+use Rattle.command.specs.declared.Command.the-variants.{Get, Put, Delete, Scan, Panel}
 use Rattle.command.specs.declared.Step.the-variants.{Next}
 use Rattle.command.specs.Command.{commandBytes, commandOf, stepAs, fieldStep, commandAt}
-use Rattle.command.specs.CommandLaws.{field-bounds, commandOf-get, commandOf-put, commandOf-delete, commandOf-scan}
+use Rattle.command.specs.CommandLaws.{field-bounds, commandOf-get, commandOf-put, commandOf-delete, commandOf-scan, commandOf-panel}
 use Rattle.command.specs.Batch.{before, commandsFrom, commandsOf}
 use Rattle.command.specs.BatchLaws.{commandsFrom-end, commandsFrom-next, commandsOf-short}
 
--- Numbers of a command are 32-bit numbers, and a sweep's most is from 1 to 32.
+-- Keys, values and bounds are 32-bit numbers, a sweep's most is from 1 to 32, a panel from 0 to 15.
 abbrev pub Valid : Command → Type 0
 Valid (Get k) = k < bound32
 Valid (Put k v) = (k < bound32) × (v < bound32)
 Valid (Delete k) = k < bound32
 Valid (Scan low high most) = (low < bound32) × (high < bound32) × (1 ≤ most) × (most ≤ mostPairs)
+Valid (Panel panel) = panel < panels
 
 abbrev pub batchBytes : List Command → List ℕ
 batchBytes [] = []
@@ -41,12 +42,14 @@ tagOf (Get k) = 0x01
 tagOf (Put k v) = 0x02
 tagOf (Delete k) = 0x03
 tagOf (Scan low high most) = 0x04
+tagOf (Panel panel) = 0x05
 
 abbrev valuesOf : Command → List ℕ
 valuesOf (Get k) = bigEndian 4 k
 valuesOf (Put k v) = bigEndian 4 k ++ bigEndian 4 v
 valuesOf (Delete k) = bigEndian 4 k
 valuesOf (Scan low high most) = bigEndian 4 low ++ (bigEndian 4 high ++ bigEndian 2 most)
+valuesOf (Panel panel) = panel ∷ []
 
 bytes-field : (c : Command) → commandBytes c ≡ field (tagOf c) (valuesOf c)
 unfolding commandBytes
@@ -54,6 +57,7 @@ bytes-field (Get k) = refl
 bytes-field (Put k v) = refl
 bytes-field (Delete k) = refl
 bytes-field (Scan low high most) = refl
+bytes-field (Panel panel) = refl
 
 values-may : (c : Command) → allowed (lengthOf (tagOf c)) (length (valuesOf c)) ≡ true
 unfolding lengthOf find rows
@@ -61,12 +65,14 @@ values-may (Get k) = refl
 values-may (Put k v) = refl
 values-may (Delete k) = refl
 values-may (Scan low high most) = refl
+values-may (Panel panel) = refl
 
 values-short : (c : Command) → length (valuesOf c) < 256 ^ 2
 values-short (Get k) = omega arith
 values-short (Put k v) = omega arith
 values-short (Delete k) = omega arith
 values-short (Scan low high most) = omega arith
+values-short (Panel panel) = omega arith
 
 -- numbers read back from a payload
 number-front : (w v : ℕ) (rest : List ℕ) → v < 256 ^ w → numberAt w (bigEndian w v ++ rest) 0 ≡ v
@@ -102,6 +108,7 @@ values-command (Scan low high most) h =
     commandOf-scan p (omega (arith, h .2)) (omega (arith, h .3)) ∙
     ap₂ (λ (x y : ℕ). some (Scan x y (numberAt 2 p 8))) (number-front 4 low (bigEndian 4 high ++ bigEndian 2 most) (h .0)) second ∙
     ap (λ (z : ℕ). some (Scan low high z)) third
+values-command (Panel panel) h = commandOf-panel (panel ∷ []) h
 
 -- the command where a field stands
 command-stands :

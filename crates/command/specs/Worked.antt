@@ -1,4 +1,4 @@
--- Worked batches and answers of document 01, computed, and the longest batch there is. Assumes nothing.
+-- Worked batches and answers of the documents, computed, and the longest batches there are. Assumes nothing.
 use mathlib.Core.Path.{_≡_, refl}
 use mathlib.Core.List.{List, [], _∷_, _++_, map}
 use mathlib.Core.Option.{none, some}
@@ -11,7 +11,7 @@ use Rattle.laws.specs.BigEndian.{numberAt}
 use Rattle.wire.specs.Tag.{lengthOf, find, rows, isNodeBytes}
 use Rattle.wire.specs.Field.{field, fieldAt}
 use Rattle.command.specs.declared.Command.{Command}
-use Rattle.command.specs.declared.Command.the-variants.{Get, Put, Delete}
+use Rattle.command.specs.declared.Command.the-variants.{Get, Put, Delete, Panel}
 use Rattle.command.specs.declared.Answer.the-variants.{Absent, Got, Replaced, Deleted, Refused}
 use Rattle.command.specs.declared.Asked.the-variants.{Bytes, Invalid}
 use Rattle.command.specs.Command.{inRange, commandBytes, commandOf, commandAt}
@@ -54,6 +54,21 @@ pub worked-room :
 unfolding workedBatch sweepBatch askedOf commandsOf commandsFrom run commandAt commandOf inRange fieldAt lengthOf find rows isNodeBytes numberAt part
 worked-room = refl
 
+-- Document 02, P2: panels 0, 15 and 16; a length off by one, both ways; a payload cut short; a panel behind a look up, which alone asks for room.
+pub worked-panels :
+    map askedOf
+    ((0x05 ∷ 0 ∷ 1 ∷ 0 ∷ []) ∷
+    (0x05 ∷ 0 ∷ 1 ∷ 15 ∷ []) ∷
+    (0x05 ∷ 0 ∷ 1 ∷ 16 ∷ []) ∷
+    (0x05 ∷ 0 ∷ 2 ∷ 0 ∷ 0 ∷ []) ∷
+    (0x05 ∷ 0 ∷ 0 ∷ []) ∷
+    (0x05 ∷ 0 ∷ 1 ∷ []) ∷
+    (0x01 ∷ 0 ∷ 4 ∷ 0 ∷ 0 ∷ 0 ∷ 7 ∷ 0x05 ∷ 0 ∷ 1 ∷ 9 ∷ []) ∷
+    []) ≡
+    Bytes 0 ∷ Bytes 0 ∷ Invalid ∷ Invalid ∷ Invalid ∷ Invalid ∷ Bytes 7 ∷ []
+unfolding askedOf commandsOf commandsFrom run commandAt commandOf inRange fieldAt lengthOf find rows isNodeBytes numberAt part
+worked-panels = refl
+
 -- The answers of the worked output, a refusal with 9, and the sweep 9 to 3.
 pub worked-answers :
     map answerBytes (Absent ∷ Got 100 ∷ Replaced 100 ∷ Deleted 100 ∷ Refused 9 ∷ []) ≡
@@ -91,6 +106,18 @@ worked-length = refl
 
 pub worked-longest : commandsOf (batchBytes longest) ≡ some longest
 worked-longest = commandsOf-batchBytes longest valid (omega (arith, worked-length))
+
+-- 8,192 panels have 8,192 × 4 = 32,768 bytes too, and are as many commands as a batch can have.
+pub manyPanels : List Command
+manyPanels = replicate 8192 (Panel 7)
+
+pub worked-many-length : length (batchBytes manyPanels) ≡ 32768
+unfolding manyPanels commandBytes field
+worked-many-length = refl
+
+pub worked-many : commandsOf (batchBytes manyPanels) ≡ some manyPanels
+unfolding manyPanels
+worked-many = commandsOf-batchBytes manyPanels (every-replicate 8192 (Panel 7) (omega arith)) (omega (arith, worked-many-length))
 
 -- One byte more is not read, whatever it holds.
 pub worked-too-long : (s : List ℕ) → length s ≡ 32769 → commandsOf s ≡ none

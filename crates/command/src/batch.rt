@@ -9,10 +9,12 @@ use crate::Asked;
 use crate::Command;
 use crate::Step;
 use layout::MOST_BATCH_BYTES;
+use layout::PANELS;
 use wire::field::Field;
 use wire::field::field_at;
 use wire::number::read16;
 use wire::number::read32;
+use wire::number::read8;
 
 // The scan of a payload, where its most is in range.
 fn scan_of(p: &[u8], next: usize) -> Step
@@ -29,6 +31,19 @@ fn scan_of(p: &[u8], next: usize) -> Step
         return Step::Invalid;
     }
     let command = Command::Scan { low, high, most };
+    Step::Next { command, next }
+}
+
+// The panel of a payload, where there is such a panel.
+fn panel_of(p: &[u8], next: usize) -> Step
+    requires { ⌜ length (now p) ≡ 1 ⌝ }
+    ensures { λ r. ⌜ r ≡ stepAs next (commandOf 5 (now (p .entry))) ⌝ }
+{
+    let panel = read8(p, 0) as usize;
+    if PANELS <= panel {
+        return Step::Invalid;
+    }
+    let command = Command::Panel { panel };
     Step::Next { command, next }
 }
 
@@ -55,6 +70,9 @@ fn command_of(tag: u8, p: &[u8], next: usize) -> Step
     }
     if tag == 4 {
         return scan_of(p, next);
+    }
+    if tag == 5 {
+        return panel_of(p, next);
     }
     Step::Invalid
 }
@@ -89,6 +107,7 @@ pub fn room_for(command: Command) -> usize
             high: _,
             most,
         } => 3 + 8 * (most as usize),
+        Command::Panel { panel: _ } => 0,
     }
 }
 

@@ -2,12 +2,13 @@
 pub mod answers;
 pub mod batch;
 
-// What a caller may ask: document 01's look up, hang, strip and sweep.
+// What a caller may ask: document 01's look up, hang, strip and sweep; and which panel speaks from here on (document 02, P2).
 pub enum Command {
     Get { key: u32 },
     Put { key: u32, value: u32 },
     Delete { key: u32 },
     Scan { low: u32, high: u32, most: u32 },
+    Panel { panel: usize },
 }
 
 // What stands at a place of a batch: a command, with the place behind it, or no valid command.

@@ -1,10 +1,12 @@
--- A table as a function from numbers: changed at one number, and sums over its first entries. Assumes nothing.
+-- A table as a function from numbers: changed at one number, its first entries as a list, and sums over these. Assumes nothing.
 use mathlib.Core.Path.{_≡_, refl, ap, ap₂}
 use mathlib.Core.Logic.{_⊎_, inl, inr}
+use mathlib.Core.List.{List, [], _∷_}
 use Prim.Native.Nat.{ℕ, zero, suc, _+_, _<_}
 use native.Mathlib.Omega.{arith}
 use borrow.Author.Tests.{eq-eqb, ne-eqb}
 use lib.Dec.{eqb}
+use lib.ListN.{length, getD}
 use Rattle.laws.specs.Tests.{choose}
 use Rattle.laws.specs.Order.{eq-or}
 
@@ -42,3 +44,61 @@ sumBelow-change (suc n) f g k l h = go (eq-or n k) (λ m. sumBelow-change n f g 
     go : (n ≡ k) ⊎ (n ≡ k → ⊥) → (k < n → sumBelow n g + f k ≡ sumBelow n f + g k) → sumBelow (suc n) g + f k ≡ sumBelow (suc n) f + g k
     go (inl e) r = omega (arith, sumBelow-ext n g f (λ i q. h i (λ z. omega arith)), ap f e, ap g e)
     go (inr e) r = omega (arith, r (omega arith), h n e)
+
+-- The first entries as a list.
+abbrev pub entries : {A : Type 0} → ℕ → (ℕ → A) → List A
+entries zero f = []
+entries (suc n) f = f 0 ∷ entries n (λ i. f (suc i))
+
+pub length-entries : {A : Type 0} (n : ℕ) (f : ℕ → A) → length (entries n f) ≡ n
+length-entries zero f = refl
+length-entries (suc n) f = ap suc (length-entries n (λ i. f (suc i)))
+
+pub entry-at : {A : Type 0} (n : ℕ) (f : ℕ → A) (i : ℕ) (d : A) → i < n → getD (entries n f) i d ≡ f i
+entry-at zero f i d l = absurd (omega arith)
+entry-at (suc n) f zero d l = refl
+entry-at (suc n) f (suc i) d l = entry-at n (λ j. f (suc j)) i d (omega arith)
+
+-- A list that has the first entries at its places is their list.
+pub entries-are : {A : Type 0} (xs : List A) (n : ℕ) (f : ℕ → A) (d : A) → length xs ≡ n → ((i : ℕ) → i < n → getD xs i d ≡ f i) → xs ≡ entries n f
+entries-are [] zero f d e h = refl
+entries-are [] (suc n) f d e h = absurd (omega arith)
+entries-are (x ∷ xs) zero f d e h = absurd (omega arith)
+entries-are {A} (x ∷ xs) (suc n) f d e h =
+    ap₂ {B = List A} _∷_ (h 0 (omega arith)) (entries-are xs n (λ i. f (suc i)) d (omega arith) (λ i l. h (suc i) (omega arith)))
+
+-- The sum of a list; that of the first entries.
+abbrev pub sum : List ℕ → ℕ
+sum [] = 0
+sum (n ∷ ns) = n + sum ns
+
+sumBelow-first : (n : ℕ) (f : ℕ → ℕ) → sumBelow (suc n) f ≡ f 0 + sumBelow n (λ i. f (suc i))
+sumBelow-first zero f = omega arith
+sumBelow-first (suc n) f = omega (arith, sumBelow-first n f)
+
+pub sum-entries : (n : ℕ) (f : ℕ → ℕ) → sum (entries n f) ≡ sumBelow n f
+sum-entries zero f = refl
+sum-entries (suc n) f = omega (arith, sum-entries n (λ i. f (suc i)), sumBelow-first n f)
+
+-- A table with one entry, and nothing beside it.
+abbrev pub only : ℕ → ℕ → ℕ → ℕ
+only n amount i = choose (eqb i n) amount 0
+
+pub only-same : (n amount i : ℕ) → i ≡ n → only n amount i ≡ amount
+only-same n amount i e = rw (eq-eqb i n e) refl
+
+pub only-other : (n amount i : ℕ) → (i ≡ n → ⊥) → only n amount i ≡ 0
+only-other n amount i e = rw (ne-eqb i n e) refl
+
+sum-none : (n : ℕ) → sumBelow n (λ i. 0) ≡ 0
+sum-none zero = refl
+sum-none (suc n) = omega (arith, sum-none n)
+
+pub sum-only : (n k amount : ℕ) → k < n → sumBelow n (only k amount) ≡ amount
+sum-only n k amount l =
+    omega (
+      arith,
+      sumBelow-change n (λ i. 0) (only k amount) k l (λ i e. only-other k amount i e),
+      sum-none n,
+      only-same k amount k refl,
+    )

@@ -1,4 +1,4 @@
--- Every size and limit of document 01, named once. Assumes nothing.
+-- Every size and limit of the two documents, named once. Assumes nothing.
 use Prim.Native.Nat.{ℕ, _+_, _-_, _*_}
 
 -- Pool: B blocks of 16,384 bytes, B from 4 to 64; a page has 512 bytes.
@@ -49,6 +49,10 @@ mostBatchBytes = 32768
 -- A scan answers 1 to 32 pairs at most.
 abbrev pub mostPairs : ℕ
 mostPairs = 32
+
+-- "A wall has up to 16 panels" (document 02, P2).
+abbrev pub panels : ℕ
+panels = 16
 
 -- A node has 0 to 24 keys; the first 12 stay in a split.
 abbrev pub mostKeys : ℕ

@@ -1,4 +1,4 @@
-// Every size and limit of document 01, for code; specs/Layout.antt names the same for contracts.
+// Every size and limit of the two documents, for code; specs/Layout.antt names the same for contracts.
 ghost use mathlib.Core.Path.{_≡_};
 ghost use Prim.Native.Nat.{_≤_};
 ghost use Rattle.layout.specs.Blocks.{blocksIf};
@@ -63,10 +63,12 @@ pub const SCORES_LESS: usize = OTHER_SCORES - FIRST_SCORES;
 
 pub const SCORES_ROUND_UP: usize = SCORES_LESS + OTHER_SCORES - 1;
 
-// A batch, a scan, and the sequence numbers with which a pool opens.
+// A batch, a scan, the panels of a wall, and the sequence numbers with which a pool opens.
 pub const MOST_BATCH_BYTES: usize = 32768;
 
 pub const MOST_PAIRS: usize = 32;
+
+pub const PANELS: usize = 16;
 
 pub const LAST_SEQUENCE: u32 = 4000000000;
 

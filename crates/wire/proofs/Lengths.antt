@@ -1,4 +1,4 @@
--- The tag table's rule: every byte of the code's table stands for the length that document 01 gives its tag. Assumes nothing.
+-- The tag table's rule: every byte of the code's table stands for the length that the documents give its tag. Assumes nothing.
 use mathlib.Core.Path.{_≡_, refl, ap}
 use mathlib.Core.Bool.{Bool, true, false}
 use mathlib.Core.List.{List}
@@ -51,6 +51,7 @@ lengthOf-high tag h = simp (
   ne-eqb tag 0x02 (omega arith),
   ne-eqb tag 0x03 (omega arith),
   ne-eqb tag 0x04 (omega arith),
+  ne-eqb tag 0x05 (omega arith),
   ne-eqb tag 0x10 (omega arith),
   ne-eqb tag 0x11 (omega arith),
   ne-eqb tag 0x12 (omega arith),

@@ -1,5 +1,5 @@
--- The tags of commands and page fields and the payload length of each (document 01, "Commands and answers" and "Pages").
--- Assumes nothing.
+-- The tags of commands and page fields and the payload length of each (document 01, "Commands and answers" and "Pages";
+-- document 02, P2). Assumes nothing.
 use mathlib.Core.Bool.{Bool, false, _&&_}
 use mathlib.Core.List.{List, [], _∷_}
 use Prim.Native.Nat.{ℕ, _+_, _*_, _%_}
@@ -9,7 +9,7 @@ use Rattle.layout.specs.Layout.{mostKeys}
 use Rattle.wire.specs.declared.tag.Length.{Length}
 use Rattle.wire.specs.declared.tag.Length.the-variants.{Exact, Node, Unknown}
 
--- A row of document 01: a tag and its length.
+-- A row of the documents: a tag and its length.
 pub record Row : Type 0 where
   pub tag : ℕ
   pub bytes : Length
@@ -17,13 +17,14 @@ pub record Row : Type 0 where
 abbrev row : ℕ → Length → Row
 row t l = record { tag = t; bytes = l }
 
--- Commands: look up, hang, strip, sweep. Page fields: stamp, disk page, log entry, tariff, score, node count, sums.
+-- Commands: look up, hang, strip, sweep; panel. Page fields: stamp, disk page, log entry, tariff, score, node count, sums.
 unfoldable pub rows : List Row
 rows =
     row 0x01 (Exact 4) ∷
     row 0x02 (Exact 8) ∷
     row 0x03 (Exact 4) ∷
     row 0x04 (Exact 10) ∷
+    row 0x05 (Exact 1) ∷
     row 0x10 (Exact 4) ∷
     row 0x11 Node ∷
     row 0x12 (Exact 15) ∷

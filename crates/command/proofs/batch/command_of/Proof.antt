@@ -5,8 +5,8 @@ use native.Mathlib.Omega.{arith}
 use Rattle.command.specs.declared.Command.the-variants.{Get, Put, Delete}
 use Rattle.command.specs.declared.Step.the-variants.{Next}
 use Rattle.command.specs.Command.{commandOf, stepAs}
-use Rattle.command.specs.CommandLaws.{payload-get, payload-put, payload-delete, payload-scan, commandOf-get, commandOf-put, commandOf-delete}
-use Rattle.command.specs.CommandLaws.{commandOf-other}
+use Rattle.command.specs.CommandLaws.{payload-get, payload-put, payload-delete, payload-scan, payload-panel, commandOf-get, commandOf-put}
+use Rattle.command.specs.CommandLaws.{commandOf-delete, commandOf-other}
 use Rattle.command.proofs.batch.command_of.Statement.{statement}
 use Rattle.command.proofs.batch.command_of.Tie as tie
 
@@ -48,16 +48,24 @@ returns-4 c =
     let a = c .before .before .before .before .before .before .args in
     c .scan-of .ensures ∙ ap (λ (t : ℕ). stepAs (a .next) (commandOf t (a .p .now))) (sym (c .before .if4 .taken))
 
+panel-of-requires : tie.Need-panel-of-requires
+panel-of-requires c κs = payload-panel _ _ (c .before .before .before .before .before .before .pre) (c .if5 .taken)
+
 returns-5 : tie.Need-returns-5
 returns-5 c =
+    let a = c .before .before .before .before .before .before .before .args in
+    c .panel-of .ensures ∙ ap (λ (t : ℕ). stepAs (a .next) (commandOf t (a .p .now))) (sym (c .before .if5 .taken))
+
+returns-6 : tie.Need-returns-6
+returns-6 c =
     let c1 = c .before in
     let c2 = c1 .before in
     let c3 = c2 .before in
-    let c5 = c3 .before .before in
-    let a = c5 .args in
+    let c4 = c3 .before in
+    let a = c4 .before .before .args in
     sym
     (ap (stepAs (a .next))
-    (commandOf-other (a .tag) (a .p .now) (c3 .if1 .left) (c2 .if2 .left) (c1 .if3 .left) (c .if4 .left)))
+    (commandOf-other (a .tag) (a .p .now) (c4 .if1 .left) (c3 .if2 .left) (c2 .if3 .left) (c1 .if4 .left) (c .if5 .left)))
 
 pub command-of-spec : {M : Type 1} → statement M
 command-of-spec =
@@ -72,4 +80,6 @@ command-of-spec =
     returns-3
     scan-of-requires
     returns-4
-    returns-5)
+    panel-of-requires
+    returns-5
+    returns-6)

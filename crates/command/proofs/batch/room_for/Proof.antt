@@ -15,6 +15,9 @@ enum-told-2 c = search needs
 enum-told-3 : tie.Need-enum-told-3
 enum-told-3 c = search needs
 
+enum-told-4 : tie.Need-enum-told-4
+enum-told-4 c = search needs
+
 enum-known-command : tie.Need-enum-known-command
 enum-known-command c = search needs
 
@@ -39,6 +42,9 @@ returns-3 c = search needs
 returns-4 : tie.Need-returns-4
 returns-4 c = sym (ap roomFor (c .before .command .given .1))
 
+returns-5 : tie.Need-returns-5
+returns-5 c = search needs
+
 pub room-for-spec : {M : Type 1} → statement M
 room-for-spec =
     tie.close
@@ -50,7 +56,9 @@ room-for-spec =
     cast-result
     mul-result
     add-result
+    enum-told-4
     returns
     returns-2
     returns-3
-    returns-4)
+    returns-4
+    returns-5)

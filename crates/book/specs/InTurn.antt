@@ -1,0 +1,39 @@
+-- The commands of a batch in turn, over any kind of book B: the reference model's, the run's over the flash store, the code's. Each command finds the
+-- session and the book that those before it left. Assumes nothing.
+use mathlib.Core.List.{List, [], _∷_, _++_}
+use Prim.Native.Nat.{ℕ, _+_}
+use Rattle.laws.specs.Update.{entries, only}
+use Rattle.layout.specs.Layout.{panels}
+use Rattle.command.specs.declared.Command.{Command}
+use Rattle.book.specs.Command.{Reply}
+use Rattle.book.specs.Session.{Session, sessionAfter}
+
+-- One number for each panel, 0 to 15; and nothing charged to any.
+unfoldable pub eachPanel : (ℕ → ℕ) → List ℕ
+eachPanel f = entries panels f
+
+abbrev pub noCharges : List ℕ
+noCharges = eachPanel (λ q. 0)
+
+-- What a command is answered on such a book, and the book after it.
+module _ {B : Type 0} (reply : Command → B → Reply) (done : Command → B → B) where
+  -- After all: the book.
+  abbrev pub afterAll : List Command → Session → B → B
+  afterAll [] n b = b
+  afterAll (c ∷ cs) n b = afterAll cs (sessionAfter c (reply c b) n) (done c b)
+
+  -- What each is answered.
+  abbrev pub repliesTo : List Command → Session → B → List Reply
+  repliesTo [] n b = []
+  repliesTo (c ∷ cs) n b = reply c b ∷ repliesTo cs (sessionAfter c (reply c b) n) (done c b)
+
+  -- What each gives, all in a row.
+  abbrev pub inRow : {A : Type 0} → (Command → B → List A) → List Command → Session → B → List A
+  inRow give [] n b = []
+  inRow give (c ∷ cs) n b = give c b ++ inRow give cs (sessionAfter c (reply c b) n) (done c b)
+
+  -- Document 02, P2: what panel q is charged, "that of the panel's own commands": what each costs is the charge of the panel that speaks, and of
+  -- no other.
+  abbrev pub chargeOn : (Command → B → ℕ) → ℕ → List Command → Session → B → ℕ
+  chargeOn cost q [] n b = 0
+  chargeOn cost q (c ∷ cs) n b = only (n .panel) (cost c b) q + chargeOn cost q cs (sessionAfter c (reply c b) n) (done c b)
