@@ -32,6 +32,11 @@ module _ {B : Type 0} (reply : Command → B → Reply) (done : Command → B �
   inRow give [] n b = []
   inRow give (c ∷ cs) n b = give c b ++ inRow give cs (sessionAfter c (reply c b) n) (done c b)
 
+  -- What all cost together.
+  abbrev pub total : (Command → B → ℕ) → List Command → Session → B → ℕ
+  total cost [] n b = 0
+  total cost (c ∷ cs) n b = cost c b + total cost cs (sessionAfter c (reply c b) n) (done c b)
+
   -- Document 02, P2: what panel q is charged, "that of the panel's own commands": what each costs is the charge of the panel that speaks, and of
   -- no other.
   abbrev pub chargeOn : (Command → B → ℕ) → ℕ → List Command → Session → B → ℕ

@@ -7,3 +7,4 @@ pub mod PanelLaws
 pub mod OrderedMap
 pub mod Schedule
 pub mod Bound
+pub mod Worked

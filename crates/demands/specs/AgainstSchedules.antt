@@ -1,8 +1,9 @@
 -- Against schedules, from a pool that stands as prepare leaves it: the charges of a whole list of calls beside what any schedule pays for the same
 -- node requests. Assumes nothing.
-use mathlib.Core.Path.{_≡_, refl, ap, _∙_}
+use mathlib.Core.Path.{refl}
 use mathlib.Core.List.{List, [], map}
 use Prim.Native.Nat.{ℕ, _+_, _-_, _*_, _≤_}
+use Rattle.laws.specs.Update.{sum}
 use Rattle.layout.specs.Layout.{nodeLimit}
 use Rattle.account.specs.declared.Mode.the-variants.{Log, Disk}
 use Rattle.account.specs.declared.Tariff.{Tariff}
@@ -10,14 +11,13 @@ use Rattle.account.specs.Tariff.{switchTo}
 use Rattle.account.specs.Range.{limit-some}
 use Rattle.account.specs.Schedule.{Schedule}
 use Rattle.tree.specs.NodeRequest.{NodeRequest}
-use Rattle.book.specs.Book as Book
 use Rattle.book.specs.Schedule.{paid}
 use Rattle.book.specs.Bound.{charges-sharp, charges-bound}
 use Rattle.model.specs.Prepare.{firstBook}
-use Rattle.model.specs.Call.{blocksOf}
-use Rattle.model.specs.Calls.{Lent, outcomes, fed, lastBook, allRequests, sum}
+use Rattle.model.specs.Call.{charge, blocksOf}
+use Rattle.model.specs.Calls.{Lent, outcomes, fed, lastBook, allRequests}
 use Rattle.demands.specs.OneCall.{OpenPool}
-use Rattle.demands.specs.AllCalls.{OfBytes, charge, AllCalled, all-called}
+use Rattle.demands.specs.AllCalls.{OfBytes, AllCalled, all-called}
 
 module _ {t : Tariff} (pool : List ℕ) (o : OpenPool t pool firstBook []) (ls : List Lent) (bytes : OfBytes ls) (plan : Schedule) where
   abbrev asked : List NodeRequest
@@ -29,15 +29,12 @@ module _ {t : Tariff} (pool : List ℕ) (o : OpenPool t pool firstBook []) (ls :
   d : AllCalled t pool ls firstBook []
   d = all-called ls pool firstBook [] bytes o
 
-  paid-total : sum (map charge (outcomes pool ls)) ≡ Book.charges t asked firstBook
-  paid-total = ap sum (d .charges) ∙ d .total
-
   pub bound-sharp : sum (map charge (outcomes pool ls)) ≤ 3 * paid t plan asked 1 + (switchTo t Log - switchTo t Disk) * nodes
   bound-sharp =
-      rw paid-total
+      rw (d .total)
       (charges-sharp (nodeLimit (blocksOf pool)) t (limit-some (o .ready .ranged)) plan asked firstBook nodes (d .fits) (λ n l. refl))
 
   pub bound : sum (map charge (outcomes pool ls)) ≤ 3 * paid t plan asked 1 + switchTo t Log * nodes
   bound =
-      rw paid-total
+      rw (d .total)
       (charges-bound (nodeLimit (blocksOf pool)) t (limit-some (o .ready .ranged)) plan asked firstBook nodes (d .fits) (λ n l. refl))

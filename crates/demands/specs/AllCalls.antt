@@ -8,6 +8,7 @@ use native.Mathlib.Omega.{arith}
 use Rattle.laws.specs.Every.{Every, both, every-append}
 use Rattle.laws.specs.Every as Every
 use Rattle.laws.specs.BigEndian.{Bytes}
+use Rattle.laws.specs.Update.{sum}
 use Rattle.layout.specs.Layout.{nodeLimit, mostLogPages}
 use Rattle.account.specs.declared.Tariff.{Tariff}
 use Rattle.pairs.specs.Pairs.{Pair}
@@ -19,15 +20,16 @@ use Rattle.store.specs.Store.{view}
 use Rattle.store.specs.Reopen.{Cells, reopened}
 use Rattle.book.specs.Book.{Book}
 use Rattle.book.specs.Book as Book
+use Rattle.book.specs.Session.{atFirst}
 use Rattle.book.specs.Batch.{requestsBook}
 use Rattle.book.specs.OrderedMap.{mapRun}
 use Rattle.model.specs.State.{bookOf}
 use Rattle.model.specs.Mount.{stateOf}
 use Rattle.model.specs.Bytes.{cellsOf}
-use Rattle.model.specs.Call.{Outcome, blocksOf}
+use Rattle.model.specs.Call.{Outcome, charge, blocksOf}
 use Rattle.model.specs.Calls.{Lent, outcome, outcomes, answered, laid, bookIn, workOf, statesBy, allStates, allMoments, fed, commandsIn, fedBook}
-use Rattle.model.specs.Calls.{booksAfter, lastBook, allBooks, allCharges, allRequests, mapReplies, mapsAfter, sum}
-use Rattle.demands.specs.Run.{serveAll-table, charges-append, runBook-requests, chargeBook-requests}
+use Rattle.model.specs.Calls.{booksAfter, lastBook, allBooks, allCharges, allRequests, mapReplies, mapsAfter}
+use Rattle.demands.specs.Run.{serveAll-table, charges-append, runBook-requests}
 use Rattle.demands.specs.OneCall.{OpenPool, Thin, bookIn-is, fedOf, called}
 use Rattle.demands.specs.Obeys.{Obeys, stands-obeys}
 
@@ -44,9 +46,6 @@ ThinCells blocks (some c) =
 unfoldable pub ThinPool : List ℕ → Type 0
 ThinPool pool = ThinCells (blocksOf pool) (cellsOf pool)
 
-abbrev pub charge : Outcome → ℕ
-charge o = o .charge
-
 -- Each pool that the calls left obeys the layout and spells the map then.
 abbrev pub Spelled : Tariff → List Outcome → List (List Pair) → Type 0
 Spelled t [] [] = Unit {0}
@@ -55,7 +54,7 @@ Spelled t (o ∷ os) [] = ⊥
 Spelled t (o ∷ os) (ps ∷ pss) = Obeys (o .pool) t ps × Spelled t os pss
 
 pub record AllCalled (t : Tariff) (pool : List ℕ) (ls : List Lent) (b : Book) (ps : List Pair) : Type 0 where
-  pub charges : map charge (outcomes pool ls) ≡ allCharges (blocksOf pool) t (fed pool ls) b
+  pub charges : map (λ (o : Outcome). o .charges) (outcomes pool ls) ≡ allCharges (blocksOf pool) t (fed pool ls) b
   pub requests : map bookOf (allStates pool ls) ≡ allBooks (blocksOf pool) t (fed pool ls) b
   pub calls : map (λ (o : Outcome). bookIn (o .pool)) (outcomes pool ls) ≡ map some (booksAfter (blocksOf pool) t (fed pool ls) b)
   pub thin : Every Thin (allMoments pool ls)
@@ -63,7 +62,7 @@ pub record AllCalled (t : Tariff) (pool : List ℕ) (ls : List Lent) (b : Book) 
   pub answers : map answered (outcomes pool ls) ≡ laid ls (mapReplies (blocksOf pool) t (fed pool ls) b ps)
   pub left : Spelled t (outcomes pool ls) (mapsAfter (blocksOf pool) t (fed pool ls) b ps)
   -- The charges are those of all node requests of the list in a row.
-  pub total : sum (allCharges (blocksOf pool) t (fed pool ls) b) ≡ Book.charges t (allRequests (blocksOf pool) t (fed pool ls) b) b
+  pub total : sum (map charge (outcomes pool ls)) ≡ Book.charges t (allRequests (blocksOf pool) t (fed pool ls) b) b
   pub fits :
       Fits (nodeLimit (blocksOf pool)) (allRequests (blocksOf pool) t (fed pool ls) b) (b .table) (b .count)
       (lastBook (blocksOf pool) t (fed pool ls) b .count)
@@ -92,12 +91,12 @@ module _ {t : Tariff} where
       let next = outcome pool l .pool in
       let cs = commandsIn (fedOf pool l) in
       let b′ = fedBook B t (fedOf pool l) b in
-      let ps′ = mapRun (nodeLimit B) t cs b ps in
+      let ps′ = mapRun (nodeLimit B) t cs atFirst b ps in
       let y = all-called ls next b′ ps′ bytes (x .stands) in
       let e : blocksOf next ≡ B = x .length in
-      let rs = requestsBook (nodeLimit B) t cs b in
+      let rs = requestsBook (nodeLimit B) t cs atFirst b in
       record {
-        charges = ap₂ {B = List ℕ} _∷_ (x .charge) (y .charges ∙ ap (λ (k : ℕ). allCharges k t (fed next ls) b′) e);
+        charges = ap₂ {B = List (List ℕ)} _∷_ (x .charges) (y .charges ∙ ap (λ (k : ℕ). allCharges k t (fed next ls) b′) e);
         requests =
             map-append bookOf (statesBy B (workOf pool l)) (allStates next ls) ∙
             ap₂ {B = List Book} _++_ (x .passed) (y .requests ∙ ap (λ (k : ℕ). allBooks k t (fed next ls) b′) e);
@@ -110,16 +109,15 @@ module _ {t : Tariff} where
         left =
             (stands-obeys (x .stands), subst (λ (k : ℕ). Spelled t (outcomes next ls) (mapsAfter k t (fed next ls) b′ ps′)) e (y .left));
         total =
-            ap₂ _+_ (chargeBook-requests (nodeLimit B) t cs b)
-            (subst
-            (λ (k : ℕ). sum (allCharges k t (fed next ls) b′) ≡ Book.charges t (allRequests k t (fed next ls) b′) b′) e (y .total) ∙
-            ap (Book.charges t (allRequests B t (fed next ls) b′)) (runBook-requests (nodeLimit B) t cs b)) ∙
+            ap₂ _+_ (x .paid)
+            (y .total ∙
+            ap₂ (λ (k : ℕ) (z : Book). Book.charges t (allRequests k t (fed next ls) b′) z) e (runBook-requests (nodeLimit B) t cs atFirst b)) ∙
             sym (charges-append t rs (allRequests B t (fed next ls) b′) b);
         fits =
             fits-append (nodeLimit B) rs (allRequests B t (fed next ls) b′) (b .table) (b .count) (b′ .count)
             (lastBook B t (fed next ls) b′ .count) (x .fits)
             (subst (λ (z : Table). Fits (nodeLimit B) (allRequests B t (fed next ls) b′) z (b′ .count) (lastBook B t (fed next ls) b′ .count))
-            (ap (λ (z : Book). z .table) (runBook-requests (nodeLimit B) t cs b) ∙ serveAll-table t rs b)
+            (ap (λ (z : Book). z .table) (runBook-requests (nodeLimit B) t cs atFirst b) ∙ serveAll-table t rs b)
             (subst
             (λ (k : ℕ). Fits (nodeLimit k) (allRequests k t (fed next ls) b′) (b′ .table) (b′ .count) (lastBook k t (fed next ls) b′ .count)) e
             (y .fits)));

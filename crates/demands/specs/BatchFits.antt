@@ -18,11 +18,12 @@ use Rattle.store_laws.specs.Numbers.{last}
 use Rattle.store_laws.specs.Closing.{close-closed}
 use Rattle.book.specs.Book.{Book}
 use Rattle.book.specs.Command.{mostRequests, requests}
+use Rattle.book.specs.Session.{Session, atFirst, sessionAfter}
 use Rattle.book.specs.Batch.{runBook, requestsBook}
 use Rattle.book.specs.OrderedMap.{mapRun}
 use Rattle.book.specs.Bound.{Scored, scored-all}
 use Rattle.model.specs.State.{State, bookOf}
-use Rattle.model.specs.Batch.{done, run, closed}
+use Rattle.model.specs.Batch.{replyOf, done, run, closed}
 use Rattle.demands.specs.Says.{Sound, bookOf-count, score-is}
 use Rattle.demands.specs.Commands.{Valid, ValidAll, does}
 use Rattle.demands.specs.Run.{Holds, runBook-requests, Batched, batch-batched}
@@ -73,15 +74,15 @@ module _ (blocks : ℕ) (t : Tariff) (small : blocks ≤ mostBlocks) where
       (omega (arith, l, h .most)))
 
   -- THE COMMANDS OF A BATCH
-  pub run-took : (cs : List Command) (s : State) (ps : List Pair) → ValidAll cs → ValuesFit cs → Sound blocks s → Holds nodes (bookOf s) ps →
-      RunFits (s .run) → 1 + (mostNumbers * length cs + last (s .run)) < bound32 → Took (mostNumbers * length cs) (s .run) (run nodes t cs s .run)
-  run-took [] s ps valid values v h fits b = record { fits = fits; number = omega arith }
-  run-took (c ∷ cs) s ps valid values v h fits b =
+  pub run-took : (cs : List Command) (n : Session) (s : State) (ps : List Pair) → ValidAll cs → ValuesFit cs → Sound blocks s → Holds nodes (bookOf s) ps →
+      RunFits (s .run) → 1 + (mostNumbers * length cs + last (s .run)) < bound32 → Took (mostNumbers * length cs) (s .run) (run nodes t cs n s .run)
+  run-took [] n s ps valid values v h fits b = record { fits = fits; number = omega arith }
+  run-took (c ∷ cs) n s ps valid values v h fits b =
       let one = command-took c s ps (valid .0) (values .0) v h fits (omega arith) in
-      let said = batch-batched blocks t (omega arith) (c ∷ []) s ps (valid .0, tt) v h in
-      let pairs = mapRun nodes t (c ∷ []) (bookOf s) ps in
+      let said = batch-batched blocks t (omega arith) (c ∷ []) n s ps (valid .0, tt) v h in
+      let pairs = mapRun nodes t (c ∷ []) n (bookOf s) ps in
       took-then (omega arith) one
-      (run-took cs (done nodes t c s) pairs (valid .1) (values .1) (said .says .sound)
+      (run-took cs (sessionAfter c (replyOf nodes t c s) n) (done nodes t c s) pairs (valid .1) (values .1) (said .says .sound)
       (subst (λ (z : Book). Holds nodes z pairs) (sym (said .says .is)) (said .holds)) (one .fits) (omega (arith, one .number)))
 
 -- THE CHECKPOINT at its end, of a state that says a book whose scores are below the limit T.
@@ -119,19 +120,19 @@ module _ {blocks : ℕ} {t : Tariff} {s : State} {b : Book} {ps : List Pair} (sm
     (fits : RunFits (s .run)) (opens : last (s .run) ≤ lastSequence) (cs : List Command) (valid : ValidAll cs) (values : ValuesFit cs)
     (few : length cs ≤ mostCommands) where
   abbrev after : State
-  after = run (nodeLimit blocks) t cs s
+  after = run (nodeLimit blocks) t cs atFirst s
 
   holds-now : Holds (nodeLimit blocks) (bookOf s) ps
   holds-now = subst (λ (z : Book). Holds (nodeLimit blocks) z ps) (sym (ready .says .is)) (ready .holds)
 
-  batched : Batched blocks t cs s ps
-  batched = batch-batched blocks t (omega arith) cs s ps valid (ready .says .sound) holds-now
+  batched : Batched blocks t cs atFirst s ps
+  batched = batch-batched blocks t (omega arith) cs atFirst s ps valid (ready .says .sound) holds-now
 
   pub sound-after : Sound blocks after
   sound-after = batched .says .sound
 
   took : Took (mostNumbers * length cs) (s .run) (after .run)
-  took = run-took blocks t small cs s ps valid values (ready .says .sound) holds-now fits (omega arith)
+  took = run-took blocks t small cs atFirst s ps valid values (ready .says .sound) holds-now fits (omega arith)
 
   -- before the checkpoint
   pub run-after : AfterBatch s after
@@ -140,14 +141,14 @@ module _ {blocks : ℕ} {t : Tariff} {s : State} {b : Book} {ps : List Pair} (sm
   scored-after : Scored t (bookOf after)
   scored-after =
       let limit = nodeLimit blocks in
-      let rs = requestsBook limit t cs (bookOf s) in
-      subst (Scored t) (sym (batched .says .is ∙ runBook-requests limit t cs (bookOf s)))
-      (scored-all limit t (limit-some (ready .ranged)) rs (bookOf s) (runBook limit t cs (bookOf s) .count)
+      let rs = requestsBook limit t cs atFirst (bookOf s) in
+      subst (Scored t) (sym (batched .says .is ∙ runBook-requests limit t cs atFirst (bookOf s)))
+      (scored-all limit t (limit-some (ready .ranged)) rs (bookOf s) (runBook limit t cs atFirst (bookOf s) .count)
       (subst (Scored t) (sym (ready .says .is)) (ready .scored)) (batched .fits))
 
   closing : Took 13 (after .run) (closed t after .run)
   closing =
-      let pairs = mapRun (nodeLimit blocks) t cs (bookOf s) ps in
+      let pairs = mapRun (nodeLimit blocks) t cs atFirst (bookOf s) ps in
       closed-took blocks t small after pairs sound-after
       (subst (λ (z : Book). Holds (nodeLimit blocks) z pairs) (sym (batched .says .is)) (batched .holds)) (ready .ranged) scored-after
       (took .fits) (omega (arith, took .number))

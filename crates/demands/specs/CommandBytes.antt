@@ -1,15 +1,14 @@
--- The commands that the bytes of a batch spell: keys and values have 32 bits, and each takes three bytes or more, so there are at most 10,922
+-- The commands that the bytes of a batch spell: keys and values have 32 bits, panels are 0 to 15, and each takes three bytes or more, so there are at most 10,922
 -- of them. Assumes nothing.
 use mathlib.Core.Path.{_≡_, refl, ap, _∙_, subst}
-use mathlib.Core.Bool.{Bool, true, false, _&&_}
+use mathlib.Core.Bool.{Bool, true, false}
 use mathlib.Core.List.{List, [], _∷_}
 use mathlib.Core.Option.{Option, none, some}
 use Prim.Native.Nat.{ℕ, zero, suc, _+_, _-_, _*_, _≤_, _<_}
 use native.Mathlib.Omega.{arith}
-use borrow.Author.Tests.{leb-true, eqb-true}
-use lib.Dec.{eqb, leb}
+use borrow.Author.Tests.{leb-true}
+use lib.Dec.{leb}
 use lib.ListN.{length, getD}
-use Rattle.laws.specs.Tests.{choose, and-left}
 use Rattle.laws.specs.Lay.{part, length-part}
 use Rattle.laws.specs.BigEndian.{Bytes, numberAt, numberAt-lt, bytes-part}
 use Rattle.layout.specs.Layout.{mostBatchBytes, bound32}
@@ -18,11 +17,11 @@ use Rattle.wire.specs.Field.{lengthAt, fieldAt}
 use Rattle.wire.specs.declared.field.Field.{Field}
 use Rattle.wire.specs.declared.field.Field.the-variants.{Payload, Missing, Foreign, Overlong}
 use Rattle.command.specs.declared.Command.{Command}
-use Rattle.command.specs.declared.Command.the-variants.{Get, Put, Delete, Scan}
+use Rattle.command.specs.declared.Command.the-variants.{Get, Put, Delete, Scan, Panel}
 use Rattle.command.specs.declared.Step.{Step}
 use Rattle.command.specs.declared.Step.the-variants.{Next, Invalid}
-use Rattle.command.specs.Command.{inRange, commandOf, stepAs, fieldStep, commandAt, Onward}
-use Rattle.command.specs.CommandLaws.{commandAt-onward, field-bounds, payload-get, payload-put, payload-delete, payload-scan}
+use Rattle.command.specs.Command.{commandOf, stepAs, fieldStep, commandAt, Onward}
+use Rattle.command.specs.CommandLaws.{commandOf-each, commandAt-onward, field-bounds, payload-get, payload-put, payload-delete, payload-scan}
 use Rattle.command.specs.Batch.{before, run, commandsFrom, commandsOf}
 use Rattle.demands.specs.Commands.{Valid, ValidAll}
 use Rattle.demands.specs.CommandFits.{ValueFits, ValuesFit}
@@ -37,31 +36,20 @@ module _ (at n tag : ℕ) (p : List ℕ) (bytes : Bytes p) (size : length p ≡ 
   small : (i : ℕ) → i + 4 ≤ n → numberAt 4 p i < bound32
   small i l = numberAt-lt 4 p i bytes (omega arith)
 
+  -- so long a payload leaves room for the head
+  reads : (c : Command) (k : ℕ) → Valid c → ValueFits c → Reads at (Next c (at + 3 + k))
+  reads c k valid value = (omega arith, valid, value)
+
   commandOf-reads : Reads at (stepAs (at + 3 + n) (commandOf tag p))
-  unfolding commandOf
-  commandOf-reads = go (eqb tag 1) refl (eqb tag 2) refl (eqb tag 3) refl (eqb tag 4 && inRange (numberAt 2 p 8)) refl
-    where
-      go : (a : Bool) → eqb tag 1 ≡ a → (b : Bool) → eqb tag 2 ≡ b → (c : Bool) → eqb tag 3 ≡ c → (d : Bool) →
-          (eqb tag 4 && inRange (numberAt 2 p 8)) ≡ d →
-          Reads at
-          (stepAs (at + 3 + n)
-          (choose a (some (Get (numberAt 4 p 0)))
-          (choose b (some (Put (numberAt 4 p 0) (numberAt 4 p 4)))
-          (choose c (some (Delete (numberAt 4 p 0)))
-          (choose d (some (Scan (numberAt 4 p 0) (numberAt 4 p 4) (numberAt 2 p 8))) none)))))
-      go true e b f c g d h =
-          let l = payload-get tag n may (eqb-true tag 1 e) in
-          (omega arith, small 0 (omega arith), tt)
-      go false e true f c g d h =
-          let l = payload-put tag n may (eqb-true tag 2 f) in
-          (omega arith, small 0 (omega arith), small 4 (omega arith))
-      go false e false f true g d h =
-          let l = payload-delete tag n may (eqb-true tag 3 g) in
-          (omega arith, small 0 (omega arith), tt)
-      go false e false f false g true h =
-          let l = payload-scan tag n may (eqb-true tag 4 (and-left (eqb tag 4) (inRange (numberAt 2 p 8)) h)) in
-          (omega arith, small 0 (omega arith), tt)
-      go false e false f false g false h = tt
+  commandOf-reads =
+      commandOf-each (λ (o : Option Command). Reads at (stepAs (at + 3 + n) o)) tag p tt
+      (λ e. let l = payload-get tag n may e in reads (Get (numberAt 4 p 0)) n (small 0 (omega arith)) tt)
+      (λ e. let l = payload-put tag n may e in reads (Put (numberAt 4 p 0) (numberAt 4 p 4)) n (small 0 (omega arith)) (small 4 (omega arith)))
+      (λ e. let l = payload-delete tag n may e in reads (Delete (numberAt 4 p 0)) n (small 0 (omega arith)) tt)
+      (λ e r.
+      let l = payload-scan tag n may e in
+      reads (Scan (numberAt 4 p 0) (numberAt 4 p 4) (numberAt 2 p 8)) n (small 0 (omega arith)) tt)
+      (λ e r. reads (Panel (getD p 0 0)) n r tt)
 
 commandAt-reads : (s : List ℕ) → Bytes s → (at : ℕ) → Reads at (commandAt s at)
 unfolding commandAt

@@ -7,7 +7,7 @@ use Rattle.laws.specs.Every.{Every, none}
 use Rattle.layout.specs.Layout.{bound32}
 use Rattle.pairs.specs.Pairs.{Pair}
 use Rattle.command.specs.declared.Command.{Command}
-use Rattle.command.specs.declared.Command.the-variants.{Get, Put, Delete, Scan}
+use Rattle.command.specs.declared.Command.the-variants.{Get, Put, Delete, Scan, Panel}
 use Rattle.page.specs.Limits.{bound16}
 use Rattle.tree.specs.Table.{path, leafFor}
 use Rattle.tree.specs.NodeRequest.{read}
@@ -26,6 +26,7 @@ ValueFits (Get k) = Unit {0}
 ValueFits (Put k v) = v < bound32
 ValueFits (Delete k) = Unit {0}
 ValueFits (Scan low high most) = Unit {0}
+ValueFits (Panel panel) = Unit {0}
 
 abbrev pub ValuesFit : List Command → Type 0
 ValuesFit [] = Unit {0}
@@ -45,3 +46,4 @@ module _ (limit : ℕ) (b : Book) (ps : List Pair) (s : Spells (b .table) (b .co
   command-narrow (Scan low high most) valid v =
       let leaf = leafFor (b .count) (b .table) low 0 in
       reads-unless (ltb high low) (path (b .count) (b .table) low 0 ++ leavesAfter (b .count) (b .table) low high most leaf)
+  command-narrow (Panel panel) valid v = none

@@ -5,10 +5,10 @@ use mathlib.Core.Bool.{Bool, true, false}
 use mathlib.Core.List.{List, [], _∷_}
 use Prim.Native.Nat.{ℕ, _≤_, _<_}
 use native.Mathlib.Omega.{arith}
-use Rattle.layout.specs.Layout.{bound32, noLeaf}
+use Rattle.layout.specs.Layout.{bound32, noLeaf, panels}
 use Rattle.pairs.specs.Pairs.{Pair}
 use Rattle.command.specs.declared.Command.{Command}
-use Rattle.command.specs.declared.Command.the-variants.{Get, Put, Delete, Scan}
+use Rattle.command.specs.declared.Command.the-variants.{Get, Put, Delete, Scan, Panel}
 use Rattle.tree.specs.Put.{putRefused}
 use Rattle.tree.specs.Spells.{Spells}
 use Rattle.tree_laws.specs.Served.{Served}
@@ -20,12 +20,13 @@ use Rattle.book.specs.Book.{Book}
 use Rattle.book.specs.Command.{requests, answer, refuses, listed, getReply, putReply, deleteReply}
 use Rattle.book.specs.OrderedMap.{mapAnswer, mapAfter}
 
--- Keys are 32-bit numbers.
+-- Keys are 32-bit numbers, panels are 0 to 15.
 abbrev pub Valid : Command → Type 0
 Valid (Get k) = k < bound32
 Valid (Put k v) = k < bound32
 Valid (Delete k) = k < bound32
 Valid (Scan low high most) = low < bound32
+Valid (Panel panel) = panel < panels
 
 abbrev pub ValidAll : List Command → Type 0
 ValidAll [] = Unit {0}
@@ -78,8 +79,13 @@ module _ (limit : ℕ) (small : limit < noLeaf) (b : Book) (ps : List Pair) (s :
         served = scan-served (b .table) (b .count) ps s low high most (omega arith) h limit l;
       }
 
+  panel-does : (panel : ℕ) → Does limit (Panel panel) b ps
+  unfolding answer mapAnswer mapAfter requests
+  panel-does panel = record { answers = refl; served = record { kept = l; fits = refl; spells = s } }
+
   pub does : (c : Command) → Valid c → Does limit c b ps
   does (Get k) h = get-does k h
   does (Put k v) h = put-does k v h
   does (Delete k) h = delete-does k h
   does (Scan low high most) h = scan-does low high most h
+  does (Panel panel) h = panel-does panel

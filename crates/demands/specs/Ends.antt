@@ -9,7 +9,7 @@ use borrow.Author.Tests.{le-leb, lt-leb}
 use lib.Dec.{leb}
 use lib.ListN.{length}
 use Rattle.laws.specs.Tests.{choose}
-use Rattle.layout.specs.Layout.{tableBytes}
+use Rattle.layout.specs.Layout.{tableBytes, nodeLimit, panels}
 use Rattle.account.specs.declared.Tariff.{Tariff}
 use Rattle.account.specs.Range.{inRange}
 use Rattle.command.specs.declared.Command.{Command}
@@ -17,7 +17,11 @@ use Rattle.command.specs.Batch.{commandsOf, roomForAll}
 use Rattle.store.specs.Store.{Store}
 use Rattle.store.specs.Checkpoint.{checkpointOf, tariffIn, complete}
 use Rattle.store.specs.Reopen.{Cells, reopened, pagesPass}
+use Rattle.book.specs.Session.{atFirst}
+use Rattle.book.specs.InTurn.{noCharges}
+use Rattle.book.specs.PanelLaws.{length-each}
 use Rattle.model.specs.State.{State}
+use Rattle.model.specs.Batch.{chargeOf}
 use Rattle.model.specs.Mount.{Mounted, refused, opened, ask, treeSound, numbersLeft, stateOf, mountTree, mountCells}
 use Rattle.model.specs.Prepare.{prepared}
 use Rattle.model.specs.Bytes.{bytesOf, cellsOf}
@@ -101,16 +105,22 @@ ends-table (asFound n l h) = rw (le-leb 1 n l, le-leb n 2 h) refl
 ends-table (tableCleared n l h) = rw (le-leb 1 n (omega arith), lt-leb n 2 (omega arith)) refl
 ends-table (done t cs s p u q r m) = refl
 
+-- "The batch returns 16 charges", whatever it ends with.
+pub ends-panels : {pool table batch buffer : List ℕ} {o : Outcome} → Ends pool table batch buffer o → length (o .charges) ≡ panels
+ends-panels (asFound n l h) = length-each (λ q. 0)
+ends-panels (tableCleared n l h) = length-each (λ q. 0)
+ends-panels {pool} (done t cs s p u q r m) = length-each (λ k. chargeOf (nodeLimit (blocksOf pool)) t k cs atFirst s)
+
 -- A refusal changes and returns nothing.
 pub record Unchanged (before buffer : List ℕ) (o : Outcome) : Type 0 where
   pub pool : o .pool ≡ before
   pub answers : o .answers ≡ buffer
   pub length : o .length ≡ 0
-  pub charge : o .charge ≡ 0
+  pub charges : o .charges ≡ noCharges
 
 pub refused-found : {pool table batch buffer : List ℕ} {o : Outcome} → Ends pool table batch buffer o → 1 ≤ o .number → Unchanged pool buffer o
-refused-found (asFound n l h) r = record { pool = refl; answers = refl; length = refl; charge = refl }
-refused-found (tableCleared n l h) r = record { pool = refl; answers = refl; length = refl; charge = refl }
+refused-found (asFound n l h) r = record { pool = refl; answers = refl; length = refl; charges = refl }
+refused-found (tableCleared n l h) r = record { pool = refl; answers = refl; length = refl; charges = refl }
 refused-found (done t cs s p u q x m) r = absurd (omega arith)
 
 -- PREPARE: done, or refused with 1 or 10, and then the pool is as found.

@@ -2,6 +2,7 @@ pub mod Says
 pub mod Step
 pub mod Commands
 pub mod Run
+pub mod Panels
 pub mod Mount
 pub mod Close
 pub mod Prepare

@@ -14,6 +14,7 @@ use Rattle.laws.specs.Tests.{and-left, and-right, and-both}
 use Rattle.laws.specs.Every.{Every, every-weaken}
 use Rattle.laws.specs.Every as Every
 use Rattle.laws.specs.Lay.{lay-nil}
+use Rattle.laws.specs.Update.{sum}
 use Rattle.laws.specs.BigEndian.{Bytes}
 use Rattle.laws.specs.Options.{some-same}
 use Rattle.layout.specs.Layout.{blockBytes, fewestBlocks, mostBlocks, nodeLimit, mostLogPages, noLeaf}
@@ -29,18 +30,23 @@ use Rattle.store.specs.Run.{Moment}
 use Rattle.store.specs.Reopen.{Cells, poolOf, reopened}
 use Rattle.store_laws.specs.Good.{LeanAt}
 use Rattle.book.specs.Book.{Book}
-use Rattle.book.specs.Batch.{runBook, booksPassed, chargeBook, requestsBook}
+use Rattle.book.specs.Book as Book
+use Rattle.book.specs.Command.{answer}
+use Rattle.book.specs.Session.{atFirst}
+use Rattle.book.specs.PanelLaws.{sum-each, each-same}
+use Rattle.book.specs.Batch.{doneBook, costBook, runBook, booksPassed, chargeBook, chargesBook, requestsBook}
 use Rattle.book.specs.Bound.{Scored, scored-all}
 use Rattle.book.specs.OrderedMap.{mapAnswers, mapRun}
 use Rattle.model.specs.State.{State, bookOf}
-use Rattle.model.specs.Batch.{run, closed}
+use Rattle.model.specs.Batch.{run, chargeOf, chargesOf, closed}
 use Rattle.model.specs.Mount.{opened, stateOf, mountCells}
 use Rattle.model.specs.Bytes.{bytesOf, cellsOf}
-use Rattle.model.specs.Call.{Outcome, refuse, blocksOf, poolLength, mountBy, mountOf, accept}
+use Rattle.model.specs.Call.{Outcome, charge, refuse, blocksOf, poolLength, mountBy, mountOf, accept}
 use Rattle.model.specs.Calls.{Lent, outcome, answered, laidOver, accepted, bookIn, Work, workBy, workOf, statesBy, momentsBy, Fed, commandsBy, commandsIn}
 use Rattle.demands.specs.Says.{Says}
 use Rattle.demands.specs.Run as Run
-use Rattle.demands.specs.Run.{Batched, batch-batched, runBook-requests}
+use Rattle.demands.specs.Run.{Batched, batch-batched, runBook-requests, total-requests}
+use Rattle.demands.specs.Panels.{sum-charges}
 use Rattle.demands.specs.Mount.{Sealed, Ready, opened-mounts}
 use Rattle.demands.specs.Close.{closed-says, closed-sealed, closed-ready, closed-checkpoint, score-of}
 use Rattle.demands.specs.Ends.{Ends, asFound, tableCleared, done, batch-ends}
@@ -104,15 +110,16 @@ fedOf pool l = record { batch = l .batch; accepted = accepted (outcome pool l) }
 -- What a call leaves, `r`, what it ran, `w`, and the commands that the reference model was fed.
 pub record CalledBy (t : Tariff) (pool buffer : List ℕ) (b : Book) (ps : List Pair) (r : Outcome) (w : Option Work) (cs : List Command) : Type 0 where
   pub length : blocksOf (r .pool) ≡ blocksOf pool
-  pub stands : OpenPool t (r .pool) (runBook (nodeLimit (blocksOf pool)) t cs b) (mapRun (nodeLimit (blocksOf pool)) t cs b ps)
+  pub stands : OpenPool t (r .pool) (runBook (nodeLimit (blocksOf pool)) t cs atFirst b) (mapRun (nodeLimit (blocksOf pool)) t cs atFirst b ps)
   pub ordered : r .number ≡ 0 → InNodeOrder (r .pool)
-  pub charge : r .charge ≡ chargeBook (nodeLimit (blocksOf pool)) t cs b
-  pub passed : map bookOf (statesBy (blocksOf pool) w) ≡ booksPassed (nodeLimit (blocksOf pool)) t cs b
+  pub charges : r .charges ≡ chargesBook (nodeLimit (blocksOf pool)) t cs atFirst b
+  pub paid : charge r ≡ Book.charges t (requestsBook (nodeLimit (blocksOf pool)) t cs atFirst b) b
+  pub passed : map bookOf (statesBy (blocksOf pool) w) ≡ booksPassed (nodeLimit (blocksOf pool)) t cs atFirst b
   pub thin : Every Thin (momentsBy (blocksOf pool) w)
-  pub answers : answered r ≡ laidOver buffer (mapAnswers (nodeLimit (blocksOf pool)) t cs b ps)
+  pub answers : answered r ≡ laidOver buffer (mapAnswers (nodeLimit (blocksOf pool)) t cs atFirst b ps)
   pub fits :
-      Fits (nodeLimit (blocksOf pool)) (requestsBook (nodeLimit (blocksOf pool)) t cs b) (b .table) (b .count)
-      (runBook (nodeLimit (blocksOf pool)) t cs b .count)
+      Fits (nodeLimit (blocksOf pool)) (requestsBook (nodeLimit (blocksOf pool)) t cs atFirst b) (b .table) (b .count)
+      (runBook (nodeLimit (blocksOf pool)) t cs atFirst b .count)
 
 -- ONE CALL.
 abbrev pub Called : Tariff → List ℕ → Lent → Book → List Pair → Type 0
@@ -143,7 +150,8 @@ module _ {t : Tariff} {pool : List ℕ} {b : Book} {ps : List Pair} (o : OpenPoo
         length = refl;
         stands = o;
         ordered = λ z. absurd (omega arith);
-        charge = refl;
+        charges = refl;
+        paid = sum-each (λ q. 0);
         passed = refl;
         thin = Every.none;
         answers = ap (λ (z : List ℕ). (z, 0)) (sym (lay-nil (l .buffer) 0));
@@ -175,39 +183,49 @@ module _ {t : Tariff} {pool : List ℕ} {b : Book} {ps : List Pair} (o : OpenPoo
     small : limit < noLeaf
     small = omega (arith, sized pool p .most)
 
-    ran : Batched B t cs s ps
+    ran : Batched B t cs atFirst s ps
     ran =
-        batch-batched B t small cs s ps (commands .valid) (start .says .sound)
+        batch-batched B t small cs atFirst s ps (commands .valid) (start .says .sound)
         (subst (λ (z : Book). Run.Holds limit z ps) (sym (start .says .is)) (start .holds))
 
     -- The state after the commands.
     abbrev after : State
-    after = run limit t cs s
+    after = run limit t cs atFirst s
 
     abbrev book : Book
-    book = runBook limit t cs b
+    book = runBook limit t cs atFirst b
 
     says-after : Says B after book
-    says-after = subst (λ (z : Book). Says B after (runBook limit t cs z)) (start .says .is) (ran .says)
+    says-after = subst (λ (z : Book). Says B after (runBook limit t cs atFirst z)) (start .says .is) (ran .says)
 
-    fits-after : Fits limit (requestsBook limit t cs b) (b .table) (b .count) (book .count)
+    fits-after : Fits limit (requestsBook limit t cs atFirst b) (b .table) (b .count) (book .count)
     fits-after =
-        subst (λ (z : Book). Fits limit (requestsBook limit t cs z) (z .table) (z .count) (runBook limit t cs z .count)) (start .says .is) (ran .fits)
+        subst (λ (z : Book). Fits limit (requestsBook limit t cs atFirst z) (z .table) (z .count) (runBook limit t cs atFirst z .count)) (start .says .is) (ran .fits)
 
-    ended : Ready B t after book (mapRun limit t cs b ps)
+    ended : Ready B t after book (mapRun limit t cs atFirst b ps)
     ended =
         record {
           says = says-after;
-          holds = subst (λ (z : Book). Run.Holds limit (runBook limit t cs z) (mapRun limit t cs z ps)) (start .says .is) (ran .holds);
+          holds = subst (λ (z : Book). Run.Holds limit (runBook limit t cs atFirst z) (mapRun limit t cs atFirst z ps)) (start .says .is) (ran .holds);
           ranged = start .ranged;
           scored =
-              subst (Scored t) (sym (runBook-requests limit t cs b))
-              (scored-all limit t (limit-some (start .ranged)) (requestsBook limit t cs b) b (book .count) (start .scored) fits-after);
+              subst (Scored t) (sym (runBook-requests limit t cs atFirst b))
+              (scored-all limit t (limit-some (start .ranged)) (requestsBook limit t cs atFirst b) b (book .count) (start .scored) fits-after);
         }
+
+    charged : chargesOf limit t cs atFirst s ≡ chargesBook limit t cs atFirst b
+    charged =
+        each-same (λ q. chargeOf limit t q cs atFirst s) (λ q. chargeBook limit t q cs atFirst b)
+        (λ q. ran .charge q ∙ ap (chargeBook limit t q cs atFirst) (start .says .is))
+
+    paid-all : sum (chargesBook limit t cs atFirst b) ≡ Book.charges t (requestsBook limit t cs atFirst b) b
+    paid-all =
+        sum-charges (answer limit) (doneBook limit t) (costBook limit t) cs atFirst b (commands .valid) (omega arith) ∙
+        total-requests limit t cs atFirst b
 
     pool-after : PoolAfter B s (closed t after)
     pool-after =
-        subst (λ (z : Tariff). PoolAfter B s (closed z (run limit z cs s))) same-tariff
+        subst (λ (z : Tariff). PoolAfter B s (closed z (run limit z cs atFirst s))) same-tariff
         (batch-pool (sized pool p .few) (sized pool p .most) pool (o .bytes) (sized pool p .bytes) (o .reads) mounted cs (commands .valid)
         (commands .values) (commands .few))
 
@@ -217,7 +235,7 @@ module _ {t : Tariff} {pool : List ℕ} {b : Book} {ps : List Pair} (o : OpenPoo
     same-blocks : blocksOf left ≡ B
     same-blocks = blocks-length left B (pool-after .size)
 
-    stands-left : OpenPool t left book (mapRun limit t cs b ps)
+    stands-left : OpenPool t left book (mapRun limit t cs atFirst b ps)
     stands-left =
         record {
           bytes = pool-after .bytes;
@@ -242,12 +260,13 @@ module _ {t : Tariff} {pool : List ℕ} {b : Book} {ps : List Pair} (o : OpenPoo
           length = same-blocks;
           stands = stands-left;
           ordered = λ z. ordered-left;
-          charge = ran .charge ∙ ap (chargeBook limit t cs) (start .says .is);
-          passed = ran .passed ∙ ap (booksPassed limit t cs) (start .says .is);
+          charges = charged;
+          paid = ap sum charged ∙ paid-all;
+          passed = ran .passed ∙ ap (booksPassed limit t cs atFirst) (start .says .is);
           thin = every-weaken lean-thin (closed-says (sized pool p .most) ended .sound .good .passed);
           answers =
               ap (laidOver (l .buffer))
-              (ran .answers ∙ ap (λ (z : Book). mapAnswers limit t cs z ps) (start .says .is));
+              (ran .answers ∙ ap (λ (z : Book). mapAnswers limit t cs atFirst z ps) (start .says .is));
           fits = fits-after;
         })
       where

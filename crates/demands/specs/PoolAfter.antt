@@ -15,6 +15,7 @@ use Rattle.store.specs.Store.{Store}
 use Rattle.store_laws.specs.CellLaws.{length-cells}
 use Rattle.store_laws.specs.Closing.{close-closed}
 use Rattle.store.specs.Reopen.{Cells, poolOf}
+use Rattle.book.specs.Session.{atFirst}
 use Rattle.model.specs.State.{State, bookOf}
 use Rattle.model.specs.Batch.{run, closed}
 use Rattle.model.specs.Mount.{opened, mountCells}
@@ -58,13 +59,13 @@ module _ {blocks : ℕ} (four : fewestBlocks ≤ blocks) (small : blocks ≤ mos
       let o = opened-mounts opens in
       subst (λ (z : State). Ready blocks t z (bookOf z) (mapOf (bookOf z .count) (bookOf z .table))) (sym (o .is)) (mounts-ready four (o .mounts))
 
-  pub batch-pool : PoolAfter blocks s (closed t (run (nodeLimit blocks) t cs s))
+  pub batch-pool : PoolAfter blocks s (closed t (run (nodeLimit blocks) t cs atFirst s))
   batch-pool =
       let after = closed-after small ready (enters .fits) (enters .left) cs valid values few in
-      let kept = closed-blocks t (run (nodeLimit blocks) t cs s) small (sound-after small ready (enters .fits) (enters .left) cs valid values few) in
+      let kept = closed-blocks t (run (nodeLimit blocks) t cs atFirst s) small (sound-after small ready (enters .fits) (enters .left) cs valid values few) in
       record {
         batch = after;
         back = pool-back (after .fits .now);
-        bytes = bytes-bytesOf (poolOf (closed t (run (nodeLimit blocks) t cs s) .run .now));
+        bytes = bytes-bytesOf (poolOf (closed t (run (nodeLimit blocks) t cs atFirst s) .run .now));
         size = pool-size (after .fits .now) kept;
       }

@@ -9,7 +9,7 @@ use lib.ListN.{length, length-append, length-map}
 use Rattle.layout.specs.Layout.{noLeaf, bound32}
 use Rattle.pairs.specs.Pairs.{Pair}
 use Rattle.command.specs.declared.Command.{Command}
-use Rattle.command.specs.declared.Command.the-variants.{Get, Put, Delete, Scan}
+use Rattle.command.specs.declared.Command.the-variants.{Get, Put, Delete, Scan, Panel}
 use Rattle.tree.specs.Table.{Table, path, leafFor}
 use Rattle.tree.specs.NodeRequest.{read}
 use Rattle.tree.specs.Get.{readsTo, getAnswer}
@@ -72,3 +72,4 @@ command-length limit (Put k v) b ps s l valid =
 command-length limit (Delete k) b ps s l valid = omega (arith, delete-length (b .table) (b .count) ps s k valid)
 command-length limit (Scan low high most) b ps s l valid =
     omega (arith, scan-length (b .table) (b .count) ps s low high most l valid)
+command-length limit (Panel panel) b ps s l valid = omega arith

@@ -4,6 +4,7 @@ use mathlib.Core.Path.{_≡_, refl, sym, ap, ap₂, _∙_, subst}
 use mathlib.Core.List.{List, [], _∷_, _++_, map, map-append}
 use Prim.Native.Nat.{ℕ, _+_, _≤_, _<_}
 use native.Mathlib.Omega.{arith}
+use Rattle.laws.specs.Update.{only}
 use Rattle.layout.specs.Layout.{nodeLimit, noLeaf}
 use Rattle.account.specs.declared.Tariff.{Tariff}
 use Rattle.pairs.specs.Pairs.{Pair}
@@ -15,9 +16,11 @@ use Rattle.tree_laws.specs.Requests.{fits-append}
 use Rattle.tree.specs.Spells.{Spells}
 use Rattle.book.specs.Book.{Book}
 use Rattle.book.specs.Book as Book
-use Rattle.book.specs.Command.{Reply, requests, refuses}
-use Rattle.book.specs.Batch.{doneBook, runBook, booksPassed, chargeBook, requestsBook}
-use Rattle.book.specs.OrderedMap.{mapAfter, mapAnswers, mapRun}
+use Rattle.book.specs.Command.{Reply, requests, answer, refuses}
+use Rattle.book.specs.Session.{Session, sessionAfter}
+use Rattle.book.specs.InTurn.{total}
+use Rattle.book.specs.Batch.{doneBook, costBook, runBook, booksPassed, chargeBook, requestsBook}
+use Rattle.book.specs.OrderedMap.{mapAnswer, mapAfter, mapAnswers, mapRun}
 use Rattle.model.specs.State.{State, bookOf, serve, serveAll, afterEach, charges}
 use Rattle.model.specs.Batch.{done, run, statesPassed, chargeOf, answers}
 use Rattle.demands.specs.Says.{Sound, Says}
@@ -68,21 +71,23 @@ charges-append t [] ss b = omega arith
 charges-append t (r ∷ rs) ss b = omega (arith, charges-append t rs ss (Book.serve t r b))
 
 -- A batch in the reference model is all its node requests in a row.
-pub runBook-requests : (limit : ℕ) (t : Tariff) (cs : List Command) (b : Book) →
-    runBook limit t cs b ≡ Book.serveAll t (requestsBook limit t cs b) b
-runBook-requests limit t [] b = refl
-runBook-requests limit t (c ∷ cs) b =
-    runBook-requests limit t cs (doneBook limit t c b) ∙
-    sym (serveAll-append t (requests limit c b) (requestsBook limit t cs (doneBook limit t c b)) b)
+pub runBook-requests : (limit : ℕ) (t : Tariff) (cs : List Command) (n : Session) (b : Book) →
+    runBook limit t cs n b ≡ Book.serveAll t (requestsBook limit t cs n b) b
+runBook-requests limit t [] n b = refl
+runBook-requests limit t (c ∷ cs) n b =
+    let m = sessionAfter c (answer limit c b) n in
+    runBook-requests limit t cs m (doneBook limit t c b) ∙
+    sym (serveAll-append t (requests limit c b) (requestsBook limit t cs m (doneBook limit t c b)) b)
 
-pub chargeBook-requests : (limit : ℕ) (t : Tariff) (cs : List Command) (b : Book) →
-    chargeBook limit t cs b ≡ Book.charges t (requestsBook limit t cs b) b
-chargeBook-requests limit t [] b = refl
-chargeBook-requests limit t (c ∷ cs) b =
+pub total-requests : (limit : ℕ) (t : Tariff) (cs : List Command) (n : Session) (b : Book) →
+    total (answer limit) (doneBook limit t) (costBook limit t) cs n b ≡ Book.charges t (requestsBook limit t cs n b) b
+total-requests limit t [] n b = refl
+total-requests limit t (c ∷ cs) n b =
+    let m = sessionAfter c (answer limit c b) n in
     omega (
       arith,
-      chargeBook-requests limit t cs (doneBook limit t c b),
-      charges-append t (requests limit c b) (requestsBook limit t cs (doneBook limit t c b)) b,
+      total-requests limit t cs m (doneBook limit t c b),
+      charges-append t (requests limit c b) (requestsBook limit t cs m (doneBook limit t c b)) b,
     )
 
 -- A book that spells a map, within the limit of nodes.
@@ -102,54 +107,51 @@ module _ (limit : ℕ) (t : Tariff) (small : limit < noLeaf) where
       }
 
 -- A BATCH.
-pub record Batched (blocks : ℕ) (t : Tariff) (cs : List Command) (s : State) (ps : List Pair) : Type 0 where
-  pub says : Says blocks (run (nodeLimit blocks) t cs s) (runBook (nodeLimit blocks) t cs (bookOf s))
-  pub charge : chargeOf (nodeLimit blocks) t cs s ≡ chargeBook (nodeLimit blocks) t cs (bookOf s)
-  pub passed : map bookOf (statesPassed (nodeLimit blocks) t cs s) ≡ booksPassed (nodeLimit blocks) t cs (bookOf s)
-  pub answers : answers (nodeLimit blocks) t cs s ≡ mapAnswers (nodeLimit blocks) t cs (bookOf s) ps
-  pub holds : Holds (nodeLimit blocks) (runBook (nodeLimit blocks) t cs (bookOf s)) (mapRun (nodeLimit blocks) t cs (bookOf s) ps)
+pub record Batched (blocks : ℕ) (t : Tariff) (cs : List Command) (n : Session) (s : State) (ps : List Pair) : Type 0 where
+  pub says : Says blocks (run (nodeLimit blocks) t cs n s) (runBook (nodeLimit blocks) t cs n (bookOf s))
+  pub charge : (q : ℕ) → chargeOf (nodeLimit blocks) t q cs n s ≡ chargeBook (nodeLimit blocks) t q cs n (bookOf s)
+  pub passed : map bookOf (statesPassed (nodeLimit blocks) t cs n s) ≡ booksPassed (nodeLimit blocks) t cs n (bookOf s)
+  pub answers : answers (nodeLimit blocks) t cs n s ≡ mapAnswers (nodeLimit blocks) t cs n (bookOf s) ps
+  pub holds : Holds (nodeLimit blocks) (runBook (nodeLimit blocks) t cs n (bookOf s)) (mapRun (nodeLimit blocks) t cs n (bookOf s) ps)
   pub fits :
-      Fits (nodeLimit blocks) (requestsBook (nodeLimit blocks) t cs (bookOf s)) (bookOf s .table) (bookOf s .count)
-      (runBook (nodeLimit blocks) t cs (bookOf s) .count)
+      Fits (nodeLimit blocks) (requestsBook (nodeLimit blocks) t cs n (bookOf s)) (bookOf s .table) (bookOf s .count)
+      (runBook (nodeLimit blocks) t cs n (bookOf s) .count)
 
 module _ (blocks : ℕ) (t : Tariff) (small : nodeLimit blocks < noLeaf) where
   abbrev limit : ℕ
   limit = nodeLimit blocks
 
-  pub batch-batched : (cs : List Command) (s : State) (ps : List Pair) → ValidAll cs → Sound blocks s → Holds limit (bookOf s) ps →
-      Batched blocks t cs s ps
-  batch-batched [] s ps valid v h =
-      record { says = record { sound = v; is = refl }; charge = refl; passed = refl; answers = refl; holds = h; fits = refl }
-  batch-batched (c ∷ cs) s ps valid v h =
+  pub batch-batched : (cs : List Command) (n : Session) (s : State) (ps : List Pair) → ValidAll cs → Sound blocks s → Holds limit (bookOf s) ps →
+      Batched blocks t cs n s ps
+  batch-batched [] n s ps valid v h =
+      record { says = record { sound = v; is = refl }; charge = λ q. refl; passed = refl; answers = refl; holds = h; fits = refl }
+  batch-batched (c ∷ cs) n s ps valid v h =
       let b = bookOf s in
       let rs = requests limit c b in
       let d = does limit small b ps (h .spells) (h .most) c (valid .0) in
       let final = countAfterAll rs (b .count) in
       let one = serveAll-served blocks t rs s final v (d .served .fits) in
-      let e : bookOf (done limit t c s) ≡ doneBook limit t c b = one .says .is in
+      let b′ = doneBook limit t c b in
+      let e : bookOf (done limit t c s) ≡ b′ = one .says .is in
       let ps′ = mapAfter (refuses limit c b) c ps in
+      let m = sessionAfter c (answer limit c b) n in
+      let f : m ≡ sessionAfter c (mapAnswer (refuses limit c b) c ps) n = ap (λ (r : Reply). sessionAfter c r n) (d .answers) in
       let rest =
-      batch-batched cs (done limit t c s) ps′ (valid .1) (one .says .sound)
+      batch-batched cs m (done limit t c s) ps′ (valid .1) (one .says .sound)
       (subst (λ (z : Book). Holds limit z ps′) (sym e) (command-holds limit t small c b ps (valid .0) h)) in
       record {
-        says = record { sound = rest .says .sound; is = rest .says .is ∙ ap (runBook limit t cs) e };
-        charge = ap₂ _+_ (one .charge) (rest .charge ∙ ap (chargeBook limit t cs) e);
+        says = record { sound = rest .says .sound; is = rest .says .is ∙ ap (runBook limit t cs m) e };
+        charge = λ q. ap₂ _+_ (ap (λ (k : ℕ). only (n .panel) k q) (one .charge)) (rest .charge q ∙ ap (chargeBook limit t q cs m) e);
         passed =
-            map-append bookOf (afterEach t rs s) (statesPassed limit t cs (done limit t c s)) ∙
-            ap₂ {B = List Book} _++_ (one .passed) (rest .passed ∙ ap (booksPassed limit t cs) e);
-        answers = ap₂ {B = List Reply} _∷_ (d .answers) (rest .answers ∙ ap (λ (z : Book). mapAnswers limit t cs z ps′) e);
-        holds = subst (λ (z : Book). Holds limit (runBook limit t cs z) (mapRun limit t cs z ps′)) e (rest .holds);
+            map-append bookOf (afterEach t rs s) (statesPassed limit t cs m (done limit t c s)) ∙
+            ap₂ {B = List Book} _++_ (one .passed) (rest .passed ∙ ap (booksPassed limit t cs m) e);
+        answers = ap₂ {B = List Reply} _∷_ (d .answers) (rest .answers ∙ ap₂ (λ (k : Session) (z : Book). mapAnswers limit t cs k z ps′) f e);
+        holds =
+            subst (λ (k : Session). Holds limit (runBook limit t cs m b′) (mapRun limit t cs k b′ ps′)) f
+            (subst (λ (z : Book). Holds limit (runBook limit t cs m z) (mapRun limit t cs m z ps′)) e (rest .holds));
         fits =
-            fits-append limit rs (requestsBook limit t cs (doneBook limit t c b)) (b .table) (b .count) final
-            (runBook limit t cs (doneBook limit t c b) .count) (d .served .fits)
-            (subst
-            (λ (z : Table).
-            Fits limit (requestsBook limit t cs (doneBook limit t c b)) z final (runBook limit t cs (doneBook limit t c b) .count))
-            (serveAll-table t rs b)
-            (subst
-            (λ (k : ℕ).
-            Fits limit (requestsBook limit t cs (doneBook limit t c b)) (doneBook limit t c b .table) k
-            (runBook limit t cs (doneBook limit t c b) .count))
-            (serveAll-count t rs b)
-            (subst (λ (z : Book). Fits limit (requestsBook limit t cs z) (z .table) (z .count) (runBook limit t cs z .count)) e (rest .fits))));
+            fits-append limit rs (requestsBook limit t cs m b′) (b .table) (b .count) final (runBook limit t cs m b′ .count) (d .served .fits)
+            (subst (λ (z : Table). Fits limit (requestsBook limit t cs m b′) z final (runBook limit t cs m b′ .count)) (serveAll-table t rs b)
+            (subst (λ (k : ℕ). Fits limit (requestsBook limit t cs m b′) (b′ .table) k (runBook limit t cs m b′ .count)) (serveAll-count t rs b)
+            (subst (λ (z : Book). Fits limit (requestsBook limit t cs m z) (z .table) (z .count) (runBook limit t cs m z .count)) e (rest .fits))));
       }

@@ -8,9 +8,11 @@ use mathlib.Core.Option.{some}
 use Prim.Native.Nat.{ℕ, _+_, _*_, _≤_}
 use native.Mathlib.Omega.{arith}
 use lib.Dec.{eqb}
+use lib.ListN.{length}
 use Rattle.laws.specs.Every.{Every}
 use Rattle.laws.specs.BigEndian.{Bytes}
-use Rattle.layout.specs.Layout.{nodeLimit, lastSequence}
+use Rattle.laws.specs.Update.{sum}
+use Rattle.layout.specs.Layout.{nodeLimit, panels, lastSequence}
 use Rattle.account.specs.declared.Mode.the-variants.{Log}
 use Rattle.account.specs.declared.Tariff.{Tariff}
 use Rattle.account.specs.Tariff.{switchTo}
@@ -21,24 +23,28 @@ use Rattle.command.specs.Batch.{commandsOf}
 use Rattle.tree.specs.NodeRequest.{NodeRequest}
 use Rattle.tree.specs.Spells.{mapOf}
 use Rattle.store.specs.Reopen.{newest}
-use Rattle.book.specs.Book.{Book}
-use Rattle.book.specs.Batch.{chargeBook}
+use Rattle.book.specs.Book.{Book, charges}
+use Rattle.book.specs.Session.{atFirst}
+use Rattle.book.specs.InTurn.{noCharges}
+use Rattle.book.specs.Batch.{chargesBook, requestsBook}
 use Rattle.book.specs.OrderedMap.{mapAnswers}
 use Rattle.book.specs.Schedule.{paid}
 use Rattle.model.specs.State.{State, bookOf}
 use Rattle.model.specs.Mount.{opened}
 use Rattle.model.specs.Prepare.{firstBook}
-use Rattle.model.specs.Call.{Outcome, Prepared, blocksOf, poolLength, mountOf, batchOf, prepareOf}
+use Rattle.model.specs.Call.{Outcome, charge, Prepared, blocksOf, poolLength, mountOf, batchOf, prepareOf}
 use Rattle.model.specs.Questions.{firstNo, ofBuffers, ofPool, ofPrepare}
 use Rattle.model.specs.Calls.{Lent, outcome, outcomes, answered, laidOver, laid, bookIn, allStates, allMoments, fed, commandsBy, commandsIn}
-use Rattle.model.specs.Calls.{booksAfter, lastBook, allBooks, allCharges, allRequests, mapReplies, mapsAfter, sum}
-use Rattle.demands.specs.Ends.{Ends, asFound, tableCleared, done, batch-ends, tableAfter, refused-found, ends-table, prepare-ends, prepare-found}
+use Rattle.model.specs.Calls.{booksAfter, lastBook, allBooks, allCharges, allRequests, mapReplies, mapsAfter}
+use Rattle.demands.specs.Ends.{Ends, asFound, tableCleared, done, batch-ends, tableAfter, refused-found, ends-table, ends-panels, prepare-ends, prepare-found}
+use Rattle.demands.specs.Panels.{unnamed, SameBut, unnamed-leaves}
+use Rattle.demands.specs.CommandBytes.{commandsOf-batch}
 use Rattle.demands.specs.FirstNo.{numberOf, mount-first, batch-first, buffers-right, prepare-first}
 use Rattle.demands.specs.ScoreOrder.{newestCheckpoint, InNodeOrder, one-order}
 use Rattle.demands.specs.OneCall.{Thin, OpenPool, bookIn-is, fedOf, Called, called}
 use Rattle.demands.specs.Obeys.{Obeys, obeys-opens, obeys-spelled, obeys-stands, stands-obeys, opens-obeys}
 use Rattle.demands.specs.Reordered.{ReorderedPool, same-blocks, same-number, reordered-stands}
-use Rattle.demands.specs.AllCalls.{OfBytes, ThinPool, Spelled, charge, all-called}
+use Rattle.demands.specs.AllCalls.{OfBytes, ThinPool, Spelled, all-called}
 use Rattle.demands.specs.AgainstSchedules.{bound}
 use Rattle.demands.specs.PreparedPool.{prepare-stands, prepare-ordered}
 
@@ -49,9 +55,10 @@ pub record DemandOne (pool table batch buffer : List ℕ) (o : Outcome) : Type 0
   pub number : o .number ≡ firstNo (ofBuffers pool table batch buffer ++ ofPool pool)
   pub samePool : 1 ≤ o .number → o .pool ≡ pool
   pub sameAnswers : 1 ≤ o .number → o .answers ≡ buffer
-  -- "A refused call returns its number, and 0 for both."
+  -- "A refused call returns its number, and 0" for the length; of the charges, document 02, P2: "16 charges .., all 0 when refused."
   pub noLength : 1 ≤ o .number → o .length ≡ 0
-  pub noCharge : 1 ≤ o .number → o .charge ≡ 0
+  pub sixteen : length (o .charges) ≡ panels
+  pub noCharge : 1 ≤ o .number → o .charges ≡ noCharges
   -- "After refusals 1 and 2 the work table too; otherwise its first 1,024 × B bytes are zero .. and bytes beyond are untouched."
   pub tableLeft : o .table ≡ tableAfter (o .number) (blocksOf pool) table
 
@@ -67,7 +74,8 @@ demand-one pool table batch buffer =
       samePool = λ r. refused-found e r .pool;
       sameAnswers = λ r. refused-found e r .answers;
       noLength = λ r. refused-found e r .length;
-      noCharge = λ r. refused-found e r .charge;
+      sixteen = ends-panels e;
+      noCharge = λ r. refused-found e r .charges;
       tableLeft = ends-table e;
     }
 
@@ -136,8 +144,8 @@ module _ (pool : List ℕ) (bytes : Bytes pool) (l : Lent) where
 -- DEMAND 3, "a single claim about a whole list: batches of any bytes, accepted or refused, with any work table and answer buffer, each on the
 -- pool as the last call left it."
 pub record DemandThree (t : Tariff) (pool : List ℕ) (b : Book) (ls : List Lent) : Type 0 where
-  -- "Each charge returned is the paper book's for that batch."
-  pub charges : map charge (outcomes pool ls) ≡ allCharges (blocksOf pool) t (fed pool ls) b
+  -- "Each charge returned is the paper book's for that batch": each of the sixteen.
+  pub charges : map (λ (o : Outcome). o .charges) (outcomes pool ls) ≡ allCharges (blocksOf pool) t (fed pool ls) b
   -- "Each node's mode .. is the paper book's after every node request": so are contents and scores ..
   pub requests : map bookOf (allStates pool ls) ≡ allBooks (blocksOf pool) t (fed pool ls) b
   -- ".. and after every call; after every call its field 14 has the paper book's score."
@@ -209,11 +217,27 @@ module _ {t : Tariff} {pool pool′ : List ℕ} {b : Book} {ps : List Pair} (r :
   pub any-order-answers : answered (outcome pool l) ≡ answered (outcome pool′ l)
   any-order-answers =
       one .answers ∙
-      ap₂ (λ (k : ℕ) (cs : List Command). laidOver (l .buffer) (mapAnswers (nodeLimit k) t cs b ps)) (sym (same-blocks r)) same-commands ∙
+      ap₂ (λ (k : ℕ) (cs : List Command). laidOver (l .buffer) (mapAnswers (nodeLimit k) t cs atFirst b ps)) (sym (same-blocks r)) same-commands ∙
       sym (other .answers)
 
-  pub any-order-charges : outcome pool l .charge ≡ outcome pool′ l .charge
+  pub any-order-charges : outcome pool l .charges ≡ outcome pool′ l .charges
   any-order-charges =
-      one .charge ∙
-      ap₂ (λ (k : ℕ) (cs : List Command). chargeBook (nodeLimit k) t cs b) (sym (same-blocks r)) same-commands ∙
-      sym (other .charge)
+      one .charges ∙
+      ap₂ (λ (k : ℕ) (cs : List Command). chargesBook (nodeLimit k) t cs atFirst b) (sym (same-blocks r)) same-commands ∙
+      sym (other .charges)
+
+-- DOCUMENT 02, P2. "The batch returns 16 charges in place of one, each that of the panel's own commands, all 0 when refused. The three-times bound is
+-- about their sum, the old charge." That each is the reference model's is demand 3's `charges`, the sixteen zeros are demand 1's `noCharge`, and
+-- `prepared-bound` is about the sums.
+
+-- The sixteen charges of a call add up to what all its node requests are charged.
+pub charges-sum : {t : Tariff} {pool : List ℕ} {b : Book} {ps : List Pair} → Stands t pool b ps → (l : Lent) → Bytes (l .batch) →
+    charge (outcome pool l) ≡ charges t (requestsBook (nodeLimit (blocksOf pool)) t (commandsIn (fedOf pool l)) atFirst b) b
+charges-sum s l bytes = called (stands-open s) l bytes .paid
+
+-- Panels are invisible: on any pool, with any table and answer buffer, a batch and the same batch without its panels return the same number and
+-- length, leave the same pool, table and answers, and are charged the same in sum.
+pub panels-invisible : (pool table buffer batch batch′ : List ℕ) (cs : List Command) → Bytes batch → commandsOf batch ≡ some cs →
+    commandsOf batch′ ≡ some (unnamed cs) → SameBut (batchOf pool table batch buffer) (batchOf pool table batch′ buffer)
+panels-invisible pool table buffer batch batch′ cs bytes e f =
+    unnamed-leaves pool table buffer cs (commandsOf-batch batch bytes cs e .valid) batch batch′ e f

@@ -1,5 +1,5 @@
 -- The two calls: from the entry bytes of every buffer, and the numbers given, to everything that a call leaves (document 01, "Questions
--- before the work"). The contracts of the entry points cite these two definitions. Assumes nothing.
+-- before the work"; document 02, P2). The contracts of the entry points cite these two definitions. Assumes nothing.
 use mathlib.Core.Bool.{Bool, _&&_}
 use mathlib.Core.List.{List}
 use mathlib.Core.Option.{Option, none, some}
@@ -8,6 +8,7 @@ use lib.Dec.{eqb, leb}
 use lib.ListN.{length, replicate}
 use Rattle.laws.specs.Tests.{choose}
 use Rattle.laws.specs.Lay.{lay}
+use Rattle.laws.specs.Update.{sum}
 use Rattle.layout.specs.Layout.{blockBytes, fewestBlocks, mostBlocks, tableBytes, nodeLimit}
 use Rattle.account.specs.declared.Tariff.{Tariff}
 use Rattle.account.specs.Range.{inRange}
@@ -15,25 +16,32 @@ use Rattle.command.specs.declared.Command.{Command}
 use Rattle.command.specs.Batch.{commandsOf, roomForAll}
 use Rattle.store.specs.Reopen.{Cells, poolOf}
 use Rattle.book.specs.Command.{repliesBytes}
+use Rattle.book.specs.Session.{atFirst}
+use Rattle.book.specs.InTurn.{noCharges}
 use Rattle.model.specs.State.{State}
-use Rattle.model.specs.Batch.{run, chargeOf, answers, closed}
+use Rattle.model.specs.Batch.{run, chargesOf, answers, closed}
 use Rattle.model.specs.Mount.{Mounted, refused, opened, mountCells}
 use Rattle.model.specs.Prepare.{prepared}
 use Rattle.model.specs.Bytes.{bytesOf, cellsOf}
 
--- What a call leaves: the number it returns, 0 or a refusal's; the bytes of pool, work table and answers; the answer length and the charge.
+-- What a call leaves: the number it returns, 0 or a refusal's; the bytes of pool, work table and answers; the answer length; and "16 charges in
+-- place of one", panel 0's first.
 pub record Outcome : Type 0 where
   pub number : ℕ
   pub pool : List ℕ
   pub table : List ℕ
   pub answers : List ℕ
   pub length : ℕ
-  pub charge : ℕ
+  pub charges : List ℕ
 
--- "A refused call leaves pool and answers as found", "returns its number, and 0 for both".
+-- "Their sum, the old charge."
+abbrev pub charge : Outcome → ℕ
+charge o = sum (o .charges)
+
+-- "A refused call leaves pool and answers as found", "returns its number, and 0" for the length; the charges are "all 0 when refused".
 abbrev pub refuse : ℕ → List ℕ → List ℕ → List ℕ → Outcome
 refuse number pool table answers =
-    record { number = number; pool = pool; table = table; answers = answers; length = 0; charge = 0 }
+    record { number = number; pool = pool; table = table; answers = answers; length = 0; charges = noCharges }
 
 -- "Pool: B blocks of 16,384 bytes, B from 4 to 64": the number of blocks, and question 1.
 abbrev pub blocksOf : List ℕ → ℕ
@@ -55,18 +63,18 @@ mountBy blocks (some c) = mountCells blocks c
 unfoldable pub mountOf : List ℕ → Mounted
 mountOf pool = mountBy (blocksOf pool) (cellsOf pool)
 
--- An accepted batch: the pool with the checkpoint written, the answers laid into the answer buffer, their length and the charge.
+-- An accepted batch: the pool with the checkpoint written, the answers laid into the answer buffer, their length and the charges.
 abbrev pub accept : ℕ → Tariff → List Command → State → List ℕ → List ℕ → Outcome
 accept blocks t cs s table buffer =
     let limit = nodeLimit blocks in
-    let bytes = repliesBytes (answers limit t cs s) in
+    let bytes = repliesBytes (answers limit t cs atFirst s) in
     record {
       number = 0;
-      pool = bytesOf (poolOf (closed t (run limit t cs s) .run .now));
+      pool = bytesOf (poolOf (closed t (run limit t cs atFirst s) .run .now));
       table = cleared blocks table;
       answers = lay buffer 0 bytes;
       length = length bytes;
-      charge = chargeOf limit t cs s;
+      charges = chargesOf limit t cs atFirst s;
     }
 
 -- The pool mounted, or not.

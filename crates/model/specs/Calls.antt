@@ -1,5 +1,5 @@
 -- A list of batches of any bytes, "each on the pool as the last call left it", and the reference model beside it (document 01, "What demand
--- 3 compares"). Assumes nothing.
+-- 3 compares"; document 02, P2). Assumes nothing.
 use mathlib.Core.Bool.{Bool, true, false}
 use mathlib.Core.List.{List, [], _∷_, _++_}
 use mathlib.Core.Option.{Option, none, some}
@@ -17,7 +17,8 @@ use Rattle.store.specs.Run.{Moment}
 use Rattle.store.specs.Reopen.{Cells, reopened}
 use Rattle.book.specs.Book.{Book}
 use Rattle.book.specs.Command.{Reply, repliesBytes}
-use Rattle.book.specs.Batch.{runBook, booksPassed, chargeBook, requestsBook}
+use Rattle.book.specs.Batch.{runBook, booksPassed, chargesBook, requestsBook}
+use Rattle.book.specs.Session.{atFirst}
 use Rattle.book.specs.OrderedMap.{mapAnswers, mapRun}
 use Rattle.model.specs.State.{State, bookOf}
 use Rattle.model.specs.Batch.{run, statesPassed, closed}
@@ -83,11 +84,11 @@ workOf pool l = workBy (accepted (outcome pool l)) (commandsOf (l .batch)) (moun
 -- The states that it passes: after every node request; and after every page written and every node request, with the node count then.
 abbrev pub statesBy : ℕ → Option Work → List State
 statesBy blocks none = []
-statesBy blocks (some w) = statesPassed (nodeLimit blocks) (w .tariff) (w .commands) (w .start)
+statesBy blocks (some w) = statesPassed (nodeLimit blocks) (w .tariff) (w .commands) atFirst (w .start)
 
 abbrev pub momentsBy : ℕ → Option Work → List Moment
 momentsBy blocks none = []
-momentsBy blocks (some w) = closed (w .tariff) (run (nodeLimit blocks) (w .tariff) (w .commands) (w .start)) .run .passed
+momentsBy blocks (some w) = closed (w .tariff) (run (nodeLimit blocks) (w .tariff) (w .commands) atFirst (w .start)) .run .passed
 
 abbrev pub allStates : List ℕ → List Lent → List State
 allStates pool [] = []
@@ -119,9 +120,9 @@ module _ (blocks : ℕ) (t : Tariff) where
   abbrev limit : ℕ
   limit = nodeLimit blocks
 
-  -- The book after each call, the books after each node request, the charge of each call, all node requests.
+  -- The book after each call, the books after each node request, the charges of each call, all node requests.
   abbrev pub fedBook : Fed → Book → Book
-  fedBook f b = runBook limit t (commandsIn f) b
+  fedBook f b = runBook limit t (commandsIn f) atFirst b
 
   abbrev pub booksAfter : List Fed → Book → List Book
   booksAfter [] b = []
@@ -133,29 +134,25 @@ module _ (blocks : ℕ) (t : Tariff) where
 
   abbrev pub allBooks : List Fed → Book → List Book
   allBooks [] b = []
-  allBooks (f ∷ fs) b = booksPassed limit t (commandsIn f) b ++ allBooks fs (fedBook f b)
+  allBooks (f ∷ fs) b = booksPassed limit t (commandsIn f) atFirst b ++ allBooks fs (fedBook f b)
 
-  abbrev pub allCharges : List Fed → Book → List ℕ
+  abbrev pub allCharges : List Fed → Book → List (List ℕ)
   allCharges [] b = []
-  allCharges (f ∷ fs) b = chargeBook limit t (commandsIn f) b ∷ allCharges fs (fedBook f b)
+  allCharges (f ∷ fs) b = chargesBook limit t (commandsIn f) atFirst b ∷ allCharges fs (fedBook f b)
 
   abbrev pub allRequests : List Fed → Book → List NodeRequest
   allRequests [] b = []
-  allRequests (f ∷ fs) b = requestsBook limit t (commandsIn f) b ++ allRequests fs (fedBook f b)
+  allRequests (f ∷ fs) b = requestsBook limit t (commandsIn f) atFirst b ++ allRequests fs (fedBook f b)
 
   -- The plain ordered map, call after call.
   abbrev pub mapReplies : List Fed → Book → List Pair → List (List Reply)
   mapReplies [] b ps = []
   mapReplies (f ∷ fs) b ps =
-      mapAnswers limit t (commandsIn f) b ps ∷ mapReplies fs (fedBook f b) (mapRun limit t (commandsIn f) b ps)
+      mapAnswers limit t (commandsIn f) atFirst b ps ∷ mapReplies fs (fedBook f b) (mapRun limit t (commandsIn f) atFirst b ps)
 
   -- .. and after each call.
   abbrev pub mapsAfter : List Fed → Book → List Pair → List (List Pair)
   mapsAfter [] b ps = []
   mapsAfter (f ∷ fs) b ps =
-      let qs = mapRun limit t (commandsIn f) b ps in
+      let qs = mapRun limit t (commandsIn f) atFirst b ps in
       qs ∷ mapsAfter fs (fedBook f b) qs
-
-abbrev pub sum : List ℕ → ℕ
-sum [] = 0
-sum (n ∷ ns) = n + sum ns

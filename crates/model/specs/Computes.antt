@@ -34,6 +34,7 @@ use Rattle.store.specs.Checkpoint as storeCheckpoint
 use Rattle.store.specs.Reopen as storeReopen
 use Rattle.book.specs.Book as bookBook
 use Rattle.book.specs.Command as bookCommand
+use Rattle.book.specs.InTurn as bookInTurn
 use Rattle.model.specs.State as modelState
 use Rattle.model.specs.Batch as modelBatch
 use Rattle.model.specs.Mount as modelMount
@@ -81,8 +82,8 @@ ofStore = tt
 
 -- The book, and the two calls.
 unfoldable pub computes : Unit {0}
-unfolding ofBytes ofPages ofTree ofStore bookBook.serve bookBook.charge bookCommand.requests bookCommand.refuses bookCommand.answer modelState.bookOf
-    modelState.serve modelBatch.closed modelMount.stateOf modelMount.threePages modelMount.scoresBelow modelMount.treeSound modelMount.mountCells
+unfolding ofBytes ofPages ofTree ofStore bookBook.serve bookBook.charge bookCommand.requests bookCommand.refuses bookCommand.answer bookInTurn.eachPanel
+    modelState.bookOf modelState.serve modelBatch.closed modelMount.stateOf modelMount.threePages modelMount.scoresBelow modelMount.treeSound modelMount.mountCells
     modelPrepare.prepared modelBytes.cellsFrom modelBytes.cellsOf modelCall.poolLength modelCall.mountOf modelCall.batchOf modelCall.prepareOf
     modelCalls.bookIn
 computes = tt

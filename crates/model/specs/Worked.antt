@@ -16,7 +16,7 @@ use Rattle.account.specs.Tariff.{tariffOf, limit}
 use Rattle.account.specs.Serve.{serveOf, chargesOf}
 use Rattle.node.specs.Node.{pairsOf}
 use Rattle.book.specs.Book.{Book}
-use Rattle.model.specs.Call.{Outcome, prepareOf, batchOf}
+use Rattle.model.specs.Call.{Outcome, charge, prepareOf, batchOf}
 use Rattle.model.specs.Calls.{bookIn}
 use Rattle.model.specs.Computes.{computes}
 
@@ -75,7 +75,7 @@ pub data Result : Type 0 where
   left : ℕ → List ℕ → ℕ → List ℕ → Result
 
 abbrev leftBy : Outcome → Result
-leftBy o = left (o .number) (take (o .length) (o .answers)) (o .charge) (sizesOf (o .pool))
+leftBy o = left (o .number) (take (o .length) (o .answers)) (charge o) (sizesOf (o .pool))
 
 -- The result that the definitions give.
 abbrev pub resultOf : Case → Result

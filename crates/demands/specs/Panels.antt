@@ -1,0 +1,173 @@
+-- Panels (document 02, P2): the sixteen charges add up to what all commands cost, and a batch without its panels leaves the same but for who is
+-- charged. Assumes nothing.
+use mathlib.Core.Path.{_≡_, refl, ap, _∙_}
+use mathlib.Core.Bool.{Bool, true, false}
+use mathlib.Core.List.{List, [], _∷_, _++_}
+use mathlib.Core.Option.{some}
+use Prim.Native.Nat.{ℕ, _+_, _<_}
+use native.Mathlib.Omega.{arith}
+use lib.Dec.{leb}
+use lib.ListN.{length}
+use Rattle.laws.specs.Tests.{choose}
+use Rattle.laws.specs.Lay.{lay}
+use Rattle.laws.specs.Update.{only, sum, sumBelow, sumBelow-add, sum-only}
+use Rattle.layout.specs.Layout.{panels, nodeLimit, tableBytes}
+use Rattle.account.specs.declared.Tariff.{Tariff}
+use Rattle.command.specs.declared.Command.{Command}
+use Rattle.command.specs.declared.Command.the-variants.{Get, Put, Delete, Scan, Panel}
+use Rattle.command.specs.Batch.{commandsOf, roomFor, roomForAll}
+use Rattle.store.specs.Reopen.{poolOf}
+use Rattle.book.specs.Command.{Reply, replyBytes, repliesBytes, requests, answer}
+use Rattle.book.specs.Session.{Session, atFirst, sessionAfter}
+use Rattle.book.specs.InTurn.{eachPanel, total, chargeOn}
+use Rattle.book.specs.PanelLaws.{sum-each}
+use Rattle.model.specs.State.{State}
+use Rattle.model.specs.Batch.{replyOf, done, cost, run, answers, closed}
+use Rattle.model.specs.Mount.{Mounted, refused, opened}
+use Rattle.model.specs.Bytes.{bytesOf}
+use Rattle.model.specs.Call.{Outcome, charge, refuse, blocksOf, poolLength, cleared, mountOf, accept, batchMounted, batchAsked, batchOf}
+use Rattle.demands.specs.Commands.{Valid, ValidAll}
+
+-- The panel that speaks is 0 to 15.
+speaks : (c : Command) (r : Reply) (n : Session) → Valid c → n .panel < panels → sessionAfter c r n .panel < panels
+speaks (Get k) r n valid l = l
+speaks (Put k v) r n valid l = l
+speaks (Delete k) r n valid l = l
+speaks (Scan low high most) r n valid l = l
+speaks (Panel panel) r n valid l = valid
+
+-- THE SUM, of any kind of book.
+module _ {B : Type 0} (reply : Command → B → Reply) (after : Command → B → B) (amount : Command → B → ℕ) where
+  sum-total : (cs : List Command) (n : Session) (b : B) → ValidAll cs → n .panel < panels →
+      sumBelow panels (λ q. chargeOn reply after amount q cs n b) ≡ total reply after amount cs n b
+  sum-total [] n b valid l = refl
+  sum-total (c ∷ cs) n b valid l =
+      let m = sessionAfter c (reply c b) n in
+      sumBelow-add panels (only (n .panel) (amount c b)) (λ q. chargeOn reply after amount q cs m (after c b)) ∙
+      omega (
+        arith,
+        sum-only panels (n .panel) (amount c b) l,
+        sum-total cs m (after c b) (valid .1) (speaks c (reply c b) n (valid .0) l),
+      )
+
+  pub sum-charges : (cs : List Command) (n : Session) (b : B) → ValidAll cs → n .panel < panels →
+      sum (eachPanel (λ q. chargeOn reply after amount q cs n b)) ≡ total reply after amount cs n b
+  sum-charges cs n b valid l = sum-each (λ q. chargeOn reply after amount q cs n b) ∙ sum-total cs n b valid l
+
+-- A BATCH WITHOUT ITS PANELS
+abbrev pub unnamed : List Command → List Command
+unnamed [] = []
+unnamed (Get k ∷ cs) = Get k ∷ unnamed cs
+unnamed (Put k v ∷ cs) = Put k v ∷ unnamed cs
+unnamed (Delete k ∷ cs) = Delete k ∷ unnamed cs
+unnamed (Scan low high most ∷ cs) = Scan low high most ∷ unnamed cs
+unnamed (Panel panel ∷ cs) = unnamed cs
+
+unnamed-valid : (cs : List Command) → ValidAll cs → ValidAll (unnamed cs)
+unnamed-valid [] h = tt
+unnamed-valid (Get k ∷ cs) h = (h .0, unnamed-valid cs (h .1))
+unnamed-valid (Put k v ∷ cs) h = (h .0, unnamed-valid cs (h .1))
+unnamed-valid (Delete k ∷ cs) h = (h .0, unnamed-valid cs (h .1))
+unnamed-valid (Scan low high most ∷ cs) h = (h .0, unnamed-valid cs (h .1))
+unnamed-valid (Panel panel ∷ cs) h = unnamed-valid cs (h .1)
+
+-- It asks for the same room.
+pub unnamed-room : (cs : List Command) → roomForAll cs ≡ roomForAll (unnamed cs)
+unnamed-room [] = refl
+unnamed-room (Get k ∷ cs) = ap (λ (n : ℕ). 7 + n) (unnamed-room cs)
+unnamed-room (Put k v ∷ cs) = ap (λ (n : ℕ). 7 + n) (unnamed-room cs)
+unnamed-room (Delete k ∷ cs) = ap (λ (n : ℕ). 7 + n) (unnamed-room cs)
+unnamed-room (Scan low high most ∷ cs) = ap (λ (n : ℕ). roomFor (Scan low high most) + n) (unnamed-room cs)
+unnamed-room (Panel panel ∷ cs) = omega (arith, unnamed-room cs)
+
+module _ (limit : ℕ) (t : Tariff) where
+  -- Two batches that leave the same, whoever speaks in each: the state, the bytes of the answers, what all commands cost.
+  record Same (cs ds : List Command) (n m : Session) (s : State) : Type 0 where
+    pub state : run limit t cs n s ≡ run limit t ds m s
+    pub answers : repliesBytes (answers limit t cs n s) ≡ repliesBytes (answers limit t ds m s)
+    pub total : total (replyOf limit t) (done limit t) (cost limit t) cs n s ≡ total (replyOf limit t) (done limit t) (cost limit t) ds m s
+
+  -- A command in front of both.
+  in-both : (c : Command) {cs ds : List Command} {n m : Session} (s : State) →
+      Same cs ds (sessionAfter c (replyOf limit t c s) n) (sessionAfter c (replyOf limit t c s) m) (done limit t c s) → Same (c ∷ cs) (c ∷ ds) n m s
+  in-both c s r =
+      record {
+        state = r .state;
+        answers = ap (λ (bytes : List ℕ). replyBytes (replyOf limit t c s) ++ bytes) (r .answers);
+        total = ap (λ (k : ℕ). cost limit t c s + k) (r .total);
+      }
+
+  -- A panel in front of one.
+  in-one : (panel : ℕ) {cs ds : List Command} (n : Session) {m : Session} (s : State) →
+      Same cs ds (record { panel = panel }) m s → Same (Panel panel ∷ cs) ds n m s
+  unfolding requests answer
+  in-one panel n s r = record { state = r .state; answers = r .answers; total = omega (arith, r .total) }
+
+  unnamed-same : (cs : List Command) (n m : Session) (s : State) → Same cs (unnamed cs) n m s
+  unnamed-same [] n m s = record { state = refl; answers = refl; total = refl }
+  unnamed-same (Get k ∷ cs) n m s = in-both (Get k) s (unnamed-same cs n m (done limit t (Get k) s))
+  unnamed-same (Put k v ∷ cs) n m s = in-both (Put k v) s (unnamed-same cs n m (done limit t (Put k v) s))
+  unnamed-same (Delete k ∷ cs) n m s = in-both (Delete k) s (unnamed-same cs n m (done limit t (Delete k) s))
+  unnamed-same (Scan low high most ∷ cs) n m s = in-both (Scan low high most) s (unnamed-same cs n m (done limit t (Scan low high most) s))
+  unnamed-same (Panel panel ∷ cs) n m s = in-one panel n s (unnamed-same cs (record { panel = panel }) m s)
+
+-- Two ends of a call that differ in nothing but in whom they charge.
+pub record SameBut (o o′ : Outcome) : Type 0 where
+  pub number : o .number ≡ o′ .number
+  pub pool : o .pool ≡ o′ .pool
+  pub table : o .table ≡ o′ .table
+  pub answers : o .answers ≡ o′ .answers
+  pub length : o .length ≡ o′ .length
+  pub charge : charge o ≡ charge o′
+
+same-but : {o o′ : Outcome} → o ≡ o′ → SameBut o o′
+same-but e =
+    record {
+      number = ap (λ (x : Outcome). x .number) e;
+      pool = ap (λ (x : Outcome). x .pool) e;
+      table = ap (λ (x : Outcome). x .table) e;
+      answers = ap (λ (x : Outcome). x .answers) e;
+      length = ap (λ (x : Outcome). x .length) e;
+      charge = ap charge e;
+    }
+
+module _ (pool table buffer : List ℕ) (cs : List Command) (valid : ValidAll cs) where
+  accepts-same : (t : Tariff) (s : State) → SameBut (accept (blocksOf pool) t cs s table buffer) (accept (blocksOf pool) t (unnamed cs) s table buffer)
+  accepts-same t s =
+      let limit = nodeLimit (blocksOf pool) in
+      let r = unnamed-same limit t cs atFirst atFirst s in
+      let paid = sum-charges (replyOf limit t) (done limit t) (cost limit t) in
+      record {
+        number = refl;
+        pool = ap (λ (z : State). bytesOf (poolOf (closed t z .run .now))) (r .state);
+        table = refl;
+        answers = ap (lay buffer 0) (r .answers);
+        length = ap (λ (bytes : List ℕ). length bytes) (r .answers);
+        charge = omega (arith, paid cs atFirst s valid (omega arith), paid (unnamed cs) atFirst s (unnamed-valid cs valid) (omega arith), r .total);
+      }
+
+  mounted-same : (m : Mounted) → SameBut (batchMounted m cs pool table buffer) (batchMounted m (unnamed cs) pool table buffer)
+  mounted-same (refused n) = same-but refl
+  mounted-same (opened t s) = accepts-same t s
+
+  asked-same : SameBut (batchAsked (some cs) pool table buffer) (batchAsked (some (unnamed cs)) pool table buffer)
+  asked-same = rw (← unnamed-room cs) (go (leb (roomForAll cs) (length buffer)))
+    where
+      go : (b : Bool) →
+          SameBut (choose b (batchMounted (mountOf pool) cs pool table buffer) (refuse 4 pool (cleared (blocksOf pool) table) buffer))
+          (choose b (batchMounted (mountOf pool) (unnamed cs) pool table buffer) (refuse 4 pool (cleared (blocksOf pool) table) buffer))
+      go true = mounted-same (mountOf pool)
+      go false = same-but refl
+
+  -- PANELS LEAVE NO TRACE: not in the number, not in the pool, not in table or answers, not in the sum of the charges.
+  pub unnamed-leaves : (batch batch′ : List ℕ) → commandsOf batch ≡ some cs → commandsOf batch′ ≡ some (unnamed cs) →
+      SameBut (batchOf pool table batch buffer) (batchOf pool table batch′ buffer)
+  unfolding batchOf
+  unnamed-leaves batch batch′ e f = rw (e, f) (go (poolLength pool) (leb (tableBytes (blocksOf pool)) (length table)))
+    where
+      go : (a b : Bool) →
+          SameBut (choose a (choose b (batchAsked (some cs) pool table buffer) (refuse 2 pool table buffer)) (refuse 1 pool table buffer))
+          (choose a (choose b (batchAsked (some (unnamed cs)) pool table buffer) (refuse 2 pool table buffer)) (refuse 1 pool table buffer))
+      go false b = same-but refl
+      go true false = same-but refl
+      go true true = asked-same
