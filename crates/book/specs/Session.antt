@@ -12,10 +12,14 @@ pub record Session : Type 0 where
 abbrev pub atFirst : Session
 atFirst = record { panel = 0 }
 
--- "Command 05 .. names the panel (0 to 15) for the commands after it." After a command and its reply:
+-- "Command 05 .. names the panel (0 to 15) for the commands after it."
+abbrev pub panelAfter : Command → ℕ → ℕ
+panelAfter (Get k) now = now
+panelAfter (Put k v) now = now
+panelAfter (Delete k) now = now
+panelAfter (Scan low high most) now = now
+panelAfter (Panel panel) now = panel
+
+-- After a command and its reply.
 abbrev pub sessionAfter : Command → Reply → Session → Session
-sessionAfter (Get k) r n = n
-sessionAfter (Put k v) r n = n
-sessionAfter (Delete k) r n = n
-sessionAfter (Scan low high most) r n = n
-sessionAfter (Panel panel) r n = record { panel = panel }
+sessionAfter c r n = record { panel = panelAfter c (n .panel) }

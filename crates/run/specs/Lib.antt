@@ -1,3 +1,4 @@
+pub mod Charges
 pub mod Run
 pub mod Replies
 pub mod Valid

@@ -4,27 +4,28 @@ use mathlib.Core.List.{List}
 use Prim.Native.Nat.{ℕ, _+_, _≤_}
 use native.Mathlib.Omega.{arith}
 use lib.ListN.{length}
-use Rattle.laws.specs.Lay.{lay}
+use Rattle.laws.specs.Lay.{lay, lay-nil}
 use Rattle.account.specs.declared.Tariff.{Tariff}
 use Rattle.command.specs.declared.Command.{Command}
-use Rattle.command.specs.declared.Command.the-variants.{Get, Put, Delete, Scan}
+use Rattle.command.specs.declared.Command.the-variants.{Get, Put, Delete, Scan, Panel}
+use Rattle.command.specs.Command.{InRange}
 use Rattle.command.specs.Answer.{answerBytes, scanBytes}
 use Rattle.book.specs.Command.{replyBytes}
 use Rattle.flash_rows.specs.Worktable.{Worktable}
 use Rattle.flash_allocate.specs.World.{World}
 use Rattle.run_serve.specs.declared.charged.Charged.{Charged}
 use Rattle.run_serve.specs.declared.charged.Answered.{Answered}
-use Rattle.run_serve.specs.Step.{ChargedAs, charged-is}
+use Rattle.run_serve.specs.Step.{ChargedAs, charged-none, charged-is}
 use Rattle.run_lookup.specs.Get.{GotAs}
 use Rattle.run_lookup.specs.Delete.{DeletedAs}
 use Rattle.run_scan.specs.declared.scan.Scanned.{Scanned}
 use Rattle.run_scan.specs.Pairs.{pairsOf}
 use Rattle.run_scan.specs.Scan.{ScannedAs}
-use Rattle.run_split.specs.Growing.{Growing, Grew, grew-charged}
+use Rattle.run_split.specs.Growing.{Growing, Grew, grew-same, grew-charged}
 use Rattle.run_put.specs.Put as Put
 use Rattle.run_put.specs.Put.{DoneAs}
 use Rattle.run.specs.declared.Progress.{Progress}
-use Rattle.run.specs.Run.{commandWorld, commandCharge, commandReply, mostServed, InRange, CommandAs}
+use Rattle.run.specs.Run.{commandWorld, commandCharge, commandReply, mostServed, CommandAs}
 
 -- What the code of a reply leaves: these bytes at a place, and what was charged as it was.
 pub record RepliedAs (before after : List ℕ) (r : Progress) (c : Charged) (at : ℕ) (bytes : List ℕ) : Type 0 where
@@ -66,6 +67,13 @@ module _ {P T : ℕ} {pages : List (List ℕ)} {table : Worktable} (t : Tariff) 
     pub scan-replied : {low high most : ℕ} {ids : List ℕ} {d : Scanned} → c ≡ Scan low high most → ScannedAs P T pages table ids d t low high most w →
         RepliedAs before after r (d .charged) at (scanBytes (pairsOf (d .pairs))) → CommandAs P T pages table before after r t c at w
     scan-replied e h l = replied e (grew-charged g (h .charged)) (omega arith) (ap scanBytes (h .pairs)) l
+
+-- A panel: nothing is served, and nothing laid.
+pub panel-replied : (t : Tariff) (w : World) {P T : ℕ} → Growing P T (w .state) → {answers : List ℕ} {at panel : ℕ} {c : Command} → c ≡ Panel panel →
+    CommandAs P T (w .pages) (w .table) answers answers (record { charged = record { state = w .state; charge = 0 }; at = at }) t c at w
+panel-replied t w g {answers} {at} e =
+    replied t w e (charged-none w (grew-same w g)) (omega arith) refl
+    (record { charged = refl; answers = sym (lay-nil answers at); behind = omega arith })
 
 pub range-is : {c d : Command} → c ≡ d → InRange c → InRange d
 range-is e k = subst InRange e k

@@ -13,7 +13,7 @@ use Rattle.tree.specs.Table.{Table}
 use Rattle.tree.specs.Scan.{stopsIn, taken, pairsFrom}
 use Rattle.command.specs.declared.Answer.the-variants.{Got, Deleted}
 use Rattle.command.specs.declared.Command.{Command}
-use Rattle.command.specs.declared.Command.the-variants.{Get, Put, Delete, Scan}
+use Rattle.command.specs.declared.Command.the-variants.{Get, Put, Delete, Scan, Panel}
 use Rattle.command.specs.Answer.{valueOr}
 use Rattle.command.specs.AnswerLaws.{length-answerBytes, length-scanBytes}
 use Rattle.command.specs.Batch.{roomFor}
@@ -55,3 +55,4 @@ reply-room t (Get k) w = length-answerBytes (valueOr Got (valueIn t k w))
 reply-room t (Put k v) w = length-answerBytes (put t k v w .answer)
 reply-room t (Delete k) w = length-answerBytes (valueOr Deleted (valueIn t k w))
 reply-room t (Scan low high most) w = omega (arith, length-scanBytes (scanPairs t low high most w), scan-few t low high most w)
+reply-room t (Panel panel) w = omega arith

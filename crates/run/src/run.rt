@@ -8,9 +8,14 @@ ghost use Rattle.command.specs.Batch.{roomFor};
 ghost use Rattle.flash_allocate.specs.World.{worldIn};
 ghost use Rattle.run_split.specs.Growing.{Growing};
 ghost use Rattle.run_serve.specs.Step.{InBytes};
-ghost use Rattle.run.specs.Run.{InRange, CommandAs, RunAs};
+ghost use Rattle.command.specs.Command.{InRange};
+ghost use Rattle.book.specs.InTurn.{noCharges};
+ghost use Rattle.run.specs.Run.{CommandAs, RunAs};
 ghost use Rattle.run.specs.Valid.{commandsIn, Fits};
 use super::Progress;
+use super::Ran;
+use super::charges::add;
+use super::charges::panel_after;
 use super::replies::reply;
 use super::replies::reply_pairs;
 use account::Tariff;
@@ -19,6 +24,7 @@ use command::Step;
 use command::batch::command_at;
 use flash_allocate::state::State;
 use layout::MOST_NODES;
+use layout::PANELS;
 use run_lookup::delete::delete;
 use run_lookup::get::get;
 use run_put::put::put;
@@ -59,26 +65,32 @@ pub fn run_command(
             let done = scan(pool, table, ids, state, tariff, low, high, most);
             return reply_pairs(answers, at, done);
         }
+        Command::Panel { panel: _ } => {
+            let charged = Charged { state, charge: 0 };
+            return Progress { charged, at };
+        }
     }
 }
 
-// Runs the commands of a valid batch in order, each reply laid behind the last.
+// Runs the commands of a valid batch in order, each reply laid behind the last, each charge added to the panel that speaks.
 pub fn run_commands(
     pool: &mut [u8],
     table: &mut [u8],
     batch: &[u8],
     answers: &mut [u8],
+    charges: &mut [u64; PANELS],
     state: State,
     tariff: Tariff,
-) -> Progress
+) -> Ran
     requires { ⌜ (Growing (length (now pool)) (length (now table)) state) × (Ranged tariff)
-        × (Fits (now batch) (length (now answers))) ⌝ }
+        × (Fits (now batch) (length (now answers))) × (now charges ≡ noCharges) ⌝ }
     ensures { λ r. ⌜ InBytes RunAs (now (pool .exit)) (now (table .exit)) (now (answers .entry)) (now (answers .exit))
-        r tariff (commandsIn (now (batch .entry))) (worldIn (now (pool .entry)) (now (table .entry)) state) ⌝ }
+        (now (charges .exit)) r tariff (commandsIn (now (batch .entry)))
+        (worldIn (now (pool .entry)) (now (table .entry)) state) ⌝ }
 {
     let mut ids = [0u32; MOST_NODES];
     let mut s = state;
-    let mut charge: u64 = 0;
+    let mut panel: usize = 0;
     let mut place: usize = 0;
     let mut at: usize = 0;
     while at < batch.len() {
@@ -88,16 +100,15 @@ pub fn run_commands(
                 let done = run_command(pool, table, answers, &mut ids, s, tariff, command, place);
                 let paid = done.charged;
                 s = paid.state;
-                charge += paid.charge;
+                add(charges, panel, paid.charge);
+                panel = panel_after(command, panel);
                 place = done.at;
                 at = next;
             }
             Step::Invalid => {
-                let charged = Charged { state: s, charge };
-                return Progress { charged, at: place };
+                return Ran { state: s, at: place };
             }
         }
     }
-    let charged = Charged { state: s, charge };
-    Progress { charged, at: place }
+    Ran { state: s, at: place }
 }

@@ -5,7 +5,7 @@ use Rattle.command.specs.Batch.{roomFor}
 use Rattle.flash_rows.specs.Worktable.{tableFrom}
 use Rattle.flash_blocks.specs.Pages.{pagesOf}
 use Rattle.flash_allocate.specs.World.{world}
-use Rattle.run.specs.Replies.{put-replied, get-replied, delete-replied, scan-replied, range-is}
+use Rattle.run.specs.Replies.{put-replied, get-replied, delete-replied, scan-replied, panel-replied, range-is}
 use borrow.Author.Needs.{needs}
 use Rattle.run.proofs.run.run_command.Statement.{statement}
 use Rattle.run.proofs.run.run_command.Tie as tie
@@ -147,6 +147,17 @@ returns-4 c =
       c8 .scan .ensures .room,
     )
 
+enum-told : tie.Need-enum-told
+enum-told c = search needs
+
+returns-5 : tie.Need-returns-5
+returns-5 c =
+    let c5 = c .before .before .before .before .before in
+    let a = c5 .args in (
+      panel-replied (a .tariff) (world (pagesOf (a .pool .now)) (tableFrom (a .table .now)) (a .state)) (c5 .pre .0) (c .enum-told .given .1),
+      c5 .pre .4,
+    )
+
 pub run-command-spec : {M : Type 1} → statement M
 run-command-spec =
     tie.close
@@ -178,4 +189,6 @@ run-command-spec =
     same-length-10
     same-length-11
     same-length-12
-    returns-4)
+    returns-4
+    enum-told
+    returns-5)

@@ -6,39 +6,30 @@ use borrow.Author.Needs.{needs}
 use lib.ListN.{length, length-replicate}
 use Rattle.layout.specs.Layout.{nodeLimit, mostBlocks}
 use Rattle.command.specs.declared.Step.the-variants.{Next}
-use Rattle.command.specs.Command.{commandAt, Onward}
-use Rattle.command.specs.CommandLaws.{commandAt-onward}
+use Rattle.command.specs.Command.{commandAt}
 use Rattle.flash_rows.specs.Worktable.{tableFrom}
 use Rattle.flash_blocks.specs.Pages.{pagesOf}
 use Rattle.flash_allocate.specs.World.{world}
-use Rattle.run.specs.Valid.{command-range}
-use Rattle.run.specs.Running.{Running, running-start, running-room, running-next, running-valid, running-end}
+use Rattle.run.specs.Running.{Running, running-start, running-further, running-range, running-room, running-sum, running-next, running-valid}
+use Rattle.run.specs.Running.{running-end, running-as}
 use Rattle.run.proofs.run.run_commands.Statement.{statement}
 use Rattle.run.proofs.run.run_commands.Tie as tie
 
 abbrev Inv-loop : tie.InvT-loop
-Inv-loop pool₀ table₀ batch answers₀ tariff ids₀ s₀ charge₀ place₀ at₀ pool table answers ids s charge place at =
+Inv-loop pool₀ table₀ batch answers₀ charges₀ tariff ids₀ s₀ panel₀ place₀ at₀ pool table answers charges ids s panel place at =
     (length pool ≡ length pool₀) × (length table ≡ length table₀) × (length answers ≡ length answers₀) × (length ids ≡ nodeLimit mostBlocks) ×
     Running (length pool) (length table) tariff batch answers₀ at (world (pagesOf pool₀) (tableFrom table₀) s₀)
-    (world (pagesOf pool) (tableFrom table) s) answers charge place
+    (world (pagesOf pool) (tableFrom table) s) answers charges panel place
 
 abbrev μ-loop : tie.MeasureT-loop
-μ-loop pool₀ table₀ batch answers₀ tariff ids₀ s₀ charge₀ place₀ at₀ pool table answers ids s charge place at = length batch - at
+μ-loop pool₀ table₀ batch answers₀ charges₀ tariff ids₀ s₀ panel₀ place₀ at₀ pool table answers charges ids s panel place at = length batch - at
 
--- the command found, and that it goes on
+-- the command found
 step-is : (k : tie.After-known-told Inv-loop μ-loop) →
     commandAt (k .before .before .before .before .before .before .before .before .before .before .args .batch .now)
     (k .before .before .before .before .before .loop .at) ≡ Next (k .before .step .given .0 .0)
     (k .before .step .given .0 .1 .0)
 step-is k = sym (k .before .before .before .command-at .ensures) ∙ k .before .step .given .1
-
-onward : (k : tie.After-known-told Inv-loop μ-loop) →
-    Onward (k .before .before .before .before .before .before .before .before .before .before .args .batch .now)
-    (k .before .before .before .before .before .loop .at)
-    (Next (k .before .step .given .0 .0) (k .before .step .given .0 .1 .0))
-onward k = rw (step-is k) at (commandAt-onward
-    (k .before .before .before .before .before .before .before .before .before .before .args .batch .now)
-    (k .before .before .before .before .before .loop .at))
 
 loop-holds : tie.Need-loop-holds Inv-loop μ-loop
 loop-holds c =
@@ -48,8 +39,8 @@ loop-holds c =
       refl,
       refl,
       length-replicate {A = ℕ} 620 0,
-      running-start _ _ (a .tariff) (a .batch .now) (a .answers .now)
-          (world (pagesOf (a .pool .now)) (tableFrom (a .table .now)) (a .state)) (c4 .pre .0) (c4 .pre .2),
+      running-start _ _ (a .tariff) (a .batch .now) (a .answers .now) (a .charges .now)
+          (world (pagesOf (a .pool .now)) (tableFrom (a .table .now)) (a .state)) (c4 .pre .0) (c4 .pre .2) (c4 .pre .3),
     )
 
 command-at-requires : tie.Need-command-at-requires Inv-loop μ-loop
@@ -67,43 +58,49 @@ run-command-requires c κs =
     let l = c9 .loop in (
       l .inv .4 .growing,
       c14 .pre .1,
-      command-range (c14 .args .batch .now) (l .at) _ _ (step-is (c4)),
+      running-range (l .inv .4) (c8 .loop-test .taken) _ _ (step-is c4),
       omega
-          (arith, running-room (l .inv .4) (c8 .loop-test .taken) _ _ (step-is (c4)), l .inv .2),
+          (arith, running-room (l .inv .4) (c8 .loop-test .taken) _ _ (step-is c4), l .inv .2),
       l .inv .3,
     )
 
-add-charge : tie.Need-add-charge Inv-loop μ-loop
-add-charge c =
-    let c9 = c .before .before .before .before .before .before .before .before .before in
-    let c18 = c9 .before .before .before .before .before .before .before .before .before in
-    let c19 = c18 .before in
-    let c24 = c19 .before .before .before .before .before in
-    omega (arith, c19 .loop .inv .4 .most, c9 .run-command .ensures .0 .charged .most, c24 .pre .2 .short, c18 .loop-test .taken)
-
-loop-less : tie.Need-loop-less Inv-loop μ-loop
-loop-less c =
-    let c14 = c .before .before .before .before .before .before .before .before .before .before .before .before .before .before in
-    let c18 = c14 .before .before .before .before in
-    let further = onward (c14) in
-    omega (arith, further .0, further .1, c18 .loop-test .taken)
-
-loop-again : tie.Need-loop-again Inv-loop μ-loop
-loop-again c =
+add-requires : tie.Need-add-requires Inv-loop μ-loop
+add-requires c κs =
     let c9 = c .before .before .before .before .before .before .before .before .before in
     let c14 = c9 .before .before .before .before .before in
     let c18 = c14 .before .before .before .before in
     let c19 = c18 .before in
-    let l = c19 .loop in
-    let x = c9 .run-command in
-    let further = onward (c14) in (
+    let c24 = c19 .before .before .before .before .before in
+    let r = c19 .loop .inv .4 in (
+      r .sixteen,
+      r .speaks,
+      running-sum r (c18 .loop-test .taken) _ _ (step-is c14) (c9 .run-command .ensures .0) (c24 .pre .2 .short),
+    )
+
+panel-after-requires : tie.Need-panel-after-requires Inv-loop μ-loop
+panel-after-requires c κs = search needs
+
+loop-less : tie.Need-loop-less Inv-loop μ-loop
+loop-less c =
+    let c16 = c .before .before .before .before .before .before .before .before .before .before .before .before .before .before .before .before in
+    let c20 = c16 .before .before .before .before in
+    let further = running-further (c20 .before .loop .inv .4) (c20 .loop-test .taken) _ _ (step-is c16) in
+    omega (arith, further .0, further .1, c20 .loop-test .taken)
+
+loop-again : tie.Need-loop-again Inv-loop μ-loop
+loop-again c =
+    let c1 = c .before in
+    let c11 = c1 .before .before .before .before .before .before .before .before .before .before in
+    let c16 = c11 .before .before .before .before .before in
+    let c20 = c16 .before .before .before .before in
+    let c21 = c20 .before in
+    let l = c21 .loop in
+    let x = c11 .run-command in (
       x .kept .0 ∙ l .inv .0,
       x .kept .1 .0 ∙ l .inv .1,
       x .kept .1 .1 .0 ∙ l .inv .2,
       x .ensures .1,
-      running-next (l .inv .4) (c18 .loop-test .taken) _ _ (step-is (c14)) (length (x .last .0))
-          (length (x .last .1 .0)) (pagesOf (x .last .0)) (tableFrom (x .last .1 .0)) (x .last .1 .1 .0) (x .result)
-          (further .0) (further .1) (x .ensures .0),
+      running-as (c1 .add .ensures) (c .panel-after .ensures) (running-next (l .inv .4) (c20 .loop-test .taken) _ _ (step-is c16) (x .ensures .0)),
     )
 
 enum-told : tie.Need-enum-told Inv-loop μ-loop
@@ -147,7 +144,8 @@ run-commands-spec =
     command-at-requires
     enum-known-step
     run-command-requires
-    add-charge
+    add-requires
+    panel-after-requires
     loop-less
     loop-again
     enum-told
