@@ -27,18 +27,18 @@ lent-zero table bytes part e =
     lay-lent 0 bytes table part (omega arith) (ap length e ∙ length-zeros bytes ∙ sym (sub-zero bytes)) ∙ ap (lay table 0) e
 
 -- What is left of a pool, mounted or not, differs by the table alone.
-pub widened : (m : Mounted) (cs : List Command) (pool part table answers : List ℕ) (r : Outcome) (left rest replies : List ℕ) →
-    Leaves (batchMounted m cs pool part answers) r left rest replies → (whole : List ℕ) → whole ≡ cleared (blocksOf pool) table →
-    Leaves (batchMounted m cs pool table answers) r left whole replies
-widened (refused n) cs pool part table answers r left rest replies h whole e =
-    record { number = h .number; pool = h .pool; cleared = e; replies = h .replies; long = h .long; charge = h .charge }
-widened (opened t s) cs pool part table answers r left rest replies h whole e =
-    record { number = h .number; pool = h .pool; cleared = e; replies = h .replies; long = h .long; charge = h .charge }
+pub widened : (m : Mounted) (cs : List Command) (pool part table answers : List ℕ) (r : Outcome) (left rest replies charges : List ℕ) →
+    Leaves (batchMounted m cs pool part answers) r left rest replies charges → (whole : List ℕ) → whole ≡ cleared (blocksOf pool) table →
+    Leaves (batchMounted m cs pool table answers) r left whole replies charges
+widened (refused n) cs pool part table answers r left rest replies charges h whole e =
+    record { number = h .number; pool = h .pool; cleared = e; replies = h .replies; long = h .long; paid = h .paid }
+widened (opened t s) cs pool part table answers r left rest replies charges h whole e =
+    record { number = h .number; pool = h .pool; cleared = e; replies = h .replies; long = h .long; paid = h .paid }
 
 -- A call that leaves this refusal.
-pub left-as : {right : Model.Outcome} {r r′ : Outcome} {left table answers : List ℕ} → r ≡ r′ → Leaves right r′ left
-    table answers → Leaves right r left table answers
-left-as {right} {r} {r′} {left} {table} {answers} e h = subst (λ (o : Outcome). Leaves right o left table answers) (sym e) h
+pub left-as : {right : Model.Outcome} {r r′ : Outcome} {left table answers charges : List ℕ} → r ≡ r′ →
+    Leaves right r′ left table answers charges → Leaves right r left table answers charges
+left-as {right} {r} {r′} {left} {table} {answers} {charges} e h = subst (λ (o : Outcome). Leaves right o left table answers charges) (sym e) h
 
 table-cleared : (m : Mounted) (cs : List Command) (pool part answers : List ℕ) → batchMounted m cs pool part answers .table ≡ cleared (blocksOf pool) part
 table-cleared (refused n) cs pool part answers = refl
@@ -47,13 +47,13 @@ table-cleared (opened t s) cs pool part answers = refl
 -- The work done in the part that is lent is the work done in the whole table.
 pub lent-work : (m : Mounted) (cs : List Command) (pool table answers : List ℕ) (bytes : ℕ) → bytes ≡ tableBytes
     (blocksOf pool) → bytes ≤ length table →
-    {r : Outcome} {left rest replies : List ℕ} →
-    Leaves (batchMounted m cs pool (take (bytes - 0) (drop 0 table)) answers) r left rest replies →
-    Leaves (batchMounted m cs pool table answers) r left (putMid 0 (bytes - 0) table rest) replies
+    {r : Outcome} {left rest replies charges : List ℕ} →
+    Leaves (batchMounted m cs pool (take (bytes - 0) (drop 0 table)) answers) r left rest replies charges →
+    Leaves (batchMounted m cs pool table answers) r left (putMid 0 (bytes - 0) table rest) replies charges
 unfolding wiped
-lent-work m cs pool table answers bytes e l {r} {left} {rest} {replies} h =
+lent-work m cs pool table answers bytes e l {r} {left} {rest} {replies} {charges} h =
     let part : List ℕ = take (bytes - 0) (drop 0 table) in
     let long : length part ≡ bytes = length-take-le (bytes - 0) (drop 0 table) (rw sub-zero l) ∙ sub-zero bytes in
-    widened m cs pool part table answers r left rest replies h (putMid 0 (bytes - 0) table rest)
+    widened m cs pool part table answers r left rest replies charges h (putMid 0 (bytes - 0) table rest)
     (lent-zero table bytes rest (h .cleared ∙ table-cleared m cs pool part answers ∙ cleared-whole (blocksOf pool) part (long ∙ e) ∙ ap zeros long) ∙
     ap (λ (n : ℕ). lay table 0 (zeros n)) e)

@@ -13,20 +13,20 @@ use Rattle.model.specs.Call as Model
 use Rattle.batch.specs.declared.answer.Outcome.{Outcome}
 
 abbrev pub refusedWith : ℕ → Outcome
-refusedWith number = record { number = number; length = 0; charge = 0 }
+refusedWith number = record { number = number; length = 0 }
 
 -- A table whose first bytes are zero.
 unfoldable pub wiped : ℕ → List ℕ → List ℕ
 wiped bytes table = lay table 0 (replicate bytes 0)
 
--- A call leaves what the definition says: the number, every byte of pool, table and answers, the length and the charge.
-pub record Leaves (right : Model.Outcome) (r : Outcome) (left table answers : List ℕ) : Type 0 where
+-- A call leaves what the definition says: the number, every byte of pool, table and answers, the length and each panel's charge.
+pub record Leaves (right : Model.Outcome) (r : Outcome) (left table answers charges : List ℕ) : Type 0 where
   pub number : r .number ≡ right .number
   pub pool : left ≡ right .pool
   pub cleared : table ≡ right .table
   pub replies : answers ≡ right .answers
   pub long : r .length ≡ right .length
-  pub charge : r .charge ≡ right .charge
+  pub paid : charges ≡ right .charges
 
 -- What is known where questions 1 to 4 have passed, of a table cut to the pool's size.
 pub record Accepts (poolLength tableLength blocks : ℕ) (batch : List ℕ) (room : ℕ) : Type 0 where
@@ -39,5 +39,6 @@ pub record Accepts (poolLength tableLength blocks : ℕ) (batch : List ℕ) (roo
   pub enough : roomForAll commands ≤ room
 
 -- What is left then: what the model leaves of a pool mounted or not, whatever the commands are.
-pub record Worked (pool pool′ table table′ batch answers answers′ : List ℕ) (r : Outcome) : Type 0 where
-  pub leaves : (cs : List Command) → commandsOf batch ≡ some cs → Leaves (batchMounted (mountOf pool) cs pool table answers) r pool′ table′ answers′
+pub record Worked (pool pool′ table table′ batch answers answers′ charges : List ℕ) (r : Outcome) : Type 0 where
+  pub leaves :
+      (cs : List Command) → commandsOf batch ≡ some cs → Leaves (batchMounted (mountOf pool) cs pool table answers) r pool′ table′ answers′ charges

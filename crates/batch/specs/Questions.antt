@@ -12,6 +12,7 @@ use Rattle.command.specs.declared.Asked.{Asked}
 use Rattle.command.specs.declared.Asked.the-variants as asked
 use Rattle.command.specs.declared.Command.{Command}
 use Rattle.command.specs.Batch.{commandsOf, roomForAll, askedAs, askedOf}
+use Rattle.book.specs.InTurn.{noCharges}
 use Rattle.model.specs.Call.{blocksOf, poolLength, batchOf, batchMounted, mountOf}
 use Rattle.prepare.specs.Prepared.{IsPool}
 use Rattle.batch.specs.Left.{refusedWith, wiped, Leaves}
@@ -43,32 +44,34 @@ module _ (batch : List ℕ) where
 
 -- The refusals, in their order.
 module _ (pool table batch answers : List ℕ) where
-  pub refused-one : poolLength pool ≡ false → Leaves (batchOf pool table batch answers) (refusedWith 1) pool table answers
+  pub refused-one : poolLength pool ≡ false → (charges : List ℕ) → charges ≡ noCharges →
+      Leaves (batchOf pool table batch answers) (refusedWith 1) pool table answers charges
   unfolding batchOf
-  refused-one e = rw e (record { number = refl; pool = refl; cleared = refl; replies = refl; long = refl; charge = refl })
+  refused-one e charges zero = rw e (record { number = refl; pool = refl; cleared = refl; replies = refl; long = refl; paid = zero })
 
   module _ (h : IsPool pool) where
-    pub refused-two : length table < tableBytes (blocksOf pool) → Leaves (batchOf pool table batch answers) (refusedWith 2) pool table answers
+    pub refused-two : length table < tableBytes (blocksOf pool) → (charges : List ℕ) → charges ≡ noCharges →
+        Leaves (batchOf pool table batch answers) (refusedWith 2) pool table answers charges
     unfolding batchOf
-    refused-two l =
+    refused-two l charges zero =
         rw (h .question, lt-leb (tableBytes (blocksOf pool)) (length table) l)
-        (record { number = refl; pool = refl; cleared = refl; replies = refl; long = refl; charge = refl })
+        (record { number = refl; pool = refl; cleared = refl; replies = refl; long = refl; paid = zero })
 
     module _ (enough : tableBytes (blocksOf pool) ≤ length table) where
       pub refused-three : commandsOf batch ≡ none → (left : List ℕ) → left ≡ wiped (tableBytes (blocksOf pool)) table →
-          Leaves (batchOf pool table batch answers) (refusedWith 3) pool left answers
+          (charges : List ℕ) → charges ≡ noCharges → Leaves (batchOf pool table batch answers) (refusedWith 3) pool left answers charges
       unfolding batchOf wiped
-      refused-three e left is =
+      refused-three e left is charges zero =
           rw (h .question, le-leb (tableBytes (blocksOf pool)) (length table) enough, e)
-          (record { number = refl; pool = refl; cleared = is; replies = refl; long = refl; charge = refl })
+          (record { number = refl; pool = refl; cleared = is; replies = refl; long = refl; paid = zero })
 
       module _ (cs : List Command) (are : commandsOf batch ≡ some cs) where
         pub refused-four : length answers < roomForAll cs → (left : List ℕ) → left ≡ wiped (tableBytes (blocksOf pool)) table →
-            Leaves (batchOf pool table batch answers) (refusedWith 4) pool left answers
+            (charges : List ℕ) → charges ≡ noCharges → Leaves (batchOf pool table batch answers) (refusedWith 4) pool left answers charges
         unfolding batchOf wiped
-        refused-four l left is =
+        refused-four l left is charges zero =
             rw (h .question, le-leb (tableBytes (blocksOf pool)) (length table) enough, are, lt-leb (roomForAll cs) (length answers) l)
-            (record { number = refl; pool = refl; cleared = is; replies = refl; long = refl; charge = refl })
+            (record { number = refl; pool = refl; cleared = is; replies = refl; long = refl; paid = zero })
 
         pub passed-four : roomForAll cs ≤ length answers → batchOf pool table batch answers ≡ batchMounted (mountOf pool) cs pool table answers
         unfolding batchOf

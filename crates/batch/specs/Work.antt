@@ -10,6 +10,8 @@ use Rattle.laws.specs.Options.{some-same}
 use Rattle.layout.specs.Layout.{tableBytes}
 use Rattle.account.specs.declared.Tariff.{Tariff}
 use Rattle.command.specs.declared.Command.{Command}
+use Rattle.book.specs.Session.{atFirst}
+use Rattle.book.specs.InTurn.{noCharges}
 use Rattle.model.specs.Mount.{Mounted, refused}
 use Rattle.model.specs.Call.{blocksOf, cleared, mountOf, batchMounted, accept}
 use Rattle.demands.specs.OneCall.{blocks-length}
@@ -20,7 +22,7 @@ use Rattle.flash_allocate.specs.World.{World, world}
 use Rattle.flash_checkpoint.specs.CheckpointPages.{checkpoint, Ended}
 use Rattle.run_split.specs.Growing.{Growing}
 use Rattle.mount_refines.specs.Mount.Opens.{Opens}
-use Rattle.run.specs.declared.Progress.{Progress}
+use Rattle.run.specs.declared.Ran.{Ran}
 use Rattle.run.specs.Run.{runWorld, RunAs}
 use Rattle.run.specs.Valid.{commandsIn, commandsIn-is}
 use Rattle.batch_refines.specs.Accepted.{accepted}
@@ -28,8 +30,8 @@ use Rattle.batch.specs.declared.answer.Outcome.{Outcome}
 use Rattle.batch.specs.Left.{refusedWith, Leaves, Accepts, Worked}
 
 -- What is told of a batch that was run.
-abbrev pub doneWith : Progress → Outcome
-doneWith p = record { number = 0; length = p .at; charge = p .charged .charge }
+abbrev pub doneWith : Ran → Outcome
+doneWith p = record { number = 0; length = p .at }
 
 abbrev pub zeros : ℕ → List ℕ
 zeros n = replicate n 0
@@ -48,32 +50,34 @@ module _ (pool table batch answers : List ℕ) {blocks : ℕ} (a : Accepts (leng
   cleared-is = zero ∙ sym (cleared-whole (blocksOf pool) table (rw blocks-are (a .table)))
 
   -- A pool that is refused.
-  pub worked-refused : (number : ℕ) → mountOf pool ≡ refused number → Worked pool pool table table′ batch answers answers (refusedWith number)
-  worked-refused number e =
+  pub worked-refused : (number : ℕ) → mountOf pool ≡ refused number → (charges : List ℕ) → charges ≡ noCharges →
+      Worked pool pool table table′ batch answers answers charges (refusedWith number)
+  worked-refused number e charges none =
       record {
         leaves =
             λ cs are.
-            subst (λ (m : Mounted). Leaves (batchMounted m cs pool table answers) (refusedWith number) pool table′ answers) (sym e)
-            (record { number = refl; pool = refl; cleared = cleared-is; replies = refl; long = refl; charge = refl });
+            subst (λ (m : Mounted). Leaves (batchMounted m cs pool table answers) (refusedWith number) pool table′ answers charges) (sym e)
+            (record { number = refl; pool = refl; cleared = cleared-is; replies = refl; long = refl; paid = none });
       }
 
   -- One that opens, its commands run and its checkpoint written.
   module _ (bytes : Bytes batch) {tableLength P T : ℕ} {held held₁ held₂ : Worktable} {t : Tariff} {st st₂ : State} (o : Opens pool tableLength blocks held t st)
-      {pages₁ : List (List ℕ)} {answers₁ : List ℕ} {p : Progress} (ran : RunAs P T pages₁ held₁ answers answers₁ p t (a .commands) (world (pagesOf pool) held st))
-      (pool′ : List ℕ) (ended : world (pagesOf pool′) held₂ st₂ ≡ checkpoint t (world pages₁ held₁ (p .charged .state)))
-      (kept : st₂ .blocks ≡ p .charged .state .blocks) (size : length pool′ ≡ length pool) where
+      {pages₁ : List (List ℕ)} {answers₁ charges : List ℕ} {p : Ran}
+      (ran : RunAs P T pages₁ held₁ answers answers₁ charges p t (a .commands) (world (pagesOf pool) held st))
+      (pool′ : List ℕ) (ended : world (pagesOf pool′) held₂ st₂ ≡ checkpoint t (world pages₁ held₁ (p .state)))
+      (kept : st₂ .blocks ≡ p .state .blocks) (size : length pool′ ≡ length pool) where
     abbrev w : World
     w = world (pagesOf pool) held st
 
-    end : world (pagesOf pool′) held₂ st₂ ≡ checkpoint t (runWorld t (a .commands) w)
+    end : world (pagesOf pool′) held₂ st₂ ≡ checkpoint t (runWorld t (a .commands) atFirst w)
     end = ended ∙ ap (checkpoint t) (ran .kept .is)
 
-    blocks-end : checkpoint t (runWorld t (a .commands) w) .state .blocks ≡ blocks
+    blocks-end : checkpoint t (runWorld t (a .commands) atFirst w) .state .blocks ≡ blocks
     blocks-end =
         ap (λ (z : World). z .state .blocks) (sym end) ∙ kept ∙ ran .kept .blocks ∙ sym (o .runs .agrees .mirrors .pages .size) ∙
         o .runs .sound .good .invariant .rules .size
 
-    by-commands : Leaves (accept blocks t (a .commands) (o .state) table answers) (doneWith p) pool′ table′ answers₁
+    by-commands : Leaves (accept blocks t (a .commands) (o .state) table answers) (doneWith p) pool′ table′ answers₁ charges
     by-commands =
         let l =
         accepted o (a .least) (a .pool) batch bytes (a .commands) (a .are) table answers pool′ (ap (λ (z : World). z .pages) end) blocks-end (size ∙ a .pool) in
@@ -83,36 +87,32 @@ module _ (pool table batch answers : List ℕ) {blocks : ℕ} (a : Accepts (leng
           cleared = zero ∙ sym (cleared-whole blocks table (a .table));
           replies = ran .answers ∙ l .answers;
           long = ran .behind ∙ l .length;
-          charge = ran .charge ∙ l .charge;
+          paid = ran .paid ∙ l .charges;
         }
 
-    pub worked-done : Worked pool pool′ table table′ batch answers answers₁ (doneWith p)
+    pub worked-done : Worked pool pool′ table table′ batch answers answers₁ charges (doneWith p)
     worked-done =
         record {
           leaves =
               λ cs are.
               let same : a .commands ≡ cs = some-same (sym (a .are) ∙ are) in
-              subst (λ (m : Mounted). Leaves (batchMounted m cs pool table answers) (doneWith p) pool′
-              table′ answers₁) (sym (o .is))
-              (subst
-              (λ (b : ℕ). Leaves (accept b t cs (o .state) table answers) (doneWith p) pool′ table′ answers₁)
-              (sym blocks-are)
-              (subst (λ (ds : List Command). Leaves (accept blocks t ds (o .state) table answers)
-              (doneWith p) pool′ table′ answers₁)
-              same by-commands));
+              subst (λ (m : Mounted). Leaves (batchMounted m cs pool table answers) (doneWith p) pool′ table′ answers₁ charges) (sym (o .is))
+              (subst (λ (b : ℕ). Leaves (accept b t cs (o .state) table answers) (doneWith p) pool′ table′ answers₁ charges) (sym blocks-are)
+              (subst (λ (ds : List Command). Leaves (accept blocks t ds (o .state) table answers) (doneWith p) pool′ table′ answers₁ charges) same
+              by-commands));
         }
 
 -- The same, from what the code of each leaves.
 pub worked-by : {pool table batch answers : List ℕ} {blocks : ℕ} (a : Accepts (length pool) (length table) blocks batch (length answers)) (table′ : List ℕ) →
     table′ ≡ zeros (length table) → Bytes batch → {tableLength P T P₂ T₂ : ℕ} {held held₁ held₂ : Worktable} {t : Tariff} {st st₂ : State} →
-    Opens pool tableLength blocks held t st → {pages₁ : List (List ℕ)} {answers₁ : List ℕ} {p : Progress} →
-    RunAs P T pages₁ held₁ answers answers₁ p t (commandsIn batch) (world (pagesOf pool) held st) → (pool′ : List ℕ) →
-    Ended P₂ T₂ (p .charged .state) (world (pagesOf pool′) held₂ st₂) (checkpoint t (world pages₁ held₁ (p .charged .state))) →
-    length pool′ ≡ length pool → Worked pool pool′ table table′ batch answers answers₁ (doneWith p)
+    Opens pool tableLength blocks held t st → {pages₁ : List (List ℕ)} {answers₁ charges : List ℕ} {p : Ran} →
+    RunAs P T pages₁ held₁ answers answers₁ charges p t (commandsIn batch) (world (pagesOf pool) held st) → (pool′ : List ℕ) →
+    Ended P₂ T₂ (p .state) (world (pagesOf pool′) held₂ st₂) (checkpoint t (world pages₁ held₁ (p .state))) →
+    length pool′ ≡ length pool → Worked pool pool′ table table′ batch answers answers₁ charges (doneWith p)
 worked-by {pool} {table} {batch} {answers} a table′ zero bytes {tableLength} {P} {T} {P₂} {T₂} {held} {held₁} {held₂} {t} {st} {st₂} o {pages₁}
-    {answers₁} {p} ran pool′ ended size =
+    {answers₁} {charges} {p} ran pool′ ended size =
     worked-done pool table batch answers a table′ zero bytes {P = P} {T = T} o
-    (subst (λ (cs : List Command). RunAs P T pages₁ held₁ answers answers₁ p t cs (world (pagesOf pool) held st)) (commandsIn-is batch (a .commands) (a .are)) ran)
+    (subst (λ (cs : List Command). RunAs P T pages₁ held₁ answers answers₁ charges p t cs (world (pagesOf pool) held st)) (commandsIn-is batch (a .commands) (a .are)) ran)
     pool′ (ended .is) (ended .blocks) size
 
 -- A pool that opens has what the commands and the checkpoint ask for.

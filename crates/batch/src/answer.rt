@@ -1,21 +1,16 @@
-// What a batch answers.
+// What a batch answers, beside what it writes into the buffers lent to it.
 ghost use mathlib.Core.Path.{_≡_};
 ghost use Rattle.batch.specs.Left.{refusedWith};
 
-// The number of the question that failed, or 0; the length of the answers and the charge, 0 where it is refused.
+// The number of the question that failed, or 0; the length of the answers, 0 where it is refused.
 pub struct Outcome {
     pub number: u32,
     pub length: usize,
-    pub charge: u64,
 }
 
 // A batch refused.
 pub fn refused(number: u32) -> Outcome
     ensures { λ r. ⌜ r ≡ refusedWith number ⌝ }
 {
-    Outcome {
-        number,
-        length: 0,
-        charge: 0,
-    }
+    Outcome { number, length: 0 }
 }

@@ -2,6 +2,7 @@
 ghost use mathlib.Core.Path.{_≡_};
 ghost use Prim.Native.Nat.{_≤_};
 ghost use lib.ListN.{length};
+ghost use Rattle.book.specs.InTurn.{noCharges};
 ghost use Rattle.model.specs.Call.{batchOf};
 ghost use Rattle.batch.specs.Left.{Accepts, Worked, Leaves, wiped};
 
@@ -12,11 +13,12 @@ use answer::refused;
 use command::Asked;
 use command::batch::asked;
 use flash_checkpoint::checkpoint;
+use layout::PANELS;
 use layout::TABLE_BYTES;
 use layout::pool_blocks;
 use mount::mount;
+use run::charges::clear;
 use run::run::run_commands;
-use run_serve::charged::Charged;
 use wire::bytes::fill;
 use wire::bytes::fill_part;
 
@@ -34,11 +36,13 @@ fn work(
     table: &mut [u8],
     commands: &[u8],
     answers: &mut [u8],
+    charges: &mut [u64; PANELS],
     blocks: usize,
 ) -> Outcome
-    requires { ⌜ Accepts (length (now pool)) (length (now table)) blocks (now commands) (length (now answers)) ⌝ }
+    requires { ⌜ (Accepts (length (now pool)) (length (now table)) blocks (now commands) (length (now answers)))
+        × (now charges ≡ noCharges) ⌝ }
     ensures { λ r. ⌜ Worked (now (pool .entry)) (now (pool .exit)) (now (table .entry)) (now (table .exit))
-        (now (commands .entry)) (now (answers .entry)) (now (answers .exit)) r ⌝ }
+        (now (commands .entry)) (now (answers .entry)) (now (answers .exit)) (now (charges .exit)) r ⌝ }
 {
     let mounted = mount(pool, table, blocks);
     if mounted.refused == 0 {} else {
@@ -47,23 +51,28 @@ fn work(
     }
     let tariff = mounted.tariff;
     let state = mounted.state;
-    let done = run_commands(pool, table, commands, answers, state, tariff);
-    let paid: Charged = done.charged;
-    let s = paid.state;
-    checkpoint(pool, table, s, tariff);
+    let done = run_commands(pool, table, commands, answers, charges, state, tariff);
+    checkpoint(pool, table, done.state, tariff);
     fill(table, 0);
     Outcome {
         number: 0,
         length: done.at,
-        charge: paid.charge,
     }
 }
 
-// A batch: refused with its number, or run.
-pub fn batch(pool: &mut [u8], table: &mut [u8], commands: &[u8], answers: &mut [u8]) -> Outcome
+// A batch: refused with its number, or run. The charges that it finds mean nothing.
+pub fn batch(
+    pool: &mut [u8],
+    table: &mut [u8],
+    commands: &[u8],
+    answers: &mut [u8],
+    charges: &mut [u64; PANELS],
+) -> Outcome
     ensures { λ r. ⌜ Leaves (batchOf (now (pool .entry)) (now (table .entry)) (now (commands .entry))
-        (now (answers .entry))) r (now (pool .exit)) (now (table .exit)) (now (answers .exit)) ⌝ }
+        (now (answers .entry))) r (now (pool .exit)) (now (table .exit)) (now (answers .exit))
+        (now (charges .exit)) ⌝ }
 {
+    clear(charges);
     let blocks = pool_blocks(pool.len());
     if blocks == 0 {
         return refused(1);
@@ -83,7 +92,7 @@ pub fn batch(pool: &mut [u8], table: &mut [u8], commands: &[u8], answers: &mut [
                 wipe(table, bytes);
                 return refused(4);
             }
-            return work(pool, &mut table[0..bytes], commands, answers, blocks);
+            return work(pool, &mut table[0..bytes], commands, answers, charges, blocks);
         }
     }
 }

@@ -13,9 +13,12 @@ use Rattle.command.specs.declared.Command.{Command}
 use Rattle.command.specs.Batch.{commandsOf}
 use Rattle.tree.specs.Spells.{mapOf}
 use Rattle.book.specs.Command.{Reply, repliesBytes}
+use Rattle.book.specs.Session.{atFirst}
+use Rattle.book.specs.PanelLaws.{each-same}
 use Rattle.store.specs.Reopen.{Cells}
 use Rattle.model.specs.State.{bookOf}
 use Rattle.model.specs.State as Model
+use Rattle.model.specs.Batch.{chargeOf}
 use Rattle.model.specs.Mount.{Mounted, refused, opened, mountCells}
 use Rattle.model.specs.Bytes.{cellsOf}
 use Rattle.model.specs.Call.{Outcome, blocksOf, mountBy, mountOf, accept}
@@ -30,16 +33,16 @@ use Rattle.flash_allocate.specs.declared.state.State.{State}
 use Rattle.flash_allocate.specs.World.{World, world}
 use Rattle.flash_checkpoint.specs.CheckpointPages.{checkpoint}
 use Rattle.mount_refines.specs.Mount.Opens.{Opens}
-use Rattle.run.specs.Run.{runWorld, runCharge, runReplies}
+use Rattle.run.specs.Run.{runWorld, runCharge, runCharges, runReplies}
 use Rattle.batch_refines.specs.Run.{RunAgrees, run-agrees}
 use Rattle.batch_refines.specs.Ending.{pool-closed}
 
--- What a batch leaves of pool and answers, the length of its answers and the charge.
-pub record Left (pool′ answers′ : List ℕ) (long paid : ℕ) (right : Outcome) : Type 0 where
+-- What a batch leaves of pool and answers, the length of its answers and the charges.
+pub record Left (pool′ answers′ : List ℕ) (long : ℕ) (paid : List ℕ) (right : Outcome) : Type 0 where
   pub pool : pool′ ≡ right .pool
   pub answers : answers′ ≡ right .answers
   pub length : long ≡ right .length
-  pub charge : paid ≡ right .charge
+  pub charges : paid ≡ right .charges
 
 -- A pool that opens spells a map.
 module _ {blocks : ℕ} (least : fewestBlocks ≤ blocks) (t : Tariff) (s : Model.State) where
@@ -81,17 +84,19 @@ module _ {pool : List ℕ} {tableLength blocks : ℕ} {held : Worktable} {t : Ta
   number-left = omega (arith, o .left, o .runs .agrees .mirrors .last)
 
   -- THE COMMANDS
-  pub ran : RunAgrees blocks t cs w s
-  ran = run-agrees t cs (o .runs) (mapOf (bookOf s .count) (bookOf s .table)) holds (asked .valid) (asked .values) (omega (arith, asked .few, number-left))
+  pub ran : RunAgrees blocks t cs atFirst w s
+  ran = run-agrees t cs atFirst (o .runs) (mapOf (bookOf s .count) (bookOf s .table)) holds (asked .valid) (asked .values) (omega (arith, asked .few, number-left))
 
   -- THE BATCH
-  pub accepted : (table answers : List ℕ) (pool′ : List ℕ) → pagesOf pool′ ≡ checkpoint t (runWorld t cs w) .pages →
-      checkpoint t (runWorld t cs w) .state .blocks ≡ blocks → length pool′ ≡ blockBytes * blocks →
-      Left pool′ (lay answers 0 (repliesBytes (runReplies t cs w))) (length (repliesBytes (runReplies t cs w))) (runCharge t cs w) (accept blocks t cs s table answers)
+  pub accepted : (table answers : List ℕ) (pool′ : List ℕ) → pagesOf pool′ ≡ checkpoint t (runWorld t cs atFirst w) .pages →
+      checkpoint t (runWorld t cs atFirst w) .state .blocks ≡ blocks → length pool′ ≡ blockBytes * blocks →
+      Left pool′ (lay answers 0 (repliesBytes (runReplies t cs atFirst w))) (length (repliesBytes (runReplies t cs atFirst w))) (runCharges t cs atFirst w)
+      (accept blocks t cs s table answers)
   accepted table answers pool′ e b l =
       record {
         pool = pool-closed (ran .runs) t (omega (arith, ran .number, asked .few, number-left)) pool′ e b l;
         answers = ap (λ (rs : List Reply). lay answers 0 (repliesBytes rs)) (ran .replies);
         length = ap (λ (rs : List Reply). length (repliesBytes rs)) (ran .replies);
-        charge = ran .charge;
+        charges =
+            each-same (λ q. runCharge t q cs atFirst w) (λ q. chargeOf (nodeLimit blocks) t q cs atFirst s) (ran .charge);
       }

@@ -1,16 +1,18 @@
--- THE COMMANDS OF A BATCH, run by the code, agree with the model's: what is left, the charge, the replies. Assumes nothing.
-use mathlib.Core.Path.{_≡_, refl, sym, ap₂, _∙_, subst}
+-- THE COMMANDS OF A BATCH, run by the code, agree with the model's: what is left, the charges, the replies. Assumes nothing.
+use mathlib.Core.Path.{_≡_, refl, sym, ap, ap₂, _∙_, subst}
 use mathlib.Core.List.{List, [], _∷_}
 use Prim.Native.Nat.{ℕ, _+_, _*_, _≤_, _<_}
 use native.Mathlib.Omega.{arith}
 use lib.ListN.{length}
+use Rattle.laws.specs.Update.{only}
 use Rattle.layout.specs.Layout.{nodeLimit, bound32}
 use Rattle.pairs.specs.Pairs.{Pair}
 use Rattle.account.specs.declared.Tariff.{Tariff}
 use Rattle.command.specs.declared.Command.{Command}
-use Rattle.command.specs.declared.Command.the-variants.{Get, Put, Delete, Scan}
+use Rattle.command.specs.declared.Command.the-variants.{Get, Put, Delete, Scan, Panel}
 use Rattle.book.specs.Book.{Book}
 use Rattle.book.specs.Command.{Reply, requests, answer}
+use Rattle.book.specs.Session.{Session, sessionAfter}
 use Rattle.book.specs.OrderedMap.{mapRun}
 use Rattle.store_laws.specs.Numbers.{last}
 use Rattle.model.specs.State.{State, bookOf, charges}
@@ -60,7 +62,7 @@ module _ {blocks : ℕ} {w : World} {s : State} (k : Runs blocks w s) (ps : List
 
   -- ONE COMMAND
   pub command-agrees : (c : Command) → Valid c → ValueFits c → One blocks t c w s
-  unfolding requests
+  unfolding requests answer
   command-agrees (Get key) valid value =
       in-order (Get key) valid value (get-world k ps h number t key valid) (get-charge k ps h number t key valid)
       (sym (get-answer k ps h number t key valid))
@@ -74,27 +76,29 @@ module _ {blocks : ℕ} {w : World} {s : State} (k : Runs blocks w s) (ps : List
       let p = put-agrees t s w k ps (h .spells) key v valid value (omega (arith, few (Put key v) valid)) in
       record { runs = p .runs; charge = p .charge; reply = p .answer; number = omega (arith, ran (Put key v) valid value .number, few (Put key v) valid) }
 
--- ALL COMMANDS
-pub record RunAgrees (blocks : ℕ) (t : Tariff) (cs : List Command) (w : World) (s : State) : Type 0 where
-  pub runs : Runs blocks (runWorld t cs w) (run (nodeLimit blocks) t cs s)
-  pub charge : runCharge t cs w ≡ chargeOf (nodeLimit blocks) t cs s
-  pub replies : runReplies t cs w ≡ answers (nodeLimit blocks) t cs s
-  pub number : last (run (nodeLimit blocks) t cs s .run) ≤ mostNumbers * length cs + last (s .run)
+  command-agrees (Panel panel) valid value = in-order (Panel panel) valid value refl refl refl
 
-pub run-agrees : {blocks : ℕ} (t : Tariff) (cs : List Command) {w : World} {s : State} → Runs blocks w s → (ps : List Pair) → Holds (nodeLimit blocks) (bookOf s) ps →
-    ValidAll cs → ValuesFit cs → 1 + (mostNumbers * length cs + last (s .run)) < bound32 → RunAgrees blocks t cs w s
-run-agrees t [] k ps h valid values number = record { runs = k; charge = refl; replies = refl; number = omega arith }
-run-agrees {blocks} t (c ∷ cs) {w} {s} k ps h valid values number =
+-- ALL COMMANDS
+pub record RunAgrees (blocks : ℕ) (t : Tariff) (cs : List Command) (n : Session) (w : World) (s : State) : Type 0 where
+  pub runs : Runs blocks (runWorld t cs n w) (run (nodeLimit blocks) t cs n s)
+  pub charge : (q : ℕ) → runCharge t q cs n w ≡ chargeOf (nodeLimit blocks) t q cs n s
+  pub replies : runReplies t cs n w ≡ answers (nodeLimit blocks) t cs n s
+  pub number : last (run (nodeLimit blocks) t cs n s .run) ≤ mostNumbers * length cs + last (s .run)
+
+pub run-agrees : {blocks : ℕ} (t : Tariff) (cs : List Command) (n : Session) {w : World} {s : State} → Runs blocks w s → (ps : List Pair) → Holds (nodeLimit blocks) (bookOf s) ps →
+    ValidAll cs → ValuesFit cs → 1 + (mostNumbers * length cs + last (s .run)) < bound32 → RunAgrees blocks t cs n w s
+run-agrees t [] n k ps h valid values number = record { runs = k; charge = λ q. refl; replies = refl; number = omega arith }
+run-agrees {blocks} t (c ∷ cs) n {w} {s} k ps h valid values number =
     let limit = nodeLimit blocks in
     let one = command-agrees k ps h t (omega arith) c (valid .0) (values .0) in
-    let said = batch-batched blocks t (omega (arith, k .few)) (c ∷ []) s ps (valid .0, tt) (k .sound) h in
-    let pairs = mapRun limit t (c ∷ []) (bookOf s) ps in
+    let said = batch-batched blocks t (omega (arith, k .few)) (c ∷ []) n s ps (valid .0, tt) (k .sound) h in
+    let pairs = mapRun limit t (c ∷ []) n (bookOf s) ps in
     let rest =
-    run-agrees t cs (one .runs) pairs (subst (λ (z : Book). Holds limit z pairs) (sym (said .says .is)) (said .holds)) (valid .1) (values .1)
+    run-agrees t cs (sessionAfter c (answer limit c (bookOf s)) n) (one .runs) pairs (subst (λ (z : Book). Holds limit z pairs) (sym (said .says .is)) (said .holds)) (valid .1) (values .1)
     (omega (arith, one .number)) in
     record {
       runs = rest .runs;
-      charge = ap₂ _+_ (one .charge) (rest .charge);
+      charge = λ q. ap₂ _+_ (ap (λ (k : ℕ). only (n .panel) k q) (one .charge)) (rest .charge q);
       replies = ap₂ {B = List Reply} _∷_ (one .reply) (rest .replies);
       number = omega (arith, rest .number, one .number);
     }

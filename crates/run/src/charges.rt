@@ -4,6 +4,7 @@ ghost use Prim.Native.Nat.{_+_, _≤_, _<_};
 ghost use lib.ListN.{length, getD};
 ghost use Rattle.layout.specs.Layout.{panels};
 ghost use Rattle.book.specs.Session.{panelAfter};
+ghost use Rattle.book.specs.InTurn.{noCharges};
 ghost use Rattle.run.specs.Charges.{added, most64};
 use command::Command;
 use layout::PANELS;
@@ -23,6 +24,13 @@ pub fn panel_after(command: Command, panel: usize) -> usize
         } => panel,
         Command::Panel { panel: named } => named,
     }
+}
+
+// Nothing charged to any panel.
+pub fn clear(charges: &mut [u64; PANELS])
+    ensures { λ _. ⌜ now (charges .exit) ≡ noCharges ⌝ }
+{
+    *charges = [0u64; PANELS];
 }
 
 // Adds to a panel's charge.

@@ -2,6 +2,6 @@
 use Prim.Native.Nat.{ℕ}
 use Rattle.batch.specs.declared.answer.Outcome.{Outcome}
 
--- What a batch answers, in three places.
-abbrev pub outcome : ℕ → ℕ → ℕ → Outcome
-outcome number length charge = record { number = number; length = length; charge = charge }
+-- What a batch answers, in two places.
+abbrev pub outcome : ℕ → ℕ → Outcome
+outcome number length = record { number = number; length = length }

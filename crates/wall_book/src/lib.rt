@@ -6,6 +6,7 @@ ghost use Rattle.batch.specs.Left.{Leaves};
 ghost use Rattle.wall_book.specs.Entry.{outcome};
 use account::tariff_of;
 use batch::batch;
+use layout::PANELS;
 use prepare::prepare;
 
 // Prepares a pool under a tariff, its numbers in document 01's order. The answer is 0, or the number of the refusal: then the pool is as it was.
@@ -39,7 +40,7 @@ pub extern "C" fn wall_book_prepare(
     prepare(pool, tariff)
 }
 
-// Runs a batch. The answer is 0, or the number of the refusal: then pool and answers are as they were, and length and charge are 0.
+// Runs a batch. The answer is 0, or the number of the refusal: then pool and answers are as they were, and length and all charges are 0.
 #[no_mangle]
 pub extern "C" fn wall_book_batch(
     pool: &mut [u8],
@@ -47,14 +48,13 @@ pub extern "C" fn wall_book_batch(
     commands: &[u8],
     answers: &mut [u8],
     length: &mut usize,
-    charge: &mut u64,
+    charges: &mut [u64; PANELS],
 ) -> u32
     ensures { λ r. ⌜ Leaves (batchOf (now (pool .entry)) (now (table .entry)) (now (commands .entry))
-        (now (answers .entry))) (outcome r (now (length .exit)) (now (charge .exit))) (now (pool .exit))
-        (now (table .exit)) (now (answers .exit)) ⌝ }
+        (now (answers .entry))) (outcome r (now (length .exit))) (now (pool .exit)) (now (table .exit))
+        (now (answers .exit)) (now (charges .exit)) ⌝ }
 {
-    let done = batch(pool, table, commands, answers);
+    let done = batch(pool, table, commands, answers, charges);
     *length = done.length;
-    *charge = done.charge;
     done.number
 }

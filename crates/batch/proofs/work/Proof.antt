@@ -35,19 +35,19 @@ returns c =
     let m = c9 .mount in
     let f = c3 .fill in
     subst (λ (r : Outcome). Worked (a .pool .now) (a .pool .now) (a .table .now) (f .last .0) (a .commands .now)
-    (a .answers .now) (a .answers .now) r) (sym (c .refused .ensures))
-    (worked-refused (a .pool .now) (a .table .now) (a .commands .now) (a .answers .now) (c16 .pre) (f .last .0) (f .ensures ∙ ap zeros (m .kept .1 .0))
-    (m .result .refused) (m .ensures .refused (c5 .if1 .left)))
+    (a .answers .now) (a .answers .now) (a .charges .now) r) (sym (c .refused .ensures))
+    (worked-refused (a .pool .now) (a .table .now) (a .commands .now) (a .answers .now) (c16 .pre .0) (f .last .0)
+    (f .ensures ∙ ap zeros (m .kept .1 .0)) (m .result .refused) (m .ensures .refused (c5 .if1 .left)) (a .charges .now) (c16 .pre .1))
 
 run-commands-requires : tie.Need-run-commands-requires
 run-commands-requires c κs =
-    let c5 = c .before .before .before .before .before in
-    let c9 = c5 .before .before .before .before in
-    let c16 = c9 .before .before .before .before .before .before .before in
-    let a = c16 .args in
-    let pre = c16 .pre in
-    let o = c9 .mount .ensures .opened (c5 .if1 .taken) in
-    (grows o, o .ranged, valid-fits (a .commands .now) (pre .commands) (pre .are) (length (a .answers .now)) (pre .enough))
+    let c6 = c .before .before .before .before .before .before in
+    let c10 = c6 .before .before .before .before in
+    let c17 = c10 .before .before .before .before .before .before .before in
+    let a = c17 .args in
+    let pre = c17 .pre .0 in
+    let o = c10 .mount .ensures .opened (c6 .if1 .taken) in
+    (grows o, o .ranged, valid-fits (a .commands .now) (pre .commands) (pre .are) (length (a .answers .now)) (pre .enough), c17 .pre .1)
 
 checkpoint-requires : tie.Need-checkpoint-requires
 checkpoint-requires c κs = search needs
@@ -62,9 +62,9 @@ same-length-4 : tie.Need-same-length-4
 same-length-4 c =
     let c2 = c .before .before in
     let c8 = c2 .before .before .before .before .before .before in
-    let c19 = c8 .before .before .before .before .before .before .before .before .before .before .before in
-    let c29 = c19 .before .before .before .before .before .before .before .before .before .before in
-    c2 .fill2 .kept .0 ∙ c8 .checkpoint .kept .1 .0 ∙ c19 .run-commands .kept .1 .0 ∙ c29 .mount .kept .1 .0
+    let c17 = c8 .before .before .before .before .before .before .before .before .before in
+    let c28 = c17 .before .before .before .before .before .before .before .before .before .before .before in
+    c2 .fill2 .kept .0 ∙ c8 .checkpoint .kept .1 .0 ∙ c17 .run-commands .kept .1 .0 ∙ c28 .mount .kept .1 .0
 
 same-length-5 : tie.Need-same-length-5
 same-length-5 c = search needs
@@ -73,17 +73,17 @@ returns-2 : tie.Need-returns-2
 returns-2 c =
     let c2 = c .before .before in
     let c8 = c2 .before .before .before .before .before .before in
-    let c19 = c8 .before .before .before .before .before .before .before .before .before .before .before in
-    let c25 = c19 .before .before .before .before .before .before in
-    let c29 = c25 .before .before .before .before in
-    let c33 = c29 .before .before .before .before in
-    let c36 = c33 .before .before .before in
-    let a = c36 .args in
-    let m = c29 .mount in
-    let r = c19 .run-commands in
+    let c17 = c8 .before .before .before .before .before .before .before .before .before in
+    let c24 = c17 .before .before .before .before .before .before .before in
+    let c28 = c24 .before .before .before .before in
+    let c32 = c28 .before .before .before .before in
+    let c35 = c32 .before .before .before in
+    let a = c35 .args in
+    let m = c28 .mount in
+    let r = c17 .run-commands in
     let e = c8 .checkpoint in
-    worked-by (c36 .pre) (c2 .fill2 .last .0) (c2 .fill2 .ensures ∙ ap zeros (e .kept .1 .0 ∙ r .kept .1 .0 ∙ m .kept .1 .0))
-    (bytes-getD (a .commands .now) (λ i. c33 .shared-slice-known .given i .fits)) (m .ensures .opened (c25 .if1 .taken)) (r .ensures) (e .last .0) (e .ensures)
+    worked-by (c35 .pre .0) (c2 .fill2 .last .0) (c2 .fill2 .ensures ∙ ap zeros (e .kept .1 .0 ∙ r .kept .1 .0 ∙ m .kept .1 .0))
+    (bytes-getD (a .commands .now) (λ i. c32 .shared-slice-known .given i .fits)) (m .ensures .opened (c24 .if1 .taken)) (r .ensures) (e .last .0) (e .ensures)
     (e .kept .0 ∙ r .kept .0)
 
 pub work-spec : {M : Type 1} → statement M
