@@ -31,9 +31,9 @@ pub widened : (m : Mounted) (cs : List Command) (pool part table answers : List 
     Leaves (batchMounted m cs pool part answers) r left rest replies charges → (whole : List ℕ) → whole ≡ cleared (blocksOf pool) table →
     Leaves (batchMounted m cs pool table answers) r left whole replies charges
 widened (refused n) cs pool part table answers r left rest replies charges h whole e =
-    record { number = h .number; pool = h .pool; cleared = e; replies = h .replies; long = h .long; paid = h .paid }
+    record { number = h .number; pool = h .pool; cleared = e; replies = h .replies; long = h .long; paid = h .paid; sixteen = h .sixteen }
 widened (opened t s) cs pool part table answers r left rest replies charges h whole e =
-    record { number = h .number; pool = h .pool; cleared = e; replies = h .replies; long = h .long; paid = h .paid }
+    record { number = h .number; pool = h .pool; cleared = e; replies = h .replies; long = h .long; paid = h .paid; sixteen = h .sixteen }
 
 -- A call that leaves this refusal.
 pub left-as : {right : Model.Outcome} {r r′ : Outcome} {left table answers charges : List ℕ} → r ≡ r′ →

@@ -5,7 +5,7 @@ use mathlib.Core.Option.{some}
 use Prim.Native.Nat.{ℕ, _*_, _≤_}
 use lib.ListN.{length, replicate}
 use Rattle.laws.specs.Lay.{lay}
-use Rattle.layout.specs.Layout.{fewestBlocks, mostBlocks, blockBytes, tableBytes}
+use Rattle.layout.specs.Layout.{fewestBlocks, mostBlocks, blockBytes, tableBytes, panels}
 use Rattle.command.specs.declared.Command.{Command}
 use Rattle.command.specs.Batch.{commandsOf, roomForAll}
 use Rattle.model.specs.Call.{mountOf, batchMounted}
@@ -27,6 +27,7 @@ pub record Leaves (right : Model.Outcome) (r : Outcome) (left table answers char
   pub replies : answers ≡ right .answers
   pub long : r .length ≡ right .length
   pub paid : charges ≡ right .charges
+  pub sixteen : length charges ≡ panels
 
 -- What is known where questions 1 to 4 have passed, of a table cut to the pool's size.
 pub record Accepts (poolLength tableLength blocks : ℕ) (batch : List ℕ) (room : ℕ) : Type 0 where

@@ -1,5 +1,5 @@
 -- Questions 1 to 4 of a batch, and what each refusal leaves. Assumes nothing.
-use mathlib.Core.Path.{_≡_, refl, sym, ap}
+use mathlib.Core.Path.{_≡_, refl, sym, ap, _∙_}
 use mathlib.Core.Bool.{false}
 use mathlib.Core.List.{List}
 use mathlib.Core.Option.{Option, none, some}
@@ -7,12 +7,13 @@ use Prim.Native.Nat.{ℕ, _≤_, _<_}
 use native.Mathlib.Omega.{arith}
 use borrow.Author.Tests.{le-leb, lt-leb}
 use lib.ListN.{length}
-use Rattle.layout.specs.Layout.{tableBytes}
+use Rattle.layout.specs.Layout.{tableBytes, panels}
 use Rattle.command.specs.declared.Asked.{Asked}
 use Rattle.command.specs.declared.Asked.the-variants as asked
 use Rattle.command.specs.declared.Command.{Command}
 use Rattle.command.specs.Batch.{commandsOf, roomForAll, askedAs, askedOf}
 use Rattle.book.specs.InTurn.{noCharges}
+use Rattle.book.specs.PanelLaws.{length-each}
 use Rattle.model.specs.Call.{blocksOf, poolLength, batchOf, batchMounted, mountOf}
 use Rattle.prepare.specs.Prepared.{IsPool}
 use Rattle.batch.specs.Left.{refusedWith, wiped, Leaves}
@@ -42,12 +43,15 @@ module _ (batch : List ℕ) where
   unfolding askedOf
   asks-for n e = told-some (commandsOf batch) n e
 
+pub none-charged : {charges : List ℕ} → charges ≡ noCharges → length charges ≡ panels
+none-charged e = ap length e ∙ length-each (λ q. 0)
+
 -- The refusals, in their order.
 module _ (pool table batch answers : List ℕ) where
   pub refused-one : poolLength pool ≡ false → (charges : List ℕ) → charges ≡ noCharges →
       Leaves (batchOf pool table batch answers) (refusedWith 1) pool table answers charges
   unfolding batchOf
-  refused-one e charges zero = rw e (record { number = refl; pool = refl; cleared = refl; replies = refl; long = refl; paid = zero })
+  refused-one e charges zero = rw e (record { number = refl; pool = refl; cleared = refl; replies = refl; long = refl; paid = zero; sixteen = none-charged zero })
 
   module _ (h : IsPool pool) where
     pub refused-two : length table < tableBytes (blocksOf pool) → (charges : List ℕ) → charges ≡ noCharges →
@@ -55,7 +59,7 @@ module _ (pool table batch answers : List ℕ) where
     unfolding batchOf
     refused-two l charges zero =
         rw (h .question, lt-leb (tableBytes (blocksOf pool)) (length table) l)
-        (record { number = refl; pool = refl; cleared = refl; replies = refl; long = refl; paid = zero })
+        (record { number = refl; pool = refl; cleared = refl; replies = refl; long = refl; paid = zero; sixteen = none-charged zero })
 
     module _ (enough : tableBytes (blocksOf pool) ≤ length table) where
       pub refused-three : commandsOf batch ≡ none → (left : List ℕ) → left ≡ wiped (tableBytes (blocksOf pool)) table →
@@ -63,7 +67,7 @@ module _ (pool table batch answers : List ℕ) where
       unfolding batchOf wiped
       refused-three e left is charges zero =
           rw (h .question, le-leb (tableBytes (blocksOf pool)) (length table) enough, e)
-          (record { number = refl; pool = refl; cleared = is; replies = refl; long = refl; paid = zero })
+          (record { number = refl; pool = refl; cleared = is; replies = refl; long = refl; paid = zero; sixteen = none-charged zero })
 
       module _ (cs : List Command) (are : commandsOf batch ≡ some cs) where
         pub refused-four : length answers < roomForAll cs → (left : List ℕ) → left ≡ wiped (tableBytes (blocksOf pool)) table →
@@ -71,7 +75,7 @@ module _ (pool table batch answers : List ℕ) where
         unfolding batchOf wiped
         refused-four l left is charges zero =
             rw (h .question, le-leb (tableBytes (blocksOf pool)) (length table) enough, are, lt-leb (roomForAll cs) (length answers) l)
-            (record { number = refl; pool = refl; cleared = is; replies = refl; long = refl; paid = zero })
+            (record { number = refl; pool = refl; cleared = is; replies = refl; long = refl; paid = zero; sixteen = none-charged zero })
 
         pub passed-four : roomForAll cs ≤ length answers → batchOf pool table batch answers ≡ batchMounted (mountOf pool) cs pool table answers
         unfolding batchOf

@@ -12,6 +12,7 @@ use Rattle.account.specs.declared.Tariff.{Tariff}
 use Rattle.command.specs.declared.Command.{Command}
 use Rattle.book.specs.Session.{atFirst}
 use Rattle.book.specs.InTurn.{noCharges}
+use Rattle.book.specs.PanelLaws.{length-each}
 use Rattle.model.specs.Mount.{Mounted, refused}
 use Rattle.model.specs.Call.{blocksOf, cleared, mountOf, batchMounted, accept}
 use Rattle.demands.specs.OneCall.{blocks-length}
@@ -23,10 +24,11 @@ use Rattle.flash_checkpoint.specs.CheckpointPages.{checkpoint, Ended}
 use Rattle.run_split.specs.Growing.{Growing}
 use Rattle.mount_refines.specs.Mount.Opens.{Opens}
 use Rattle.run.specs.declared.Ran.{Ran}
-use Rattle.run.specs.Run.{runWorld, RunAs}
+use Rattle.run.specs.Run.{runWorld, runCharge, RunAs}
 use Rattle.run.specs.Valid.{commandsIn, commandsIn-is}
 use Rattle.batch_refines.specs.Accepted.{accepted}
 use Rattle.batch.specs.declared.answer.Outcome.{Outcome}
+use Rattle.batch.specs.Questions.{none-charged}
 use Rattle.batch.specs.Left.{refusedWith, Leaves, Accepts, Worked}
 
 -- What is told of a batch that was run.
@@ -57,7 +59,7 @@ module _ (pool table batch answers : List ℕ) {blocks : ℕ} (a : Accepts (leng
         leaves =
             λ cs are.
             subst (λ (m : Mounted). Leaves (batchMounted m cs pool table answers) (refusedWith number) pool table′ answers charges) (sym e)
-            (record { number = refl; pool = refl; cleared = cleared-is; replies = refl; long = refl; paid = none });
+            (record { number = refl; pool = refl; cleared = cleared-is; replies = refl; long = refl; paid = none; sixteen = none-charged none });
       }
 
   -- One that opens, its commands run and its checkpoint written.
@@ -88,6 +90,7 @@ module _ (pool table batch answers : List ℕ) {blocks : ℕ} (a : Accepts (leng
           replies = ran .answers ∙ l .answers;
           long = ran .behind ∙ l .length;
           paid = ran .paid ∙ l .charges;
+          sixteen = ap length (ran .paid) ∙ length-each (λ q. runCharge t q (a .commands) atFirst w);
         }
 
     pub worked-done : Worked pool pool′ table table′ batch answers answers₁ charges (doneWith p)

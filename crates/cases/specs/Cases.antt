@@ -14,7 +14,7 @@ use Rattle.store.specs.Checkpoint.{CheckpointPage, checkpointPages, checkpointO
 use Rattle.store.specs.Reopen.{Cells, cells, reopened}
 use Rattle.model.specs.Mount.{Mounted, refused, opened, numbersLeft, mountCells}
 use Rattle.model.specs.Bytes.{cellsOf}
-use Rattle.model.specs.Call.{Outcome, blocksOf, prepareOf, mountOf, batchOf}
+use Rattle.model.specs.Call.{Outcome, charge, blocksOf, prepareOf, mountOf, batchOf}
 use Rattle.cases.specs.Pools.{tariff, poolBytes}
 
 -- What a call is lent: the pool, a work table of so many bytes, the batch, an answer buffer of so many bytes. Each byte of the two is 7.
@@ -61,7 +61,7 @@ abbrev outcomeOf : Lent → Outcome
 outcomeOf l = batchOf (l .pool) (replicate (l .table) 7) (l .batch) (replicate (l .buffer) 7)
 
 abbrev answersOf : Outcome → Result
-answersOf o = answered (o .number) (take (o .length) (o .answers)) (o .charge)
+answersOf o = answered (o .number) (take (o .length) (o .answers)) (charge o)
 
 abbrev numberOf : Mounted → Result
 numberOf (refused n) = number n

@@ -4,3 +4,4 @@ pub mod Pools
 pub mod Cases
 pub mod Limits
 pub mod Orders
+pub mod Panels

@@ -98,7 +98,7 @@ pub record Traces : Type 0 where
         table = replicate 4096 0;
         answers = answers ++ replicate 492 7;
         length = 20;
-        charge = 14;
+        charges = 14 ∷ replicate 15 0;
       }
   -- THE SECOND TRACE: "tariff 0 0 0, 0 0 0, 1 1", keys 0 to 24
   pub second : shownOf (batchOn (tariffOf 0 0 0 0 0 0 1 1) (puts 25) .pool) ≡

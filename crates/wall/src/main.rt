@@ -1,5 +1,9 @@
 // wall: prepares 65,536 bytes with the tariff 3 1 2, 1 4 4, 3 2 and runs standard input as one batch. Prints each answer as lower-case
-// hexadecimal on a line, then `charge` and the charge; or only `refused` and the number.
+// hexadecimal on a line, then `charge` and the sum of the panels' charges; or only `refused` and the number.
+ghost use mathlib.Core.Path.{_≡_};
+ghost use lib.ListN.{length};
+ghost use Rattle.layout.specs.Layout.{panels};
+use layout::PANELS;
 use wall_book::wall_book_batch;
 use wall_book::wall_book_prepare;
 use wire::number::read16;
@@ -42,11 +46,24 @@ fn print_number(word: &[u8], number: u64) {
     io::write_all(1, b"\n");
 }
 
+// What all panels are charged together: far below 2^64, so nothing wraps.
+fn sum(charges: &[u64; PANELS]) -> u64
+    requires { ⌜ length (now charges) ≡ panels ⌝ }
+{
+    let mut total: u64 = 0;
+    let mut panel: usize = 0;
+    while panel < PANELS {
+        total = std::num::wrapping_add_u64(total, charges[panel]);
+        panel += 1;
+    }
+    total
+}
+
 // Runs a batch and prints what it answers.
 fn run(pool: &mut [u8], table: &mut [u8], commands: &[u8], answers: &mut [u8]) {
     let mut length: usize = 0;
-    let mut charge: u64 = 0;
-    let refused = wall_book_batch(pool, table, commands, answers, &mut length, &mut charge);
+    let mut charges = [0u64; PANELS];
+    let refused = wall_book_batch(pool, table, commands, answers, &mut length, &mut charges);
     if refused == 0 {} else {
         print_number(b"refused ", refused as u64);
         return;
@@ -54,7 +71,7 @@ fn run(pool: &mut [u8], table: &mut [u8], commands: &[u8], answers: &mut [u8]) {
     if length <= answers.len() {
         print_answers(&answers[0..length]);
     }
-    print_number(b"charge ", charge);
+    print_number(b"charge ", sum(&charges));
 }
 
 fn main() {

@@ -1,12 +1,15 @@
-// worked: the cases of document 01, section "Worked", that a program executes, and the pools of two small runs, through the calls that C makes.
+// worked: the cases of document 01, section "Worked", that a program executes, the pools of two small runs, and panels (document 02, P2), through the
+// calls that C makes.
 // It prints a line for each; its file `stdout` has what must come out.
 ghost use mathlib.Core.Path.{_≡_};
 ghost use Prim.Native.Nat.{_+_, _≤_};
 ghost use lib.ListN.{length};
+ghost use Rattle.layout.specs.Layout.{panels};
 
 pub mod hash;
 
 use hash::hash;
+use layout::PANELS;
 use wall_book::wall_book_batch;
 use wall_book::wall_book_prepare;
 use wire::field::lay_head;
@@ -19,12 +22,24 @@ fn print_number(case: &[u8], number: u32) {
     io::write_all(1, b"\n");
 }
 
-// Prints what a case is, what it charged, and the hash of the pool it left.
-fn print_pool(case: &[u8], charge: u64, pool: &[u8]) {
+// Prints the charges of all panels, with commas between them.
+fn print_charges(charges: &[u64; PANELS])
+    requires { ⌜ length (now charges) ≡ panels ⌝ }
+{
+    let mut panel: usize = 0;
+    while panel < PANELS {
+        if 0 < panel {
+            io::write_all(1, b",");
+        }
+        io::print_decimal(1, charges[panel]);
+        panel += 1;
+    }
+}
+
+// Prints what a case is, and the hash of the pool that it left.
+fn print_pool(case: &[u8], pool: &[u8]) {
     io::write_all(1, case);
-    io::write_all(1, b"charge ");
-    io::print_decimal(1, charge);
-    io::write_all(1, b", pool ");
+    io::write_all(1, b"pool ");
     io::print_hex(1, hash(pool), 16);
     io::write_all(1, b"\n");
 }
@@ -34,37 +49,29 @@ fn prepare(pool: &mut [u8]) -> u32 {
     wall_book_prepare(pool, 3, 1, 2, 1, 4, 4, 3, 2)
 }
 
-// Runs a batch with buffers that are long enough, and gives its number.
-fn number(pool: &mut [u8], commands: &[u8]) -> u32 {
+// Runs a batch with a table and answers that are long enough, and gives its number.
+fn run(pool: &mut [u8], commands: &[u8], charges: &mut [u64; PANELS]) -> u32
+    ensures { λ _. ⌜ length (now (charges .exit)) ≡ panels ⌝ }
+{
     let mut table = [0u8; 4096];
     let mut answers = [0u8; 1024];
     let mut length: usize = 0;
-    let mut charge: u64 = 0;
-    wall_book_batch(
-        pool,
-        &mut table,
-        commands,
-        &mut answers,
-        &mut length,
-        &mut charge,
-    )
+    wall_book_batch(pool, &mut table, commands, &mut answers, &mut length, charges)
 }
 
-// Runs a batch with buffers that are long enough, and gives its charge.
-fn charge(pool: &mut [u8], commands: &[u8]) -> u64 {
-    let mut table = [0u8; 4096];
-    let mut answers = [0u8; 1024];
-    let mut length: usize = 0;
-    let mut charge: u64 = 0;
-    wall_book_batch(
-        pool,
-        &mut table,
-        commands,
-        &mut answers,
-        &mut length,
-        &mut charge,
-    );
-    charge
+// Runs a batch that is refused, and prints the number.
+fn refused(case: &[u8], pool: &mut [u8], commands: &[u8]) {
+    let mut charges = [0u64; PANELS];
+    print_number(case, run(pool, commands, &mut charges));
+}
+
+// Runs a batch, and prints what each panel is charged and the pool that is left.
+fn done(case: &[u8], pool: &mut [u8], commands: &[u8]) {
+    let mut charges = [0u64; PANELS];
+    run(pool, commands, &mut charges);
+    io::write_all(1, case);
+    print_charges(&charges);
+    print_pool(b", ", pool);
 }
 
 // "Pool of 49,152 bytes: 1; 65,536: accepted. Switch cost 0: 10."
@@ -82,16 +89,16 @@ fn scans() {
     let mut pool = [0u8; 65536];
     prepare(&mut pool);
     let none = [4u8, 0, 10, 0, 0, 0, 3, 0, 0, 0, 9, 0, 0];
-    print_number(b"scan for 0 pairs: ", number(&mut pool, &none));
+    refused(b"scan for 0 pairs: ", &mut pool, &none);
     let many = [4u8, 0, 10, 0, 0, 0, 3, 0, 0, 0, 9, 0, 33];
-    print_number(b"scan for 33 pairs: ", number(&mut pool, &many));
+    refused(b"scan for 33 pairs: ", &mut pool, &many);
 }
 
 // The batch of the program `wall`: put 7 with 100, get 7, delete 7, get 7.
 fn first_run() {
     let mut pool = [0u8; 65536];
     prepare(&mut pool);
-    print_pool(b"prepared: ", 0, &pool);
+    print_pool(b"prepared: ", &pool);
     let commands = [
         2u8,
         0,
@@ -126,8 +133,7 @@ fn first_run() {
         0,
         7,
     ];
-    let charged = charge(&mut pool, &commands);
-    print_pool(b"put 7, get 7, delete 7, get 7: ", charged, &pool);
+    done(b"put 7, get 7, delete 7, get 7: ", &mut pool, &commands);
 }
 
 // One put, eleven bytes.
@@ -155,11 +161,67 @@ fn lay_puts(commands: &mut [u8])
 fn second_run() {
     let mut pool = [0u8; 65536];
     wall_book_prepare(&mut pool, 0, 0, 0, 0, 0, 0, 1, 1);
-    print_pool(b"prepared, all free: ", 0, &pool);
+    print_pool(b"prepared, all free: ", &pool);
     let mut commands = [0u8; 275];
     lay_puts(&mut commands);
-    let charged = charge(&mut pool, &commands);
-    print_pool(b"25 puts, all free: ", charged, &pool);
+    done(b"25 puts, all free: ", &mut pool, &commands);
+}
+
+// "Command 05, length 1, names the panel (0 to 15) for the commands after it; a batch begins at panel 0." Three panels share the batch of `wall`; a
+// panel named and nothing more; "a panel above 15 gives 3".
+fn panels() {
+    let mut pool = [0u8; 65536];
+    prepare(&mut pool);
+    let shared = [
+        5u8,
+        0,
+        1,
+        3,
+        2,
+        0,
+        8,
+        0,
+        0,
+        0,
+        7,
+        0,
+        0,
+        0,
+        100,
+        5,
+        0,
+        1,
+        15,
+        1,
+        0,
+        4,
+        0,
+        0,
+        0,
+        7,
+        3,
+        0,
+        4,
+        0,
+        0,
+        0,
+        7,
+        5,
+        0,
+        1,
+        0,
+        1,
+        0,
+        4,
+        0,
+        0,
+        0,
+        7,
+    ];
+    done(b"panel 3 put 7, panel 15 get 7 and delete 7, panel 0 get 7: ", &mut pool, &shared);
+    prepare(&mut pool);
+    done(b"panel 7: ", &mut pool, &[5u8, 0, 1, 7]);
+    refused(b"panel 16: ", &mut pool, &[5u8, 0, 1, 16]);
 }
 
 fn main() {
@@ -167,4 +229,5 @@ fn main() {
     scans();
     first_run();
     second_run();
+    panels();
 }
