@@ -1,12 +1,14 @@
--- Panels (document 02, P2), worked: batches on the pool that a prepare leaves, each with its number, its answers and the charge of every panel, and
--- beside it the same batch without its panels, which leaves the same pool. By computation. Assumes nothing.
+-- Panels (document 02, P2), worked: batches on the pool that a prepare leaves, each with its number, its answers and the charge of every panel. By
+-- computation. Assumes nothing.
 use mathlib.Core.Path.{_≡_, refl}
 use mathlib.Core.List.{List, [], _∷_, _++_, map}
 use Prim.Native.Nat.{ℕ}
 use lib.ListN.{replicate, take}
 use Rattle.model.specs.Call.{Outcome, batchOf}
+use Rattle.model.specs.Worked.{tariff, batchOn}
 use Rattle.model.specs.Computes.{computes}
-use Rattle.cases.specs.Pools.{poolBytes, inFirst, prepared}
+use Rattle.cases.specs.Traces.{workedPool}
+use Rattle.cases.specs.Pools.{poolBytes, inFirst, prepared, treeOf}
 
 -- Commands as bytes: panel, look up, hang, strip.
 abbrev panel : ℕ → List ℕ
@@ -46,14 +48,11 @@ outcomeOf room batch = batchOf (poolBytes (inFirst prepared)) (replicate 4096 7)
 abbrev resultOf : ℕ → List ℕ → Result
 resultOf room batch = let o = outcomeOf room batch in result (o .number) (take (o .length) (o .answers)) (o .charges)
 
--- Nothing charged; refused with 3.
+-- Nothing charged.
 abbrev none : List ℕ
 none = replicate 16 0
 
-abbrev invalid : Result
-invalid = result 3 [] none
-
--- Three panels share the batch of document 01; the same without them.
+-- Three panels share the worked batch of document 01; the same without them.
 abbrev shared : List ℕ
 shared = panel 3 ++ put 7 100 ++ panel 15 ++ get 7 ++ delete 7 ++ panel 0 ++ get 7
 
@@ -64,36 +63,43 @@ alone = put 7 100 ++ get 7 ++ delete 7 ++ get 7
 abbrev byTurns : List ℕ
 byTurns = panel 1 ++ put 1 1 ++ panel 2 ++ put 2 2 ++ panel 1 ++ get 1 ++ panel 2 ++ get 2 ++ panel 1 ++ get 1
 
-pub record Panels : Type 0 where
-  -- each panel has the charges of its own commands; panel 0 at first
-  pub threePanels :
-      resultOf 28 shared ≡ result 0 (absent ++ got 100 ++ deleted 100 ++ absent) (3 ∷ 0 ∷ 0 ∷ 4 ∷ replicate 11 0 ++ (7 ∷ []))
-  pub twoPanels :
-      resultOf 35 byTurns ≡ result 0 (absent ++ absent ++ got 1 ++ got 2 ++ got 1) (0 ∷ 11 ∷ 7 ∷ replicate 13 0)
-  pub noPanel : resultOf 28 alone ≡ result 0 (absent ++ got 100 ++ deleted 100 ++ absent) (14 ∷ replicate 15 0)
-  -- a panel asks for no room, and its being named last charges nobody
-  pub shortRoom : map (λ room. resultOf room (panel 2 ++ get 7 ++ panel 9)) (6 ∷ 7 ∷ []) ≡
-      result 4 [] none ∷ result 0 absent (0 ∷ 0 ∷ 3 ∷ replicate 13 0) ∷ []
-  -- a panel and nothing more
-  pub panelOnly : resultOf 0 (panel 7) ≡ result 0 [] none
-  -- "a panel above 15 gives 3": so do another length, a payload cut short, and one behind a command that is valid
-  pub noSuchPanel : map (resultOf 7)
-      (panel 16 ∷ (0x05 ∷ 0 ∷ 2 ∷ 0 ∷ 0 ∷ []) ∷ (0x05 ∷ 0 ∷ 0 ∷ []) ∷ (0x05 ∷ 0 ∷ 1 ∷ []) ∷ (get 7 ++ panel 16) ∷ []) ≡
-      invalid ∷ invalid ∷ invalid ∷ invalid ∷ invalid ∷ []
-  -- no trace in the pool
-  pub sharedPool : outcomeOf 28 shared .pool ≡ outcomeOf 28 alone .pool
-  pub emptyPool : outcomeOf 0 (panel 7) .pool ≡ outcomeOf 0 [] .pool
-
-pub panels : Panels
+-- Each panel has the charges of its own commands; panel 0 at first.
+pub three-panels : resultOf 28 shared ≡ result 0 (absent ++ got 100 ++ deleted 100 ++ absent) (3 ∷ 0 ∷ 0 ∷ 4 ∷ replicate 11 0 ++ (7 ∷ []))
 unfolding computes
-panels =
-    record {
-      threePanels = refl;
-      twoPanels = refl;
-      noPanel = refl;
-      shortRoom = refl;
-      panelOnly = refl;
-      noSuchPanel = refl;
-      sharedPool = refl;
-      emptyPool = refl;
-    }
+three-panels = refl
+
+-- No trace in the pool: it is that of the batch without its panels, byte for byte.
+pub same-pool : batchOn tariff shared .pool ≡ workedPool
+unfolding computes
+same-pool = refl
+
+pub no-panel : resultOf 28 alone ≡ result 0 (absent ++ got 100 ++ deleted 100 ++ absent) (14 ∷ replicate 15 0)
+unfolding computes
+no-panel = refl
+
+pub by-turns : resultOf 35 byTurns ≡ result 0 (absent ++ absent ++ got 1 ++ got 2 ++ got 1) (0 ∷ 11 ∷ 7 ∷ replicate 13 0)
+unfolding computes
+by-turns = refl
+
+-- A panel asks for no room, and its being named last charges nobody.
+pub short-room : map (λ room. resultOf room (panel 2 ++ get 7 ++ panel 9)) (6 ∷ 7 ∷ []) ≡
+    result 4 [] none ∷ result 0 absent (0 ∷ 0 ∷ 3 ∷ replicate 13 0) ∷ []
+unfolding computes
+short-room = refl
+
+-- A panel and nothing more.
+pub panel-only : resultOf 0 (panel 7) ≡ result 0 [] none
+unfolding computes
+panel-only = refl
+
+-- "A panel above 15 gives 3"; so do another length, a payload cut short, and one behind a command that is valid.
+pub no-such-panel : map (resultOf 7)
+    (panel 16 ∷ (0x05 ∷ 0 ∷ 2 ∷ 0 ∷ 0 ∷ []) ∷ (0x05 ∷ 0 ∷ 0 ∷ []) ∷ (0x05 ∷ 0 ∷ 1 ∷ []) ∷ (get 7 ++ panel 16) ∷ []) ≡ replicate 5 (result 3 [] none)
+unfolding computes
+no-such-panel = refl
+
+-- A hang with 9 charges nobody: panel 5's key in a full leaf where no id is left.
+pub put-with-nine : (let o = batchOf (poolBytes (inFirst (treeOf 20))) (replicate 4096 7) (panel 5 ++ put 24 24) (replicate 7 7) in
+    result (o .number) (take (o .length) (o .answers)) (o .charges)) ≡ result 0 (0x8F ∷ 0 ∷ 1 ∷ 9 ∷ []) none
+unfolding computes
+put-with-nine = refl

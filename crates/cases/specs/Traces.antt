@@ -59,6 +59,10 @@ fourthPage =
     0x15 ∷ 0 ∷ 2 ∷ 0 ∷ 1 ∷
     0x1F ∷ 0 ∷ 4 ∷ 0x13 ∷ 0x1B ∷ 0x00 ∷ 0x96 ∷ []
 
+-- The pool that the worked batch leaves.
+abbrev pub workedPool : List ℕ
+workedPool = poolOf (firstPage ∷ secondPage ∷ thirdPage ∷ fourthPage ∷ [])
+
 -- The answers of document 01's whole output.
 abbrev answers : List ℕ
 answers =
@@ -94,7 +98,7 @@ pub record Traces : Type 0 where
   pub first : batchOn tariff workedBatch ≡
       record {
         number = 0;
-        pool = poolOf (firstPage ∷ secondPage ∷ thirdPage ∷ fourthPage ∷ []);
+        pool = workedPool;
         table = replicate 4096 0;
         answers = answers ++ replicate 492 7;
         length = 20;
