@@ -144,7 +144,7 @@ fn number_9_is_an_answer_and_changes_nothing() {
     };
     let before = spelled(&fixture);
     let outcome = fixture.batch(&[put(240, 0)]);
-    assert_eq!((outcome.number, outcome.charge), (0, 0));
+    assert_eq!((outcome.number, outcome.charge()), (0, 0));
     assert_eq!(fixture.lines(), [format!("8f0001{IDS_USED_UP:02x}")]);
     assert_eq!(spelled(&fixture), before);
 }
