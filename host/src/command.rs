@@ -32,7 +32,7 @@ pub enum Command {
         high: u32,
         most: usize,
     },
-    /// From here on this panel speaks: it pays for the commands behind.
+    /// From here on this panel speaks: it is charged for the commands behind.
     Panel {
         panel: usize,
     },

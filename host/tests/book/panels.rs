@@ -35,7 +35,7 @@ fn the_worked_batch_shared_by_three_panels() {
     let answers = plain("800000 81000400000064 83000400000064 800000");
     let charged = charges([(3, 4), (15, 7), (0, 3)]);
     assert_eq!(run(&mut prepared(), batch, 28), (0, answers.clone(), charged, "cb649dfb17d509a7".into()));
-    // Without its panels the same, but that panel 0 pays for all.
+    // Without its panels the same, but that panel 0 is charged for all.
     let batch = "02000800000007 00000064 01000400000007 03000400000007 01000400000007";
     assert_eq!(run(&mut prepared(), batch, 28), (0, answers, charges([(0, 14)]), "cb649dfb17d509a7".into()));
 }
@@ -90,7 +90,7 @@ fn a_put_with_9_charges_nobody() {
 }
 
 #[test]
-fn the_panel_named_last_before_a_command_pays_for_it() {
+fn the_panel_named_last_before_a_command_is_charged_for_it() {
     let commands = [panel(4), panel(5), get(7), panel(5), panel(5), get(7), panel(9)];
     assert_eq!(prepared().batch(&commands).charges, charges([(5, 6)]));
     let commands = [get(7), panel(0), get(7)];
@@ -98,7 +98,7 @@ fn the_panel_named_last_before_a_command_pays_for_it() {
 }
 
 #[test]
-fn the_panel_whose_request_moves_a_node_pays_for_the_switch() {
+fn the_panel_whose_request_moves_a_node_is_charged_for_the_switch() {
     // The third read brings the node's score to the limit.
     let commands = [panel(1), get(7), panel(2), get(7), panel(3), get(7), panel(1), get(7)];
     assert_eq!(prepared().batch(&commands).charges, charges([(1, 3 + 1), (2, 3), (3, 1 + 3)]));
@@ -114,7 +114,7 @@ fn each_of_sixteen_panels_has_a_charge_of_its_own() {
     assert_eq!((outcome.length, outcome.charge()), (3 * 136, 136));
 }
 
-/// Runs commands with and without their panels on copies of a pool, which must differ in who pays alone.
+/// Runs commands with and without their panels on copies of a pool, which must differ in who is charged alone.
 fn check_invisible(pool: &[u8], commands: &[Command]) -> (Outcome, Vec<u8>) {
     let run = |commands: &[Command]| {
         let mut fixture = Fixture { pool: pool.to_vec(), answers: Vec::new() };
