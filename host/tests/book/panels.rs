@@ -1,6 +1,6 @@
 //! A charge for each panel (document 02, P2): worked cases byte for byte, limits, and batches without their panels.
 
-use crate::common::{get, panel, plain, put, scan, Fixture, FREE, WORKED};
+use crate::common::{get, panel, plain, put, scan, Fixture, WORKED};
 use yokehour_host::book::Outcome;
 use yokehour_host::command::Command;
 use yokehour_host::fuzz::Script;
@@ -131,7 +131,7 @@ fn check_invisible(pool: &[u8], commands: &[Command]) -> (Outcome, Vec<u8>) {
 
 #[test]
 fn panels_leave_no_trace_in_pool_answers_length_and_sum() {
-    let pool = Fixture::prepared(MIN_BLOCKS, FREE).pool;
+    let pool = prepared().pool;
     check_invisible(&pool, &vec![panel(7); 100]);
     check_invisible(&pool, &[panel(1), put(1, 2), panel(2), scan(0, 9, 3), panel(2), get(1), panel(0)]);
     // Splits, and pages that are full: a panel before each put.
