@@ -26,6 +26,11 @@ impl Outcome {
     pub fn charge(&self) -> u64 {
         self.charges.iter().sum()
     }
+
+    /// How many panels it cost anything.
+    pub fn panels_charged(&self) -> usize {
+        self.charges.iter().filter(|&&charge| charge > 0).count()
+    }
 }
 
 /// A book: the two entry points over the caller's buffers, which may be called from any thread.

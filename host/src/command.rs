@@ -14,28 +14,15 @@ const TAG_DELETED: u8 = 0x83;
 const TAG_PAIRS: u8 = 0x84;
 const TAG_REFUSED: u8 = 0x8F;
 
-/// A command: look up, hang, strip and sweep of document 01, and the panel of document 02's P2.
+/// A command: look up, hang, strip and sweep of document 01; and document 02's naming of the panel that speaks from
+/// there on, which is charged for the commands behind it.
 #[derive(Clone, Copy, PartialEq, Eq, Debug)]
 pub enum Command {
-    Get {
-        key: u32,
-    },
-    Put {
-        key: u32,
-        value: u32,
-    },
-    Delete {
-        key: u32,
-    },
-    Scan {
-        low: u32,
-        high: u32,
-        most: usize,
-    },
-    /// From here on this panel speaks: it is charged for the commands behind.
-    Panel {
-        panel: usize,
-    },
+    Get { key: u32 },
+    Put { key: u32, value: u32 },
+    Delete { key: u32 },
+    Scan { low: u32, high: u32, most: usize },
+    Panel { panel: usize },
 }
 
 /// Reads a batch, if it is within its length and made wholly of valid commands (question 3).

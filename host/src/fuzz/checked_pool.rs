@@ -150,7 +150,7 @@ impl CheckedPool {
         self.check_pool()?;
         self.check_charges(&run, tally)?;
         tally.too_few_ids += run.too_few_ids;
-        tally.of_several_panels += u64::from(run.charges.iter().filter(|&&charge| charge > 0).count() > 1);
+        tally.of_several_panels += u64::from(outcome.panels_charged() > 1);
         self.count(tally, commands, &seen, nodes_before);
         Ok(())
     }

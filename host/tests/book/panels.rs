@@ -147,7 +147,7 @@ fn panels_leave_no_trace_in_random_batches() {
         let Script { mut pool, batches } = Script::random(&mut random, 4).expect("a script");
         for commands in batches {
             let (outcome, after) = check_invisible(&pool, &commands);
-            several += usize::from(outcome.charges.iter().filter(|&&charge| charge > 0).count() > 1);
+            several += usize::from(outcome.panels_charged() > 1);
             pool = after;
         }
     }

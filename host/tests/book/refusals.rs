@@ -1,10 +1,8 @@
 //! Each refusal number and their order on both books, with every buffer as document 01 leaves it.
 
 use crate::common::{checkpoint_of, entries_of, get, good, make, mend, number, number_with, number_with_checkpoint};
-use crate::common::{
-    panel, prepare, put, scan, Fixture, CHECKPOINT_PAGE, FIRST_CHECKPOINT_PAGE, FIRST_LOG_PAGE, LOG_PAGE,
-};
-use crate::common::{FREE, POOL_BYTES, TABLE_BYTES, WORKED};
+use crate::common::{panel, FREE, POOL_BYTES, TABLE_BYTES, WORKED};
+use crate::common::{prepare, put, scan, Fixture, CHECKPOINT_PAGE, FIRST_CHECKPOINT_PAGE, FIRST_LOG_PAGE, LOG_PAGE};
 use yokehour_host::book::Outcome;
 use yokehour_host::both::Call;
 use yokehour_host::command::encode;
@@ -57,7 +55,7 @@ fn the_first_question_that_fails_gives_the_number() {
         let refused = Outcome { number: u32::trailing_zeros(wrongs) as u8 + 1, ..Outcome::default() };
         assert_eq!(make(&mut call), refused, "wrong: questions {wrongs:08b}, the first on the right");
     }
-    assert_eq!(make(&mut of_three_panels()).charges.iter().filter(|&&charge| charge > 0).count(), 3);
+    assert_eq!(make(&mut of_three_panels()).panels_charged(), 3);
 }
 
 /// The good call, with commands of three panels that would all be charged.
