@@ -9,16 +9,22 @@
  *             any number of times. A flash chip's pages are copied in before a call, and those that changed out after.
  *   table     1,024 bytes for each block or more (WALL_BOOK_TABLE_BYTES). What it holds at entry means nothing.
  *   commands  0 to 32,768 bytes. A command is a tag of 1 byte, a length of 2 and a payload of that many; keys, values
- *             and bounds have 4 bytes, `most` (1 to 32) has 2, and the most significant byte comes first:
+ *             and bounds have 4 bytes, `most` (1 to 32) has 2, `panel` (0 to 15) has 1, and the most significant byte
+ *             comes first:
  *                01 0004 key                get       answers 7 bytes or fewer
  *                02 0008 key value          put       7
  *                03 0004 key                delete    7
  *                04 000a low high most      scan      3 + 8 x most
+ *                05 0001 panel              panel     no answer, 0 bytes
  *   answers   room for the sum of the last column, however short the answers turn out. Twenty bytes for each byte of
  *             commands are always enough; without a scan, as many as the commands have.
  *
- * No two of these share a byte, `length` and `charge` included, and nobody else reads or writes them while a call runs.
- * A buffer of 0 bytes may be NULL: nothing is read or written through its pointer. `length` and `charge` may not.
+ * No two of these share a byte, `length` and `charges` included, and nobody else reads or writes them while a call
+ * runs. A buffer of 0 bytes may be NULL: nothing is read or written through its pointer. `length` and `charges` may
+ * not.
+ *
+ * Command 05 names the panel that speaks: it is charged for the commands behind, up to the next 05 or the batch's end.
+ * Every batch begins at panel 0. Nothing else depends on it: pool and answers are those of the batch without its 05s.
  *
  * Nothing is kept between calls and the library has no data of its own: pools may be used by turns, and several at once
  * from several threads, each with buffers of its own.
@@ -40,6 +46,7 @@ extern "C" {
 
 #define WALL_BOOK_BLOCK_BYTES 16384
 #define WALL_BOOK_MOST_COMMAND_BYTES 32768
+#define WALL_BOOK_PANELS 16
 #define WALL_BOOK_TABLE_BYTES(pool_bytes) ((pool_bytes) / 16)
 
 /* Why a call is refused; batch asks 1 to 8 in this order, prepare 1 and then 10. */
@@ -64,12 +71,12 @@ uint32_t wall_book_prepare(uint8_t *pool, size_t pool_bytes,
                            uint32_t disk_read, uint32_t disk_edit, uint32_t disk_rewrite,
                            uint32_t to_disk, uint32_t to_log);
 
-/* Runs a batch of commands. `length` becomes the number of bytes laid in `answers`, `charge` what the batch cost; both
- * are 0 where it is refused. Refusals 1 and 2 leave the table as it was; after any other call 1,024 bytes of it a block
- * are zero and those behind them as they were. */
+/* Runs a batch of commands. `length` becomes the number of bytes laid in `answers`, `charges[p]` what the commands of
+ * panel p cost; the sum is what the batch cost. All are 0 where it is refused. Refusals 1 and 2 leave the table as it
+ * was; after any other call 1,024 bytes of it a block are zero and those behind them as they were. */
 uint32_t wall_book_batch(uint8_t *pool, size_t pool_bytes, uint8_t *table, size_t table_bytes,
                          const uint8_t *commands, size_t commands_bytes, uint8_t *answers, size_t answers_bytes,
-                         size_t *length, uint64_t *charge);
+                         size_t *length, uint64_t charges[WALL_BOOK_PANELS]);
 
 #ifdef __cplusplus
 }

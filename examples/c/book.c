@@ -56,6 +56,13 @@ static void lay_scan(uint32_t low, uint32_t high, uint32_t most)
     lay(most, 2);
 }
 
+/* Names the panel whose commands follow. It has no answer. */
+static void lay_panel(uint32_t panel)
+{
+    lay_head(0x05, 1);
+    lay(panel, 1);
+}
+
 /* A number read back from an answer. */
 static uint32_t number(const uint8_t *at, int bytes)
 {
@@ -142,12 +149,22 @@ static const uint8_t *print_answer(const uint8_t *answer)
 }
 
 /* Runs the commands laid so far as one batch with so much room for answers. */
-static uint32_t batch(size_t room, size_t *length, uint64_t *charge)
+static uint32_t batch(size_t room, size_t *length, uint64_t *charges)
 {
     size_t bytes = commands_bytes;
 
     commands_bytes = 0;
-    return wall_book_batch(pool, sizeof pool, table, sizeof table, commands, bytes, answers, room, length, charge);
+    return wall_book_batch(pool, sizeof pool, table, sizeof table, commands, bytes, answers, room, length, charges);
+}
+
+/* Prints what each panel's own commands cost, where they cost anything: which one drives the flash. */
+static void print_charges(const uint64_t *charges)
+{
+    int panel;
+
+    for (panel = 0; panel < WALL_BOOK_PANELS; panel++)
+        if (charges[panel] != 0)
+            printf("  panel %d is charged %lu\n", panel, (unsigned long)charges[panel]);
 }
 
 /* Runs them and prints what comes of it. */
@@ -155,25 +172,25 @@ static void run(const char *what, size_t room)
 {
     const uint8_t *answer = answers;
     size_t length;
-    uint64_t charge;
+    uint64_t charges[WALL_BOOK_PANELS];
 
     printf("%s\n", what);
-    if (print_refused(batch(room, &length, &charge)))
+    if (print_refused(batch(room, &length, charges)))
         return;
     while (answer < answers + length)
         answer = print_answer(answer);
-    printf("  charge %lu\n", (unsigned long)charge);
+    print_charges(charges);
 }
 
 /* A batch without commands: a buffer of 0 bytes may be NULL. */
 static void run_empty(void)
 {
     size_t length;
-    uint64_t charge;
+    uint64_t charges[WALL_BOOK_PANELS];
 
     printf("an empty batch\n");
-    if (!print_refused(wall_book_batch(pool, sizeof pool, table, sizeof table, NULL, 0, NULL, 0, &length, &charge)))
-        printf("  length %u charge %u\n", (unsigned)length, (unsigned)charge);
+    if (!print_refused(wall_book_batch(pool, sizeof pool, table, sizeof table, NULL, 0, NULL, 0, &length, charges)))
+        printf("  length %u\n", (unsigned)length);
 }
 
 /* Puts keys from 1 up, one a batch, until the book has no node ids for the next. */
@@ -181,12 +198,12 @@ static void fill(void)
 {
     uint32_t key = 0;
     size_t length;
-    uint64_t charge;
+    uint64_t charges[WALL_BOOK_PANELS];
 
     printf("puts of new keys\n");
     do {
         lay_put(++key, 0);
-        if (print_refused(batch(sizeof answers, &length, &charge)))
+        if (print_refused(batch(sizeof answers, &length, charges)))
             return;
     } while (answers[0] != 0x8f);
     printf("  key %u:\n", (unsigned)key);
@@ -197,11 +214,11 @@ static void fill(void)
 static void meet_refusals(void)
 {
     size_t length;
-    uint64_t charge;
+    uint64_t charges[WALL_BOOK_PANELS];
 
     printf("no pool, no table, a switch that costs nothing\n");
     print_refused(wall_book_prepare(NULL, 0, 3, 1, 2, 1, 4, 4, 3, 2));
-    print_refused(wall_book_batch(pool, sizeof pool, NULL, 0, NULL, 0, NULL, 0, &length, &charge));
+    print_refused(wall_book_batch(pool, sizeof pool, NULL, 0, NULL, 0, NULL, 0, &length, charges));
     print_refused(wall_book_prepare(pool, sizeof pool, 3, 1, 2, 1, 4, 4, 0, 2));
     lay_scan(1, 9, 33);
     run("a scan for 33 pairs", sizeof answers);
@@ -251,11 +268,13 @@ static int go_on(const char *name)
     memset(pool, 0, sizeof pool);
     if (!load(name))
         return 0;
+    lay_panel(3);
     lay_get(7);
     lay_scan(0, 0xffffffff, 32);
+    lay_panel(12);
     lay_delete(9);
     lay_get(9);
-    run("reopened: get, scan, delete, get", sizeof answers);
+    run("reopened: get and scan of panel 3, delete and get of panel 12", sizeof answers);
     run_empty();
     meet_refusals();
     fill();

@@ -1,9 +1,9 @@
-//! The trait of a book, and the second book: prepare and batch, as document 01 has them.
+//! The trait of a book, and the second book: prepare and batch, as the papers have them.
 
 use crate::account::Tariff;
 use crate::command::{self, Command};
 use crate::flash::Store;
-use crate::layout::{block_count, node_limit, TABLE_BYTES_PER_BLOCK};
+use crate::layout::{block_count, node_limit, PANELS, TABLE_BYTES_PER_BLOCK};
 use crate::mount::mount;
 use crate::node::Node;
 use crate::observe::{Observer, Unobserved};
@@ -17,7 +17,20 @@ pub struct Outcome {
     pub number: u8,
     /// Bytes of the answers.
     pub length: usize,
-    pub charge: u64,
+    /// What each panel's own commands cost.
+    pub charges: [u64; PANELS],
+}
+
+impl Outcome {
+    /// What the whole batch cost: the charge of document 01.
+    pub fn charge(&self) -> u64 {
+        self.charges.iter().sum()
+    }
+
+    /// How many panels it cost anything.
+    pub fn panels_charged(&self) -> usize {
+        self.charges.iter().filter(|&&charge| charge > 0).count()
+    }
 }
 
 /// A book: the two entry points over the caller's buffers, which may be called from any thread.
@@ -65,7 +78,7 @@ pub fn batch(
     observer: &mut dyn Observer,
 ) -> Outcome {
     match run(pool, table, batch, answers, observer) {
-        Ok((length, charge)) => Outcome { number: 0, length, charge },
+        Ok((length, charges)) => Outcome { number: 0, length, charges },
         Err(refusal) => Outcome { number: refusal.number(), ..Outcome::default() },
     }
 }
@@ -77,7 +90,7 @@ fn run(
     batch: &[u8],
     answers: &mut [u8],
     observer: &mut dyn Observer,
-) -> Result<(usize, u64), Refusal> {
+) -> Result<(usize, [u64; PANELS]), Refusal> {
     let blocks = block_count(pool.len()).ok_or(Refusal::PoolLength)?;
     let table = table.get_mut(..TABLE_BYTES_PER_BLOCK * blocks).ok_or(Refusal::TableLength)?;
     // This book keeps its rows in memory of its own; all that is seen of the table is that it ends zero.
@@ -90,20 +103,26 @@ fn run(
 
     let mut store = Store::open(pool, mounted, observer);
     let mut answer_bytes = Vec::new();
-    let charge = serve(&mut store, node_limit(blocks), &commands, &mut answer_bytes);
+    let charges = serve(&mut store, node_limit(blocks), &commands, &mut answer_bytes);
     store.close();
     answers[..answer_bytes.len()].copy_from_slice(&answer_bytes);
-    Ok((answer_bytes.len(), charge))
+    Ok((answer_bytes.len(), charges))
 }
 
-/// Does commands on an open store, puts their answers behind `answers` and gives the charge.
-pub fn serve(store: &mut Store<'_>, limit: usize, commands: &[Command], answers: &mut Vec<u8>) -> u64 {
-    let mut charge = 0;
+/// Does commands on an open store, puts their answers behind `answers` and gives each panel's charge.
+pub fn serve(store: &mut Store<'_>, limit: usize, commands: &[Command], answers: &mut Vec<u8>) -> [u64; PANELS] {
+    let mut charges = [0; PANELS];
+    let mut speaks = 0;
     let mut steps = Vec::new();
     for command in commands {
+        if let Command::Panel { panel } = *command {
+            speaks = panel;
+        }
         let answer = tree::plan(store.nodes(), limit, command, &mut steps);
-        charge += steps.drain(..).map(|step| store.run(step)).sum::<u64>();
-        answer.encode(answers);
+        charges[speaks] += steps.drain(..).map(|step| store.run(step)).sum::<u64>();
+        if let Some(answer) = answer {
+            answer.encode(answers);
+        }
     }
-    charge
+    charges
 }

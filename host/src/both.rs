@@ -3,7 +3,7 @@
 use crate::book::{self, Outcome};
 use crate::books::proved_to_compare;
 use crate::command::{answer_room, encode, Command};
-use crate::layout::table_bytes;
+use crate::layout::{table_bytes, PANELS};
 use crate::observe::{Observer, Unobserved};
 use crate::score_order;
 
@@ -65,10 +65,10 @@ impl Call {
         Ok(())
     }
 
-    /// A refused call returns no length and no charge and leaves pool and answers; from 3 on it zeroes the table.
+    /// A refused call returns no length and no charges and leaves pool and answers; from 3 on it zeroes the table.
     fn check_refused(&self, found: &Call, outcome: Outcome) -> Result<(), String> {
         let number = outcome.number;
-        if (outcome.length, outcome.charge) != (0, 0) {
+        if (outcome.length, outcome.charges) != (0, [0; PANELS]) {
             return Err(format!("a refused call came to {outcome:?}"));
         }
         if self.pool != found.pool || self.answers != found.answers {

@@ -1,9 +1,11 @@
 //! Commands of a batch and their answers.
 
-use crate::layout::{MAX_BATCH_BYTES, MAX_SCAN_PAIRS};
+use crate::layout::{MAX_BATCH_BYTES, MAX_SCAN_PAIRS, PANELS};
 use crate::node::Pair;
-use crate::wire::{next_field, put_head, Field, Numbers, FIELD_HEAD, NUMBER_BYTES, PAIR_BYTES, SCAN_BYTES};
-use crate::wire::{TAG_DELETE, TAG_GET, TAG_PUT, TAG_SCAN};
+use crate::wire::{
+    next_field, put_head, Field, Numbers, FIELD_HEAD, NUMBER_BYTES, PAIR_BYTES, PANEL_BYTES, SCAN_BYTES,
+};
+use crate::wire::{TAG_DELETE, TAG_GET, TAG_PANEL, TAG_PUT, TAG_SCAN};
 
 const TAG_ABSENT: u8 = 0x80;
 const TAG_GOT: u8 = 0x81;
@@ -12,13 +14,15 @@ const TAG_DELETED: u8 = 0x83;
 const TAG_PAIRS: u8 = 0x84;
 const TAG_REFUSED: u8 = 0x8F;
 
-/// A command: look up, hang, strip and sweep of document 01.
+/// A command: look up, hang, strip and sweep of document 01; and document 02's naming of the panel that speaks from
+/// there on, which is charged for the commands behind it.
 #[derive(Clone, Copy, PartialEq, Eq, Debug)]
 pub enum Command {
     Get { key: u32 },
     Put { key: u32, value: u32 },
     Delete { key: u32 },
     Scan { low: u32, high: u32, most: usize },
+    Panel { panel: usize },
 }
 
 /// Reads a batch, if it is within its length and made wholly of valid commands (question 3).
@@ -61,12 +65,22 @@ impl Command {
                 let (low, high, most) = (numbers.u32(), numbers.u32(), usize::from(numbers.u16()));
                 (1..=MAX_SCAN_PAIRS).contains(&most).then_some(Command::Scan { low, high, most })
             }
+            TAG_PANEL => {
+                let panel = usize::from(numbers.u8());
+                (panel < PANELS).then_some(Command::Panel { panel })
+            }
             _ => None,
         }
     }
 
+    /// Says whether it has an answer: each has one but the panel.
+    pub fn is_answered(&self) -> bool {
+        !matches!(self, Command::Panel { .. })
+    }
+
     fn answer_room(&self) -> usize {
         match *self {
+            Command::Panel { .. } => 0,
             Command::Scan { most, .. } => FIELD_HEAD + PAIR_BYTES * most,
             _ => FIELD_HEAD + NUMBER_BYTES,
         }
@@ -82,6 +96,10 @@ impl Command {
                 out.extend(low.to_be_bytes());
                 out.extend(high.to_be_bytes());
                 out.extend((most as u16).to_be_bytes());
+            }
+            Command::Panel { panel } => {
+                put_head(out, TAG_PANEL, PANEL_BYTES);
+                out.push(panel as u8);
             }
         }
     }
@@ -186,6 +204,7 @@ mod tests {
             Command::Put { key: 1, value: 0xFFFF_FFFF },
             Command::Delete { key: 0x0102_0304 },
             Command::Scan { low: 9, high: 3, most: 32 },
+            Command::Panel { panel: 15 },
         ];
         assert_eq!(parse(&encode(&commands)), Some(commands.clone()));
         assert_eq!(answer_room(&commands), 7 + 7 + 7 + 3 + 8 * 32);
@@ -216,8 +235,11 @@ mod tests {
         assert!(parse(&scan(MAX_SCAN_PAIRS)).is_some());
         assert!(parse(&scan(MAX_SCAN_PAIRS + 1)).is_none());
         assert!(parse(&[0x10, 0, 4, 0, 0, 0, 1]).is_none(), "a page field is no command");
-        assert!(parse(&[0x05, 0, 0]).is_none());
+        assert!(parse(&[0x00, 0, 0]).is_none(), "a tag of nothing");
         assert!(parse(&[0x01]).is_none());
+        let panel = |panel| encode(&[Command::Panel { panel }]);
+        assert!(parse(&panel(PANELS - 1)).is_some());
+        assert!(parse(&panel(PANELS)).is_none());
         let longest = vec![Command::Get { key: 0 }; MAX_BATCH_BYTES / 7];
         assert!(parse(&encode(&longest)).is_some());
         let too_long = vec![Command::Get { key: 0 }; MAX_BATCH_BYTES / 7 + 1];

@@ -1,10 +1,10 @@
 //! Random cases against everything that document 01 promises of a call.
 //!
 //! A case is a pool and some calls on it, all from one seed. After every call: the answers are those of an
-//! ordered map and of the reference model, the pool opens again and spells the same, charges, modes and
-//! scores are the reference model's, no state passed has a node on more than three log pages, charges are
+//! ordered map and of the reference model, the pool opens again and spells the same, each panel's charge, modes
+//! and scores are the reference model's, no state passed has a node on more than three log pages, charges are
 //! within three times the optimum, and a refused call has changed nothing. Where this build has the proved
-//! book, every call is made on it too, and number, length, charge and all bytes must be the same.
+//! book, every call is made on it too, and number, length, charges and all bytes must be the same.
 
 mod call;
 mod charges;

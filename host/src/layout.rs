@@ -1,4 +1,4 @@
-//! The sizes of document 01, each named once.
+//! The sizes of the papers, each named once.
 
 /// Bytes of a page.
 pub const PAGE_BYTES: usize = 512;
@@ -18,6 +18,8 @@ pub const TABLE_BYTES_PER_BLOCK: usize = 1024;
 pub const MAX_BATCH_BYTES: usize = 32_768;
 /// Most pairs that one scan may ask for.
 pub const MAX_SCAN_PAIRS: usize = 32;
+/// Panels of a wall.
+pub const PANELS: usize = 16;
 
 /// Most keys of a node.
 pub const MAX_KEYS: usize = 24;

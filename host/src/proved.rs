@@ -1,6 +1,7 @@
 //! The proved book, called as firmware calls it: by the two functions of `include/wall_book.h`.
 
 use crate::book::{Book, Outcome};
+use crate::layout::PANELS;
 
 extern "C" {
     fn wall_book_prepare(
@@ -26,7 +27,7 @@ extern "C" {
         answers: *mut u8,
         answers_bytes: usize,
         length: *mut usize,
-        charge: *mut u64,
+        charges: *mut u64,
     ) -> u32;
 }
 
@@ -41,9 +42,11 @@ impl Book for ProvedBook {
     }
 
     fn batch(&mut self, pool: &mut [u8], table: &mut [u8], batch: &[u8], answers: &mut [u8]) -> Outcome {
-        let mut length = 0;
-        let mut charge = 0;
-        // SAFETY: each pointer and length are those of one slice, and slices that are lent mutably do not overlap.
+        // Anything but zero, so that a place that the book leaves out shows.
+        let mut length = usize::MAX;
+        let mut charges = [u64::MAX; PANELS];
+        // SAFETY: each pointer and length are those of one slice, and slices that are lent mutably do not overlap;
+        // the charges are as many as the header says.
         let refused = unsafe {
             wall_book_batch(
                 pool.as_mut_ptr(),
@@ -55,10 +58,10 @@ impl Book for ProvedBook {
                 answers.as_mut_ptr(),
                 answers.len(),
                 &mut length,
-                &mut charge,
+                charges.as_mut_ptr(),
             )
         };
-        Outcome { number: number(refused), length, charge }
+        Outcome { number: number(refused), length, charges }
     }
 }
 

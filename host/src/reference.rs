@@ -5,6 +5,7 @@
 
 use crate::account::{Account, Request, Tariff};
 use crate::command::{Answer, Command};
+use crate::layout::PANELS;
 use crate::node::Node;
 use crate::tree::{self, Step};
 
@@ -34,7 +35,8 @@ pub struct Line {
 #[derive(Clone, PartialEq, Eq, Debug, Default)]
 pub struct Run {
     pub answers: Vec<Answer>,
-    pub charge: u64,
+    /// What each panel is charged.
+    pub charges: [u64; PANELS],
     pub lines: Vec<Line>,
     /// Puts refused although some ids were unused, only too few.
     pub too_few_ids: u64,
@@ -50,13 +52,13 @@ impl Ledger {
     pub fn batch(&mut self, commands: &[Command]) -> Run {
         let mut run = Run::default();
         let mut steps = Vec::new();
-        for command in commands {
+        for (panel, command) in by_panel(commands) {
             let answer = tree::plan(&self.nodes, self.limit, command, &mut steps);
-            run.too_few_ids += u64::from(matches!(answer, Answer::Refused(_)) && self.nodes.len() < self.limit);
-            run.answers.push(answer);
+            run.too_few_ids += u64::from(matches!(answer, Some(Answer::Refused(_))) && self.nodes.len() < self.limit);
+            run.answers.extend(answer);
             for step in steps.drain(..) {
                 if let Some(line) = self.step(&step) {
-                    run.charge += line.charge;
+                    run.charges[panel] += line.charge;
                     run.lines.push(line);
                 }
             }
@@ -74,4 +76,14 @@ impl Ledger {
         self.accounts[step.id] = served.account;
         Some(Line { id: step.id, request, account: served.account, charge: served.charge, count: self.nodes.len() })
     }
+}
+
+/// Each command with the panel that speaks, which is 0 at first.
+fn by_panel(commands: &[Command]) -> impl Iterator<Item = (usize, &Command)> {
+    commands.iter().scan(0, |speaks, command| {
+        if let Command::Panel { panel } = command {
+            *speaks = *panel;
+        }
+        Some((*speaks, command))
+    })
 }

@@ -12,7 +12,7 @@ use crate::wire::{fnv1a64, from_hex, to_hex};
 
 /// The lines that the shell knows, for help and for errors.
 pub const LINES: &str = "  prepare B t0 .. t7     prepares B blocks of 16,384 bytes: number N pool H
-  batch HEX              runs a batch: number N answers HEX charge C pool H
+  batch HEX              runs a batch: number N answers HEX charges C0,..,C15 pool H, a charge for each panel
   load FILE              sets the pool from a file: loaded LENGTH
   save FILE              writes the pool to a file: saved LENGTH
   lengths TABLE ANSWERS  sets the lengths of table and answer buffer for batches after it
@@ -95,7 +95,8 @@ impl Shell {
         let outcome = self.book.batch(&mut self.pool, &mut table, &bytes, &mut answers);
         let answers = answers.get(..outcome.length).ok_or("the book answers more than its buffer holds")?;
         let answers = if answers.is_empty() { "-".to_string() } else { to_hex(answers) };
-        Ok(format!("number {} answers {answers} charge {} pool {}", outcome.number, outcome.charge, self.hash()))
+        let charges = outcome.charges.map(|charge| charge.to_string()).join(",");
+        Ok(format!("number {} answers {answers} charges {charges} pool {}", outcome.number, self.hash()))
     }
 
     fn load(&mut self, name: &str) -> Result<String, String> {
@@ -197,8 +198,9 @@ mod tests {
         let mut shell = shell();
         assert_eq!(shell.answer("prepare 4 3 1 2 1 4 4 3 2"), ["number 0 pool e5938a6f1717e51f"]);
         let batch = "batch 0200080000000700000064010004000000070300040000000701000400000007";
-        let answers = "8000008100040000006483000400000064800000";
-        assert_eq!(shell.answer(batch), [format!("number 0 answers {answers} charge 14 pool cb649dfb17d509a7")]);
+        let (answers, charges) = ("8000008100040000006483000400000064800000", "14,0,0,0,0,0,0,0,0,0,0,0,0,0,0,0");
+        let expected = format!("number 0 answers {answers} charges {charges} pool cb649dfb17d509a7");
+        assert_eq!(shell.answer(batch), [expected]);
         assert_eq!(shell.answer("spell"), ["node 0 leaf log score 3 version 1 link 4294967295 pairs -"]);
         let log = "1000040000000412000f0000000000010100000007000000641200\
                    0f0000000000010200000007000000001f0004135000d2";
@@ -207,10 +209,23 @@ mod tests {
     }
 
     #[test]
+    fn a_charge_for_each_panel() {
+        let mut shell = shell();
+        shell.answer("prepare 4 3 1 2 1 4 4 3 2");
+        let batch = "batch 0500010302000800000007000000640500010f0100040000000703000400000007";
+        let expected = "answers 8000008100040000006483000400000064 charges 0,0,0,4,0,0,0,0,0,0,0,0,0,0,0,7 pool";
+        let answer = &shell.answer(batch)[0];
+        assert!(answer.contains(expected), "{answer}");
+        let silent = &shell.answer("batch 05000107")[0];
+        assert!(silent.starts_with("number 0 answers - charges 0,0,"), "{silent}");
+    }
+
+    #[test]
     fn refused_calls() {
         let mut shell = shell();
         shell.answer("prepare 4 3 1 2 1 4 4 3 2");
-        let refused = |number: u8| format!("number {number} answers - charge 0 pool e5938a6f1717e51f");
+        let none = "0,0,0,0,0,0,0,0,0,0,0,0,0,0,0,0";
+        let refused = |number: u8| format!("number {number} answers - charges {none} pool e5938a6f1717e51f");
         assert_eq!(shell.answer("batch 05"), [refused(3)]);
         shell.answer("lengths 4095 700000");
         assert_eq!(shell.answer("batch -"), [refused(2)]);

@@ -41,15 +41,16 @@ impl Work {
     }
 }
 
-/// Puts the steps of a command behind `steps`, in order, and gives its answer.
-pub fn plan(nodes: &[Node], limit: usize, command: &Command, steps: &mut Vec<Step>) -> Answer {
-    match *command {
+/// Puts the steps of a command behind `steps`, in order, and gives its answer; a panel has neither.
+pub fn plan(nodes: &[Node], limit: usize, command: &Command, steps: &mut Vec<Step>) -> Option<Answer> {
+    Some(match *command {
         Command::Get { key } => plan_get(nodes, key, steps),
         Command::Put { key, value } => plan_put(nodes, limit, Pair { key, pointer: value }, steps),
         Command::Delete { key } => plan_delete(nodes, key, steps),
         Command::Scan { low, high, .. } if low > high => Answer::Pairs(Vec::new()),
         Command::Scan { low, high, most } => Answer::Pairs(plan_scan(nodes, low, high, most, steps)),
-    }
+        Command::Panel { .. } => return None,
+    })
 }
 
 fn plan_get(nodes: &[Node], key: u32, steps: &mut Vec<Step>) -> Answer {
@@ -293,10 +294,10 @@ mod tests {
                 let put = Command::Put { key: 1, value: 7 };
                 let answer = plan(&nodes, nodes.len() + spare, &put, &mut steps);
                 if spare < needed {
-                    assert_eq!((answer, steps.len()), (Answer::Refused(IDS_USED_UP), 0), "{levels:?}");
+                    assert_eq!((answer, steps.len()), (Some(Answer::Refused(IDS_USED_UP)), 0), "{levels:?}");
                     continue;
                 }
-                assert_eq!(answer, Answer::Absent);
+                assert_eq!(answer, Some(Answer::Absent));
                 let mut after = nodes.clone();
                 steps.iter().for_each(|step| apply(&mut after, step));
                 assert_eq!(after.len(), nodes.len() + needed, "{levels:?}");

@@ -7,6 +7,7 @@ pub const TAG_GET: u8 = 0x01;
 pub const TAG_PUT: u8 = 0x02;
 pub const TAG_DELETE: u8 = 0x03;
 pub const TAG_SCAN: u8 = 0x04;
+pub const TAG_PANEL: u8 = 0x05;
 /// Tags of page fields.
 pub const TAG_SEQUENCE: u8 = 0x10;
 pub const TAG_NODE: u8 = 0x11;
@@ -22,8 +23,9 @@ pub const FIELD_HEAD: usize = 3;
 /// Bytes of a key or a value, and of a pair of them.
 pub const NUMBER_BYTES: usize = 4;
 pub const PAIR_BYTES: usize = 2 * NUMBER_BYTES;
-/// Payload bytes of a scan command.
+/// Payload bytes of a scan command, and of a panel's.
 pub const SCAN_BYTES: usize = 10;
+pub const PANEL_BYTES: usize = 1;
 /// Payload bytes of page fields.
 pub const SEQUENCE_BYTES: usize = 4;
 pub const ENTRY_BYTES: usize = 15;
@@ -52,6 +54,7 @@ const LENGTHS: [Length; 256] = {
     table[TAG_PUT as usize] = Length::Exactly(PAIR_BYTES);
     table[TAG_DELETE as usize] = Length::Exactly(NUMBER_BYTES);
     table[TAG_SCAN as usize] = Length::Exactly(SCAN_BYTES);
+    table[TAG_PANEL as usize] = Length::Exactly(PANEL_BYTES);
     table[TAG_SEQUENCE as usize] = Length::Exactly(SEQUENCE_BYTES);
     table[TAG_NODE as usize] = Length::NodePage;
     table[TAG_ENTRY as usize] = Length::Exactly(ENTRY_BYTES);

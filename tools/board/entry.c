@@ -12,7 +12,8 @@ uint32_t wall_book_prepare_wide(uint8_t *pool, uint64_t pool_bytes,
 
 uint32_t wall_book_batch_wide(uint8_t *pool, uint64_t pool_bytes, uint8_t *table, uint64_t table_bytes,
                               const uint8_t *commands, uint64_t commands_bytes,
-                              uint8_t *answers, uint64_t answers_bytes, uint64_t *length, uint64_t *charge);
+                              uint8_t *answers, uint64_t answers_bytes,
+                              uint64_t *length, uint64_t charges[WALL_BOOK_PANELS]);
 
 uint32_t wall_book_prepare(uint8_t *pool, size_t pool_bytes,
                            uint32_t log_read, uint32_t log_edit, uint32_t log_rewrite,
@@ -25,11 +26,11 @@ uint32_t wall_book_prepare(uint8_t *pool, size_t pool_bytes,
 
 uint32_t wall_book_batch(uint8_t *pool, size_t pool_bytes, uint8_t *table, size_t table_bytes,
                          const uint8_t *commands, size_t commands_bytes, uint8_t *answers, size_t answers_bytes,
-                         size_t *length, uint64_t *charge)
+                         size_t *length, uint64_t charges[WALL_BOOK_PANELS])
 {
     uint64_t length_wide;
     uint32_t refused = wall_book_batch_wide(pool, pool_bytes, table, table_bytes, commands, commands_bytes,
-                                            answers, answers_bytes, &length_wide, charge);
+                                            answers, answers_bytes, &length_wide, charges);
 
     *length = (size_t)length_wide;
     return refused;

@@ -35,14 +35,16 @@ static size_t lay(size_t at, uint32_t value, int bytes)
     return at;
 }
 
-/* One command of tag 1 to 4 at a place: mostly puts, so that the tree grows. Answers the place behind it. */
+/* One command of tag 1 to 5 at a place: mostly puts, so that the tree grows. Answers the place behind it. */
 static size_t lay_command(size_t at, uint32_t keys)
 {
-    static const uint8_t lengths[] = {0, 4, 8, 4, 10};
-    static const uint8_t tags[] = {1, 2, 2, 2, 2, 3, 4};
+    static const uint8_t lengths[] = {0, 4, 8, 4, 10, 1};
+    static const uint8_t tags[] = {1, 2, 2, 2, 2, 3, 4, 5};
     uint32_t tag = tags[below(sizeof tags)];
 
     at = lay(lay(at, tag, 1), lengths[tag], 2);
+    if (tag == 5)
+        return lay(at, below(WALL_BOOK_PANELS), 1);
     at = lay(at, below(keys), 4);
     if (tag == 2 || tag == 4)
         at = lay(at, below(keys), 4);
@@ -75,12 +77,16 @@ static void print_number(uint64_t number)
 static void run(size_t blocks, size_t commands_bytes, size_t answers_bytes)
 {
     size_t length = 77;
-    uint64_t charge = 77;
+    uint64_t charges[WALL_BOOK_PANELS];
+    int panel;
 
+    for (panel = 0; panel < WALL_BOOK_PANELS; panel++)
+        charges[panel] = 77;
     print_number(wall_book_batch(pool, blocks * BLOCK, table, sizeof table, commands, commands_bytes,
-                                 answers, answers_bytes, &length, &charge));
+                                 answers, answers_bytes, &length, charges));
     print_number(length);
-    print_number(charge);
+    for (panel = 0; panel < WALL_BOOK_PANELS; panel++)
+        print_number(charges[panel]);
     print_number(hash(pool, blocks * BLOCK));
     print_number(hash(table, sizeof table));
     print_number(hash(answers, sizeof answers));

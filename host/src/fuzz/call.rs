@@ -5,9 +5,11 @@ use crate::both::{self, Call};
 use crate::command::{answer_room, encode, parse, Command};
 use crate::layout::{
     table_bytes, BLANK, BLOCK_BYTES, MAX_BATCH_BYTES, MAX_BLOCKS, MAX_SCAN_PAIRS, MAX_TARIFF, MIN_BLOCKS, PAGE_BYTES,
+    PANELS,
 };
 use crate::random::Random;
 use crate::refusal::Refusal;
+use crate::wire::TAG_PANEL;
 
 /// A call with buffers that are long enough, by nothing or by some bytes, and have anything in them.
 pub(super) fn random_call(random: &mut Random, pool: Vec<u8>, batch: Vec<u8>) -> Call {
@@ -47,7 +49,8 @@ pub(super) fn refused_call(random: &mut Random, pool: &[u8], tally: &mut Tally) 
         3 => call.batch = random_nonsense(random),
         _ => {
             let most = random.between(1, MAX_SCAN_PAIRS);
-            let commands = [Command::Get { key: 1 }, Command::Scan { low: 5, high: random.next_u32() % 10, most }];
+            let scan = Command::Scan { low: 5, high: random.next_u32() % 10, most };
+            let commands = [Command::Panel { panel: 1 }, Command::Get { key: 1 }, Command::Panel { panel: 2 }, scan];
             call.batch = encode(&commands);
             call.answers.truncate(random.below(answer_room(&commands)));
         }
@@ -58,7 +61,7 @@ pub(super) fn refused_call(random: &mut Random, pool: &[u8], tally: &mut Tally) 
 /// Bytes that are no batch.
 fn random_nonsense(random: &mut Random) -> Vec<u8> {
     let mut batch = encode(&[Command::Get { key: 1 }, Command::Put { key: 2, value: 3 }]);
-    match random.below(6) {
+    match random.below(7) {
         0 => batch.truncate(random.between(1, 6)),
         1 => batch.push(1),
         2 => batch[0] = random.pick(&[0, 5, 0x10, 0x12, 0x1F, 0x80, 0x84, 0xFF]),
@@ -68,9 +71,18 @@ fn random_nonsense(random: &mut Random) -> Vec<u8> {
             high: 3,
             most: random.pick(&[0, MAX_SCAN_PAIRS + 1, 0x100, 0xFFFF]),
         }])),
+        5 => batch.extend(wrong_panel(random)),
         _ => batch = encode(&vec![Command::Delete { key: 5 }; MAX_BATCH_BYTES / 7 + 1]),
     }
     batch
+}
+
+/// A panel above the last, of another length, or cut short.
+fn wrong_panel(random: &mut Random) -> Vec<u8> {
+    let above = [0, 1, random.between(PANELS, 0xFF) as u8];
+    let next = [0, 1, PANELS as u8];
+    let rest = random.pick(&[&above[..], &next, &[0, 0], &[0, 2, 0, 0], &[1, 1, 0], &[0, 1], &[]]);
+    [&[TAG_PANEL], rest].concat()
 }
 
 /// Makes prepares that questions 10 and 1 refuse.

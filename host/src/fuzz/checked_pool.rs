@@ -150,6 +150,7 @@ impl CheckedPool {
         self.check_pool()?;
         self.check_charges(&run, tally)?;
         tally.too_few_ids += run.too_few_ids;
+        tally.of_several_panels += u64::from(outcome.panels_charged() > 1);
         self.count(tally, commands, &seen, nodes_before);
         Ok(())
     }
@@ -158,7 +159,9 @@ impl CheckedPool {
         tally.calls += 1;
         tally.batches += 1;
         tally.commands += commands.len() as u64;
-        tally.scans += commands.iter().filter(|command| matches!(command, Command::Scan { .. })).count() as u64;
+        let count = |wanted: fn(&&Command) -> bool| commands.iter().filter(wanted).count() as u64;
+        tally.scans += count(|command| matches!(command, Command::Scan { .. }));
+        tally.panels += count(|command| matches!(command, Command::Panel { .. }));
         tally.multi_page_checkpoints += u64::from(self.ledger.nodes.len() > FIRST_CHECKPOINT_SCORES);
         // Splits below the root create one node each, the root's two.
         let created = (self.ledger.nodes.len() - nodes_before) as u64;
@@ -168,15 +171,16 @@ impl CheckedPool {
 
     /// Asks the ordered map for every answer.
     fn check_answers(&mut self, commands: &[Command], answers: &[Answer], tally: &mut Tally) -> Result<(), String> {
-        for (at, (command, answer)) in commands.iter().zip(answers).enumerate() {
+        let answered = commands.iter().enumerate().filter(|(_, command)| command.is_answered());
+        for ((at, command), answer) in answered.zip(answers) {
             let expected = match (*command, answer) {
                 (Command::Put { key, .. }, Answer::Refused(IDS_USED_UP)) if !self.map.contains_key(&key) => {
                     tally.ids_used_up += 1;
-                    Answer::Refused(IDS_USED_UP)
+                    Some(Answer::Refused(IDS_USED_UP))
                 }
                 (command, _) => answer_of_map(&mut self.map, command),
             };
-            if expected != *answer {
+            if expected.as_ref() != Some(answer) {
                 return Err(format!("command {at}, {command:?}, was answered with {answer:?}, not {expected:?}"));
             }
             tally.keys_deleted += u64::from(matches!(answer, Answer::Deleted(_)));
@@ -226,20 +230,24 @@ fn count_foreign(tally: &mut Tally, build: Build, pool: &[u8]) {
     }
 }
 
-/// Answers and charge of an accepted call are the reference model's.
+/// Answers and charges of an accepted call are the reference model's, and add up to what its node requests cost.
 fn check_run(call: &Call, outcome: Outcome, run: &Run) -> Result<(), String> {
     if call.answers[..outcome.length] != encode_answers(&run.answers) {
         return Err("the answer bytes are not the reference model's".to_string());
     }
-    if outcome.charge != run.charge {
-        return Err(format!("the charge is {}, in the reference model {}", outcome.charge, run.charge));
+    if outcome.charges != run.charges {
+        return Err(format!("the charges are {:?}, in the reference model {:?}", outcome.charges, run.charges));
+    }
+    let requests: u64 = run.lines.iter().map(|line| line.charge).sum();
+    if outcome.charge() != requests {
+        return Err(format!("the charges add up to {}, the node requests cost {requests}", outcome.charge()));
     }
     Ok(())
 }
 
-/// What the map answers.
-fn answer_of_map(map: &mut BTreeMap<u32, u32>, command: Command) -> Answer {
-    match command {
+/// What the map answers; nothing to a panel.
+fn answer_of_map(map: &mut BTreeMap<u32, u32>, command: Command) -> Option<Answer> {
+    Some(match command {
         Command::Get { key } => map.get(&key).map_or(Answer::Absent, |&value| Answer::Got(value)),
         Command::Put { key, value } => map.insert(key, value).map_or(Answer::Absent, Answer::Replaced),
         Command::Delete { key } => map.remove(&key).map_or(Answer::Absent, Answer::Deleted),
@@ -247,5 +255,6 @@ fn answer_of_map(map: &mut BTreeMap<u32, u32>, command: Command) -> Answer {
         Command::Scan { low, high, most } => {
             Answer::Pairs(map.range(low..=high).take(most).map(|(&key, &pointer)| Pair { key, pointer }).collect())
         }
-    }
+        Command::Panel { .. } => return None,
+    })
 }

@@ -4,7 +4,7 @@ use std::collections::BTreeMap;
 
 use super::style::CommandStyle;
 use crate::command::Command;
-use crate::layout::{MAX_BATCH_BYTES, MAX_SCAN_PAIRS};
+use crate::layout::{MAX_BATCH_BYTES, MAX_SCAN_PAIRS, PANELS};
 use crate::random::Random;
 use crate::wire::{FIELD_HEAD, PAIR_BYTES, SCAN_BYTES};
 
@@ -34,6 +34,9 @@ impl Chooser<'_> {
     }
 
     fn command(&mut self, random: &mut Random) -> Command {
+        if random.once_in(self.style.turns) {
+            return panel(random);
+        }
         let number = random.below(self.style.shares.iter().sum());
         match self.style.share_of(number) {
             Some(0) => Command::Get { key: self.likely_key(random) },
@@ -75,4 +78,10 @@ impl Chooser<'_> {
             _ => near,
         }
     }
+}
+
+/// Any panel, but mostly the first or the last, so that it often speaks already.
+fn panel(random: &mut Random) -> Command {
+    let any = random.below(PANELS);
+    Command::Panel { panel: random.pick(&[0, PANELS - 1, any]) }
 }

@@ -2,11 +2,13 @@
 
 use crate::random::Random;
 
-/// The keys, the shares of the commands and the length of batches.
+/// The keys, the shares of the commands, how often a panel is named, and the length of batches.
 pub(super) struct CommandStyle {
     pub keys: Keys,
     /// Shares of gets, puts, deletes and scans.
     pub shares: [usize; 4],
+    /// One command in so many names a panel.
+    pub turns: usize,
     pub longest: usize,
     /// Whether the values of puts are almost the greatest.
     pub high_values: bool,
@@ -45,11 +47,12 @@ impl CommandStyle {
             [1, 5, 4, 0],
             [9, 1, 0, 0],
         ]);
+        let turns = random.pick(&[2, 6, 30]);
         let longest = random.pick(&[3, 40, 300, 300, 1200]);
-        CommandStyle { keys, shares, longest, high_values: random.once_in(4) }
+        CommandStyle { keys, shares, turns, longest, high_values: random.once_in(4) }
     }
 
-    /// Puts alone, in long batches, of the same keys.
+    /// Puts alone but for panels, in long batches, of the same keys.
     pub fn only_puts(&self) -> CommandStyle {
         CommandStyle { shares: [0, 1, 0, 0], longest: 1200, ..*self }
     }

@@ -20,6 +20,10 @@ pub struct Tally {
     pub root_splits: u64,
     pub keys_deleted: u64,
     pub scans: u64,
+    /// Commands that name a panel.
+    pub panels: u64,
+    /// Batches in which more than one panel was charged.
+    pub of_several_panels: u64,
     pub multi_page_checkpoints: u64,
     pub foreign_pools: u64,
     pub tight_pools: u64,
@@ -59,7 +63,7 @@ impl Tally {
         lines
     }
 
-    fn plain_lines(&self) -> [(&'static str, u64); 32] {
+    fn plain_lines(&self) -> [(&'static str, u64); 34] {
         [
             ("cases", self.cases),
             ("batches accepted", self.batches),
@@ -73,6 +77,8 @@ impl Tally {
             ("of these with some ids unused", self.too_few_ids),
             ("keys deleted", self.keys_deleted),
             ("scans", self.scans),
+            ("panels named", self.panels),
+            ("batches that charge several panels", self.of_several_panels),
             ("switches to disk", self.seen.switches_to_disk),
             ("switches to log", self.seen.switches_to_log),
             ("pages written", self.seen.pages_written),

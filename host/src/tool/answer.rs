@@ -37,5 +37,5 @@ pub(super) fn one(file: &str, options: &Options, command: Command) -> Result<Sai
     };
     pool.save()?;
     let (text, no) = spoken(&command, answer);
-    Ok(Said { text: format!("{text}\ncharge {}\n", pool.charge), status: u8::from(no), ..Said::default() })
+    Ok(Said { text: format!("{text}\ncharge {}\n", pool.charge()), status: u8::from(no), ..Said::default() })
 }

@@ -36,7 +36,7 @@ fn run(words: &mut Words<'_>, options: &Options) -> Result<Said, Stop> {
     }
     pool.save()?;
     let counts = format!("{} put: {new} new, {} replaced", counted(pairs.len(), "pair"), pairs.len() - new);
-    Ok(Said::text(format!("{counts}\ncharge {}\n", pool.charge)))
+    Ok(Said::text(format!("{counts}\ncharge {}\n", pool.charge())))
 }
 
 /// Puts lines as one batch, and gives how many keys were new.

@@ -7,7 +7,7 @@ use super::{file, Stop};
 use crate::bench::timed;
 use crate::book::Book;
 use crate::command::{answer_room, encode, parse_answers, Answer, Command};
-use crate::layout::{table_bytes, BLANK, BLOCK_BYTES, MAX_BLOCKS};
+use crate::layout::{table_bytes, BLANK, BLOCK_BYTES, MAX_BLOCKS, PANELS};
 use crate::mount::mount;
 use crate::refusal::{words, Fault};
 
@@ -19,8 +19,8 @@ pub(super) struct Pool<'a> {
     name: &'a str,
     book: Box<dyn Book>,
     pub bytes: Vec<u8>,
-    /// What the batches so far were charged.
-    pub charge: u64,
+    /// What each panel was charged by the batches so far.
+    pub charges: [u64; PANELS],
     dry: bool,
 }
 
@@ -28,14 +28,14 @@ impl<'a> Pool<'a> {
     /// The pool of a file, for calls on the book of the options.
     pub fn open(name: &'a str, options: &Options) -> Result<Pool<'a>, Stop> {
         let book = options.book()?;
-        Ok(Pool { name, book, bytes: file::read(name)?, charge: 0, dry: options.dry })
+        Ok(Pool { name, book, bytes: file::read(name)?, charges: [0; PANELS], dry: options.dry })
     }
 
     /// A new pool, prepared; more blocks than any book takes are cut to one too many.
     pub fn prepared(name: &'a str, blocks: u32, tariff: [u32; 8], options: &Options) -> Result<Pool<'a>, Stop> {
         let blocks = (blocks as usize).min(MAX_BLOCKS + 1);
         let bytes = vec![BLANK; blocks * BLOCK_BYTES];
-        let mut pool = Pool { name, book: options.book()?, bytes, charge: 0, dry: options.dry };
+        let mut pool = Pool { name, book: options.book()?, bytes, charges: [0; PANELS], dry: options.dry };
         match pool.book.prepare(&mut pool.bytes, tariff) {
             0 => Ok(pool),
             number => Err(pool.refused(number)),
@@ -49,9 +49,9 @@ impl<'a> Pool<'a> {
 
     /// Runs commands as one batch on a copy: the pool stays as it is.
     pub fn try_batch(&mut self, commands: &[Command]) -> Result<Vec<Answer>, Stop> {
-        let (bytes, charge) = (self.bytes.clone(), self.charge);
+        let (bytes, charges) = (self.bytes.clone(), self.charges);
         let answers = self.batch(commands);
-        (self.bytes, self.charge) = (bytes, charge);
+        (self.bytes, self.charges) = (bytes, charges);
         answers
     }
 
@@ -76,9 +76,14 @@ impl<'a> Pool<'a> {
         if outcome.number != 0 {
             return Err(self.refused(outcome.number));
         }
-        self.charge += outcome.charge;
+        self.charges.iter_mut().zip(outcome.charges).for_each(|(sum, charge)| *sum += charge);
         let answers = answers.get(..outcome.length).and_then(parse_answers);
         answers.ok_or_else(|| Stop::no(format!("{}: the book's answers cannot be read", self.name)))
+    }
+
+    /// What the batches so far were charged.
+    pub fn charge(&self) -> u64 {
+        self.charges.iter().sum()
     }
 
     /// The number that the book answers an empty batch on a copy with.

@@ -133,8 +133,8 @@ mod tests {
         for key in keys {
             let mut steps = Vec::new();
             match tree::plan(&nodes, limit, &Command::Put { key, value: 0 }, &mut steps) {
-                Answer::Refused(_) => return new,
-                Answer::Absent => new += 1,
+                Some(Answer::Refused(_)) => return new,
+                Some(Answer::Absent) => new += 1,
                 _ => {}
             }
             steps.iter().for_each(|step| tree::apply(&mut nodes, step));

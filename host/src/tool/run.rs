@@ -4,6 +4,7 @@ use super::pool::{Pool, CALL_OPTIONS};
 use super::words::{Options, Words};
 use super::{answer, Said, Stop, Verb};
 use crate::command::{answer_room, parse};
+use crate::layout::PANELS;
 use crate::wire::from_hex;
 
 pub(super) const VERB: Verb = Verb {
@@ -11,7 +12,8 @@ pub(super) const VERB: Verb = Verb {
     words: "FILE HEX",
     about: "runs a batch given in hexadecimal, and says each answer",
     more: "- is the empty batch, which writes a checkpoint. Exit status 1 if the batch is refused; the answers in a\n\
-           batch that is not are told as they are.",
+           batch that is not are told as they are. Where a panel besides 0 is charged, a line for each panel that is\n\
+           tells its part of the charge.",
     options: CALL_OPTIONS,
     run,
 };
@@ -26,10 +28,20 @@ fn run(words: &mut Words<'_>, options: &Options) -> Result<Said, Stop> {
     let commands = parse(&batch).unwrap_or_default();
     let answers = pool.batch_of_bytes(&batch, answer_room(&commands))?;
     pool.save()?;
+    let answered = commands.iter().filter(|command| command.is_answered());
     let mut text: String =
-        commands.iter().zip(&answers).map(|(command, said)| answer::spoken(command, said).0 + "\n").collect();
-    text.push_str(&format!("charge {}\n", pool.charge));
+        answered.zip(&answers).map(|(command, said)| answer::spoken(command, said).0 + "\n").collect();
+    text.push_str(&format!("charge {}\n{}", pool.charge(), by_panel(&pool.charges)));
     Ok(Said::text(text))
+}
+
+/// A line for each panel that is charged; none where that is panel 0 alone.
+fn by_panel(charges: &[u64; PANELS]) -> String {
+    if charges[1..].iter().all(|&charge| charge == 0) {
+        return String::new();
+    }
+    let charged = charges.iter().enumerate().filter(|(_, &charge)| charge > 0);
+    charged.map(|(panel, charge)| format!("panel {panel}: charge {charge}\n")).collect()
 }
 
 fn not_hex(digits: &str) -> String {
@@ -59,5 +71,18 @@ mod tests {
             let wrong = said(&["run", &pool, hex]);
             assert!(wrong.status == 2 && wrong.note.contains(why), "{wrong:?}");
         }
+    }
+
+    #[test]
+    fn a_batch_of_three_panels_in_words() {
+        let folder = Folder::new("run-panels");
+        let pool = folder.prepared("p");
+        // Panel 3 puts, panel 15 gets and deletes, panel 0 gets.
+        let batch = "05000103 0200080000000700000064 0500010f 01000400000007 03000400000007 05000100 01000400000007";
+        let words = "key 7 is new, with value 100\nkey 7 has value 100\nkey 7 is deleted, its value was 100\n\
+                     key 7 is not there\ncharge 14\npanel 0: charge 3\npanel 3: charge 4\npanel 15: charge 7\n";
+        assert_eq!(text(&["run", &pool, &batch.replace(' ', "")]), words);
+        assert_eq!(text(&["run", &pool, "05000107"]), "charge 0\n");
+        assert_eq!(text(&["run", &pool, "0500010001000400000007"]), "key 7 is not there\ncharge 4\n");
     }
 }

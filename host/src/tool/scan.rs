@@ -30,7 +30,7 @@ fn run(words: &mut Words<'_>, options: &Options) -> Result<Said, Stop> {
         pool.batch(&commands)?;
         pool.save()?;
     }
-    let note = format!("{}, charge {}\n", counted(pairs.len(), "pair"), pool.charge);
+    let note = format!("{}, charge {}\n", counted(pairs.len(), "pair"), pool.charge());
     Ok(Said { text: csv::lines(&pairs), note, status: 0 })
 }
 

@@ -33,7 +33,7 @@ fn newest_sequence(blocks: usize) -> u32 {
 fn closed(pool: &[u8]) -> Vec<u8> {
     let mut fixture = Fixture { pool: pool.to_vec(), answers: Vec::new() };
     let outcome = fixture.batch(&[]);
-    assert_eq!((outcome.number, outcome.charge), (0, 0));
+    assert_eq!((outcome.number, outcome.charge()), (0, 0));
     fixture.pool
 }
 

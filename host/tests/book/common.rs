@@ -28,7 +28,17 @@ impl Fixture {
 
     /// Runs commands as one batch on both books.
     pub fn batch(&mut self, commands: &[Command]) -> Outcome {
-        let mut call = Call::new(std::mem::take(&mut self.pool), commands);
+        let pool = std::mem::take(&mut self.pool);
+        self.run(Call::new(pool, commands))
+    }
+
+    /// Runs bytes as one batch on both books, with so much room for answers.
+    pub fn batch_of_bytes(&mut self, batch: Vec<u8>, room: usize) -> Outcome {
+        let pool = std::mem::take(&mut self.pool);
+        self.run(Call { batch, answers: vec![0x66; room], ..Call::new(pool, &[]) })
+    }
+
+    fn run(&mut self, mut call: Call) -> Outcome {
         let outcome = make(&mut call);
         self.pool = call.pool;
         self.answers = call.answers;
@@ -152,4 +162,8 @@ pub fn delete(key: u32) -> Command {
 
 pub fn scan(low: u32, high: u32, most: usize) -> Command {
     Command::Scan { low, high, most }
+}
+
+pub fn panel(panel: usize) -> Command {
+    Command::Panel { panel }
 }

@@ -2,7 +2,7 @@
 
 use crate::common::{checkpoint_of, Fixture, FIRST_CHECKPOINT_PAGE, FREE, POOL_BYTES, WORKED};
 use crate::common::{
-    delete, get, good, make, number, number_of, number_with, number_with_checkpoint, prepare, put, scan,
+    delete, get, good, make, number, number_of, number_with, number_with_checkpoint, panel, prepare, put, scan,
 };
 use yokehour_host::both::Call;
 use yokehour_host::command::{encode, Command};
@@ -71,15 +71,15 @@ fn a_scan_is_for_1_to_32_pairs() {
 }
 
 #[test]
-fn answers_have_7_bytes_for_a_command_and_3_and_8_a_pair_for_a_scan() {
+fn answers_have_7_bytes_for_a_command_3_and_8_a_pair_for_a_scan_and_none_for_a_panel() {
     let pool = good().pool;
     let lent = |commands: &[Command], bytes: usize| {
         number(Call { answers: vec![0x66; bytes], ..Call::new(pool.clone(), commands) })
     };
-    assert_eq!(lent(&[], 0), 0);
+    assert_eq!([lent(&[], 0), lent(&[panel(15)], 0)], [0, 0]);
     // 32,767 bytes of commands, which ask for the most that any batch does.
     let longest = [vec![scan(0, 9, 32); 2_520], vec![get(1)]].concat();
-    let table: [(&[Command], usize); 11] = [
+    let table: [(&[Command], usize); 12] = [
         (&[get(1)], 7),
         (&[get(9)], 7),
         (&[put(1, 9)], 7),
@@ -90,6 +90,7 @@ fn answers_have_7_bytes_for_a_command_and_3_and_8_a_pair_for_a_scan() {
         (&[scan(0, 9, 32)], 259),
         (&[scan(9, 0, 32)], 259),
         (&[get(1), put(9, 9), delete(1), scan(9, 0, 2)], 40),
+        (&[panel(15), get(1), panel(0), scan(9, 0, 2), panel(7)], 26),
         (&longest, 652_687),
     ];
     for (commands, room) in table {

@@ -8,6 +8,7 @@ mod fuzz;
 mod library;
 mod limits;
 mod page_limits;
+mod panels;
 mod refusals;
 mod score_order;
 mod spelled;

@@ -240,7 +240,7 @@ fn a_pool_has_up_to_10_nodes_a_block_but_two() {
 fn put_into(blocks: usize, nodes: usize, leaf: u32) -> (Vec<String>, usize) {
     let mut fixture = Fixture { pool: pool_of_tree(blocks, nodes), answers: Vec::new() };
     let outcome = fixture.batch(&[put(LEAF_STEP * leaf + 50, 1)]);
-    assert_eq!((outcome.number, outcome.charge), (0, 0));
+    assert_eq!((outcome.number, outcome.charge()), (0, 0));
     (fixture.lines(), mount(&fixture.pool).expect("opens").nodes.len())
 }
 
@@ -282,7 +282,7 @@ fn a_node_switches_where_its_score_comes_to_the_sum_of_the_switches() {
     ];
     for (row, (commands, charge, mode, score)) in table.into_iter().enumerate() {
         let mut fixture = Fixture::prepared(MIN_BLOCKS, WORKED);
-        assert_eq!(fixture.batch(commands).charge, charge, "row {row}");
+        assert_eq!(fixture.batch(commands).charge(), charge, "row {row}");
         let pages = by_sequence(&fixture.pool);
         assert_eq!(mode_of_node_0(&pages), mode, "row {row}");
         let (_, mut newest) = pages[pages.len() - 1].clone();

@@ -1,8 +1,9 @@
 //! Each refusal number and their order on both books, with every buffer as document 01 leaves it.
 
 use crate::common::{checkpoint_of, entries_of, get, good, make, mend, number, number_with, number_with_checkpoint};
+use crate::common::{panel, FREE, POOL_BYTES, TABLE_BYTES, WORKED};
 use crate::common::{prepare, put, scan, Fixture, CHECKPOINT_PAGE, FIRST_CHECKPOINT_PAGE, FIRST_LOG_PAGE, LOG_PAGE};
-use crate::common::{FREE, POOL_BYTES, TABLE_BYTES, WORKED};
+use yokehour_host::book::Outcome;
 use yokehour_host::both::Call;
 use yokehour_host::command::encode;
 use yokehour_host::layout::{page_range, BLANK, BLOCK_BYTES, BLOCK_PAGES, MIN_BLOCKS, PAGE_BYTES};
@@ -47,12 +48,19 @@ const WRONGS: [fn(&mut Call); 8] = [
 #[test]
 fn the_first_question_that_fails_gives_the_number() {
     for wrongs in 1..1 << WRONGS.len() {
-        let mut call = good();
+        let mut call = of_three_panels();
         let chosen = WRONGS.iter().enumerate().filter(|(at, _)| wrongs >> at & 1 == 1);
         chosen.for_each(|(_, wrong)| wrong(&mut call));
-        let first = u32::trailing_zeros(wrongs) + 1;
-        assert_eq!(u32::from(number(call)), first, "wrong: questions {wrongs:08b}, the first on the right");
+        // No length, and sixteen charges of 0.
+        let refused = Outcome { number: u32::trailing_zeros(wrongs) as u8 + 1, ..Outcome::default() };
+        assert_eq!(make(&mut call), refused, "wrong: questions {wrongs:08b}, the first on the right");
     }
+    assert_eq!(make(&mut of_three_panels()).panels_charged(), 3);
+}
+
+/// The good call, with commands of three panels that would all be charged.
+fn of_three_panels() -> Call {
+    Call { batch: encode(&[get(1), panel(3), put(5, 6), panel(15), get(5)]), ..good() }
 }
 
 #[test]
@@ -73,7 +81,7 @@ fn number_1_the_pool_has_no_named_length() {
 #[test]
 fn number_3_the_batch_is_not_wholly_valid() {
     for batch in [
-        vec![0x05, 0, 0],
+        vec![0x00, 0, 0],
         vec![0x01, 0, 4, 0, 0, 0],
         vec![0x01, 0, 5, 0, 0, 0, 0, 0],
         vec![0x80, 0, 0],
@@ -144,7 +152,7 @@ fn number_9_is_an_answer_and_changes_nothing() {
     };
     let before = spelled(&fixture);
     let outcome = fixture.batch(&[put(240, 0)]);
-    assert_eq!((outcome.number, outcome.charge), (0, 0));
+    assert_eq!((outcome.number, outcome.charge()), (0, 0));
     assert_eq!(fixture.lines(), [format!("8f0001{IDS_USED_UP:02x}")]);
     assert_eq!(spelled(&fixture), before);
 }

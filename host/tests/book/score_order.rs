@@ -27,7 +27,7 @@ fn after(pool: Vec<u8>, commands: &[Command]) -> (Vec<String>, u64, Vec<Score>) 
     let mut fixture = Fixture { pool, answers: Vec::new() };
     let outcome = fixture.batch(commands);
     assert_eq!(outcome.number, 0);
-    (fixture.lines(), outcome.charge, newest_scores(&fixture.pool))
+    (fixture.lines(), outcome.charge(), newest_scores(&fixture.pool))
 }
 
 const ORDERS: [[usize; 3]; 4] = [[0, 1, 2], [2, 1, 0], [1, 2, 0], [2, 0, 1]];

@@ -75,7 +75,8 @@ fn the_proved_book_does_the_work_where_it_is_here() {
     folder.status("prepare q 4 --book second");
     let csv: String = (0..200).map(|key| format!("{},{key}\n", key * 7919 % 1000)).collect();
     std::fs::write(folder.0.join("csv"), csv).expect("is written");
-    for line in ["import FILE csv", "get FILE 7", "delete FILE 21", "scan FILE 0 500"] {
+    let by_panels = "run FILE 05000103010004000000070500010f03000400000007";
+    for line in ["import FILE csv", "get FILE 7", "delete FILE 21", "scan FILE 0 500", by_panels] {
         let proved = folder.says(&line.replace("FILE", "p"));
         let second = folder.says(&format!("{} --book second", line.replace("FILE", "q")));
         assert_eq!(proved, second, "{line}");

@@ -12,7 +12,7 @@ fn prepare_and_the_worked_batch() {
     assert_eq!(fixture.page_hex(1), plain(checkpoint));
 
     let outcome = fixture.batch(&[put(7, 100), get(7), delete(7), get(7)]);
-    assert_eq!((outcome.number, outcome.charge), (0, 14));
+    assert_eq!((outcome.number, outcome.charge()), (0, 14));
     assert_eq!(fixture.hash(), "cb649dfb17d509a7");
     let log = "10000400000004 12000f 0000 00000001 01 00000007 00000064
                12000f 0000 00000001 02 00000007 00000000 1f0004 135000d2";

@@ -9,13 +9,13 @@ fn the_program_wall() {
     let mut fixture = Fixture::prepared(4, WORKED);
     let outcome = fixture.batch(&[put(7, 100), get(7), delete(7), get(7)]);
     assert_eq!(fixture.lines(), ["800000", "81000400000064", "83000400000064", "800000"]);
-    assert_eq!(outcome.charge, 14);
+    assert_eq!(outcome.charge(), 14);
 }
 
 #[test]
 fn reads_of_a_log_node_move_it_to_disk() {
     let mut fixture = Fixture::prepared(4, WORKED);
-    assert_eq!([3, 3, 4].map(|_| fixture.batch(&[get(1)]).charge), [3, 3, 4]);
+    assert_eq!([3, 3, 4].map(|_| fixture.batch(&[get(1)]).charge()), [3, 3, 4]);
     let row = &mount(&fixture.pool).expect("opens").rows[0];
     assert_eq!((row.account.mode, row.account.score), (Mode::Disk, 0));
 }
@@ -24,7 +24,7 @@ fn reads_of_a_log_node_move_it_to_disk() {
 fn a_scan_from_9_to_3() {
     let mut fixture = Fixture::prepared(4, WORKED);
     let outcome = fixture.batch(&[scan(9, 3, 32)]);
-    assert_eq!((fixture.lines(), outcome.charge), (vec!["840000".to_string()], 0));
+    assert_eq!((fixture.lines(), outcome.charge()), (vec!["840000".to_string()], 0));
 }
 
 #[test]
@@ -32,7 +32,7 @@ fn an_empty_batch_closes_all_the_same() {
     let mut fixture = Fixture::prepared(4, WORKED);
     let before = fixture.hash();
     let outcome = fixture.batch(&[]);
-    assert_eq!((outcome.number, outcome.length, outcome.charge), (0, 0, 0));
+    assert_eq!((outcome.number, outcome.length, outcome.charge()), (0, 0, 0));
     assert_ne!(fixture.hash(), before);
     assert_eq!(mount(&fixture.pool).expect("opens").last_sequence, 4);
 }
@@ -40,9 +40,9 @@ fn an_empty_batch_closes_all_the_same() {
 #[test]
 fn a_put_of_the_same_value_is_an_edit() {
     let mut fixture = Fixture::prepared(4, WORKED);
-    assert_eq!(fixture.batch(&[put(1, 2)]).charge, 4);
+    assert_eq!(fixture.batch(&[put(1, 2)]).charge(), 4);
     // The reads have brought the score to 2, an edit takes it back to 0.
-    assert_eq!(fixture.batch(&[put(1, 2)]).charge, 4);
+    assert_eq!(fixture.batch(&[put(1, 2)]).charge(), 4);
     assert_eq!(fixture.lines(), ["82000400000002"]);
 }
 
@@ -80,9 +80,9 @@ fn ascending_keys_fill_a_small_pool_to_the_limit() {
     let before = mounted.rows.iter().map(|row| row.account).collect::<Vec<_>>();
     let outcome = fixture.batch(&[put(240, 1), get(240)]);
     assert_eq!(fixture.lines(), ["8f000109", "800000"]);
-    assert!(outcome.charge > 0, "the get is charged");
+    assert!(outcome.charge() > 0, "the get is charged");
     let outcome = fixture.batch(&[put(1000, 1)]);
-    assert_eq!((fixture.lines(), outcome.charge), (vec!["8f000109".to_string()], 0));
+    assert_eq!((fixture.lines(), outcome.charge()), (vec!["8f000109".to_string()], 0));
     let after = mount(&fixture.pool).expect("opens").rows.iter().map(|row| row.account).collect::<Vec<_>>();
     assert_eq!(before.len(), after.len());
 }

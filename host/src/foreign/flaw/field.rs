@@ -45,7 +45,7 @@ fn is_node(content: &Content) -> bool {
 
 /// An unknown tag, a command and an answer.
 pub(super) fn unknown(random: &mut Random, draft: &Draft, pool: &mut [u8]) -> bool {
-    let field = random.pick(&[&[0x16, 0, 0][..], &[0x01, 0, 4, 0, 0, 0, 1], &[0x80, 0, 0]]);
+    let field = random.pick(&[&[0x16, 0, 0][..], &[0x01, 0, 4, 0, 0, 0, 1], &[0x05, 0, 1, 7], &[0x80, 0, 0]]);
     respell(random, draft, pool, is_any, |_, fields| fields.extend(field))
 }
 
