@@ -92,7 +92,14 @@ pub fn batch(
                 wipe(table, bytes);
                 return refused(4);
             }
-            return work(pool, &mut table[0..bytes], commands, answers, charges, blocks);
+            return work(
+                pool,
+                &mut table[0..bytes],
+                commands,
+                answers,
+                charges,
+                blocks,
+            );
         }
     }
 }

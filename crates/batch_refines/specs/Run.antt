@@ -75,7 +75,6 @@ module _ {blocks : ℕ} {w : World} {s : State} (k : Runs blocks w s) (ps : List
   command-agrees (Put key v) valid value =
       let p = put-agrees t s w k ps (h .spells) key v valid value (omega (arith, few (Put key v) valid)) in
       record { runs = p .runs; charge = p .charge; reply = p .answer; number = omega (arith, ran (Put key v) valid value .number, few (Put key v) valid) }
-
   command-agrees (Panel panel) valid value = in-order (Panel panel) valid value refl refl refl
 
 -- ALL COMMANDS

@@ -12,9 +12,9 @@ use layout::MOST_BATCH_BYTES;
 use layout::PANELS;
 use wire::field::Field;
 use wire::field::field_at;
+use wire::number::read8;
 use wire::number::read16;
 use wire::number::read32;
-use wire::number::read8;
 
 // The scan of a payload, where its most is in range.
 fn scan_of(p: &[u8], next: usize) -> Step

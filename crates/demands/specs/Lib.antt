@@ -13,6 +13,7 @@ pub mod CommandFits
 pub mod RequestCount
 pub mod RequestFits
 pub mod BatchFits
+pub mod ChargesFit
 pub mod PoolBytes
 pub mod MountFits
 pub mod PrepareFits

@@ -51,6 +51,7 @@ use Rattle.demands.specs.Mount.{Sealed, Ready, opened-mounts}
 use Rattle.demands.specs.Close.{closed-says, closed-sealed, closed-ready, closed-checkpoint, score-of}
 use Rattle.demands.specs.Ends.{Ends, asFound, tableCleared, done, batch-ends}
 use Rattle.demands.specs.CommandBytes.{Batch, commandsOf-batch}
+use Rattle.demands.specs.ChargesFit.{mostBatchCharge, batch-charge}
 use Rattle.demands.specs.ScoreOrder.{InNodeOrder, closed-in-order}
 use Rattle.demands.specs.PoolAfter.{PoolAfter, batch-pool}
 
@@ -113,6 +114,7 @@ pub record CalledBy (t : Tariff) (pool buffer : List ℕ) (b : Book) (ps : List 
   pub stands : OpenPool t (r .pool) (runBook (nodeLimit (blocksOf pool)) t cs atFirst b) (mapRun (nodeLimit (blocksOf pool)) t cs atFirst b ps)
   pub ordered : r .number ≡ 0 → InNodeOrder (r .pool)
   pub charges : r .charges ≡ chargesBook (nodeLimit (blocksOf pool)) t cs atFirst b
+  pub few : charge r ≤ mostBatchCharge
   pub paid : charge r ≡ Book.charges t (requestsBook (nodeLimit (blocksOf pool)) t cs atFirst b) b
   pub passed : map bookOf (statesBy (blocksOf pool) w) ≡ booksPassed (nodeLimit (blocksOf pool)) t cs atFirst b
   pub thin : Every Thin (momentsBy (blocksOf pool) w)
@@ -151,6 +153,7 @@ module _ {t : Tariff} {pool : List ℕ} {b : Book} {ps : List Pair} (o : OpenPoo
         stands = o;
         ordered = λ z. absurd (omega arith);
         charges = refl;
+        few = omega (arith, sum-each (λ q. 0));
         paid = sum-each (λ q. 0);
         passed = refl;
         thin = Every.none;
@@ -223,6 +226,10 @@ module _ {t : Tariff} {pool : List ℕ} {b : Book} {ps : List Pair} (o : OpenPoo
         sum-charges (answer limit) (doneBook limit t) (costBook limit t) cs atFirst b (commands .valid) (omega arith) ∙
         total-requests limit t cs atFirst b
 
+    paid-few : Book.charges t (requestsBook limit t cs atFirst b) b ≤ mostBatchCharge
+    paid-few =
+        batch-charge t (start .ranged) limit (omega (arith, sized pool p .most)) cs atFirst b ps (commands .valid) (start .holds) (commands .few)
+
     pool-after : PoolAfter B s (closed t after)
     pool-after =
         subst (λ (z : Tariff). PoolAfter B s (closed z (run limit z cs atFirst s))) same-tariff
@@ -261,6 +268,7 @@ module _ {t : Tariff} {pool : List ℕ} {b : Book} {ps : List Pair} (o : OpenPoo
           stands = stands-left;
           ordered = λ z. ordered-left;
           charges = charged;
+          few = omega (arith, ap sum charged, paid-all, paid-few);
           paid = ap sum charged ∙ paid-all;
           passed = ran .passed ∙ ap (booksPassed limit t cs atFirst) (start .says .is);
           thin = every-weaken lean-thin (closed-says (sized pool p .most) ended .sound .good .passed);

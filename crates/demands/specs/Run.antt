@@ -97,7 +97,7 @@ pub record Holds (limit : ℕ) (b : Book) (ps : List Pair) : Type 0 where
 
 module _ (limit : ℕ) (t : Tariff) (small : limit < noLeaf) where
   -- A command keeps it so.
-  command-holds : (c : Command) (b : Book) (ps : List Pair) → Valid c → Holds limit b ps →
+  pub command-holds : (c : Command) (b : Book) (ps : List Pair) → Valid c → Holds limit b ps →
       Holds limit (doneBook limit t c b) (mapAfter (refuses limit c b) c ps)
   command-holds c b ps valid h =
       let d = does limit small b ps (h .spells) (h .most) c valid .served in

@@ -1,11 +1,11 @@
 -- THE BOOK. The customer's three demands, and behind them what document 02 adds, each as a theorem about `batchOf` and `prepareOf`, to which the two
 -- functions that C calls are proved equal: whatever a call is lent, and whatever list of calls is made. The links behind them are the other files of
 -- this crate. Assumes nothing.
-use mathlib.Core.Path.{_≡_, sym, ap, ap₂, _∙_}
+use mathlib.Core.Path.{_≡_, refl, sym, ap, ap₂, _∙_}
 use mathlib.Core.Bool.{true}
 use mathlib.Core.List.{List, [], _++_, map}
 use mathlib.Core.Option.{some}
-use Prim.Native.Nat.{ℕ, _+_, _*_, _≤_}
+use Prim.Native.Nat.{ℕ, _+_, _*_, _^_, _≤_, _<_}
 use native.Mathlib.Omega.{arith}
 use lib.Dec.{eqb}
 use lib.ListN.{length}
@@ -26,6 +26,7 @@ use Rattle.store.specs.Reopen.{newest}
 use Rattle.book.specs.Book.{Book, charges}
 use Rattle.book.specs.Session.{atFirst}
 use Rattle.book.specs.InTurn.{noCharges}
+use Rattle.book.specs.PanelLaws.{sum-each}
 use Rattle.book.specs.Batch.{chargesBook, requestsBook}
 use Rattle.book.specs.OrderedMap.{mapAnswers}
 use Rattle.book.specs.Schedule.{paid}
@@ -39,6 +40,7 @@ use Rattle.model.specs.Calls.{booksAfter, lastBook, allBooks, allCharges, allRe
 use Rattle.demands.specs.Ends.{Ends, asFound, tableCleared, done, batch-ends, tableAfter, refused-found, ends-table, ends-panels, prepare-ends, prepare-found}
 use Rattle.demands.specs.Panels.{unnamed, SameBut, unnamed-leaves}
 use Rattle.demands.specs.CommandBytes.{commandsOf-batch}
+use Rattle.demands.specs.ChargesFit.{batch-charge-fits}
 use Rattle.demands.specs.FirstNo.{numberOf, mount-first, batch-first, buffers-right, prepare-first}
 use Rattle.demands.specs.ScoreOrder.{newestCheckpoint, InNodeOrder, one-order}
 use Rattle.demands.specs.OneCall.{Thin, OpenPool, bookIn-is, fedOf, Called, called}
@@ -234,6 +236,16 @@ module _ {t : Tariff} {pool pool′ : List ℕ} {b : Book} {ps : List Pair} (r :
 pub charges-sum : {t : Tariff} {pool : List ℕ} {b : Book} {ps : List Pair} → Stands t pool b ps → (l : Lent) → Bytes (l .batch) →
     charge (outcome pool l) ≡ charges t (requestsBook (nodeLimit (blocksOf pool)) t (commandsIn (fedOf pool l)) atFirst b) b
 charges-sum s l bytes = called (stands-open s) l bytes .paid
+
+-- They fit in 64 bits, their sum too, by far: whatever the pool and the batch hold, it is below 2^44.
+pub charges-fit : (pool : List ℕ) → Bytes pool → (l : Lent) → Bytes (l .batch) → charge (outcome pool l) < 2 ^ 44
+charges-fit pool bytes l batch = go (outcome pool l) refl (batch-ends pool (l .table) (l .batch) (l .buffer))
+  where
+    go : (o : Outcome) → outcome pool l ≡ o → Ends pool (l .table) (l .batch) (l .buffer) o → charge (outcome pool l) < 2 ^ 44
+    go o e (asFound n x y) = omega (arith, ap charge e, sum-each (λ q. 0))
+    go o e (tableCleared n x y) = omega (arith, ap charge e, sum-each (λ q. 0))
+    go o e (done t cs s p u q r m) =
+        omega (arith, called (stands-open (any-pool pool bytes p t s m)) l batch .few, batch-charge-fits)
 
 -- Panels are invisible: on any pool, with any table and answer buffer, a batch and the same batch without its panels return the same number and
 -- length, leave the same pool, table and answers, and are charged the same in sum.

@@ -106,9 +106,15 @@ pub fn run_commands(
                 at = next;
             }
             Step::Invalid => {
-                return Ran { state: s, at: place };
+                return Ran {
+                    state: s,
+                    at: place,
+                };
             }
         }
     }
-    Ran { state: s, at: place }
+    Ran {
+        state: s,
+        at: place,
+    }
 }

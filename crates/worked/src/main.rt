@@ -56,7 +56,14 @@ fn run(pool: &mut [u8], commands: &[u8], charges: &mut [u64; PANELS]) -> u32
     let mut table = [0u8; 4096];
     let mut answers = [0u8; 1024];
     let mut length: usize = 0;
-    wall_book_batch(pool, &mut table, commands, &mut answers, &mut length, charges)
+    wall_book_batch(
+        pool,
+        &mut table,
+        commands,
+        &mut answers,
+        &mut length,
+        charges,
+    )
 }
 
 // Runs a batch that is refused, and prints the number.
@@ -218,7 +225,11 @@ fn panels() {
         0,
         7,
     ];
-    done(b"panel 3 put 7, panel 15 get 7 and delete 7, panel 0 get 7: ", &mut pool, &shared);
+    done(
+        b"panel 3 put 7, panel 15 get 7 and delete 7, panel 0 get 7: ",
+        &mut pool,
+        &shared,
+    );
     prepare(&mut pool);
     done(b"panel 7: ", &mut pool, &[5u8, 0, 1, 7]);
     refused(b"panel 16: ", &mut pool, &[5u8, 0, 1, 16]);
