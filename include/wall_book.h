@@ -72,8 +72,9 @@ uint32_t wall_book_prepare(uint8_t *pool, size_t pool_bytes,
                            uint32_t to_disk, uint32_t to_log);
 
 /* Runs a batch of commands. `length` becomes the number of bytes laid in `answers`, `charges[p]` what the commands of
- * panel p cost; the sum is what the batch cost. All are 0 where it is refused. Refusals 1 and 2 leave the table as it
- * was; after any other call 1,024 bytes of it a block are zero and those behind them as they were. */
+ * panel p cost; their sum, which stays below 2^44, is what the batch cost. All are 0 where it is refused. Refusals 1
+ * and 2 leave the table as it was; after any other call 1,024 bytes of it a block are zero and those behind them as
+ * they were. */
 uint32_t wall_book_batch(uint8_t *pool, size_t pool_bytes, uint8_t *table, size_t table_bytes,
                          const uint8_t *commands, size_t commands_bytes, uint8_t *answers, size_t answers_bytes,
                          size_t *length, uint64_t charges[WALL_BOOK_PANELS]);
