@@ -115,7 +115,8 @@ pub worked-by : {pool table batch answers : List ℕ} {blocks : ℕ} (a : Accept
 worked-by {pool} {table} {batch} {answers} a table′ zero bytes {tableLength} {P} {T} {P₂} {T₂} {held} {held₁} {held₂} {t} {st} {st₂} o {pages₁}
     {answers₁} {charges} {p} ran pool′ ended size =
     worked-done pool table batch answers a table′ zero bytes {P = P} {T = T} o
-    (subst (λ (cs : List Command). RunAs P T pages₁ held₁ answers answers₁ charges p t cs (world (pagesOf pool) held st)) (commandsIn-is batch (a .commands) (a .are)) ran)
+    (subst (λ (cs : List Command). RunAs P T pages₁ held₁ answers answers₁ charges p t cs (world (pagesOf pool) held st))
+    (commandsIn-is batch (a .commands) (a .are)) ran)
     pool′ (ended .is) (ended .blocks) size
 
 -- A pool that opens has what the commands and the checkpoint ask for.

@@ -84,8 +84,8 @@ pub record RunAgrees (blocks : ℕ) (t : Tariff) (cs : List Command) (n : Sessio
   pub replies : runReplies t cs n w ≡ answers (nodeLimit blocks) t cs n s
   pub number : last (run (nodeLimit blocks) t cs n s .run) ≤ mostNumbers * length cs + last (s .run)
 
-pub run-agrees : {blocks : ℕ} (t : Tariff) (cs : List Command) (n : Session) {w : World} {s : State} → Runs blocks w s → (ps : List Pair) → Holds (nodeLimit blocks) (bookOf s) ps →
-    ValidAll cs → ValuesFit cs → 1 + (mostNumbers * length cs + last (s .run)) < bound32 → RunAgrees blocks t cs n w s
+pub run-agrees : {blocks : ℕ} (t : Tariff) (cs : List Command) (n : Session) {w : World} {s : State} → Runs blocks w s → (ps : List Pair) →
+    Holds (nodeLimit blocks) (bookOf s) ps → ValidAll cs → ValuesFit cs → 1 + (mostNumbers * length cs + last (s .run)) < bound32 → RunAgrees blocks t cs n w s
 run-agrees t [] n k ps h valid values number = record { runs = k; charge = λ q. refl; replies = refl; number = omega arith }
 run-agrees {blocks} t (c ∷ cs) n {w} {s} k ps h valid values number =
     let limit = nodeLimit blocks in
@@ -93,8 +93,8 @@ run-agrees {blocks} t (c ∷ cs) n {w} {s} k ps h valid values number =
     let said = batch-batched blocks t (omega (arith, k .few)) (c ∷ []) n s ps (valid .0, tt) (k .sound) h in
     let pairs = mapRun limit t (c ∷ []) n (bookOf s) ps in
     let rest =
-    run-agrees t cs (sessionAfter c (answer limit c (bookOf s)) n) (one .runs) pairs (subst (λ (z : Book). Holds limit z pairs) (sym (said .says .is)) (said .holds)) (valid .1) (values .1)
-    (omega (arith, one .number)) in
+    run-agrees t cs (sessionAfter c (answer limit c (bookOf s)) n) (one .runs) pairs
+    (subst (λ (z : Book). Holds limit z pairs) (sym (said .says .is)) (said .holds)) (valid .1) (values .1) (omega (arith, one .number)) in
     record {
       runs = rest .runs;
       charge = λ q. ap₂ _+_ (ap (λ (k : ℕ). only (n .panel) k q) (one .charge)) (rest .charge q);

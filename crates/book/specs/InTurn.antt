@@ -2,7 +2,7 @@
 -- session and the book that those before it left. Assumes nothing.
 use mathlib.Core.List.{List, [], _∷_, _++_}
 use Prim.Native.Nat.{ℕ, _+_}
-use Rattle.laws.specs.Update.{entries, only}
+use Rattle.laws.specs.Update.{listBelow, only}
 use Rattle.layout.specs.Layout.{panels}
 use Rattle.command.specs.declared.Command.{Command}
 use Rattle.book.specs.Command.{Reply}
@@ -10,7 +10,7 @@ use Rattle.book.specs.Session.{Session, sessionAfter}
 
 -- One number for each panel, 0 to 15; and nothing charged to any.
 unfoldable pub eachPanel : (ℕ → ℕ) → List ℕ
-eachPanel f = entries panels f
+eachPanel f = listBelow panels f
 
 abbrev pub noCharges : List ℕ
 noCharges = eachPanel (λ q. 0)

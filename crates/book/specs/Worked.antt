@@ -5,7 +5,7 @@ use mathlib.Core.List.{List, [], _∷_}
 use Prim.Native.Nat.{ℕ}
 use Rattle.command.specs.declared.Command.{Command}
 use Rattle.command.specs.declared.Command.the-variants.{Get, Put, Delete, Scan, Panel}
-use Rattle.book.specs.Command.{Reply, silent}
+use Rattle.book.specs.Command.{silent}
 use Rattle.book.specs.Session.{atFirst}
 use Rattle.book.specs.InTurn.{eachPanel, chargeOn}
 
@@ -21,7 +21,8 @@ chargesTo cs = eachPanel (λ q. chargeOn {B = Unit {0}} (λ c b. silent) (λ c b
 
 -- Panel 0 speaks first; a panel speaks until the next is named; it may be named again; 15 is the last.
 pub worked-panels :
-    chargesTo (Get 2 ∷ Panel 3 ∷ Get 10 ∷ Put 20 1 ∷ Panel 15 ∷ Panel 15 ∷ Delete 5 ∷ Panel 3 ∷ Scan 40 50 1 ∷ Panel 0 ∷ Get 100 ∷ Panel 7 ∷ []) ≡
+    chargesTo
+    (Get 2 ∷ Panel 3 ∷ Get 10 ∷ Put 20 1 ∷ Panel 15 ∷ Panel 15 ∷ Delete 5 ∷ Panel 3 ∷ Scan 40 50 1 ∷ Panel 0 ∷ Get 100 ∷ Panel 7 ∷ []) ≡
     102 ∷ 0 ∷ 0 ∷ 70 ∷ 0 ∷ 0 ∷ 0 ∷ 0 ∷ 0 ∷ 0 ∷ 0 ∷ 0 ∷ 0 ∷ 0 ∷ 0 ∷ 5 ∷ []
 unfolding eachPanel
 worked-panels = refl

@@ -94,7 +94,8 @@ panel-only = refl
 
 -- "A panel above 15 gives 3"; so do another length, a payload cut short, and one behind a command that is valid.
 pub no-such-panel : map (resultOf 7)
-    (panel 16 ∷ (0x05 ∷ 0 ∷ 2 ∷ 0 ∷ 0 ∷ []) ∷ (0x05 ∷ 0 ∷ 0 ∷ []) ∷ (0x05 ∷ 0 ∷ 1 ∷ []) ∷ (get 7 ++ panel 16) ∷ []) ≡ replicate 5 (result 3 [] none)
+    (panel 16 ∷ (0x05 ∷ 0 ∷ 2 ∷ 0 ∷ 0 ∷ []) ∷ (0x05 ∷ 0 ∷ 0 ∷ []) ∷ (0x05 ∷ 0 ∷ 1 ∷ []) ∷ (get 7 ++ panel 16) ∷ []) ≡
+    replicate 5 (result 3 [] none)
 unfolding computes
 no-such-panel = refl
 

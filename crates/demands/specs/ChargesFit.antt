@@ -1,10 +1,10 @@
 -- What a batch is charged fits in 64 bits, and by far: a request costs at most 2,000,000, a command makes at most 652 of them, and a batch has at most
 -- 10,922 commands. Assumes nothing.
 use mathlib.Core.List.{List, [], _∷_}
-use Prim.Native.Nat.{ℕ, _+_, _*_, _^_, _≤_, _<_}
+use Prim.Native.Nat.{ℕ, _*_, _^_, _≤_, _<_}
 use native.Mathlib.Omega.{arith}
 use lib.ListN.{length, length-append}
-use Rattle.layout.specs.Layout.{mostNodes, noLeaf}
+use Rattle.layout.specs.Layout.{mostNodes}
 use Rattle.account.specs.declared.Request.the-variants.{Read, Edit, Rewrite}
 use Rattle.account.specs.declared.Tariff.{Tariff}
 use Rattle.account.specs.Range.{Ranged}

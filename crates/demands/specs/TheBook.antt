@@ -37,7 +37,8 @@ use Rattle.model.specs.Call.{Outcome, charge, Prepared, blocksOf, poolLength, m
 use Rattle.model.specs.Questions.{firstNo, ofBuffers, ofPool, ofPrepare}
 use Rattle.model.specs.Calls.{Lent, outcome, outcomes, answered, laidOver, laid, bookIn, allStates, allMoments, fed, commandsBy, commandsIn}
 use Rattle.model.specs.Calls.{booksAfter, lastBook, allBooks, allCharges, allRequests, mapReplies, mapsAfter}
-use Rattle.demands.specs.Ends.{Ends, asFound, tableCleared, done, batch-ends, tableAfter, refused-found, ends-table, ends-panels, prepare-ends, prepare-found}
+use Rattle.demands.specs.Ends.{Ends, asFound, tableCleared, done, batch-ends, tableAfter, refused-found, ends-table, ends-panels}
+use Rattle.demands.specs.Ends.{prepare-ends, prepare-found}
 use Rattle.demands.specs.Panels.{unnamed, SameBut, unnamed-leaves}
 use Rattle.demands.specs.CommandBytes.{commandsOf-batch}
 use Rattle.demands.specs.ChargesFit.{batch-charge-fits}

@@ -1,8 +1,8 @@
--- A table as a function from numbers: changed at one number, its first entries as a list, and sums over these. Assumes nothing.
+-- A table as a function from numbers: changed at one number, its entries below a bound as a list, and their sum. Assumes nothing.
 use mathlib.Core.Path.{_≡_, refl, ap, ap₂}
 use mathlib.Core.Logic.{_⊎_, inl, inr}
 use mathlib.Core.List.{List, [], _∷_}
-use Prim.Native.Nat.{ℕ, zero, suc, _+_, _<_}
+use Prim.Native.Nat.{ℕ, zero, suc, _+_, _≤_, _<_}
 use native.Mathlib.Omega.{arith}
 use borrow.Author.Tests.{eq-eqb, ne-eqb}
 use lib.Dec.{eqb}
@@ -45,29 +45,30 @@ sumBelow-change (suc n) f g k l h = go (eq-or n k) (λ m. sumBelow-change n f g 
     go (inl e) r = omega (arith, sumBelow-ext n g f (λ i q. h i (λ z. omega arith)), ap f e, ap g e)
     go (inr e) r = omega (arith, r (omega arith), h n e)
 
--- The first entries as a list.
-abbrev pub entries : {A : Type 0} → ℕ → (ℕ → A) → List A
-entries zero f = []
-entries (suc n) f = f 0 ∷ entries n (λ i. f (suc i))
+-- The entries below a bound as a list.
+abbrev pub listBelow : {A : Type 0} → ℕ → (ℕ → A) → List A
+listBelow zero f = []
+listBelow (suc n) f = f 0 ∷ listBelow n (λ i. f (suc i))
 
-pub length-entries : {A : Type 0} (n : ℕ) (f : ℕ → A) → length (entries n f) ≡ n
-length-entries zero f = refl
-length-entries (suc n) f = ap suc (length-entries n (λ i. f (suc i)))
+pub length-below : {A : Type 0} (n : ℕ) (f : ℕ → A) → length (listBelow n f) ≡ n
+length-below zero f = refl
+length-below (suc n) f = ap suc (length-below n (λ i. f (suc i)))
 
-pub entry-at : {A : Type 0} (n : ℕ) (f : ℕ → A) (i : ℕ) (d : A) → i < n → getD (entries n f) i d ≡ f i
-entry-at zero f i d l = absurd (omega arith)
-entry-at (suc n) f zero d l = refl
-entry-at (suc n) f (suc i) d l = entry-at n (λ j. f (suc j)) i d (omega arith)
+pub below-at : {A : Type 0} (n : ℕ) (f : ℕ → A) (i : ℕ) (d : A) → i < n → getD (listBelow n f) i d ≡ f i
+below-at zero f i d l = absurd (omega arith)
+below-at (suc n) f zero d l = refl
+below-at (suc n) f (suc i) d l = below-at n (λ j. f (suc j)) i d (omega arith)
 
--- A list that has the first entries at its places is their list.
-pub entries-are : {A : Type 0} (xs : List A) (n : ℕ) (f : ℕ → A) (d : A) → length xs ≡ n → ((i : ℕ) → i < n → getD xs i d ≡ f i) → xs ≡ entries n f
-entries-are [] zero f d e h = refl
-entries-are [] (suc n) f d e h = absurd (omega arith)
-entries-are (x ∷ xs) zero f d e h = absurd (omega arith)
-entries-are {A} (x ∷ xs) (suc n) f d e h =
-    ap₂ {B = List A} _∷_ (h 0 (omega arith)) (entries-are xs n (λ i. f (suc i)) d (omega arith) (λ i l. h (suc i) (omega arith)))
+-- A list that has them at its places is that list.
+pub below-is : {A : Type 0} (xs : List A) (n : ℕ) (f : ℕ → A) (d : A) → length xs ≡ n → ((i : ℕ) → i < n → getD xs i d ≡ f i) →
+    xs ≡ listBelow n f
+below-is [] zero f d e h = refl
+below-is [] (suc n) f d e h = absurd (omega arith)
+below-is (x ∷ xs) zero f d e h = absurd (omega arith)
+below-is {A} (x ∷ xs) (suc n) f d e h =
+    ap₂ {B = List A} _∷_ (h 0 (omega arith)) (below-is xs n (λ i. f (suc i)) d (omega arith) (λ i l. h (suc i) (omega arith)))
 
--- The sum of a list; that of the first entries.
+-- The sum of a list, and of that one.
 abbrev pub sum : List ℕ → ℕ
 sum [] = 0
 sum (n ∷ ns) = n + sum ns
@@ -76,9 +77,9 @@ sumBelow-first : (n : ℕ) (f : ℕ → ℕ) → sumBelow (suc n) f ≡ f 0 + su
 sumBelow-first zero f = omega arith
 sumBelow-first (suc n) f = omega (arith, sumBelow-first n f)
 
-pub sum-entries : (n : ℕ) (f : ℕ → ℕ) → sum (entries n f) ≡ sumBelow n f
-sum-entries zero f = refl
-sum-entries (suc n) f = omega (arith, sum-entries n (λ i. f (suc i)), sumBelow-first n f)
+pub sum-below : (n : ℕ) (f : ℕ → ℕ) → sum (listBelow n f) ≡ sumBelow n f
+sum-below zero f = refl
+sum-below (suc n) f = omega (arith, sum-below n (λ i. f (suc i)), sumBelow-first n f)
 
 -- A table with one entry, and nothing beside it.
 abbrev pub only : ℕ → ℕ → ℕ → ℕ
@@ -89,6 +90,13 @@ only-same n amount i e = rw (eq-eqb i n e) refl
 
 pub only-other : (n amount i : ℕ) → (i ≡ n → ⊥) → only n amount i ≡ 0
 only-other n amount i e = rw (ne-eqb i n e) refl
+
+pub only-le : (n amount i : ℕ) → only n amount i ≤ amount
+only-le n amount i = go (eq-or i n)
+  where
+    go : (i ≡ n) ⊎ (i ≡ n → ⊥) → only n amount i ≤ amount
+    go (inl e) = omega (arith, only-same n amount i e)
+    go (inr e) = omega (arith, only-other n amount i e)
 
 sum-none : (n : ℕ) → sumBelow n (λ i. 0) ≡ 0
 sum-none zero = refl

@@ -2,7 +2,7 @@
 use mathlib.Core.Path.{_≡_, ap, _∙_}
 use mathlib.Core.List.{List}
 use mathlib.Core.Logic.{_⊎_, inl, inr}
-use Prim.Native.Nat.{ℕ, _+_, _≤_, _<_}
+use Prim.Native.Nat.{ℕ, _+_, _<_}
 use native.Mathlib.Omega.{arith}
 use lib.ListN.{length, getD, set}
 use lib.Seq.{getD-set-same, getD-set-other}
@@ -17,7 +17,8 @@ abbrev pub added : List ℕ → ℕ → ℕ → List ℕ
 added charges panel amount = set charges panel (getD charges panel 0 + amount)
 
 -- What each panel has then.
-pub added-at : (charges : List ℕ) (panel amount q : ℕ) → panel < length charges → getD (added charges panel amount) q 0 ≡ getD charges q 0 + only panel amount q
+pub added-at : (charges : List ℕ) (panel amount q : ℕ) → panel < length charges →
+    getD (added charges panel amount) q 0 ≡ getD charges q 0 + only panel amount q
 added-at charges panel amount q l = go (eq-or q panel)
   where
     go : (q ≡ panel) ⊎ (q ≡ panel → ⊥) → getD (added charges panel amount) q 0 ≡ getD charges q 0 + only panel amount q
@@ -26,10 +27,3 @@ added-at charges panel amount q l = go (eq-or q panel)
         getD-set-same charges panel (getD charges panel 0 + amount) 0 l ∙
         omega (arith, only-same panel amount q e, ap (λ (i : ℕ). getD charges i 0) e)
     go (inr e) = getD-set-other charges panel q (getD charges panel 0 + amount) 0 e ∙ omega (arith, only-other panel amount q e)
-
-pub only-le : (panel amount q : ℕ) → only panel amount q ≤ amount
-only-le panel amount q = go (eq-or q panel)
-  where
-    go : (q ≡ panel) ⊎ (q ≡ panel → ⊥) → only panel amount q ≤ amount
-    go (inl e) = omega (arith, only-same panel amount q e)
-    go (inr e) = omega (arith, only-other panel amount q e)

@@ -7,7 +7,7 @@ use native.Mathlib.Omega.{arith}
 use lib.ListN.{length, getD, length-append, length-set}
 use Rattle.laws.specs.Lay.{lay, lay-nil, lay-next}
 use Rattle.laws.specs.Options.{none-some}
-use Rattle.laws.specs.Update.{only}
+use Rattle.laws.specs.Update.{only, only-le}
 use Rattle.layout.specs.Layout.{mostBatchBytes, panels}
 use Rattle.account.specs.declared.Tariff.{Tariff}
 use Rattle.account.specs.Fair.{mostCharge}
@@ -27,7 +27,7 @@ use Rattle.flash_allocate.specs.World.{World, world}
 use Rattle.run_serve.specs.Step.{ChargedAs}
 use Rattle.run_split.specs.Growing.{Growing, Grew}
 use Rattle.run.specs.declared.Progress.{Progress}
-use Rattle.run.specs.Charges.{most64, added, added-at, only-le}
+use Rattle.run.specs.Charges.{most64, added, added-at}
 use Rattle.run.specs.Run.{commandWorld, commandCharge, commandReply, mostServed, runWorld, runCharge, runReplies, CommandAs, RunAs}
 use Rattle.run.specs.Valid.{listOr, commandsIn, Fits}
 use Rattle.run.specs.Room.{reply-room}
@@ -79,8 +79,8 @@ running-start P T t batch empty charges w g f e =
     }
 
 -- The same of charges and a panel said otherwise.
-pub running-as : {P T : ℕ} {t : Tariff} {batch empty : List ℕ} {from : ℕ} {start now : World} {answers paid paid′ : List ℕ} {panel panel′ place : ℕ} →
-    paid′ ≡ paid → panel′ ≡ panel → Running P T t batch empty from start now answers paid panel place →
+pub running-as : {P T : ℕ} {t : Tariff} {batch empty : List ℕ} {from : ℕ} {start now : World} {answers paid paid′ : List ℕ}
+    {panel panel′ place : ℕ} → paid′ ≡ paid → panel′ ≡ panel → Running P T t batch empty from start now answers paid panel place →
     Running P T t batch empty from start now answers paid′ panel′ place
 running-as e f r = rw (e, f) r
 

@@ -1,6 +1,6 @@
 -- `command::batch::panel_of` meets its contract: the one byte of the payload is tested against the panels. Assumes nothing.
 use mathlib.Core.Path.{sym, ap, _∙_}
-use Prim.Native.Nat.{ℕ, _-_}
+use Prim.Native.Nat.{ℕ}
 use native.Mathlib.Omega.{arith}
 use borrow.Author.Needs.{needs}
 use Rattle.command.specs.declared.Command.the-variants.{Panel}
