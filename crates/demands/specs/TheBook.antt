@@ -230,8 +230,11 @@ module _ {t : Tariff} {pool pool′ : List ℕ} {b : Book} {ps : List Pair} (r :
       sym (other .charges)
 
 -- DOCUMENT 02, P2. "The batch returns 16 charges in place of one, each that of the panel's own commands, all 0 when refused. The three-times bound is
--- about their sum, the old charge." That each is the reference model's is demand 3's `charges`, the sixteen zeros are demand 1's `noCharge`, and
--- `prepared-bound` is about the sums.
+-- about their sum, the old charge." That each is the reference model's is demand 3's `charges`, and `prepared-bound` is about the sums.
+
+-- A refused call returns sixteen zeros, after 1 and 2 too.
+pub refused-zero : (pool : List ℕ) (l : Lent) → 1 ≤ outcome pool l .number → outcome pool l .charges ≡ noCharges
+refused-zero pool l = demand-one pool (l .table) (l .batch) (l .buffer) .noCharge
 
 -- The sixteen charges of a call add up to what all its node requests are charged.
 pub charges-sum : {t : Tariff} {pool : List ℕ} {b : Book} {ps : List Pair} → Stands t pool b ps → (l : Lent) → Bytes (l .batch) →

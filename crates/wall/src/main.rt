@@ -46,7 +46,7 @@ fn print_number(word: &[u8], number: u64) {
     io::write_all(1, b"\n");
 }
 
-// What all panels are charged together: far below 2^64, so nothing wraps.
+// What all panels are charged together: below 2^44 (`demands` TheBook `charges-fit`), so nothing wraps.
 fn sum(charges: &[u64; PANELS]) -> u64
     requires { ⌜ length (now charges) ≡ panels ⌝ }
 {

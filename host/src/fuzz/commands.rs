@@ -24,13 +24,18 @@ pub(super) struct Chooser<'a> {
 }
 
 impl Chooser<'_> {
+    /// Commands of a batch, among them a panel at least, unless the batch is empty.
     pub fn commands(&mut self, random: &mut Random) -> Vec<Command> {
         let count = match random.below(60) {
             0..=2 => 0,
             3 => MAX_COMMANDS,
             _ => random.between(1, self.style.longest),
         };
-        (0..count).map(|_| self.command(random)).collect()
+        let mut commands: Vec<Command> = (0..count).map(|_| self.command(random)).collect();
+        if count > 0 {
+            commands.insert(random.between(0, count), panel(random));
+        }
+        commands
     }
 
     fn command(&mut self, random: &mut Random) -> Command {
