@@ -1,11 +1,22 @@
--- A number for each panel: how many there are, which stands where, and their sum. Assumes nothing.
-use mathlib.Core.Path.{_≡_, ap, fun-ext}
+-- The panel that speaks stays in range; a number for each panel: how many there are, which stands where, and their sum. Assumes nothing.
+use mathlib.Core.Path.{_≡_, refl, ap, fun-ext}
 use mathlib.Core.List.{List}
 use Prim.Native.Nat.{ℕ, _<_}
 use lib.ListN.{length, getD}
 use Rattle.laws.specs.Update.{length-below, below-at, below-is, sum, sumBelow, sum-below}
 use Rattle.layout.specs.Layout.{panels}
+use Rattle.command.specs.declared.Command.{Command}
+use Rattle.command.specs.declared.Command.the-variants.{Get, Put, Delete, Scan, Panel}
+use Rattle.book.specs.Session.{panelAfter}
 use Rattle.book.specs.InTurn.{eachPanel}
+
+-- Who speaks after a command spoke before it, or was named by it.
+pub speaks-below : (c : Command) (now n : ℕ) → ((panel : ℕ) → c ≡ Panel panel → panel < n) → now < n → panelAfter c now < n
+speaks-below (Get k) now n named l = l
+speaks-below (Put k v) now n named l = l
+speaks-below (Delete k) now n named l = l
+speaks-below (Scan low high most) now n named l = l
+speaks-below (Panel panel) now n named l = named panel refl
 
 module _ (f : ℕ → ℕ) where
   pub length-each : length (eachPanel f) ≡ panels

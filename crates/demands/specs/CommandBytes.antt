@@ -1,5 +1,5 @@
--- The commands that the bytes of a batch spell: keys and values have 32 bits, panels are 0 to 15, and each takes three bytes or more, so there are at most 10,922
--- of them. Assumes nothing.
+-- The commands that the bytes of a batch spell: keys and values have 32 bits, panels are 0 to 15, and each takes three bytes or more, so there are
+-- at most 10,922 of them. Assumes nothing.
 use mathlib.Core.Path.{_≡_, refl, ap, _∙_, subst}
 use mathlib.Core.Bool.{Bool, true, false}
 use mathlib.Core.List.{List, [], _∷_}

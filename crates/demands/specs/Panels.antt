@@ -1,6 +1,6 @@
 -- Panels (document 02, P2): the sixteen charges add up to what all commands cost, and a batch without its panels leaves the same but for who is
 -- charged. Assumes nothing.
-use mathlib.Core.Path.{_≡_, refl, ap, _∙_}
+use mathlib.Core.Path.{_≡_, refl, ap, _∙_, subst}
 use mathlib.Core.Bool.{Bool, true, false}
 use mathlib.Core.List.{List, [], _∷_, _++_}
 use mathlib.Core.Option.{some}
@@ -20,21 +20,13 @@ use Rattle.store.specs.Reopen.{poolOf}
 use Rattle.book.specs.Command.{Reply, replyBytes, repliesBytes, requests, answer}
 use Rattle.book.specs.Session.{Session, atFirst, sessionAfter}
 use Rattle.book.specs.InTurn.{eachPanel, total, chargeOn}
-use Rattle.book.specs.PanelLaws.{sum-each}
+use Rattle.book.specs.PanelLaws.{speaks-below, sum-each}
 use Rattle.model.specs.State.{State}
 use Rattle.model.specs.Batch.{replyOf, done, cost, run, answers, closed}
 use Rattle.model.specs.Mount.{Mounted, refused, opened}
 use Rattle.model.specs.Bytes.{bytesOf}
 use Rattle.model.specs.Call.{Outcome, charge, refuse, blocksOf, poolLength, cleared, mountOf, accept, batchMounted, batchAsked, batchOf}
 use Rattle.demands.specs.Commands.{Valid, ValidAll}
-
--- The panel that speaks is 0 to 15.
-speaks : (c : Command) (r : Reply) (n : Session) → Valid c → n .panel < panels → sessionAfter c r n .panel < panels
-speaks (Get k) r n valid l = l
-speaks (Put k v) r n valid l = l
-speaks (Delete k) r n valid l = l
-speaks (Scan low high most) r n valid l = l
-speaks (Panel panel) r n valid l = valid
 
 -- THE SUM, of any kind of book.
 module _ {B : Type 0} (reply : Command → B → Reply) (after : Command → B → B) (amount : Command → B → ℕ) where
@@ -47,7 +39,7 @@ module _ {B : Type 0} (reply : Command → B → Reply) (after : Command → B �
       omega (
         arith,
         sum-only panels (n .panel) (amount c b) l,
-        sum-total cs m (after c b) (valid .1) (speaks c (reply c b) n (valid .0) l),
+        sum-total cs m (after c b) (valid .1) (speaks-below c (n .panel) panels (λ p e. subst Valid e (valid .0)) l),
       )
 
   pub sum-charges : (cs : List Command) (n : Session) (b : B) → ValidAll cs → n .panel < panels →

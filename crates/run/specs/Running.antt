@@ -12,7 +12,6 @@ use Rattle.layout.specs.Layout.{mostBatchBytes, panels}
 use Rattle.account.specs.declared.Tariff.{Tariff}
 use Rattle.account.specs.Fair.{mostCharge}
 use Rattle.command.specs.declared.Command.{Command}
-use Rattle.command.specs.declared.Command.the-variants.{Get, Put, Delete, Scan, Panel}
 use Rattle.command.specs.declared.Step.the-variants.{Next, Invalid}
 use Rattle.command.specs.Command.{InRange, Onward, commandAt}
 use Rattle.command.specs.CommandLaws.{commandAt-onward}
@@ -21,7 +20,7 @@ use Rattle.command.specs.BatchLaws.{commandsFrom-end, commandsFrom-next, comman
 use Rattle.book.specs.Command.{replyBytes, repliesBytes}
 use Rattle.book.specs.Session.{Session, atFirst, panelAfter}
 use Rattle.book.specs.InTurn.{noCharges}
-use Rattle.book.specs.PanelLaws.{length-each, each-at, each-are}
+use Rattle.book.specs.PanelLaws.{speaks-below, length-each, each-at, each-are}
 use Rattle.flash_rows.specs.Worktable.{Worktable}
 use Rattle.flash_allocate.specs.World.{World, world}
 use Rattle.run_serve.specs.Step.{ChargedAs}
@@ -138,7 +137,7 @@ module _ {P T : ℕ} {t : Tariff} {batch empty : List ℕ} {from : ℕ} {start n
             left = f .is;
             worlds =
                 ap (runWorld t (f .tail) m) (served .kept .is) ∙ ap (λ (cs : List Command). runWorld t cs (speaking panel) now) (f .whole) ∙ r .worlds;
-            speaks = named c (onward .2);
+            speaks = speaks-below c panel panels (λ p e. subst InRange e (onward .2)) (r .speaks);
             sixteen = length-set paid panel (getD paid panel 0 + p .charged .charge) ∙ r .sixteen;
             charges =
                 λ q l.
@@ -173,13 +172,6 @@ module _ {P T : ℕ} {t : Tariff} {batch empty : List ℕ} {from : ℕ} {start n
                 r .replies;
             room = omega (arith, d .behind, reply-room t c now, r .room, ap roomForAll (f .whole));
           }
-        where
-          named : (c : Command) → InRange c → panelAfter c panel < panels
-          named (Get k) h = r .speaks
-          named (Put k v) h = r .speaks
-          named (Delete k) h = r .speaks
-          named (Scan low high most) h = r .speaks
-          named (Panel q) h = h
 
   -- in a valid batch no command is not valid
   pub running-valid : from < length batch → commandAt batch from ≡ Invalid → ⊥
