@@ -77,7 +77,8 @@ pub const SECTIONS: &[Section] = &[
     Section {
         name: "stack",
         title: "The deepest stack of the proved book's calls, in bytes",
-        how: "The deepest byte that lost its paint, counted from the caller, of whose frame some 70 bytes are in it, and some 200 where it holds the charges.",
+        how: "The deepest byte that lost its paint, counted from the caller, of whose frame some 70 bytes are in it, \
+              and some 200 where it holds the charges.",
         rows: stack::rows,
     },
 ];

@@ -7,14 +7,14 @@ use Prim.Native.Nat.{ℕ, _≤_, _<_}
 use native.Mathlib.Omega.{arith}
 use borrow.Author.Tests.{le-leb, lt-leb}
 use lib.ListN.{length}
-use Rattle.layout.specs.Layout.{tableBytes, panels}
+use Rattle.layout.specs.Layout.{tableBytes}
 use Rattle.command.specs.declared.Asked.{Asked}
 use Rattle.command.specs.declared.Asked.the-variants as asked
 use Rattle.command.specs.declared.Command.{Command}
 use Rattle.command.specs.Batch.{commandsOf, roomForAll, askedAs, askedOf}
 use Rattle.book.specs.InTurn.{noCharges}
 use Rattle.book.specs.PanelLaws.{length-each}
-use Rattle.model.specs.Call.{blocksOf, poolLength, batchOf, batchMounted, mountOf}
+use Rattle.model.specs.Call.{refuse, blocksOf, poolLength, cleared, batchOf, batchMounted, mountOf}
 use Rattle.prepare.specs.Prepared.{IsPool}
 use Rattle.batch.specs.Left.{refusedWith, wiped, Leaves}
 
@@ -43,15 +43,26 @@ module _ (batch : List ℕ) where
   unfolding askedOf
   asks-for n e = told-some (commandsOf batch) n e
 
-pub none-charged : {charges : List ℕ} → charges ≡ noCharges → length charges ≡ panels
-none-charged e = ap length e ∙ length-each (λ q. 0)
+-- What every refusal leaves: the number, and nothing but the table, if that, other than it was.
+pub refused-leaves : (number : ℕ) (pool table left answers charges : List ℕ) → left ≡ table → charges ≡ noCharges →
+    Leaves (refuse number pool table answers) (refusedWith number) pool left answers charges
+refused-leaves number pool table left answers charges is zero =
+    record {
+      number = refl;
+      pool = refl;
+      cleared = is;
+      replies = refl;
+      long = refl;
+      paid = zero;
+      sixteen = ap length zero ∙ length-each (λ q. 0);
+    }
 
 -- The refusals, in their order.
 module _ (pool table batch answers : List ℕ) where
   pub refused-one : poolLength pool ≡ false → (charges : List ℕ) → charges ≡ noCharges →
       Leaves (batchOf pool table batch answers) (refusedWith 1) pool table answers charges
   unfolding batchOf
-  refused-one e charges zero = rw e (record { number = refl; pool = refl; cleared = refl; replies = refl; long = refl; paid = zero; sixteen = none-charged zero })
+  refused-one e charges zero = rw e (refused-leaves 1 pool table table answers charges refl zero)
 
   module _ (h : IsPool pool) where
     pub refused-two : length table < tableBytes (blocksOf pool) → (charges : List ℕ) → charges ≡ noCharges →
@@ -59,7 +70,7 @@ module _ (pool table batch answers : List ℕ) where
     unfolding batchOf
     refused-two l charges zero =
         rw (h .question, lt-leb (tableBytes (blocksOf pool)) (length table) l)
-        (record { number = refl; pool = refl; cleared = refl; replies = refl; long = refl; paid = zero; sixteen = none-charged zero })
+        (refused-leaves 2 pool table table answers charges refl zero)
 
     module _ (enough : tableBytes (blocksOf pool) ≤ length table) where
       pub refused-three : commandsOf batch ≡ none → (left : List ℕ) → left ≡ wiped (tableBytes (blocksOf pool)) table →
@@ -67,7 +78,7 @@ module _ (pool table batch answers : List ℕ) where
       unfolding batchOf wiped
       refused-three e left is charges zero =
           rw (h .question, le-leb (tableBytes (blocksOf pool)) (length table) enough, e)
-          (record { number = refl; pool = refl; cleared = is; replies = refl; long = refl; paid = zero; sixteen = none-charged zero })
+          (refused-leaves 3 pool (cleared (blocksOf pool) table) left answers charges is zero)
 
       module _ (cs : List Command) (are : commandsOf batch ≡ some cs) where
         pub refused-four : length answers < roomForAll cs → (left : List ℕ) → left ≡ wiped (tableBytes (blocksOf pool)) table →
@@ -75,7 +86,7 @@ module _ (pool table batch answers : List ℕ) where
         unfolding batchOf wiped
         refused-four l left is charges zero =
             rw (h .question, le-leb (tableBytes (blocksOf pool)) (length table) enough, are, lt-leb (roomForAll cs) (length answers) l)
-            (record { number = refl; pool = refl; cleared = is; replies = refl; long = refl; paid = zero; sixteen = none-charged zero })
+            (refused-leaves 4 pool (cleared (blocksOf pool) table) left answers charges is zero)
 
         pub passed-four : roomForAll cs ≤ length answers → batchOf pool table batch answers ≡ batchMounted (mountOf pool) cs pool table answers
         unfolding batchOf

@@ -28,7 +28,7 @@ use Rattle.run.specs.Run.{runWorld, runCharge, RunAs}
 use Rattle.run.specs.Valid.{commandsIn, commandsIn-is}
 use Rattle.batch_refines.specs.Accepted.{accepted}
 use Rattle.batch.specs.declared.answer.Outcome.{Outcome}
-use Rattle.batch.specs.Questions.{none-charged}
+use Rattle.batch.specs.Questions.{refused-leaves}
 use Rattle.batch.specs.Left.{refusedWith, Leaves, Accepts, Worked}
 
 -- What is told of a batch that was run.
@@ -59,11 +59,12 @@ module _ (pool table batch answers : List ℕ) {blocks : ℕ} (a : Accepts (leng
         leaves =
             λ cs are.
             subst (λ (m : Mounted). Leaves (batchMounted m cs pool table answers) (refusedWith number) pool table′ answers charges) (sym e)
-            (record { number = refl; pool = refl; cleared = cleared-is; replies = refl; long = refl; paid = none; sixteen = none-charged none });
+            (refused-leaves number pool (cleared (blocksOf pool) table) table′ answers charges cleared-is none);
       }
 
   -- One that opens, its commands run and its checkpoint written.
-  module _ (bytes : Bytes batch) {tableLength P T : ℕ} {held held₁ held₂ : Worktable} {t : Tariff} {st st₂ : State} (o : Opens pool tableLength blocks held t st)
+  module _ (bytes : Bytes batch) {tableLength P T : ℕ} {held held₁ held₂ : Worktable} {t : Tariff} {st st₂ : State}
+      (o : Opens pool tableLength blocks held t st)
       {pages₁ : List (List ℕ)} {answers₁ charges : List ℕ} {p : Ran}
       (ran : RunAs P T pages₁ held₁ answers answers₁ charges p t (a .commands) (world (pagesOf pool) held st))
       (pool′ : List ℕ) (ended : world (pagesOf pool′) held₂ st₂ ≡ checkpoint t (world pages₁ held₁ (p .state)))

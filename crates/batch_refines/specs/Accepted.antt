@@ -85,7 +85,9 @@ module _ {pool : List ℕ} {tableLength blocks : ℕ} {held : Worktable} {t : Ta
 
   -- THE COMMANDS
   pub ran : RunAgrees blocks t cs atFirst w s
-  ran = run-agrees t cs atFirst (o .runs) (mapOf (bookOf s .count) (bookOf s .table)) holds (asked .valid) (asked .values) (omega (arith, asked .few, number-left))
+  ran =
+      run-agrees t cs atFirst (o .runs) (mapOf (bookOf s .count) (bookOf s .table)) holds (asked .valid) (asked .values)
+      (omega (arith, asked .few, number-left))
 
   -- THE BATCH
   pub accepted : (table answers : List ℕ) (pool′ : List ℕ) → pagesOf pool′ ≡ checkpoint t (runWorld t cs atFirst w) .pages →

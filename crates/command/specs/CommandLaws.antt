@@ -148,7 +148,7 @@ pub commandOf-each :
     (tag ≡ 5 → getD p 0 0 < panels → P (some (Panel (getD p 0 0)))) → P (commandOf tag p)
 unfolding commandOf inRange
 commandOf-each P tag p nothing get put delete scan panel =
-    go (eqb tag 1) refl (eqb tag 2) refl (eqb tag 3) refl (eqb tag 4 && asked) refl (eqb tag 5 && ltb (getD p 0 0) panels) refl
+    go (eqb tag 1) refl (eqb tag 2) refl (eqb tag 3) refl (eqb tag 4 && asked) refl (eqb tag 5 && named) refl
   where
     most : ℕ
     most = numberAt 2 p 8
@@ -156,8 +156,11 @@ commandOf-each P tag p nothing get put delete scan panel =
     asked : Bool
     asked = leb 1 most && leb most mostPairs
 
+    named : Bool
+    named = ltb (getD p 0 0) panels
+
     go : (a : Bool) → eqb tag 1 ≡ a → (b : Bool) → eqb tag 2 ≡ b → (c : Bool) → eqb tag 3 ≡ c → (d : Bool) → (eqb tag 4 && asked) ≡ d →
-        (e : Bool) → (eqb tag 5 && ltb (getD p 0 0) panels) ≡ e →
+        (e : Bool) → (eqb tag 5 && named) ≡ e →
         P
         (choose a (some (Get (numberAt 4 p 0)))
         (choose b (some (Put (numberAt 4 p 0) (numberAt 4 p 4)))
@@ -174,7 +177,7 @@ commandOf-each P tag p nothing get put delete scan panel =
           leb-true most mostPairs (and-right (leb 1 most) (leb most mostPairs) r),
         )
     go false h false i false j false k true l =
-        panel (eqb-true tag 5 (and-left (eqb tag 5) (ltb (getD p 0 0) panels) l)) (ltb-true (getD p 0 0) panels (and-right (eqb tag 5) (ltb (getD p 0 0) panels) l))
+        panel (eqb-true tag 5 (and-left (eqb tag 5) named l)) (ltb-true (getD p 0 0) panels (and-right (eqb tag 5) named l))
     go false h false i false j false k false l = nothing
 
 -- The command at a place ends further on, within the bytes.

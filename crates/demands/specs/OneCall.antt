@@ -203,7 +203,8 @@ module _ {t : Tariff} {pool : List ℕ} {b : Book} {ps : List Pair} (o : OpenPoo
 
     fits-after : Fits limit (requestsBook limit t cs atFirst b) (b .table) (b .count) (book .count)
     fits-after =
-        subst (λ (z : Book). Fits limit (requestsBook limit t cs atFirst z) (z .table) (z .count) (runBook limit t cs atFirst z .count)) (start .says .is) (ran .fits)
+        subst (λ (z : Book). Fits limit (requestsBook limit t cs atFirst z) (z .table) (z .count) (runBook limit t cs atFirst z .count))
+        (start .says .is) (ran .fits)
 
     ended : Ready B t after book (mapRun limit t cs atFirst b ps)
     ended =

@@ -83,7 +83,7 @@ ofStore = tt
 -- The book, and the two calls.
 unfoldable pub computes : Unit {0}
 unfolding ofBytes ofPages ofTree ofStore bookBook.serve bookBook.charge bookCommand.requests bookCommand.refuses bookCommand.answer bookInTurn.eachPanel
-    modelState.bookOf modelState.serve modelBatch.closed modelMount.stateOf modelMount.threePages modelMount.scoresBelow modelMount.treeSound modelMount.mountCells
-    modelPrepare.prepared modelBytes.cellsFrom modelBytes.cellsOf modelCall.poolLength modelCall.mountOf modelCall.batchOf modelCall.prepareOf
-    modelCalls.bookIn
+    modelState.bookOf modelState.serve modelBatch.closed modelMount.stateOf modelMount.threePages modelMount.scoresBelow modelMount.treeSound
+    modelMount.mountCells modelPrepare.prepared modelBytes.cellsFrom modelBytes.cellsOf modelCall.poolLength modelCall.mountOf modelCall.batchOf
+    modelCall.prepareOf modelCalls.bookIn
 computes = tt

@@ -55,14 +55,16 @@ fn not_hex(digits: &str) -> String {
 mod tests {
     use crate::tool::trial::{said, text, Folder};
 
+    /// Put 7 with 100, get, delete and get 7, in words.
+    const WORKED: &str = "key 7 is new, with value 100\nkey 7 has value 100\nkey 7 is deleted, its value was 100\n\
+                          key 7 is not there\ncharge 14\n";
+
     #[test]
     fn the_worked_batch_in_words() {
         let folder = Folder::new("run");
         let pool = folder.prepared("p");
         let batch = "0200080000000700000064010004000000070300040000000701000400000007";
-        let words = "key 7 is new, with value 100\nkey 7 has value 100\nkey 7 is deleted, its value was 100\n\
-                     key 7 is not there\ncharge 14\n";
-        assert_eq!(text(&["run", &pool, batch]), words);
+        assert_eq!(text(&["run", &pool, batch]), WORKED);
         assert_eq!(text(&["run", &pool, "04000a00000009000000030001"]), "keys 9 to 3: none\ncharge 0\n");
         assert_eq!(text(&["run", &pool, "-"]), "charge 0\n");
         let refused = said(&["run", &pool, "05"]);
@@ -79,9 +81,8 @@ mod tests {
         let pool = folder.prepared("p");
         // Panel 3 puts, panel 15 gets and deletes, panel 0 gets.
         let batch = "05000103 0200080000000700000064 0500010f 01000400000007 03000400000007 05000100 01000400000007";
-        let words = "key 7 is new, with value 100\nkey 7 has value 100\nkey 7 is deleted, its value was 100\n\
-                     key 7 is not there\ncharge 14\npanel 0: charge 3\npanel 3: charge 4\npanel 15: charge 7\n";
-        assert_eq!(text(&["run", &pool, &batch.replace(' ', "")]), words);
+        let by_panel = "panel 0: charge 3\npanel 3: charge 4\npanel 15: charge 7\n";
+        assert_eq!(text(&["run", &pool, &batch.replace(' ', "")]), [WORKED, by_panel].concat());
         assert_eq!(text(&["run", &pool, "05000107"]), "charge 0\n");
         assert_eq!(text(&["run", &pool, "0500010001000400000007"]), "key 7 is not there\ncharge 4\n");
     }

@@ -22,7 +22,8 @@ Inv-loop pool₀ table₀ batch answers₀ charges₀ tariff ids₀ s₀ panel�
     (world (pagesOf pool) (tableFrom table) s) answers charges panel place
 
 abbrev μ-loop : tie.MeasureT-loop
-μ-loop pool₀ table₀ batch answers₀ charges₀ tariff ids₀ s₀ panel₀ place₀ at₀ pool table answers charges ids s panel place at = length batch - at
+μ-loop pool₀ table₀ batch answers₀ charges₀ tariff ids₀ s₀ panel₀ place₀ at₀ pool table answers charges ids s panel place at =
+    length batch - at
 
 -- the command found
 step-is : (k : tie.After-known-told Inv-loop μ-loop) →
