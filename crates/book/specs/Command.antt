@@ -1,43 +1,39 @@
--- A command on a book: its node requests and its answer (document 01, "Commands and answers", "Nodes and tree"; document 02, P2). Both the run over
--- the flash store and the reference model ask these functions, so neither has requests or answers of its own. Assumes nothing.
+-- A command on a book: its node requests and its answer (document 01, "Commands and answers", "Nodes and tree"; document 02, P2 and P3). Both the run
+-- over the flash store and the reference model ask these functions, so neither has requests or answers of its own. Assumes nothing.
 use mathlib.Core.Bool.{Bool, true, false}
-use mathlib.Core.List.{List, [], _∷_, _++_}
-use mathlib.Core.Option.{Option}
+use mathlib.Core.List.{List, [], _∷_, _++_, map}
+use mathlib.Core.Option.{Option, none, some}
 use Prim.Native.Nat.{ℕ, _+_}
+use Rattle.layout.specs.Layout.{lastKey}
 use Rattle.command.specs.declared.Command.{Command}
-use Rattle.command.specs.declared.Command.the-variants.{Get, Put, Delete, Scan, Panel}
-use Rattle.pairs.specs.Pairs.{Pair}
+use Rattle.command.specs.declared.Command.the-variants.{Get, Put, Delete, Scan, Panel, Ceiling}
+use Rattle.pairs.specs.Pairs.{Pair, first}
 use Rattle.command.specs.declared.Answer.{Answer}
-use Rattle.command.specs.declared.Answer.the-variants.{Got, Replaced, Deleted, Refused}
-use Rattle.command.specs.Answer.{answerBytes, scanBytes, valueOr}
-use Rattle.tree.specs.NodeRequest.{NodeRequest}
-use Rattle.tree.specs.Get.{getRequests, getAnswer}
+use Rattle.command.specs.declared.Answer.the-variants.{Absent, Got, Replaced, Deleted, Refused}
+use Rattle.command.specs.Answer.{answerBytes, scanBytes, ceilingBytes, valueOr}
+use Rattle.tree.specs.Table.{path}
+use Rattle.tree.specs.NodeRequest.{NodeRequest, read}
+use Rattle.tree.specs.Get.{getAnswer}
 use Rattle.tree.specs.Put.{putRequests, putRefused}
 use Rattle.tree.specs.Delete.{deleteRequests}
-use Rattle.tree.specs.Scan.{scanRequests, scanAnswer}
+use Rattle.tree.specs.Scan.{scanReads, scanAnswer}
 use Rattle.book.specs.Book.{Book}
 
 -- What a command asks at most of a tree of so many nodes, each read at most once, with room for what it writes and for commands to come.
 abbrev pub mostRequests : ℕ → ℕ
 mostRequests nodes = 32 + nodes
 
--- "In an accepted one each command makes its node requests .. none for a hang with 9."
-unfoldable pub requests : ℕ → Command → Book → List NodeRequest
-requests limit (Get k) b = getRequests (b .count) (b .table) k
-requests limit (Put k v) b = putRequests limit (b .count) (b .table) k v
-requests limit (Delete k) b = deleteRequests (b .count) (b .table) k
-requests limit (Scan low high most) b = scanRequests (b .count) (b .table) low high most
-requests limit (Panel panel) b = []
-
--- What a command is answered: one of the answers of fixed length, the pairs of a scan, or nothing.
+-- What a command is answered: one of the answers of 7 bytes or fewer, the pairs of a scan, the pair of a ceiling, or nothing.
 pub data Reply : Type 0 where
   short : Answer → Reply
   listed : List Pair → Reply
+  nearest : Pair → Reply
   silent : Reply
 
 abbrev pub replyBytes : Reply → List ℕ
 replyBytes (short a) = answerBytes a
 replyBytes (listed ps) = scanBytes ps
+replyBytes (nearest p) = ceilingBytes p
 replyBytes silent = []
 
 abbrev pub repliesBytes : List Reply → List ℕ
@@ -49,7 +45,7 @@ abbrev pub noIds : ℕ
 noIds = 9
 
 -- 80 where there is no such key, or for a put newly made; 81, 82 and 83 with the value, the old value, the value removed; 8F for a
--- put that is refused.
+-- put that is refused; "87 with route and word .., or 80 if none is at or above".
 abbrev pub getReply : Option ℕ → Reply
 getReply old = short (valueOr Got old)
 
@@ -60,18 +56,77 @@ putReply false old = short (valueOr Replaced old)
 abbrev pub deleteReply : Option ℕ → Reply
 deleteReply old = short (valueOr Deleted old)
 
--- Whether a command is a put that is refused.
-unfoldable pub refuses : ℕ → Command → Book → Bool
-refuses limit (Get k) b = false
-refuses limit (Put k v) b = putRefused limit (b .count) (b .table) k
-refuses limit (Delete k) b = false
-refuses limit (Scan low high most) b = false
-refuses limit (Panel panel) b = false
+abbrev pub ceilingReply : Option Pair → Reply
+ceilingReply none = short Absent
+ceilingReply (some p) = nearest p
 
--- A panel "has no answer".
+-- A command that changes nothing: the nodes that it reads, in order, and what it is answered.
+pub record Look : Type 0 where
+  pub reads : Book → List ℕ
+  pub reply : Book → Reply
+
+-- "Every command reads the nodes from root to leaf": a look up those, and answers the value there.
+abbrev lookUp : ℕ → Look
+lookUp k = record { reads = λ b. path (b .count) (b .table) k 0; reply = λ b. getReply (getAnswer (b .count) (b .table) k) }
+
+-- "A sweep then leaf after leaf by links."
+abbrev sweep : ℕ → ℕ → ℕ → Look
+sweep low high most =
+    record {
+      reads = λ b. scanReads (b .count) (b .table) low high most;
+      reply = λ b. listed (scanAnswer (b .count) (b .table) low high most);
+    }
+
+-- "It reads as a sweep of that route to FFFFFFFF with a most of 1 does", and answers the pair that this finds.
+abbrev nextUp : ℕ → Look
+nextUp k =
+    record {
+      reads = sweep k lastKey 1 .reads;
+      reply = λ b. ceilingReply (first (scanAnswer (b .count) (b .table) k lastKey 1));
+    }
+
+-- What a command does: it looks, puts, deletes, or names a panel.
+pub data Task : Type 0 where
+  looks : Look → Task
+  puts : ℕ → ℕ → Task
+  deletes : ℕ → Task
+  names : ℕ → Task
+
+abbrev pub taskOf : Command → Task
+taskOf (Get k) = looks (lookUp k)
+taskOf (Put k v) = puts k v
+taskOf (Delete k) = deletes k
+taskOf (Scan low high most) = looks (sweep low high most)
+taskOf (Panel panel) = names panel
+taskOf (Ceiling k) = looks (nextUp k)
+
+-- Its node requests: one that looks makes reads alone, a panel none.
+abbrev pub requestsOf : ℕ → Task → Book → List NodeRequest
+requestsOf limit (looks l) b = map read (l .reads b)
+requestsOf limit (puts k v) b = putRequests limit (b .count) (b .table) k v
+requestsOf limit (deletes k) b = deleteRequests (b .count) (b .table) k
+requestsOf limit (names panel) b = []
+
+-- Whether it is a put that is refused.
+abbrev pub refusesOf : ℕ → Task → Book → Bool
+refusesOf limit (looks l) b = false
+refusesOf limit (puts k v) b = putRefused limit (b .count) (b .table) k
+refusesOf limit (deletes k) b = false
+refusesOf limit (names panel) b = false
+
+-- What it is answered: a panel "has no answer".
+abbrev pub answerOf : ℕ → Task → Book → Reply
+answerOf limit (looks l) b = l .reply b
+answerOf limit (puts k v) b = putReply (putRefused limit (b .count) (b .table) k) (getAnswer (b .count) (b .table) k)
+answerOf limit (deletes k) b = deleteReply (getAnswer (b .count) (b .table) k)
+answerOf limit (names panel) b = silent
+
+-- "In an accepted one each command makes its node requests .. none for a hang with 9."
+unfoldable pub requests : ℕ → Command → Book → List NodeRequest
+requests limit c b = requestsOf limit (taskOf c) b
+
+unfoldable pub refuses : ℕ → Command → Book → Bool
+refuses limit c b = refusesOf limit (taskOf c) b
+
 unfoldable pub answer : ℕ → Command → Book → Reply
-answer limit (Get k) b = getReply (getAnswer (b .count) (b .table) k)
-answer limit (Put k v) b = putReply (putRefused limit (b .count) (b .table) k) (getAnswer (b .count) (b .table) k)
-answer limit (Delete k) b = deleteReply (getAnswer (b .count) (b .table) k)
-answer limit (Scan low high most) b = listed (scanAnswer (b .count) (b .table) low high most)
-answer limit (Panel panel) b = silent
+answer limit c b = answerOf limit (taskOf c) b

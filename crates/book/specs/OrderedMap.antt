@@ -4,28 +4,34 @@ use mathlib.Core.Bool.{Bool}
 use mathlib.Core.List.{List, [], _∷_}
 use Prim.Native.Nat.{ℕ}
 use Rattle.laws.specs.Tests.{choose}
-use Rattle.pairs.specs.Pairs.{Pair, lookup, insert, delete, range}
+use Rattle.pairs.specs.Pairs.{Pair, lookup, insert, delete, range, ceiling}
 use Rattle.account.specs.declared.Tariff.{Tariff}
 use Rattle.command.specs.declared.Command.{Command}
-use Rattle.command.specs.declared.Command.the-variants.{Get, Put, Delete, Scan, Panel}
+use Rattle.command.specs.declared.Command.the-variants.{Get, Put, Delete, Scan, Panel, Ceiling}
 use Rattle.book.specs.Book.{Book}
-use Rattle.book.specs.Command.{Reply, listed, silent, getReply, putReply, deleteReply, refuses}
+use Rattle.book.specs.Command.{Reply, listed, silent, getReply, putReply, deleteReply, ceilingReply, refuses}
+use Rattle.book.specs.Command.{Task, looks, puts, deletes, names, taskOf}
 use Rattle.book.specs.Session.{Session, sessionAfter}
 use Rattle.book.specs.Batch.{doneBook}
 
+-- What each command is answered.
 unfoldable pub mapAnswer : Bool → Command → List Pair → Reply
 mapAnswer refused (Get k) ps = getReply (lookup k ps)
 mapAnswer refused (Put k v) ps = putReply refused (lookup k ps)
 mapAnswer refused (Delete k) ps = deleteReply (lookup k ps)
 mapAnswer refused (Scan low high most) ps = listed (range low high most ps)
 mapAnswer refused (Panel panel) ps = silent
+mapAnswer refused (Ceiling k) ps = ceilingReply (ceiling k ps)
+
+-- The map after a command: only a put that is not refused and a delete change it.
+abbrev pub changed : Bool → Task → List Pair → List Pair
+changed refused (looks l) ps = ps
+changed refused (puts k v) ps = choose refused ps (insert k v ps)
+changed refused (deletes k) ps = delete k ps
+changed refused (names panel) ps = ps
 
 unfoldable pub mapAfter : Bool → Command → List Pair → List Pair
-mapAfter refused (Get k) ps = ps
-mapAfter refused (Put k v) ps = choose refused ps (insert k v ps)
-mapAfter refused (Delete k) ps = delete k ps
-mapAfter refused (Scan low high most) ps = ps
-mapAfter refused (Panel panel) ps = ps
+mapAfter refused c ps = changed refused (taskOf c) ps
 
 -- A batch.
 module _ (limit : ℕ) (t : Tariff) where

@@ -6,17 +6,29 @@ use lib.ListN.{length, getD}
 use Rattle.laws.specs.Update.{length-below, below-at, below-is, sum, sumBelow, sum-below}
 use Rattle.layout.specs.Layout.{panels}
 use Rattle.command.specs.declared.Command.{Command}
-use Rattle.command.specs.declared.Command.the-variants.{Get, Put, Delete, Scan, Panel}
-use Rattle.book.specs.Session.{panelAfter}
+use Rattle.command.specs.declared.Command.the-variants.{Get, Put, Delete, Scan, Panel, Ceiling}
+use Rattle.book.specs.Command.{Task, looks, puts, deletes, names, taskOf}
+use Rattle.book.specs.Session.{speaksAfter, panelAfter}
 use Rattle.book.specs.InTurn.{eachPanel}
+
+-- Only a panel names one.
+pub names-panel : (c : Command) (panel : ℕ) → taskOf c ≡ names panel → c ≡ Panel panel
+names-panel (Get k) panel e = cc
+names-panel (Put k v) panel e = cc
+names-panel (Delete k) panel e = cc
+names-panel (Scan low high most) panel e = cc
+names-panel (Panel other) panel e = cc
+names-panel (Ceiling k) panel e = cc
 
 -- Who speaks after a command spoke before it, or was named by it.
 pub speaks-below : (c : Command) (now n : ℕ) → ((panel : ℕ) → c ≡ Panel panel → panel < n) → now < n → panelAfter c now < n
-speaks-below (Get k) now n named l = l
-speaks-below (Put k v) now n named l = l
-speaks-below (Delete k) now n named l = l
-speaks-below (Scan low high most) now n named l = l
-speaks-below (Panel panel) now n named l = named panel refl
+speaks-below c now n named l = go (taskOf c) (λ panel e. named panel (names-panel c panel e))
+  where
+    go : (t : Task) → ((panel : ℕ) → t ≡ names panel → panel < n) → speaksAfter t now < n
+    go (looks look) h = l
+    go (puts k v) h = l
+    go (deletes k) h = l
+    go (names panel) h = h panel refl
 
 module _ (f : ℕ → ℕ) where
   pub length-each : length (eachPanel f) ≡ panels

@@ -2,8 +2,7 @@
 -- batch carries it. Assumes nothing.
 use Prim.Native.Nat.{ℕ}
 use Rattle.command.specs.declared.Command.{Command}
-use Rattle.command.specs.declared.Command.the-variants.{Get, Put, Delete, Scan, Panel}
-use Rattle.book.specs.Command.{Reply}
+use Rattle.book.specs.Command.{Reply, Task, looks, puts, deletes, names, taskOf}
 
 pub record Session : Type 0 where
   pub panel : ℕ
@@ -13,12 +12,14 @@ abbrev pub atFirst : Session
 atFirst = record { panel = 0 }
 
 -- "Command 05 .. names the panel (0 to 15) for the commands after it."
+abbrev pub speaksAfter : Task → ℕ → ℕ
+speaksAfter (looks l) now = now
+speaksAfter (puts k v) now = now
+speaksAfter (deletes k) now = now
+speaksAfter (names panel) now = panel
+
 abbrev pub panelAfter : Command → ℕ → ℕ
-panelAfter (Get k) now = now
-panelAfter (Put k v) now = now
-panelAfter (Delete k) now = now
-panelAfter (Scan low high most) now = now
-panelAfter (Panel panel) now = panel
+panelAfter c now = speaksAfter (taskOf c) now
 
 -- After a command and its reply.
 abbrev pub sessionAfter : Command → Reply → Session → Session

@@ -1,4 +1,4 @@
--- Answers (document 01, "Commands and answers"): the number and the values of each case. Assumes nothing.
+-- Answers (document 01, "Commands and answers"; document 02, P3): the number and the values of each case. Assumes nothing.
 use mathlib.Core.List.{List, [], _∷_, _++_}
 use mathlib.Core.Option.{Option, none, some}
 use Prim.Native.Nat.{ℕ, _+_}
@@ -40,6 +40,10 @@ scanTag = 0x84
 
 unfoldable pub scanBytes : List Pair → List ℕ
 scanBytes ps = field scanTag (pairsBytes ps)
+
+-- 87, length 8: "route and word" of the next route up.
+unfoldable pub ceilingBytes : Pair → List ℕ
+ceilingBytes p = field 0x87 (pairBytes p)
 
 -- The answer with the value that there was, or that there was none.
 abbrev pub valueOr : (ℕ → Answer) → Option ℕ → Answer

@@ -12,7 +12,7 @@ use Rattle.wire.specs.Field.{field, head}
 use Rattle.wire.specs.FieldLaws.{length-field}
 use Rattle.command.specs.declared.Answer.{Answer}
 use Rattle.command.specs.declared.Answer.the-variants.{Absent, Got, Replaced, Deleted, Refused}
-use Rattle.command.specs.Answer.{answerBytes, pairBytes, pairsBytes, scanTag, scanBytes}
+use Rattle.command.specs.Answer.{answerBytes, pairBytes, pairsBytes, scanTag, scanBytes, ceilingBytes}
 
 pub length-pairBytes : (p : Pair) → length (pairBytes p) ≡ 8
 length-pairBytes p =
@@ -28,7 +28,7 @@ pairsBytes-append [] qs = refl
 pairsBytes-append (p ∷ ps) qs =
     ap (λ (l : List ℕ). pairBytes p ++ l) (pairsBytes-append ps qs) ∙ sym (append-assoc (pairBytes p) (pairsBytes ps) (pairsBytes qs))
 
--- An answer of fixed length takes 7 bytes at most, as question 4 asks for.
+-- An answer of this kind takes 7 bytes at most, as question 4 asks for.
 pub length-answerBytes : (a : Answer) → length (answerBytes a) ≤ 7
 unfolding answerBytes
 length-answerBytes Absent = omega (arith, length-field 0x80 [])
@@ -41,6 +41,11 @@ length-answerBytes (Refused n) = omega (arith, length-field 0x8F (n ∷ []))
 pub length-scanBytes : (ps : List Pair) → length (scanBytes ps) ≡ 3 + 8 * length ps
 unfolding scanBytes
 length-scanBytes ps = length-field scanTag (pairsBytes ps) ∙ omega (arith, length-pairsBytes ps)
+
+-- A ceiling's answer takes the 11 bytes that it asks for.
+pub length-ceilingBytes : (p : Pair) → length (ceilingBytes p) ≡ 11
+unfolding ceilingBytes
+length-ceilingBytes p = length-field 0x87 (pairBytes p) ∙ omega (arith, length-pairBytes p)
 
 pub length-value : (tag v : ℕ) → length (field tag (bigEndian 4 v)) ≡ 7
 length-value tag v = omega (arith, length-field tag (bigEndian 4 v), length-bigEndian 4 v)

@@ -2,16 +2,15 @@
 use mathlib.Core.Bool.{true, false}
 use mathlib.Core.List.{List, [], _∷_}
 use mathlib.Core.Option.{Option, none, some}
-use Prim.Native.Nat.{ℕ, zero, suc, _+_, _*_}
+use Prim.Native.Nat.{ℕ, zero, suc, _+_}
 use lib.Dec.{leb}
 use lib.ListN.{length}
 use Rattle.layout.specs.Layout.{mostBatchBytes}
 use Rattle.command.specs.declared.Command.{Command}
-use Rattle.command.specs.declared.Command.the-variants.{Get, Put, Delete, Scan, Panel}
 use Rattle.command.specs.declared.Step.the-variants.{Next, Invalid}
 use Rattle.command.specs.declared.Asked.{Asked}
 use Rattle.command.specs.declared.Asked.the-variants as asked
-use Rattle.command.specs.Command.{commandAt}
+use Rattle.command.specs.Command.{commandAt, roomFor}
 
 -- a command in front of those behind it, if these are valid
 abbrev pub before : Command → Option (List Command) → Option (List Command)
@@ -34,14 +33,7 @@ commandsFrom s at = run (suc (length s)) s at
 unfoldable pub commandsOf : List ℕ → Option (List Command)
 commandsOf s = elim (leb (length s) mostBatchBytes) [ true ↦ commandsFrom s 0 | false ↦ none ]
 
--- Question 4: 7 bytes for each command of tags 01 to 03, and 3 + 8 × most for each sweep; a panel "has no answer" (document 02, P2).
-abbrev pub roomFor : Command → ℕ
-roomFor (Get k) = 7
-roomFor (Put k v) = 7
-roomFor (Delete k) = 7
-roomFor (Scan low high most) = 3 + 8 * most
-roomFor (Panel panel) = 0
-
+-- Question 4: the room that all commands ask for.
 abbrev pub roomForAll : List Command → ℕ
 roomForAll [] = 0
 roomForAll (c ∷ cs) = roomFor c + roomForAll cs

@@ -11,14 +11,13 @@ use lib.Dec.{leb}
 use lib.ListN.{length}
 use Rattle.layout.specs.Layout.{mostBatchBytes}
 use Rattle.command.specs.declared.Command.{Command}
-use Rattle.command.specs.declared.Command.the-variants.{Get, Put, Delete, Scan, Panel}
 use Rattle.command.specs.declared.Step.{Step}
 use Rattle.command.specs.declared.Step.the-variants.{Next, Invalid}
 use Rattle.command.specs.declared.Asked.{Asked}
 use Rattle.command.specs.declared.Asked.the-variants as asked
-use Rattle.command.specs.Command.{commandAt, InRange, Onward}
+use Rattle.command.specs.Command.{commandAt, roomFor, Onward}
 use Rattle.command.specs.CommandLaws.{commandAt-onward}
-use Rattle.command.specs.Batch.{before, run, commandsFrom, commandsOf, roomFor, roomForAll, askedAs, askedOf}
+use Rattle.command.specs.Batch.{before, run, commandsFrom, commandsOf, roomForAll, askedAs, askedOf}
 
 -- what a step leaves to run
 abbrev runOn : ℕ → List ℕ → Step → Option (List Command)
@@ -118,11 +117,3 @@ module _ (s : List ℕ) where
   pub asked-end : (at n : ℕ) → length s ≤ at → askedWith n (commandsFrom s at) ≡ askedOf s → asked.Bytes n ≡ askedOf s
   asked-end at n h i =
       ap asked.Bytes (sym (add-zero n)) ∙ sym (ap (askedWith n) (commandsFrom-end s at h)) ∙ i
-
--- A command asks for 3 + 8 × 32 bytes at most.
-pub roomFor-le : (c : Command) → InRange c → roomFor c ≤ 259
-roomFor-le (Get k) w = omega arith
-roomFor-le (Put k v) w = omega arith
-roomFor-le (Delete k) w = omega arith
-roomFor-le (Scan low high most) w = omega (arith, w .1)
-roomFor-le (Panel panel) w = omega arith

@@ -10,7 +10,7 @@ use lib.Dec.{eqb, leb, ltb}
 use lib.ListN.{length, getD}
 use Rattle.laws.specs.Tests.{choose, and-left, and-right, test-clash}
 use Rattle.laws.specs.Lay.{part, length-part}
-use Rattle.laws.specs.BigEndian.{numberAt}
+use Rattle.laws.specs.BigEndian.{Bytes, numberAt, numberAt-lt}
 use Rattle.wire.specs.Tag.{lengthOf, allowed, find, rows}
 use Rattle.wire.specs.Field.{fieldAt, lengthAt, isPayload, standsAt}
 use Rattle.wire.specs.FieldLaws.{Stands, stands-is}
@@ -19,10 +19,10 @@ use Rattle.wire.specs.declared.tag.Length.the-variants.{Exact}
 use Rattle.wire.specs.declared.field.Field.{Field}
 use Rattle.wire.specs.declared.field.Field.the-variants.{Payload, Missing, Foreign, Overlong}
 use Rattle.command.specs.declared.Command.{Command}
-use Rattle.command.specs.declared.Command.the-variants.{Get, Put, Delete, Scan, Panel}
+use Rattle.command.specs.declared.Command.the-variants.{Get, Put, Delete, Scan, Panel, Ceiling}
 use Rattle.command.specs.declared.Step.the-variants.{Next, Invalid}
-use Rattle.layout.specs.Layout.{mostPairs, panels}
-use Rattle.command.specs.Command.{inRange, commandOf, stepAs, fieldStep, commandAt, Onward}
+use Rattle.layout.specs.Layout.{mostPairs, panels, bound32}
+use Rattle.command.specs.Command.{inRange, commandOf, stepAs, fieldStep, commandAt, InRange, Valid, roomFor, Onward}
 
 -- The payload lengths of the commands' tags, as the table has them.
 payload-exact : (tag k n : ℕ) → lengthOf tag ≡ Exact k → allowed (lengthOf tag) n ≡ true → n ≡ k
@@ -52,6 +52,10 @@ module _ (tag n : ℕ) (m : allowed (lengthOf tag) n ≡ true) where
   unfolding lengthOf find rows
   payload-panel e = at-tag 5 1 e refl
 
+  pub payload-ceiling : tag ≡ 7 → n ≡ 4
+  unfolding lengthOf find rows
+  payload-ceiling e = at-tag 7 4 e refl
+
 -- The command of a tag and a payload, case by case.
 module _ (tag : ℕ) (p : List ℕ) where
   pub commandOf-get : tag ≡ 1 → commandOf tag p ≡ some (Get (numberAt 4 p 0))
@@ -66,10 +70,23 @@ module _ (tag : ℕ) (p : List ℕ) where
   unfolding commandOf
   commandOf-delete e = simp (ne-eqb tag 1 (omega arith), ne-eqb tag 2 (omega arith), eq-eqb tag 3 e)
 
-  pub commandOf-other :
-      (tag ≡ 1 → ⊥) → (tag ≡ 2 → ⊥) → (tag ≡ 3 → ⊥) → (tag ≡ 4 → ⊥) → (tag ≡ 5 → ⊥) → commandOf tag p ≡ none
+  pub commandOf-ceiling : tag ≡ 7 → commandOf tag p ≡ some (Ceiling (numberAt 4 p 0))
   unfolding commandOf
-  commandOf-other a b c d e = simp (ne-eqb tag 1 a, ne-eqb tag 2 b, ne-eqb tag 3 c, ne-eqb tag 4 d, ne-eqb tag 5 e)
+  commandOf-ceiling e =
+      simp (
+        ne-eqb tag 1 (omega arith),
+        ne-eqb tag 2 (omega arith),
+        ne-eqb tag 3 (omega arith),
+        ne-eqb tag 4 (omega arith),
+        ne-eqb tag 5 (omega arith),
+        eq-eqb tag 7 e,
+      )
+
+  pub commandOf-other :
+      (tag ≡ 1 → ⊥) → (tag ≡ 2 → ⊥) → (tag ≡ 3 → ⊥) → (tag ≡ 4 → ⊥) → (tag ≡ 5 → ⊥) → (tag ≡ 7 → ⊥) → commandOf tag p ≡ none
+  unfolding commandOf
+  commandOf-other a b c d e f =
+      simp (ne-eqb tag 1 a, ne-eqb tag 2 b, ne-eqb tag 3 c, ne-eqb tag 4 d, ne-eqb tag 5 e, ne-eqb tag 7 f)
 
 module _ (p : List ℕ) where
   pub commandOf-scan :
@@ -145,10 +162,11 @@ pub commandOf-each :
     (tag ≡ 2 → P (some (Put (numberAt 4 p 0) (numberAt 4 p 4)))) →
     (tag ≡ 3 → P (some (Delete (numberAt 4 p 0)))) →
     (tag ≡ 4 → (1 ≤ numberAt 2 p 8) × (numberAt 2 p 8 ≤ mostPairs) → P (some (Scan (numberAt 4 p 0) (numberAt 4 p 4) (numberAt 2 p 8)))) →
-    (tag ≡ 5 → getD p 0 0 < panels → P (some (Panel (getD p 0 0)))) → P (commandOf tag p)
+    (tag ≡ 5 → getD p 0 0 < panels → P (some (Panel (getD p 0 0)))) →
+    (tag ≡ 7 → P (some (Ceiling (numberAt 4 p 0)))) → P (commandOf tag p)
 unfolding commandOf inRange
-commandOf-each P tag p nothing get put delete scan panel =
-    go (eqb tag 1) refl (eqb tag 2) refl (eqb tag 3) refl (eqb tag 4 && asked) refl (eqb tag 5 && named) refl
+commandOf-each P tag p nothing get put delete scan panel ceiling =
+    go (eqb tag 1) refl (eqb tag 2) refl (eqb tag 3) refl (eqb tag 4 && asked) refl (eqb tag 5 && named) refl (eqb tag 7) refl
   where
     most : ℕ
     most = numberAt 2 p 8
@@ -160,32 +178,50 @@ commandOf-each P tag p nothing get put delete scan panel =
     named = ltb (getD p 0 0) panels
 
     go : (a : Bool) → eqb tag 1 ≡ a → (b : Bool) → eqb tag 2 ≡ b → (c : Bool) → eqb tag 3 ≡ c → (d : Bool) → (eqb tag 4 && asked) ≡ d →
-        (e : Bool) → (eqb tag 5 && named) ≡ e →
+        (e : Bool) → (eqb tag 5 && named) ≡ e → (f : Bool) → eqb tag 7 ≡ f →
         P
         (choose a (some (Get (numberAt 4 p 0)))
         (choose b (some (Put (numberAt 4 p 0) (numberAt 4 p 4)))
         (choose c (some (Delete (numberAt 4 p 0)))
         (choose d (some (Scan (numberAt 4 p 0) (numberAt 4 p 4) (numberAt 2 p 8)))
-        (choose e (some (Panel (getD p 0 0))) none)))))
-    go true h b i c j d k e l = get (eqb-true tag 1 h)
-    go false h true i c j d k e l = put (eqb-true tag 2 i)
-    go false h false i true j d k e l = delete (eqb-true tag 3 j)
-    go false h false i false j true k e l =
+        (choose e (some (Panel (getD p 0 0)))
+        (choose f (some (Ceiling (numberAt 4 p 0))) none))))))
+    go true h b i c j d k e l f m = get (eqb-true tag 1 h)
+    go false h true i c j d k e l f m = put (eqb-true tag 2 i)
+    go false h false i true j d k e l f m = delete (eqb-true tag 3 j)
+    go false h false i false j true k e l f m =
         let r = and-right (eqb tag 4) asked k in
         scan (eqb-true tag 4 (and-left (eqb tag 4) asked k)) (
           leb-true 1 most (and-left (leb 1 most) (leb most mostPairs) r),
           leb-true most mostPairs (and-right (leb 1 most) (leb most mostPairs) r),
         )
-    go false h false i false j false k true l =
+    go false h false i false j false k true l f m =
         panel (eqb-true tag 5 (and-left (eqb tag 5) named l)) (ltb-true (getD p 0 0) panels (and-right (eqb tag 5) named l))
-    go false h false i false j false k false l = nothing
+    go false h false i false j false k false l true m = ceiling (eqb-true tag 7 m)
+    go false h false i false j false k false l false m = nothing
+
+-- A payload of bytes, of a length that its tag may have, says a valid command or none.
+abbrev pub ValidOr : Option Command → Type 0
+ValidOr none = Unit {0}
+ValidOr (some c) = Valid c
+
+pub commandOf-valid : (tag n : ℕ) (p : List ℕ) → Bytes p → length p ≡ n → allowed (lengthOf tag) n ≡ true → ValidOr (commandOf tag p)
+commandOf-valid tag n p bytes size may =
+    commandOf-each ValidOr tag p tt (λ e. let l = payload-get tag n may e in small 0 (omega arith))
+    (λ e. let l = payload-put tag n may e in (small 0 (omega arith), small 4 (omega arith)))
+    (λ e. let l = payload-delete tag n may e in small 0 (omega arith))
+    (λ e r. let l = payload-scan tag n may e in (small 0 (omega arith), small 4 (omega arith), r .0, r .1)) (λ e r. r)
+    (λ e. let l = payload-ceiling tag n may e in small 0 (omega arith))
+  where
+    small : (i : ℕ) → i + 4 ≤ n → numberAt 4 p i < bound32
+    small i l = numberAt-lt 4 p i bytes (omega arith)
 
 -- The command at a place ends further on, within the bytes.
 onward-commandOf :
     (s : List ℕ) (at end tag : ℕ) (p : List ℕ) → at < end → end ≤ length s → Onward s at (stepAs end (commandOf tag p))
 onward-commandOf s at end tag p h k =
     commandOf-each (λ (o : Option Command). Onward s at (stepAs end o)) tag p tt (λ e. (h, k, tt)) (λ e. (h, k, tt)) (λ e. (h, k, tt)) (λ e r. (h, k, r))
-    (λ e r. (h, k, r))
+    (λ e r. (h, k, r)) (λ e. (h, k, tt))
 
 pub commandAt-onward : (s : List ℕ) (at : ℕ) → Onward s at (commandAt s at)
 unfolding commandAt
@@ -208,3 +244,12 @@ module _ (s : List ℕ) (at : ℕ) where
   pub commandAt-is : (f : Field) → f ≡ fieldAt s at (getD s at 0) → fieldStep s (getD s at 0) f ≡ commandAt s at
   unfolding commandAt
   commandAt-is f e = ap (fieldStep s (getD s at 0)) e
+
+-- A command asks for 3 + 8 × 32 bytes at most.
+pub roomFor-le : (c : Command) → InRange c → roomFor c ≤ 259
+roomFor-le (Get k) w = omega arith
+roomFor-le (Put k v) w = omega arith
+roomFor-le (Delete k) w = omega arith
+roomFor-le (Scan low high most) w = omega (arith, w .1)
+roomFor-le (Panel panel) w = omega arith
+roomFor-le (Ceiling k) w = omega arith

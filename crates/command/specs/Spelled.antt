@@ -10,69 +10,41 @@ use lib.ListN.{length, length-append}
 use Rattle.laws.specs.Every.{Every, none as every-none, both}
 use Rattle.laws.specs.Lay.{part, length-part, part-append, part-front, part-whole}
 use Rattle.laws.specs.BigEndian.{bigEndian, number, numberAt, number-bigEndian, length-bigEndian}
-use Rattle.layout.specs.Layout.{mostBatchBytes, bound32, mostPairs, panels}
+use Rattle.layout.specs.Layout.{mostBatchBytes}
 use Rattle.wire.specs.Tag.{lengthOf, allowed, find, rows}
 use Rattle.wire.specs.Field.{field, fieldAt, payloadOf, payloadAt, isPayload, standsAt}
 use Rattle.wire.specs.FieldLaws.{stands-is, standsAt-field, payloadAt-field, length-field}
 use Rattle.wire.specs.declared.field.Field.{Field}
 use Rattle.wire.specs.declared.field.Field.the-variants.{Payload, Missing, Foreign, Overlong}
 use Rattle.command.specs.declared.Command.{Command}
-use Rattle.command.specs.declared.Command.the-variants.{Get, Put, Delete, Scan, Panel}
+use Rattle.command.specs.declared.Command.the-variants.{Get, Put, Delete, Scan, Panel, Ceiling}
 use Rattle.command.specs.declared.Step.the-variants.{Next}
-use Rattle.command.specs.Command.{commandBytes, commandOf, stepAs, fieldStep, commandAt}
+use Rattle.command.specs.Command.{commandTag, commandValues, commandBytes, commandOf, stepAs, fieldStep, commandAt, Valid}
 use Rattle.command.specs.CommandLaws.{field-bounds, commandOf-get, commandOf-put, commandOf-delete, commandOf-scan, commandOf-panel}
+use Rattle.command.specs.CommandLaws.{commandOf-ceiling}
 use Rattle.command.specs.Batch.{before, commandsFrom, commandsOf}
 use Rattle.command.specs.BatchLaws.{commandsFrom-end, commandsFrom-next, commandsOf-short}
-
--- Keys, values and bounds are 32-bit numbers, a sweep's most is from 1 to 32, a panel from 0 to 15.
-abbrev pub Valid : Command → Type 0
-Valid (Get k) = k < bound32
-Valid (Put k v) = (k < bound32) × (v < bound32)
-Valid (Delete k) = k < bound32
-Valid (Scan low high most) = (low < bound32) × (high < bound32) × (1 ≤ most) × (most ≤ mostPairs)
-Valid (Panel panel) = panel < panels
 
 abbrev pub batchBytes : List Command → List ℕ
 batchBytes [] = []
 batchBytes (c ∷ cs) = commandBytes c ++ batchBytes cs
 
--- its tag and its payload
-abbrev tagOf : Command → ℕ
-tagOf (Get k) = 0x01
-tagOf (Put k v) = 0x02
-tagOf (Delete k) = 0x03
-tagOf (Scan low high most) = 0x04
-tagOf (Panel panel) = 0x05
-
-abbrev valuesOf : Command → List ℕ
-valuesOf (Get k) = bigEndian 4 k
-valuesOf (Put k v) = bigEndian 4 k ++ bigEndian 4 v
-valuesOf (Delete k) = bigEndian 4 k
-valuesOf (Scan low high most) = bigEndian 4 low ++ (bigEndian 4 high ++ bigEndian 2 most)
-valuesOf (Panel panel) = panel ∷ []
-
-bytes-field : (c : Command) → commandBytes c ≡ field (tagOf c) (valuesOf c)
-unfolding commandBytes
-bytes-field (Get k) = refl
-bytes-field (Put k v) = refl
-bytes-field (Delete k) = refl
-bytes-field (Scan low high most) = refl
-bytes-field (Panel panel) = refl
-
-values-may : (c : Command) → allowed (lengthOf (tagOf c)) (length (valuesOf c)) ≡ true
+values-may : (c : Command) → allowed (lengthOf (commandTag c)) (length (commandValues c)) ≡ true
 unfolding lengthOf find rows
 values-may (Get k) = refl
 values-may (Put k v) = refl
 values-may (Delete k) = refl
 values-may (Scan low high most) = refl
 values-may (Panel panel) = refl
+values-may (Ceiling k) = refl
 
-values-short : (c : Command) → length (valuesOf c) < 256 ^ 2
+values-short : (c : Command) → length (commandValues c) < 256 ^ 2
 values-short (Get k) = omega arith
 values-short (Put k v) = omega arith
 values-short (Delete k) = omega arith
 values-short (Scan low high most) = omega arith
 values-short (Panel panel) = omega arith
+values-short (Ceiling k) = omega arith
 
 -- numbers read back from a payload
 number-front : (w v : ℕ) (rest : List ℕ) → v < 256 ^ w → numberAt w (bigEndian w v ++ rest) 0 ≡ v
@@ -88,7 +60,7 @@ unfolding numberAt
 number-behind w k front rest e =
     ap (λ (i : ℕ). number (part (front ++ rest) i w)) (sym e ∙ sym (add-zero (length front))) ∙ ap number (part-append front rest 0 w)
 
-values-command : (c : Command) → Valid c → commandOf (tagOf c) (valuesOf c) ≡ some c
+values-command : (c : Command) → Valid c → commandOf (commandTag c) (commandValues c) ≡ some c
 values-command (Get k) h = commandOf-get 1 (bigEndian 4 k) refl ∙ ap (λ (x : ℕ). some (Get x)) (number-whole 4 k h)
 values-command (Put k v) h =
     commandOf-put 2 (bigEndian 4 k ++ bigEndian 4 v) refl ∙
@@ -109,6 +81,7 @@ values-command (Scan low high most) h =
     ap₂ (λ (x y : ℕ). some (Scan x y (numberAt 2 p 8))) (number-front 4 low (bigEndian 4 high ++ bigEndian 2 most) (h .0)) second ∙
     ap (λ (z : ℕ). some (Scan low high z)) third
 values-command (Panel panel) h = commandOf-panel (panel ∷ []) h
+values-command (Ceiling k) h = commandOf-ceiling 7 (bigEndian 4 k) refl ∙ ap (λ (x : ℕ). some (Ceiling x)) (number-whole 4 k h)
 
 -- the command where a field stands
 command-stands :
@@ -133,20 +106,21 @@ command-stands s at tag t =
 command-laid :
     (front rest : List ℕ) (c : Command) → Valid c →
     commandAt (front ++ (commandBytes c ++ rest)) (length front) ≡ Next c (length front + length (commandBytes c))
+unfolding commandBytes
 command-laid front rest c h =
-    let values = valuesOf c in
-    let tag = tagOf c in
+    let values = commandValues c in
+    let tag = commandTag c in
     let s = front ++ (field tag values ++ rest) in
     let stood = standsAt-field front tag values rest (values-short c) (values-may c) in
     let paid = payloadAt-field front tag values rest (values-short c) (values-may c) in
-    ap (λ (l : List ℕ). commandAt (front ++ (l ++ rest)) (length front)) (bytes-field c) ∙
     command-stands s (length front) tag stood ∙
     ap (λ (p : List ℕ). stepAs (length front + 3 + length p) (commandOf tag p)) paid ∙
     ap (stepAs (length front + 3 + length values)) (values-command c h) ∙
-    ap (Next c) (omega (arith, length-field tag values, ap length (bytes-field c)))
+    ap (Next c) (omega (arith, length-field tag values))
 
 read-on :
     (front : List ℕ) (cs : List Command) → Every Valid cs → commandsFrom (front ++ batchBytes cs) (length front) ≡ some cs
+unfolding commandBytes
 read-on front [] every-none =
     commandsFrom-end (front ++ []) (length front) (omega (arith, ap length (append-nil front)))
 read-on front (c ∷ cs) (both h hs) =
@@ -157,8 +131,7 @@ read-on front (c ∷ cs) (both h hs) =
       arith,
       length-append front (commandBytes c ++ batchBytes cs),
       length-append (commandBytes c) (batchBytes cs),
-      ap length (bytes-field c),
-      length-field (tagOf c) (valuesOf c),
+      length-field (commandTag c) (commandValues c),
     ) in
     let rest = read-on (front ++ commandBytes c) cs hs in
     commandsFrom-next s (length front) inside c next (command-laid front (batchBytes cs) c h) ∙

@@ -14,11 +14,11 @@ use Rattle.command.specs.declared.Command.{Command}
 use Rattle.command.specs.declared.Command.the-variants.{Get, Put, Delete, Panel}
 use Rattle.command.specs.declared.Answer.the-variants.{Absent, Got, Replaced, Deleted, Refused}
 use Rattle.command.specs.declared.Asked.the-variants.{Bytes, Invalid}
-use Rattle.command.specs.Command.{inRange, commandBytes, commandOf, commandAt}
+use Rattle.command.specs.Command.{inRange, commandBytes, commandOf, commandAt, Valid}
 use Rattle.command.specs.Batch.{run, commandsFrom, commandsOf, askedOf}
 use Rattle.command.specs.BatchLaws.{commandsOf-long}
-use Rattle.command.specs.Spelled.{Valid, batchBytes, commandsOf-batchBytes}
-use Rattle.command.specs.Answer.{answerBytes, scanBytes}
+use Rattle.command.specs.Spelled.{batchBytes, commandsOf-batchBytes}
+use Rattle.command.specs.Answer.{answerBytes, scanBytes, ceilingBytes}
 
 -- hang 7 with 100, look up 7, strip 7, look up 7
 pub workedBatch : List ℕ
@@ -68,6 +68,25 @@ pub worked-panels :
     Bytes 0 ∷ Bytes 0 ∷ Invalid ∷ Invalid ∷ Invalid ∷ Invalid ∷ Bytes 7 ∷ []
 unfolding askedOf commandsOf commandsFrom run commandAt commandOf inRange fieldAt lengthOf find rows isNodeBytes numberAt part
 worked-panels = refl
+
+-- Document 02, P3: a ceiling; its length off by one, both ways; its payload cut short; the tags beside it; one behind a look up.
+pub worked-ceilings :
+    map askedOf
+    ((0x07 ∷ 0 ∷ 4 ∷ 0 ∷ 0 ∷ 0 ∷ 7 ∷ []) ∷
+    (0x07 ∷ 0 ∷ 5 ∷ 0 ∷ 0 ∷ 0 ∷ 0 ∷ 0 ∷ []) ∷
+    (0x07 ∷ 0 ∷ 3 ∷ 0 ∷ 0 ∷ 0 ∷ []) ∷
+    (0x07 ∷ 0 ∷ 4 ∷ 0 ∷ 0 ∷ 0 ∷ []) ∷
+    (0x06 ∷ 0 ∷ 4 ∷ 0 ∷ 0 ∷ 0 ∷ 0 ∷ []) ∷
+    (0x08 ∷ 0 ∷ 0 ∷ []) ∷
+    (0x01 ∷ 0 ∷ 4 ∷ 0 ∷ 0 ∷ 0 ∷ 7 ∷ 0x07 ∷ 0 ∷ 4 ∷ 255 ∷ 255 ∷ 255 ∷ 255 ∷ []) ∷
+    []) ≡
+    Bytes 11 ∷ Invalid ∷ Invalid ∷ Invalid ∷ Invalid ∷ Invalid ∷ Bytes 18 ∷ []
+unfolding askedOf commandsOf commandsFrom run commandAt commandOf inRange fieldAt lengthOf find rows isNodeBytes numberAt part
+worked-ceilings = refl
+
+pub worked-ceiling-answer : ceilingBytes (7, 100) ≡ 0x87 ∷ 0 ∷ 8 ∷ 0 ∷ 0 ∷ 0 ∷ 7 ∷ 0 ∷ 0 ∷ 0 ∷ 100 ∷ []
+unfolding ceilingBytes field
+worked-ceiling-answer = refl
 
 -- The answers of the worked output, a refusal with 9, and the sweep 9 to 3.
 pub worked-answers :

@@ -5,7 +5,7 @@ ghost use lib.ListN.{length};
 ghost use Rattle.laws.specs.Lay.{lay};
 ghost use Rattle.wire.specs.Field.{field, head};
 ghost use Rattle.laws.specs.BigEndian.{bigEndian};
-ghost use Rattle.command.specs.Answer.{answerBytes, pairBytes, scanTag};
+ghost use Rattle.command.specs.Answer.{answerBytes, pairBytes, scanTag, ceilingBytes};
 ghost use Rattle.layout.specs.Layout.{mostPairs};
 use crate::Answer;
 use wire::bytes::lay_bytes;
@@ -43,7 +43,7 @@ fn lay_refused(buffer: &mut [u8], at: usize, number: u8) -> usize
     at + 4
 }
 
-// Lays an answer of fixed length, and says where the next goes.
+// Lays an answer of 7 bytes or fewer, and says where the next goes.
 pub fn lay_answer(buffer: &mut [u8], at: usize, answer: Answer) -> usize
     requires { ⌜ at + 7 ≤ length (now buffer) ⌝ }
     ensures { λ r. ⌜ (now (buffer .exit) ≡ lay (now (buffer .entry)) at (answerBytes answer))
@@ -58,7 +58,7 @@ pub fn lay_answer(buffer: &mut [u8], at: usize, answer: Answer) -> usize
     }
 }
 
-// Lays one pair of a scan's answer, behind those before it.
+// Lays one pair of an answer, behind those before it.
 pub fn lay_pair(buffer: &mut [u8], at: usize, key: u32, value: u32)
     requires { ⌜ at + 8 ≤ length (now buffer) ⌝ }
     ensures { λ _. ⌜ now (buffer .exit) ≡ lay (now (buffer .entry)) at (pairBytes (key, value)) ⌝ }
@@ -74,4 +74,14 @@ pub fn lay_scan_head(buffer: &mut [u8], at: usize, pairs: usize)
 {
     let bytes = (8 * pairs) as u32;
     lay_head(buffer, at, 132, bytes);
+}
+
+// Lays the answer of a ceiling, the pair that it found, and says where the next answer goes.
+pub fn lay_ceiling(buffer: &mut [u8], at: usize, key: u32, value: u32) -> usize
+    requires { ⌜ at + 11 ≤ length (now buffer) ⌝ }
+    ensures { λ r. ⌜ (now (buffer .exit) ≡ lay (now (buffer .entry)) at (ceilingBytes (key, value))) × (r ≡ at + 11) ⌝ }
+{
+    lay_head(buffer, at, 135, 8);
+    lay_pair(buffer, at + 3, key, value);
+    at + 11
 }

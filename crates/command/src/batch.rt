@@ -3,8 +3,8 @@ ghost use mathlib.Core.Path.{_≡_};
 ghost use mathlib.Core.Bool.{true};
 ghost use lib.ListN.{length};
 ghost use Rattle.wire.specs.Tag.{lengthOf, allowed};
-ghost use Rattle.command.specs.Command.{commandOf, stepAs, commandAt};
-ghost use Rattle.command.specs.Batch.{roomFor, askedOf};
+ghost use Rattle.command.specs.Command.{commandOf, stepAs, commandAt, roomFor};
+ghost use Rattle.command.specs.Batch.{askedOf};
 use crate::Asked;
 use crate::Command;
 use crate::Step;
@@ -74,6 +74,11 @@ fn command_of(tag: u8, p: &[u8], next: usize) -> Step
     if tag == 5 {
         return panel_of(p, next);
     }
+    if tag == 7 {
+        let key = read32(p, 0);
+        let command = Command::Ceiling { key };
+        return Step::Next { command, next };
+    }
     Step::Invalid
 }
 
@@ -108,6 +113,7 @@ pub fn room_for(command: Command) -> usize
             most,
         } => 3 + 8 * (most as usize),
         Command::Panel { panel: _ } => 0,
+        Command::Ceiling { key: _ } => 11,
     }
 }
 

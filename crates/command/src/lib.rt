@@ -2,13 +2,14 @@
 pub mod answers;
 pub mod batch;
 
-// What a caller may ask: document 01's look up, hang, strip and sweep; and which panel speaks from here on (document 02, P2).
+// What a caller may ask: document 01's look up, hang, strip and sweep; of document 02, which panel speaks from here on (P2), and the next route up (P3).
 pub enum Command {
     Get { key: u32 },
     Put { key: u32, value: u32 },
     Delete { key: u32 },
     Scan { low: u32, high: u32, most: u32 },
     Panel { panel: usize },
+    Ceiling { key: u32 },
 }
 
 // What stands at a place of a batch: a command, with the place behind it, or no valid command.
@@ -23,7 +24,7 @@ pub enum Asked {
     Invalid,
 }
 
-// An answer of fixed length: no such key; the value read; the value replaced; the value removed; refused, with the number.
+// An answer of 7 bytes or fewer: no such key; the value read; the value replaced; the value removed; refused, with the number.
 pub enum Answer {
     Absent,
     Got(u32),

@@ -92,9 +92,12 @@ scoresLess = otherScores - firstScores
 abbrev pub lastSequence : ℕ
 lastSequence = 4000000000
 
--- FFFFFFFF, the link of the last leaf; and the bound that every 32-bit number stays below.
+-- FFFFFFFF, the link of the last leaf; the greatest key; and the bound that every 32-bit number stays below.
 abbrev pub noLeaf : ℕ
 noLeaf = 4294967295
+
+abbrev pub lastKey : ℕ
+lastKey = 4294967295
 
 abbrev pub bound32 : ℕ
 bound32 = 4294967296

@@ -27,7 +27,7 @@ pub const TABLE_BYTES: usize = 1024;
 
 pub const DUE_BYTES: usize = 16;
 
-// The tree: nodes of up to 24 keys; the first 12 keys stay in a split.
+// The tree: nodes of up to 24 keys; the first 12 keys stay in a split; the link of the last leaf, and the greatest key.
 pub const MOST_KEYS: usize = 24;
 
 pub const KEPT_KEYS: usize = 12;
@@ -35,6 +35,8 @@ pub const KEPT_KEYS: usize = 12;
 pub const MOST_NODES: usize = 10 * (MOST_BLOCKS - 2);
 
 pub const NO_LEAF: u32 = 4294967295;
+
+pub const LAST_KEY: u32 = 4294967295;
 
 // The log: entries of 15 bytes, 27 on a page and in the buffer.
 pub const ENTRY_BYTES: usize = 15;

@@ -48,6 +48,7 @@ unfoldable ofBytes : Unit {0}
 unfolding lawsUpdate.update lawsBigEndian.numberAt lawsLay.lay lawsLay.part wireField.field wireField.fieldAt wireField.payloadAt wireField.standsAt
     wireTag.rows wireTag.find wireTag.lengthOf wireTag.isNodeBytes commandCommand.inRange commandCommand.commandOf commandCommand.commandAt
     commandBatch.run commandBatch.commandsFrom commandBatch.commandsOf commandAnswer.answerBytes commandAnswer.scanBytes
+    commandAnswer.ceilingBytes
 ofBytes = tt
 
 -- Pages, written and read.
@@ -66,7 +67,7 @@ unfolding accountServe.serveOf accountRange.withinRange accountRange.costsInRang
     pairsPairs.delete pairsPairs.range pairsPairs.hasAbove nodeReplay.redo nodeReplay.redoPiece nodeReplay.replayFrom nodeReplay.replay
     nodeHalves.lowerHalf nodeHalves.upperHalf nodeHalves.middleKey nodeAscends.ascends nodeSearch.place treeTable.slot treeTable.path
     treeTable.leafFor treeGet.getAnswer treePut.renamed treePut.settle treePut.work treePut.finish treePut.fullRun treePut.idsNeeded
-    treePut.putRefused treePut.putRequests treeDelete.deleteRequests treeScan.stopsIn treeScan.pairsFrom treeScan.leavesAfter treeScan.scanRequests
+    treePut.putRefused treePut.putRequests treeDelete.deleteRequests treeScan.stopsIn treeScan.pairsFrom treeScan.leavesAfter treeScan.scanReads
     treeScan.scanAnswer treeSound.inOrder treeSound.visitLeaf treeSound.visitChildren treeSound.visitBranch treeSound.visit treeSound.leftmost
     treeSound.allMarked treeSound.complete treeSound.walkFrom treeSound.sound
 ofTree = tt

@@ -1,4 +1,4 @@
--- The laws of an ordered map. By them a reader knows lookup, insert, delete and range without reading their text: whatever else obeys
+-- The laws of an ordered map. By them a reader knows lookup, insert, delete, range and ceiling without reading their text: whatever else obeys
 -- them does the same to ascending pairs. Assumes nothing.
 use mathlib.Core.Path.{_≡_, refl, sym, ap, _∙_}
 use mathlib.Core.Bool.{Bool, true, false, _&&_}
@@ -13,7 +13,7 @@ use lib.ListN.{take}
 use Rattle.laws.specs.Counts.{consIf, filter}
 use Rattle.laws.specs.Options.{some-same, none-some}
 use Rattle.laws.specs.Order.{eq-or, le-or, Tri, less, same, more, tri}
-use Rattle.pairs.specs.Pairs.{Pair, lookup, insert, delete, range, Within}
+use Rattle.pairs.specs.Pairs.{Pair, lookup, insert, delete, range, ceiling, Within}
 use Rattle.pairs.specs.Clauses.{
   lookup-same,
   lookup-other,
@@ -27,14 +27,15 @@ use Rattle.pairs.specs.Clauses.{
   range-take,
 }
 use Rattle.pairs.specs.Bounds.{lookup-below, within-insert, within-delete}
+use Rattle.pairs.specs.Ceiling.{CeilingIs, ceiling-is, nearest-one}
 
 -- A key from low to high, both included.
 abbrev pub inside : ℕ → ℕ → Pair → Bool
 inside low high p = leb low (p .0) && leb (p .0) high
 
--- THE LAWS, of any four functions on pairs.
+-- THE LAWS, of any five functions on pairs.
 pub record OrderedMap (lookup : ℕ → List Pair → Option ℕ) (insert : ℕ → ℕ → List Pair → List Pair) (delete : ℕ → List Pair → List Pair)
-    (range : ℕ → ℕ → ℕ → List Pair → List Pair) : Type 0 where
+    (range : ℕ → ℕ → ℕ → List Pair → List Pair) (ceiling : ℕ → List Pair → Option Pair) : Type 0 where
   -- "No such route": the map without a pair has no key.
   pub empty : (k : ℕ) → lookup k [] ≡ none
   -- "Pairs ascending": a key below all others comes first.
@@ -50,6 +51,8 @@ pub record OrderedMap (lookup : ℕ → List Pair → Option ℕ) (insert : ℕ 
   -- "Sweep: route and word pairs, ascending, from low to high inclusive, the first `most` of them."
   pub ranged : (low high most bottom top : ℕ) (ps : List Pair) → Within bottom top ps →
       range low high most ps ≡ take most (filter (inside low high) ps)
+  -- "That route or the nearest above", and none "if none is at or above".
+  pub nearest : (k low high : ℕ) (ps : List Pair) → Within low high ps → CeilingIs lookup k ps (ceiling k ps)
   -- "Keys ascending and in bounds", after a hang within the bounds and after a strip.
   pub insertKeeps : (k v low high : ℕ) (ps : List Pair) → low ≤ k → k < high → Within low high ps → Within low high (insert k v ps)
   pub deleteKeeps : (k low high : ℕ) (ps : List Pair) → Within low high ps → Within low high (delete k ps)
@@ -143,7 +146,7 @@ range-filter low high (suc most) bottom top (p ∷ ps) w =
         by true (rw (le-leb low (p .0) a, le-leb (p .0) high b)) (range-take low high most p ps a b ∙ ap {B = List Pair} (p ∷_) s)
 
 -- THE MAP OBEYS THEM.
-pub ordered-map : OrderedMap lookup insert delete range
+pub ordered-map : OrderedMap lookup insert delete range ceiling
 unfolding lookup
 ordered-map =
     record {
@@ -154,6 +157,7 @@ ordered-map =
       deleted = lookup-delete;
       deletedOther = lookup-delete-other;
       ranged = range-filter;
+      nearest = ceiling-is;
       insertKeeps = within-insert;
       deleteKeeps = within-delete;
     }
@@ -186,9 +190,10 @@ same-pairs low high (p ∷ ps) (q ∷ qs) v w e = go (tri (p .0) (q .0)) (same-p
         ap {B = List Pair} (λ (x : ℕ). (q .0, x) ∷ ps) value ∙
         ap {B = List Pair} (λ (xs : List Pair). q ∷ xs) rest
 
--- THE LAWS ARE ENOUGH: four functions that obey them are the map's, on ascending pairs.
+-- THE LAWS ARE ENOUGH: five functions that obey them are the map's, on ascending pairs.
 module _ (lookup′ : ℕ → List Pair → Option ℕ) (insert′ : ℕ → ℕ → List Pair → List Pair) (delete′ : ℕ → List Pair → List Pair)
-    (range′ : ℕ → ℕ → ℕ → List Pair → List Pair) (laws : OrderedMap lookup′ insert′ delete′ range′) where
+    (range′ : ℕ → ℕ → ℕ → List Pair → List Pair) (ceiling′ : ℕ → List Pair → Option Pair)
+    (laws : OrderedMap lookup′ insert′ delete′ range′ ceiling′) where
   pub only-lookup : (k low high : ℕ) (ps : List Pair) → Within low high ps → lookup′ k ps ≡ lookup k ps
   unfolding Within lookup
   only-lookup k low high [] w = laws .empty k
@@ -227,3 +232,17 @@ module _ (lookup′ : ℕ → List Pair → Option ℕ) (insert′ : ℕ → ℕ
 
   pub only-range : (low high most bottom top : ℕ) (ps : List Pair) → Within bottom top ps → range′ low high most ps ≡ range low high most ps
   only-range low high most bottom top ps w = laws .ranged low high most bottom top ps w ∙ sym (range-filter low high most bottom top ps w)
+
+  pub only-ceiling : (k low high : ℕ) (ps : List Pair) → Within low high ps → ceiling′ k ps ≡ ceiling k ps
+  only-ceiling k low high ps w =
+      nearest-one lookup′ k ps (ceiling′ k ps) (ceiling k ps) (laws .nearest k low high ps w)
+      (looked (ceiling k ps) (ceiling-is k low high ps w))
+    where
+      looked : (o : Option Pair) → CeilingIs lookup k ps o → CeilingIs lookup′ k ps o
+      looked none h = λ j m. only-lookup j low high ps w ∙ h j m
+      looked (some p) h =
+          record {
+            above = h .above;
+            there = only-lookup (p .0) low high ps w ∙ h .there;
+            between = λ j m n. only-lookup j low high ps w ∙ h .between j m n;
+          }

@@ -4,7 +4,7 @@ use mathlib.Core.Bool.{Bool, true, false, _||_}
 use mathlib.Core.List.{List, [], _∷_}
 use mathlib.Core.Option.{Option, none, some}
 use Prim.Native.Nat.{ℕ, zero, suc, _≤_, _<_}
-use lib.Dec.{eqb, ltb}
+use lib.Dec.{eqb, leb, ltb}
 
 abbrev pub Pair : Type 0
 Pair = ℕ × ℕ
@@ -37,6 +37,16 @@ range low high (suc most) (p ∷ ps) =
       | true ↦ range low high (suc most) ps
       | false ↦ elim (ltb high (p .0)) [ true ↦ [] | false ↦ p ∷ range low high most ps ]
     ]
+
+-- the first pair with a key at or above this one, if there is any (document 02, command 07: "that route or the nearest above")
+unfoldable pub ceiling : ℕ → List Pair → Option Pair
+ceiling k [] = none
+ceiling k (p ∷ ps) = elim (leb k (p .0)) [ true ↦ some p | false ↦ ceiling k ps ]
+
+-- the first of some pairs, if there is any
+abbrev pub first : List Pair → Option Pair
+first [] = none
+first (p ∷ ps) = some p
 
 -- whether a key is above the high one
 unfoldable pub hasAbove : ℕ → List Pair → Bool

@@ -39,13 +39,16 @@ leavesAfter (suc fuel) table low high most id =
       | false ↦ linkOf (table id) ∷ leavesAfter fuel table low high (most - length got) (linkOf (table id))
     ]
 
--- Low above high: an empty list and no node read.
-unfoldable pub scanRequests : ℕ → Table → ℕ → ℕ → ℕ → List NodeRequest
-scanRequests count table low high most =
+-- The nodes that it reads, in order. Low above high: an empty list and no node read.
+unfoldable pub scanReads : ℕ → Table → ℕ → ℕ → ℕ → List ℕ
+scanReads count table low high most =
     elim (ltb high low) [
       | true ↦ []
-      | false ↦ map read (path count table low 0 ++ leavesAfter count table low high most (leafFor count table low 0))
+      | false ↦ path count table low 0 ++ leavesAfter count table low high most (leafFor count table low 0)
     ]
+
+abbrev pub scanRequests : ℕ → Table → ℕ → ℕ → ℕ → List NodeRequest
+scanRequests count table low high most = map read (scanReads count table low high most)
 
 -- The pairs found, ascending.
 unfoldable pub scanAnswer : ℕ → Table → ℕ → ℕ → ℕ → List Pair

@@ -18,7 +18,7 @@ use Rattle.tree.specs.NodeRequest.{NodeRequest, read, edit, rewrite, cre
 use Rattle.tree.specs.Get.{getAnswer}
 use Rattle.tree.specs.Put.{renamed, settle, work, finish, fullRun, idsNeeded, putRefused, putRequests}
 use Rattle.tree.specs.Delete.{deleteRequests}
-use Rattle.tree.specs.Scan.{stopsIn, pairsFrom, leavesAfter, scanRequests, scanAnswer}
+use Rattle.tree.specs.Scan.{stopsIn, pairsFrom, leavesAfter, scanReads, scanRequests, scanAnswer}
 use Rattle.tree.specs.Spells.{joinPointers, pairsOfNode, pairsBelow, mapOf}
 use Rattle.tree.specs.Sound.{inOrder, visitLeaf, visitChildren, visitBranch, visit, leftmost, allMarked, complete, walkFrom, sound}
 
@@ -169,7 +169,7 @@ record Cases : Type 0 where
 
 cases : Cases
 unfolding between limit putOn scanOn putRequests putRefused getAnswer lookup leafFor path fullRun idsNeeded work settle finish insert slot update
-    lowerHalf upperHalf middleKey renamed deleteRequests range hasAbove stopsIn pairsFrom leavesAfter scanRequests scanAnswer ascends inOrder
+    lowerHalf upperHalf middleKey renamed deleteRequests range hasAbove stopsIn pairsFrom leavesAfter scanReads scanAnswer ascends inOrder
     visitLeaf visitChildren visitBranch visit leftmost allMarked complete walkFrom sound
 cases =
     record {

@@ -1,5 +1,4 @@
--- A scan is the range of the map that the table spells, its requests are reads of nodes that are there, and they are at most as
--- many as nodes: a leaf that does not stop the scan hands on to the leaf that its link names. Assumes nothing.
+-- A scan is the range of the map that the table spells, and it reads nodes that are there, at most as many as there are nodes: a leaf that does not stop the scan hands on to the leaf that its link names. Assumes nothing.
 use mathlib.Core.Path.{_≡_, refl, sym, ap, _∙_}
 use mathlib.Core.Bool.{Bool, true, false, _||_}
 use mathlib.Core.List.{List, [], _++_, append-nil}
@@ -7,7 +6,7 @@ use Prim.Native.Nat.{ℕ, zero, suc, _-_, _≤_, _<_}
 use native.Mathlib.Omega.{arith}
 use borrow.Author.Tests.{ltb-true, ltb-false, leb-true, eqb-true, eqb-false}
 use lib.Dec.{eqb, ltb, leb}
-use lib.ListN.{length, length-append, length-map}
+use lib.ListN.{length, length-append}
 use Rattle.laws.specs.Every.{Every, none, both, every-append}
 use Rattle.laws.specs.Tests.{or-left, or-right}
 use Rattle.layout.specs.Layout.{noLeaf, bound32}
@@ -15,14 +14,12 @@ use Rattle.pairs.specs.Pairs.{Pair, range, hasAbove}
 use Rattle.pairs.specs.Ranges.{range-none, range-append-below, range-append-stop, range-append-full, range-append-on}
 use Rattle.node.specs.Node.{Node, pairsOf, linkOf}
 use Rattle.tree.specs.Table.{Table, path, leafFor}
-use Rattle.tree.specs.NodeRequest.{read}
-use Rattle.tree.specs.Scan.{stopsIn, taken, pairsFrom, leavesAfter, scanRequests, scanAnswer}
+use Rattle.tree.specs.Scan.{stopsIn, taken, pairsFrom, leavesAfter, scanReads, scanAnswer}
 use Rattle.tree.specs.Tree.{rootOf, pairsIn}
 use Rattle.tree.specs.Spells.{Spells}
 use Rattle.tree_laws.specs.Ids.{used-below}
 use Rattle.tree_laws.specs.Size.{depth-leaves, size-count, depth-count}
 use Rattle.tree_laws.specs.LeafChain.{Chain, Onward, onward}
-use Rattle.tree_laws.specs.Served.{Served, served-reads}
 use Rattle.tree_laws.specs.GetLaws.{path-found}
 
 -- Why a scan stops in a leaf.
@@ -156,34 +153,36 @@ module _ (table : Table) (count : ℕ) (pairs : List Pair) (s : Spells table cou
       leavesAfter-used table count low high small count (scan-onward .chained .length) most start (scan-onward .left)
       (omega (arith, scan-onward .used)) (scan-onward .chained .chain)
 
-  pub scan-served : (limit : ℕ) → count ≤ limit → Served limit table count (scanRequests count table low high most) pairs
-  unfolding scanRequests
-  scan-served limit l = go (ltb high low) refl
+  -- nodes that are there are read, and no more than there are
+  pub scan-found : Every (λ i. i < count) (scanReads count table low high most)
+  unfolding scanReads
+  scan-found = go (ltb high low)
     where
-      go : (b : Bool) → ltb high low ≡ b → Served limit table count (scanRequests count table low high most) pairs
-      go true e = rw (e, scanRequests) (served-reads limit table count pairs [] l s none)
-      go false e =
-          rw (e, scanRequests)
-          (served-reads limit table count pairs _ l s
-          (every-append (path-found table count pairs s low lowSmall .0) (rw start-is at (scan-leaves .0))))
+      go : (b : Bool) →
+          Every (λ i. i < count) (elim b [ true ↦ [] | false ↦ path count table low 0 ++ leavesAfter count table low high most (leafFor count table low 0) ])
+      go true = none
+      go false = every-append (path-found table count pairs s low lowSmall .0) (rw start-is at (scan-leaves .0))
 
-  -- no more requests than nodes
-  pub scan-length : length (scanRequests count table low high most) ≤ count
-  unfolding scanRequests
-  scan-length = go (ltb high low) refl
+  pub scan-few : length (scanReads count table low high most) ≤ count
+  unfolding scanReads
+  scan-few = go (ltb high low)
     where
-      go : (b : Bool) → ltb high low ≡ b → length (scanRequests count table low high most) ≤ count
-      go true e = rw (e, scanRequests) (omega arith)
-      go false e =
-          let p = path count table low 0 in
-          let q = leavesAfter count table low high most (leafFor count table low 0) in
+      p : List ℕ
+      p = path count table low 0
+
+      q : List ℕ
+      q = leavesAfter count table low high most (leafFor count table low 0)
+
+      go : (b : Bool) → length {A = ℕ} (elim b [ true ↦ [] | false ↦ p ++ q ]) ≤ count
+      go true = omega arith
+      go false =
           let after : suc (length q) ≤ scan-onward .chained .length = rw start-is at (scan-leaves .1) in
-          rw (e, scanRequests, length-map (p ++ q) read, length-append p q)
-          (omega (
+          omega (
             arith,
+            length-append p q,
             path-found table count pairs s low lowSmall .1,
             after,
             scan-onward .chained .bounded,
             depth-leaves (s .depth) (s .tree),
             size-count table count pairs s,
-          ))
+          )

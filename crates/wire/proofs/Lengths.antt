@@ -52,6 +52,7 @@ lengthOf-high tag h = simp (
   ne-eqb tag 0x03 (omega arith),
   ne-eqb tag 0x04 (omega arith),
   ne-eqb tag 0x05 (omega arith),
+  ne-eqb tag 0x07 (omega arith),
   ne-eqb tag 0x10 (omega arith),
   ne-eqb tag 0x11 (omega arith),
   ne-eqb tag 0x12 (omega arith),

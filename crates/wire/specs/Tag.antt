@@ -1,5 +1,5 @@
 -- The tags of commands and page fields and the payload length of each (document 01, "Commands and answers" and "Pages";
--- document 02, P2). Assumes nothing.
+-- document 02, P2 and P3). Assumes nothing.
 use mathlib.Core.Bool.{Bool, false, _&&_}
 use mathlib.Core.List.{List, [], _∷_}
 use Prim.Native.Nat.{ℕ, _+_, _*_, _%_}
@@ -17,7 +17,7 @@ pub record Row : Type 0 where
 abbrev row : ℕ → Length → Row
 row t l = record { tag = t; bytes = l }
 
--- Commands: look up, hang, strip, sweep; panel. Page fields: stamp, disk page, log entry, tariff, score, node count, sums.
+-- Commands: look up, hang, strip, sweep; panel; next route up. Page fields: stamp, disk page, log entry, tariff, score, node count, sums.
 unfoldable pub rows : List Row
 rows =
     row 0x01 (Exact 4) ∷
@@ -25,6 +25,7 @@ rows =
     row 0x03 (Exact 4) ∷
     row 0x04 (Exact 10) ∷
     row 0x05 (Exact 1) ∷
+    row 0x07 (Exact 4) ∷
     row 0x10 (Exact 4) ∷
     row 0x11 Node ∷
     row 0x12 (Exact 15) ∷

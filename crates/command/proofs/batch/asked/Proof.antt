@@ -7,9 +7,9 @@ use borrow.Author.Needs.{needs}
 use lib.ListN.{length}
 use Rattle.command.specs.declared.Step.the-variants.{Next}
 use Rattle.command.specs.Command.{commandAt, Onward}
-use Rattle.command.specs.CommandLaws.{commandAt-onward}
+use Rattle.command.specs.CommandLaws.{commandAt-onward, roomFor-le}
 use Rattle.command.specs.Batch.{commandsFrom, askedOf}
-use Rattle.command.specs.BatchLaws.{askedWith, asked-long, asked-start, asked-turn, asked-invalid, asked-end, roomFor-le}
+use Rattle.command.specs.BatchLaws.{askedWith, asked-long, asked-start, asked-turn, asked-invalid, asked-end}
 use Rattle.command.proofs.batch.asked.Statement.{statement}
 use Rattle.command.proofs.batch.asked.Tie as tie
 

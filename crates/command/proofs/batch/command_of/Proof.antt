@@ -2,11 +2,11 @@
 use mathlib.Core.Path.{sym, ap, ap₂, _∙_}
 use Prim.Native.Nat.{ℕ, _-_}
 use native.Mathlib.Omega.{arith}
-use Rattle.command.specs.declared.Command.the-variants.{Get, Put, Delete}
+use Rattle.command.specs.declared.Command.the-variants.{Get, Put, Delete, Ceiling}
 use Rattle.command.specs.declared.Step.the-variants.{Next}
 use Rattle.command.specs.Command.{commandOf, stepAs}
 use Rattle.command.specs.CommandLaws.{payload-get, payload-put, payload-delete, payload-scan, payload-panel, commandOf-get, commandOf-put}
-use Rattle.command.specs.CommandLaws.{commandOf-delete, commandOf-other}
+use Rattle.command.specs.CommandLaws.{payload-ceiling, commandOf-delete, commandOf-ceiling, commandOf-other}
 use Rattle.command.proofs.batch.command_of.Statement.{statement}
 use Rattle.command.proofs.batch.command_of.Tie as tie
 
@@ -56,16 +56,29 @@ returns-5 c =
     let a = c .before .before .before .before .before .before .before .args in
     c .panel-of .ensures ∙ ap (λ (t : ℕ). stepAs (a .next) (commandOf t (a .p .now))) (sym (c .before .if5 .taken))
 
+read32-requires-5 : tie.Need-read32-requires-5
+read32-requires-5 c κs =
+    let c3 = c .before .before .before in
+    omega (arith, payload-ceiling _ _ (c3 .before .before .before .before .pre) (c .if6 .taken))
+
 returns-6 : tie.Need-returns-6
 returns-6 c =
+    let c3 = c .before .before .before in
+    let a = c3 .before .before .before .before .before .args in
+    ap (λ (k : ℕ). Next (Ceiling k) (a .next)) (c .read325 .ensures .is) ∙
+    sym (ap (stepAs (a .next)) (commandOf-ceiling (a .tag) (a .p .now) (c .before .if6 .taken)))
+
+returns-7 : tie.Need-returns-7
+returns-7 c =
     let c1 = c .before in
     let c2 = c1 .before in
     let c3 = c2 .before in
     let c4 = c3 .before in
-    let a = c4 .before .before .args in
+    let c5 = c4 .before in
+    let a = c5 .before .before .args in
     sym
     (ap (stepAs (a .next))
-    (commandOf-other (a .tag) (a .p .now) (c4 .if1 .left) (c3 .if2 .left) (c2 .if3 .left) (c1 .if4 .left) (c .if5 .left)))
+    (commandOf-other (a .tag) (a .p .now) (c5 .if1 .left) (c4 .if2 .left) (c3 .if3 .left) (c2 .if4 .left) (c1 .if5 .left) (c .if6 .left)))
 
 pub command-of-spec : {M : Type 1} → statement M
 command-of-spec =
@@ -82,4 +95,6 @@ command-of-spec =
     returns-4
     panel-of-requires
     returns-5
-    returns-6)
+    read32-requires-5
+    returns-6
+    returns-7)

@@ -2,7 +2,7 @@
 use mathlib.Core.Path.{sym, ap}
 use Prim.Native.Nat.{_-_}
 use borrow.Author.Needs.{needs}
-use Rattle.command.specs.Batch.{roomFor}
+use Rattle.command.specs.Command.{roomFor}
 use Rattle.command.proofs.batch.room_for.Statement.{statement}
 use Rattle.command.proofs.batch.room_for.Tie as tie
 
@@ -17,6 +17,9 @@ enum-told-3 c = search needs
 
 enum-told-4 : tie.Need-enum-told-4
 enum-told-4 c = search needs
+
+enum-told-5 : tie.Need-enum-told-5
+enum-told-5 c = search needs
 
 enum-known-command : tie.Need-enum-known-command
 enum-known-command c = search needs
@@ -45,6 +48,9 @@ returns-4 c = sym (ap roomFor (c .before .command .given .1))
 returns-5 : tie.Need-returns-5
 returns-5 c = search needs
 
+returns-6 : tie.Need-returns-6
+returns-6 c = search needs
+
 pub room-for-spec : {M : Type 1} → statement M
 room-for-spec =
     tie.close
@@ -57,8 +63,10 @@ room-for-spec =
     mul-result
     add-result
     enum-told-4
+    enum-told-5
     returns
     returns-2
     returns-3
     returns-4
-    returns-5)
+    returns-5
+    returns-6)

@@ -14,7 +14,7 @@ array-read-result c = search needs
 returns : tie.Need-returns
 unfolding right lengthOf find rows
 returns c = table-right (
-    (255 ∷ 4 ∷ 8 ∷ 4 ∷ 10 ∷ 1 ∷ []) ++ replicate 10 255 ++ (4 ∷ 254 ∷ 15 ∷ 32 ∷ 6 ∷ 2 ∷ []) ++ replicate 9 255 ++ (4 ∷ [])
+    (255 ∷ 4 ∷ 8 ∷ 4 ∷ 10 ∷ 1 ∷ 255 ∷ 4 ∷ []) ++ replicate 8 255 ++ (4 ∷ 254 ∷ 15 ∷ 32 ∷ 6 ∷ 2 ∷ []) ++ replicate 9 255 ++ (4 ∷ [])
     ) refl (c .args .tag) (search needs)
 
 pub entry-spec : {M : Type 1} → statement M
