@@ -25,13 +25,14 @@ use Rattle.book.specs.Bound.{Scored, scored-all}
 use Rattle.model.specs.State.{State, bookOf}
 use Rattle.model.specs.Batch.{replyOf, done, run, closed}
 use Rattle.demands.specs.Says.{Sound, bookOf-count, score-is}
-use Rattle.demands.specs.Commands.{Valid, ValidAll, does}
+use Rattle.command.specs.Command.{Valid}
+use Rattle.demands.specs.Commands.{ValidAll, does}
 use Rattle.demands.specs.Run.{Holds, runBook-requests, Batched, batch-batched}
 use Rattle.demands.specs.Mount.{Ready}
 use Rattle.store_laws.specs.StoreFits.{RunFits}
 use Rattle.demands.specs.NodesNarrow.{book-narrow}
 use Rattle.store_laws.specs.CloseFits.{close-fits}
-use Rattle.demands.specs.CommandFits.{ValueFits, ValuesFit, command-narrow}
+use Rattle.demands.specs.CommandFits.{command-narrow}
 use Rattle.demands.specs.RequestCount.{command-length}
 use Rattle.demands.specs.RequestFits.{Took, took-more, took-then, serveAll-took}
 
@@ -61,28 +62,28 @@ module _ (blocks : ℕ) (t : Tariff) (small : blocks ≤ mostBlocks) where
   abbrev nodes : ℕ
   nodes = nodeLimit blocks
 
-  command-took : (c : Command) (s : State) (ps : List Pair) → Valid c → ValueFits c → Sound blocks s → Holds nodes (bookOf s) ps →
+  command-took : (c : Command) (s : State) (ps : List Pair) → Valid c → Sound blocks s → Holds nodes (bookOf s) ps →
       RunFits (s .run) → 1 + (mostNumbers + last (s .run)) < bound32 → Took mostNumbers (s .run) (done nodes t c s .run)
-  command-took c s ps valid value v h fits b =
+  command-took c s ps valid v h fits b =
       let book = bookOf s in
       let rs = requests nodes c book in
       let d = does nodes (omega arith) book ps (h .spells) (h .most) c valid in
       let l = command-length nodes c book ps (h .spells) (omega (arith, h .most)) valid in
       took-more (omega (arith, l, h .most))
       (serveAll-took blocks t (omega arith) rs s (countAfterAll rs (book .count)) v fits (d .served .fits)
-      (command-narrow nodes book ps (h .spells) (omega (arith, h .most)) (book-narrow s (fits .now)) c valid value)
+      (command-narrow nodes book ps (h .spells) (omega (arith, h .most)) (book-narrow s (fits .now)) c valid)
       (omega (arith, l, h .most)))
 
   -- THE COMMANDS OF A BATCH
-  pub run-took : (cs : List Command) (n : Session) (s : State) (ps : List Pair) → ValidAll cs → ValuesFit cs → Sound blocks s → Holds nodes (bookOf s) ps →
+  pub run-took : (cs : List Command) (n : Session) (s : State) (ps : List Pair) → ValidAll cs → Sound blocks s → Holds nodes (bookOf s) ps →
       RunFits (s .run) → 1 + (mostNumbers * length cs + last (s .run)) < bound32 → Took (mostNumbers * length cs) (s .run) (run nodes t cs n s .run)
-  run-took [] n s ps valid values v h fits b = record { fits = fits; number = omega arith }
-  run-took (c ∷ cs) n s ps valid values v h fits b =
-      let one = command-took c s ps (valid .0) (values .0) v h fits (omega arith) in
+  run-took [] n s ps valid v h fits b = record { fits = fits; number = omega arith }
+  run-took (c ∷ cs) n s ps valid v h fits b =
+      let one = command-took c s ps (valid .0) v h fits (omega arith) in
       let said = batch-batched blocks t (omega arith) (c ∷ []) n s ps (valid .0, tt) v h in
       let pairs = mapRun nodes t (c ∷ []) n (bookOf s) ps in
       took-then (omega arith) one
-      (run-took cs (sessionAfter c (replyOf nodes t c s) n) (done nodes t c s) pairs (valid .1) (values .1) (said .says .sound)
+      (run-took cs (sessionAfter c (replyOf nodes t c s) n) (done nodes t c s) pairs (valid .1) (said .says .sound)
       (subst (λ (z : Book). Holds nodes z pairs) (sym (said .says .is)) (said .holds)) (one .fits) (omega (arith, one .number)))
 
 -- THE CHECKPOINT at its end, of a state that says a book whose scores are below the limit T.
@@ -117,7 +118,7 @@ after-batch {after = after} took =
     }
 
 module _ {blocks : ℕ} {t : Tariff} {s : State} {b : Book} {ps : List Pair} (small : blocks ≤ mostBlocks) (ready : Ready blocks t s b ps)
-    (fits : RunFits (s .run)) (opens : last (s .run) ≤ lastSequence) (cs : List Command) (valid : ValidAll cs) (values : ValuesFit cs)
+    (fits : RunFits (s .run)) (opens : last (s .run) ≤ lastSequence) (cs : List Command) (valid : ValidAll cs)
     (few : length cs ≤ mostCommands) where
   abbrev after : State
   after = run (nodeLimit blocks) t cs atFirst s
@@ -132,7 +133,7 @@ module _ {blocks : ℕ} {t : Tariff} {s : State} {b : Book} {ps : List Pair} (sm
   sound-after = batched .says .sound
 
   took : Took (mostNumbers * length cs) (s .run) (after .run)
-  took = run-took blocks t small cs atFirst s ps valid values (ready .says .sound) holds-now fits (omega arith)
+  took = run-took blocks t small cs atFirst s ps valid (ready .says .sound) holds-now fits (omega arith)
 
   -- before the checkpoint
   pub run-after : AfterBatch s after

@@ -10,46 +10,33 @@ use borrow.Author.Tests.{leb-true}
 use lib.Dec.{leb}
 use lib.ListN.{length, getD}
 use Rattle.laws.specs.Lay.{part, length-part}
-use Rattle.laws.specs.BigEndian.{Bytes, numberAt, numberAt-lt, bytes-part}
-use Rattle.layout.specs.Layout.{mostBatchBytes, bound32}
+use Rattle.laws.specs.BigEndian.{Bytes, bytes-part}
+use Rattle.layout.specs.Layout.{mostBatchBytes}
 use Rattle.wire.specs.Tag.{lengthOf, allowed}
 use Rattle.wire.specs.Field.{lengthAt, fieldAt}
 use Rattle.wire.specs.declared.field.Field.{Field}
 use Rattle.wire.specs.declared.field.Field.the-variants.{Payload, Missing, Foreign, Overlong}
 use Rattle.command.specs.declared.Command.{Command}
-use Rattle.command.specs.declared.Command.the-variants.{Get, Put, Delete, Scan, Panel}
 use Rattle.command.specs.declared.Step.{Step}
 use Rattle.command.specs.declared.Step.the-variants.{Next, Invalid}
-use Rattle.command.specs.Command.{commandOf, stepAs, fieldStep, commandAt, Onward}
-use Rattle.command.specs.CommandLaws.{commandOf-each, commandAt-onward, field-bounds, payload-get, payload-put, payload-delete, payload-scan}
+use Rattle.command.specs.Command.{commandOf, stepAs, fieldStep, commandAt, Onward, Valid}
+use Rattle.command.specs.CommandLaws.{ValidOr, commandOf-valid, commandAt-onward, field-bounds}
 use Rattle.command.specs.Batch.{before, run, commandsFrom, commandsOf}
-use Rattle.demands.specs.Commands.{Valid, ValidAll}
-use Rattle.demands.specs.CommandFits.{ValueFits, ValuesFit}
+use Rattle.demands.specs.Commands.{ValidAll}
 use Rattle.demands.specs.BatchFits.{fewestBytes, mostCommands}
 
 -- A command read at a place.
 abbrev Reads : ℕ → Step → Type 0
-Reads at (Next c next) = (at + fewestBytes ≤ next) × Valid c × ValueFits c
+Reads at (Next c next) = (at + fewestBytes ≤ next) × Valid c
 Reads at Invalid = Unit {0}
 
-module _ (at n tag : ℕ) (p : List ℕ) (bytes : Bytes p) (size : length p ≡ n) (may : allowed (lengthOf tag) n ≡ true) where
-  small : (i : ℕ) → i + 4 ≤ n → numberAt 4 p i < bound32
-  small i l = numberAt-lt 4 p i bytes (omega arith)
-
-  -- so long a payload leaves room for the head
-  reads : (c : Command) (k : ℕ) → Valid c → ValueFits c → Reads at (Next c (at + 3 + k))
-  reads c k valid value = (omega arith, valid, value)
-
-  commandOf-reads : Reads at (stepAs (at + 3 + n) (commandOf tag p))
-  commandOf-reads =
-      commandOf-each (λ (o : Option Command). Reads at (stepAs (at + 3 + n) o)) tag p tt
-      (λ e. let l = payload-get tag n may e in reads (Get (numberAt 4 p 0)) n (small 0 (omega arith)) tt)
-      (λ e. let l = payload-put tag n may e in reads (Put (numberAt 4 p 0) (numberAt 4 p 4)) n (small 0 (omega arith)) (small 4 (omega arith)))
-      (λ e. let l = payload-delete tag n may e in reads (Delete (numberAt 4 p 0)) n (small 0 (omega arith)) tt)
-      (λ e r.
-      let l = payload-scan tag n may e in
-      reads (Scan (numberAt 4 p 0) (numberAt 4 p 4) (numberAt 2 p 8)) n (small 0 (omega arith)) tt)
-      (λ e r. reads (Panel (getD p 0 0)) n r tt)
+commandOf-reads : (at n tag : ℕ) (p : List ℕ) → Bytes p → length p ≡ n → allowed (lengthOf tag) n ≡ true →
+    Reads at (stepAs (at + 3 + n) (commandOf tag p))
+commandOf-reads at n tag p bytes size may = go (commandOf tag p) (commandOf-valid tag n p bytes size may)
+  where
+    go : (o : Option Command) → ValidOr o → Reads at (stepAs (at + 3 + n) o)
+    go none v = tt
+    go (some c) v = (omega arith, v)
 
 commandAt-reads : (s : List ℕ) → Bytes s → (at : ℕ) → Reads at (commandAt s at)
 unfolding commandAt
@@ -68,7 +55,6 @@ commandAt-reads s bytes at = go (fieldAt s at (getD s at 0)) refl
 -- All commands from a place on.
 pub record Spelled (s : List ℕ) (at : ℕ) (cs : List Command) : Type 0 where
   pub valid : ValidAll cs
-  pub values : ValuesFit cs
   pub few : fewestBytes * length cs ≤ length s - at
 
 module _ (s : List ℕ) (bytes : Bytes s) where
@@ -78,10 +64,10 @@ module _ (s : List ℕ) (bytes : Bytes s) where
   run-spelled (suc fuel) at cs e = go (leb (length s) at) refl (commandAt s at) refl (commandAt-reads s bytes at) (commandAt-onward s at) (λ next ds. run-spelled fuel next ds)
     where
       stop : (cs : List Command) → some [] ≡ some cs → Spelled s at cs
-      stop [] f = record { valid = tt; values = tt; few = omega arith }
+      stop [] f = record { valid = tt; few = omega arith }
       stop (c ∷ cs) f = let z : _≡_ {A = ℕ} 0 1 = cc in absurd (omega arith)
 
-      next-one : (c : Command) (next : ℕ) (o : Option (List Command)) → (at + fewestBytes ≤ next) × Valid c × ValueFits c → next ≤ length s →
+      next-one : (c : Command) (next : ℕ) (o : Option (List Command)) → (at + fewestBytes ≤ next) × Valid c → next ≤ length s →
           ((ds : List Command) → o ≡ some ds → Spelled s next ds) → (cs : List Command) → before c o ≡ some cs → Spelled s at cs
       next-one c next none r w rest cs f = let z : _≡_ {A = ℕ} 0 1 = cc in absurd (omega arith)
       next-one c next (some ds) r w rest [] f = let z : _≡_ {A = ℕ} 0 1 = cc in absurd (omega arith)
@@ -91,7 +77,6 @@ module _ (s : List ℕ) (bytes : Bytes s) where
           let x = rest ds refl in
           record {
             valid = (subst Valid p (r .1), subst ValidAll q (x .valid));
-            values = (subst ValueFits p (r .2), subst ValuesFit q (x .values));
             few = omega (arith, x .few, ap length q, r .0);
           }
 
@@ -105,7 +90,6 @@ module _ (s : List ℕ) (bytes : Bytes s) where
   -- THE COMMANDS OF A BATCH: valid, of 32 bits, and at most 10,922.
   pub record Batch (cs : List Command) : Type 0 where
     pub valid : ValidAll cs
-    pub values : ValuesFit cs
     pub few : length cs ≤ mostCommands
 
   pub commandsOf-batch : (cs : List Command) → commandsOf s ≡ some cs → Batch cs
@@ -115,5 +99,5 @@ module _ (s : List ℕ) (bytes : Bytes s) where
       go : (b : Bool) → leb (length s) mostBatchBytes ≡ b → Batch cs
       go true f =
           let x = run-spelled (suc (length s)) 0 cs (rw (f, commandsOf) at e) in
-          record { valid = x .valid; values = x .values; few = omega (arith, x .few, leb-true (length s) mostBatchBytes f) }
+          record { valid = x .valid; few = omega (arith, x .few, leb-true (length s) mostBatchBytes f) }
       go false f = let h : none ≡ some cs = rw (f, commandsOf) at e in let z : _≡_ {A = ℕ} 0 1 = cc in absurd (omega arith)

@@ -235,7 +235,7 @@ module _ {t : Tariff} {pool : List ℕ} {b : Book} {ps : List Pair} (o : OpenPoo
     pool-after =
         subst (λ (z : Tariff). PoolAfter B s (closed z (run limit z cs atFirst s))) same-tariff
         (batch-pool (sized pool p .few) (sized pool p .most) pool (o .bytes) (sized pool p .bytes) (o .reads) mounted cs (commands .valid)
-        (commands .values) (commands .few))
+        (commands .few))
 
     abbrev left : List ℕ
     left = bytesOf (poolOf (closed t after .run .now))

@@ -14,19 +14,21 @@ use Rattle.laws.specs.Update.{only, sum, sumBelow, sumBelow-add, sum-only}
 use Rattle.layout.specs.Layout.{panels, nodeLimit, tableBytes}
 use Rattle.account.specs.declared.Tariff.{Tariff}
 use Rattle.command.specs.declared.Command.{Command}
-use Rattle.command.specs.declared.Command.the-variants.{Get, Put, Delete, Scan, Panel}
-use Rattle.command.specs.Batch.{commandsOf, roomFor, roomForAll}
+use Rattle.command.specs.declared.Command.the-variants.{Panel}
+use Rattle.command.specs.Command.{Valid, roomFor}
+use Rattle.command.specs.Batch.{commandsOf, roomForAll}
 use Rattle.store.specs.Reopen.{poolOf}
 use Rattle.book.specs.Command.{Reply, replyBytes, repliesBytes, requests, answer}
+use Rattle.book.specs.Command.{Task, looks, puts, deletes, names, taskOf}
 use Rattle.book.specs.Session.{Session, atFirst, sessionAfter}
 use Rattle.book.specs.InTurn.{eachPanel, total, chargeOn}
-use Rattle.book.specs.PanelLaws.{speaks-below, sum-each}
+use Rattle.book.specs.PanelLaws.{names-panel, speaks-below, sum-each}
 use Rattle.model.specs.State.{State}
 use Rattle.model.specs.Batch.{replyOf, done, cost, run, answers, closed}
 use Rattle.model.specs.Mount.{Mounted, refused, opened}
 use Rattle.model.specs.Bytes.{bytesOf}
 use Rattle.model.specs.Call.{Outcome, charge, refuse, blocksOf, poolLength, cleared, mountOf, accept, batchMounted, batchAsked, batchOf}
-use Rattle.demands.specs.Commands.{Valid, ValidAll}
+use Rattle.demands.specs.Commands.{ValidAll}
 
 -- THE SUM, of any kind of book.
 module _ {B : Type 0} (reply : Command → B → Reply) (after : Command → B → B) (amount : Command → B → ℕ) where
@@ -47,30 +49,46 @@ module _ {B : Type 0} (reply : Command → B → Reply) (after : Command → B �
   sum-charges cs n b valid l = sum-each (λ q. chargeOn reply after amount q cs n b) ∙ sum-total cs n b valid l
 
 -- A BATCH WITHOUT ITS PANELS
+abbrev pub unlessPanel : Task → Command → List Command → List Command
+unlessPanel (looks l) c cs = c ∷ cs
+unlessPanel (puts k v) c cs = c ∷ cs
+unlessPanel (deletes k) c cs = c ∷ cs
+unlessPanel (names panel) c cs = cs
+
 abbrev pub unnamed : List Command → List Command
 unnamed [] = []
-unnamed (Get k ∷ cs) = Get k ∷ unnamed cs
-unnamed (Put k v ∷ cs) = Put k v ∷ unnamed cs
-unnamed (Delete k ∷ cs) = Delete k ∷ unnamed cs
-unnamed (Scan low high most ∷ cs) = Scan low high most ∷ unnamed cs
-unnamed (Panel panel ∷ cs) = unnamed cs
+unnamed (c ∷ cs) = unlessPanel (taskOf c) c (unnamed cs)
+
+-- A command stays, or it is a panel and goes.
+data Stays (c : Command) : Type 0 where
+  stays : ((cs : List Command) → unnamed (c ∷ cs) ≡ c ∷ unnamed cs) → Stays c
+  goes : (panel : ℕ) → c ≡ Panel panel → Stays c
+
+stays-or : (c : Command) → Stays c
+stays-or c = go (taskOf c) refl
+  where
+    go : (t : Task) → taskOf c ≡ t → Stays c
+    go (looks l) e = stays (λ cs. ap (λ (t : Task). unlessPanel t c (unnamed cs)) e)
+    go (puts k v) e = stays (λ cs. ap (λ (t : Task). unlessPanel t c (unnamed cs)) e)
+    go (deletes k) e = stays (λ cs. ap (λ (t : Task). unlessPanel t c (unnamed cs)) e)
+    go (names panel) e = goes panel (names-panel c panel e)
 
 unnamed-valid : (cs : List Command) → ValidAll cs → ValidAll (unnamed cs)
 unnamed-valid [] h = tt
-unnamed-valid (Get k ∷ cs) h = (h .0, unnamed-valid cs (h .1))
-unnamed-valid (Put k v ∷ cs) h = (h .0, unnamed-valid cs (h .1))
-unnamed-valid (Delete k ∷ cs) h = (h .0, unnamed-valid cs (h .1))
-unnamed-valid (Scan low high most ∷ cs) h = (h .0, unnamed-valid cs (h .1))
-unnamed-valid (Panel panel ∷ cs) h = unnamed-valid cs (h .1)
+unnamed-valid (c ∷ cs) h = go (stays-or c) (unnamed-valid cs (h .1))
+  where
+    go : Stays c → ValidAll (unnamed cs) → ValidAll (unnamed (c ∷ cs))
+    go (stays e) r = rw (e cs) (h .0, r)
+    go (goes panel e) r = rw e r
 
 -- It asks for the same room.
 pub unnamed-room : (cs : List Command) → roomForAll cs ≡ roomForAll (unnamed cs)
 unnamed-room [] = refl
-unnamed-room (Get k ∷ cs) = ap (λ (n : ℕ). 7 + n) (unnamed-room cs)
-unnamed-room (Put k v ∷ cs) = ap (λ (n : ℕ). 7 + n) (unnamed-room cs)
-unnamed-room (Delete k ∷ cs) = ap (λ (n : ℕ). 7 + n) (unnamed-room cs)
-unnamed-room (Scan low high most ∷ cs) = ap (λ (n : ℕ). roomFor (Scan low high most) + n) (unnamed-room cs)
-unnamed-room (Panel panel ∷ cs) = omega (arith, unnamed-room cs)
+unnamed-room (c ∷ cs) = go (stays-or c) (unnamed-room cs)
+  where
+    go : Stays c → roomForAll cs ≡ roomForAll (unnamed cs) → roomForAll (c ∷ cs) ≡ roomForAll (unnamed (c ∷ cs))
+    go (stays e) r = rw (e cs) (ap (λ (n : ℕ). roomFor c + n) r)
+    go (goes panel e) r = rw e (omega (arith, r))
 
 module _ (limit : ℕ) (t : Tariff) where
   -- Two batches that leave the same, whoever speaks in each: the state, the bytes of the answers, what all commands cost.
@@ -97,11 +115,12 @@ module _ (limit : ℕ) (t : Tariff) where
 
   unnamed-same : (cs : List Command) (n m : Session) (s : State) → Same cs (unnamed cs) n m s
   unnamed-same [] n m s = record { state = refl; answers = refl; total = refl }
-  unnamed-same (Get k ∷ cs) n m s = in-both (Get k) s (unnamed-same cs n m (done limit t (Get k) s))
-  unnamed-same (Put k v ∷ cs) n m s = in-both (Put k v) s (unnamed-same cs n m (done limit t (Put k v) s))
-  unnamed-same (Delete k ∷ cs) n m s = in-both (Delete k) s (unnamed-same cs n m (done limit t (Delete k) s))
-  unnamed-same (Scan low high most ∷ cs) n m s = in-both (Scan low high most) s (unnamed-same cs n m (done limit t (Scan low high most) s))
-  unnamed-same (Panel panel ∷ cs) n m s = in-one panel n s (unnamed-same cs (record { panel = panel }) m s)
+  unnamed-same (c ∷ cs) n m s = go (stays-or c) (λ n m. unnamed-same cs n m (done limit t c s)) (λ n. unnamed-same cs n m s)
+    where
+      go : Stays c → ((n m : Session) → Same cs (unnamed cs) n m (done limit t c s)) → ((n : Session) → Same cs (unnamed cs) n m s) →
+          Same (c ∷ cs) (unnamed (c ∷ cs)) n m s
+      go (stays e) kept gone = rw (e cs) (in-both c s (kept _ _))
+      go (goes panel e) kept gone = rw e (in-one panel n s (gone (record { panel = panel })))
 
 -- Two ends of a call that differ in nothing but in whom they charge.
 pub record SameBut (o o′ : Outcome) : Type 0 where

@@ -24,7 +24,6 @@ use Rattle.demands.specs.Says.{Sound}
 use Rattle.demands.specs.Commands.{ValidAll}
 use Rattle.demands.specs.Mount.{Ready, opened-mounts, mounts-ready}
 use Rattle.store_laws.specs.StoreFits.{StoreFits}
-use Rattle.demands.specs.CommandFits.{ValuesFit}
 use Rattle.demands.specs.BatchFits.{mostCommands, AfterBatch, sound-after, closed-after}
 use Rattle.demands.specs.PoolBytes.{length-bytesOf, bytes-bytesOf}
 use Rattle.demands.specs.MountFits.{Enters, poolOf-fits, pool-back, bytes-enter}
@@ -50,7 +49,7 @@ closed-blocks t s small v = close-closed v small t (s .score) .keeps .good .inva
 -- A BATCH ON A POOL OF BYTES
 module _ {blocks : ℕ} (four : fewestBlocks ≤ blocks) (small : blocks ≤ mostBlocks) (bs : List ℕ) (bytes : Bytes bs)
     (size : length bs ≡ blockBytes * blocks) {c : Cells} (reads : cellsOf bs ≡ some c) {t : Tariff} {s : State} (opens : mountCells blocks c ≡ opened t s)
-    (cs : List Command) (valid : ValidAll cs) (values : ValuesFit cs) (few : length cs ≤ mostCommands) where
+    (cs : List Command) (valid : ValidAll cs) (few : length cs ≤ mostCommands) where
   enters : Enters s
   enters = bytes-enter bs bytes blocks size c reads t s opens
 
@@ -61,8 +60,8 @@ module _ {blocks : ℕ} (four : fewestBlocks ≤ blocks) (small : blocks ≤ mos
 
   pub batch-pool : PoolAfter blocks s (closed t (run (nodeLimit blocks) t cs atFirst s))
   batch-pool =
-      let after = closed-after small ready (enters .fits) (enters .left) cs valid values few in
-      let kept = closed-blocks t (run (nodeLimit blocks) t cs atFirst s) small (sound-after small ready (enters .fits) (enters .left) cs valid values few) in
+      let after = closed-after small ready (enters .fits) (enters .left) cs valid few in
+      let kept = closed-blocks t (run (nodeLimit blocks) t cs atFirst s) small (sound-after small ready (enters .fits) (enters .left) cs valid few) in
       record {
         batch = after;
         back = pool-back (after .fits .now);

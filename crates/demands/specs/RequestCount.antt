@@ -1,6 +1,7 @@
 -- How many node requests a command makes: at most 32 more than there are nodes. A command reads each node at most once, and what it writes
 -- goes along its way up: a branch has two children or more, so a tree has at least three times as many nodes as levels below the root, and a
 -- put's way down and up again is no longer than that and four. Assumes nothing.
+use mathlib.Core.Bool.{Bool}
 use mathlib.Core.List.{List}
 use mathlib.Core.Option.{Option, none, some}
 use Prim.Native.Nat.{ℕ, zero, suc, _+_, _*_, _≤_, _<_}
@@ -9,7 +10,7 @@ use lib.ListN.{length, length-append, length-map}
 use Rattle.layout.specs.Layout.{noLeaf, bound32}
 use Rattle.pairs.specs.Pairs.{Pair}
 use Rattle.command.specs.declared.Command.{Command}
-use Rattle.command.specs.declared.Command.the-variants.{Get, Put, Delete, Scan, Panel}
+use Rattle.command.specs.Command.{Valid}
 use Rattle.tree.specs.Table.{Table, path, leafFor}
 use Rattle.tree.specs.NodeRequest.{read}
 use Rattle.tree.specs.Get.{readsTo, getAnswer}
@@ -18,11 +19,11 @@ use Rattle.tree.specs.Spells.{Spells}
 use Rattle.tree_laws.specs.Size.{size-count}
 use Rattle.tree_laws.specs.GetLaws.{path-count}
 use Rattle.tree_laws.specs.PutLaws.{put-length}
-use Rattle.tree_laws.specs.ScanLaws.{scan-length}
 use Rattle.book.specs.Book.{Book}
-use Rattle.book.specs.Command.{mostRequests, requests}
+use Rattle.book.specs.Command.{mostRequests, Reply, Task, looks, puts, deletes, names, taskOf, requestsOf, requests}
+use Rattle.book.specs.OrderedMap.{mapAnswer}
 use Rattle.tree_laws.specs.Levels.{fewestNodes, stands-fewest}
-use Rattle.demands.specs.Commands.{Valid}
+use Rattle.demands.specs.Commands.{Right, right}
 
 -- The fewest nodes of a tree are three at least for each level below its root.
 fewestNodes-above : (d : ℕ) → suc d ≤ fewestNodes d
@@ -63,13 +64,15 @@ module _ (table : Table) (count : ℕ) (pairs : List Pair) (s : Spells table cou
       )
 
 -- ANY COMMAND
+module _ (limit : ℕ) (b : Book) (ps : List Pair) (s : Spells (b .table) (b .count) ps) where
+  task-length : (t : Task) (says : Bool → Reply) → Right b ps t says → length (requestsOf limit t b) ≤ mostRequests (b .count)
+  task-length (looks l) says r = omega (arith, length-map (l .reads b) read, r .few)
+  task-length (puts k v) says r =
+      omega (arith, put-length (b .table) (b .count) ps s k v limit (r .0), depth-three (b .table) (b .count) ps s)
+  task-length (deletes k) says r = omega (arith, delete-length (b .table) (b .count) ps s k (r .0))
+  task-length (names panel) says r = omega arith
+
 pub command-length : (limit : ℕ) (c : Command) (b : Book) (ps : List Pair) → Spells (b .table) (b .count) ps → b .count ≤ noLeaf → Valid c →
     length (requests limit c b) ≤ mostRequests (b .count)
 unfolding requests
-command-length limit (Get k) b ps s l valid = omega (arith, reads-length (b .table) (b .count) ps s k valid)
-command-length limit (Put k v) b ps s l valid =
-    omega (arith, put-length (b .table) (b .count) ps s k v limit valid, depth-three (b .table) (b .count) ps s)
-command-length limit (Delete k) b ps s l valid = omega (arith, delete-length (b .table) (b .count) ps s k valid)
-command-length limit (Scan low high most) b ps s l valid =
-    omega (arith, scan-length (b .table) (b .count) ps s low high most l valid)
-command-length limit (Panel panel) b ps s l valid = omega arith
+command-length limit c b ps s l valid = task-length limit b ps s (taskOf c) (λ refused. mapAnswer refused c ps) (right b ps s l c valid)

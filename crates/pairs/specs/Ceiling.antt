@@ -1,5 +1,5 @@
 -- The next key up (document 02, P3: "that route or the nearest above"): what it is, that nothing else is it, and that it is the first pair of a range
--- to the greatest key. Assumes nothing.
+-- up to the greatest key. Assumes nothing.
 use mathlib.Core.Path.{_≡_, refl, sym, ap, _∙_}
 use mathlib.Core.List.{List, [], _∷_}
 use mathlib.Core.Logic.{_⊎_, inl, inr}
@@ -78,11 +78,11 @@ nearest-one lookup k ps (some p) (some q) h h′ = go (tri (p .0) (q .0))
 pub ceiling-none : (k low high : ℕ) (ps : List Pair) → Within low high ps → ((j : ℕ) → k ≤ j → lookup j ps ≡ none) → ceiling k ps ≡ none
 ceiling-none k low high ps w h = nearest-one lookup k ps (ceiling k ps) none (ceiling-is k low high ps w) h
 
--- It is the first pair of the range from the key to the greatest key there is.
-pub range-ceiling : (k low high : ℕ) (ps : List Pair) → Within low (suc high) ps → first (range k high 1 ps) ≡ ceiling k ps
+-- It is the first pair of the range from the key to a high one that no key is above.
+pub range-ceiling : (k low top high : ℕ) (ps : List Pair) → Within low top ps → top ≤ suc high → first (range k high 1 ps) ≡ ceiling k ps
 unfolding Within range ceiling
-range-ceiling k low high [] w = refl
-range-ceiling k low high (p ∷ ps) w = go (le-or k (p .0)) (range-ceiling k (suc (p .0)) high ps (w .2))
+range-ceiling k low top high [] w t = refl
+range-ceiling k low top high (p ∷ ps) w t = go (le-or k (p .0)) (range-ceiling k (suc (p .0)) top high ps (w .2) t)
   where
     go : (k ≤ p .0) ⊎ (p .0 < k) → first (range k high 1 ps) ≡ ceiling k ps → first (range k high 1 (p ∷ ps)) ≡ ceiling k (p ∷ ps)
     go (inl l) r = ap first (range-take k high 0 p ps l (omega (arith, w .1))) ∙ sym (ceiling-here k p ps l)
