@@ -86,7 +86,7 @@ module _ {pool : List ℕ} {tableLength blocks : ℕ} {held : Worktable} {t : Ta
   -- THE COMMANDS
   pub ran : RunAgrees blocks t cs atFirst w s
   ran =
-      run-agrees t cs atFirst (o .runs) (mapOf (bookOf s .count) (bookOf s .table)) holds (asked .valid) (asked .values)
+      run-agrees t cs atFirst (o .runs) (mapOf (bookOf s .count) (bookOf s .table)) holds (asked .valid)
       (omega (arith, asked .few, number-left))
 
   -- THE BATCH

@@ -9,7 +9,7 @@ use Rattle.layout.specs.Layout.{nodeLimit, bound32}
 use Rattle.pairs.specs.Pairs.{Pair}
 use Rattle.account.specs.declared.Tariff.{Tariff}
 use Rattle.command.specs.declared.Command.{Command}
-use Rattle.command.specs.declared.Command.the-variants.{Get, Put, Delete, Scan, Panel}
+use Rattle.command.specs.declared.Command.the-variants.{Get, Put, Delete, Scan, Panel, Ceiling}
 use Rattle.book.specs.Book.{Book}
 use Rattle.book.specs.Command.{Reply, requests, answer}
 use Rattle.book.specs.Session.{Session, sessionAfter}
@@ -17,9 +17,9 @@ use Rattle.book.specs.OrderedMap.{mapRun}
 use Rattle.store_laws.specs.Numbers.{last}
 use Rattle.model.specs.State.{State, bookOf, charges}
 use Rattle.model.specs.Batch.{done, run, chargeOf, answers}
-use Rattle.demands.specs.Commands.{Valid, ValidAll}
+use Rattle.command.specs.Command.{Valid}
+use Rattle.demands.specs.Commands.{ValidAll}
 use Rattle.demands.specs.Run.{Holds, batch-batched}
-use Rattle.demands.specs.CommandFits.{ValueFits, ValuesFit}
 use Rattle.demands.specs.RequestCount.{command-length}
 use Rattle.demands.specs.BatchFits.{mostNumbers}
 use Rattle.flash_allocate.specs.World.{World}
@@ -27,7 +27,7 @@ use Rattle.run.specs.Run.{commandWorld, commandCharge, commandReply, runWorld, 
 use Rattle.run_refines.specs.Commands.Lists.{servedAll, chargedAll, Runs, Ran}
 use Rattle.run_refines.specs.Commands.Commands.{command-runs}
 use Rattle.run_refines.specs.Commands.Lookups.{get-world, get-charge, get-answer, delete-world, delete-charge, delete-answer, scan-world}
-use Rattle.run_refines.specs.Commands.Lookups.{scan-charge, scan-answer}
+use Rattle.run_refines.specs.Commands.Lookups.{scan-charge, scan-answer, ceiling-world, ceiling-charge, ceiling-answer}
 use Rattle.run_refines.specs.Put.Puts.{put-agrees}
 
 -- What one command leaves, by code and model.
@@ -45,14 +45,14 @@ module _ {blocks : ℕ} {w : World} {s : State} (k : Runs blocks w s) (ps : List
   few : (c : Command) → Valid c → 4 * length (requests limit c (bookOf s)) ≤ mostNumbers
   few c valid = omega (arith, command-length limit c (bookOf s) ps (h .spells) (omega (arith, h .most, k .few)) valid, h .most, k .few)
 
-  ran : (c : Command) → Valid c → ValueFits c → Ran blocks t (requests limit c (bookOf s)) w s
-  ran c valid value = command-runs k ps h t c valid value number
+  ran : (c : Command) → Valid c → Ran blocks t (requests limit c (bookOf s)) w s
+  ran c valid = command-runs k ps h t c valid number
 
   -- the requests served in order
-  in-order : (c : Command) → Valid c → ValueFits c → commandWorld t c w ≡ servedAll t (requests limit c (bookOf s)) w →
+  in-order : (c : Command) → Valid c → commandWorld t c w ≡ servedAll t (requests limit c (bookOf s)) w →
       commandCharge t c w ≡ chargedAll t (requests limit c (bookOf s)) w → commandReply t c w ≡ answer limit c (bookOf s) → One blocks t c w s
-  in-order c valid value e f g =
-      let r = ran c valid value in
+  in-order c valid e f g =
+      let r = ran c valid in
       record {
         runs = subst (λ (z : World). Runs blocks z (done limit t c s)) (sym e) (r .runs);
         charge = f ∙ r .charge;
@@ -61,21 +61,24 @@ module _ {blocks : ℕ} {w : World} {s : State} (k : Runs blocks w s) (ps : List
       }
 
   -- ONE COMMAND
-  pub command-agrees : (c : Command) → Valid c → ValueFits c → One blocks t c w s
+  pub command-agrees : (c : Command) → Valid c → One blocks t c w s
   unfolding requests answer
-  command-agrees (Get key) valid value =
-      in-order (Get key) valid value (get-world k ps h number t key valid) (get-charge k ps h number t key valid)
+  command-agrees (Get key) valid =
+      in-order (Get key) valid (get-world k ps h number t key valid) (get-charge k ps h number t key valid)
       (sym (get-answer k ps h number t key valid))
-  command-agrees (Delete key) valid value =
-      in-order (Delete key) valid value (delete-world k ps h number t key valid) (delete-charge k ps h number t key valid)
+  command-agrees (Delete key) valid =
+      in-order (Delete key) valid (delete-world k ps h number t key valid) (delete-charge k ps h number t key valid)
       (sym (delete-answer k ps h number t key valid))
-  command-agrees (Scan low high most) valid value =
-      in-order (Scan low high most) valid value (scan-world k ps h number t low high most valid)
-      (scan-charge k ps h number t low high most valid) (sym (scan-answer k ps h number t low high most valid))
-  command-agrees (Put key v) valid value =
-      let p = put-agrees t s w k ps (h .spells) key v valid value (omega (arith, few (Put key v) valid)) in
-      record { runs = p .runs; charge = p .charge; reply = p .answer; number = omega (arith, ran (Put key v) valid value .number, few (Put key v) valid) }
-  command-agrees (Panel panel) valid value = in-order (Panel panel) valid value refl refl refl
+  command-agrees (Scan low high most) valid =
+      in-order (Scan low high most) valid (scan-world k ps h number t low high most (valid .0))
+      (scan-charge k ps h number t low high most (valid .0)) (sym (scan-answer k ps h number t low high most (valid .0)))
+  command-agrees (Put key v) valid =
+      let p = put-agrees t s w k ps (h .spells) key v (valid .0) (valid .1) (omega (arith, few (Put key v) valid)) in
+      record { runs = p .runs; charge = p .charge; reply = p .answer; number = omega (arith, ran (Put key v) valid .number, few (Put key v) valid) }
+  command-agrees (Panel panel) valid = in-order (Panel panel) valid refl refl refl
+  command-agrees (Ceiling key) valid =
+      in-order (Ceiling key) valid (ceiling-world k ps h number t key valid) (ceiling-charge k ps h number t key valid)
+      (sym (ceiling-answer k ps h number t key valid))
 
 -- ALL COMMANDS
 pub record RunAgrees (blocks : ℕ) (t : Tariff) (cs : List Command) (n : Session) (w : World) (s : State) : Type 0 where
@@ -85,16 +88,16 @@ pub record RunAgrees (blocks : ℕ) (t : Tariff) (cs : List Command) (n : Sessio
   pub number : last (run (nodeLimit blocks) t cs n s .run) ≤ mostNumbers * length cs + last (s .run)
 
 pub run-agrees : {blocks : ℕ} (t : Tariff) (cs : List Command) (n : Session) {w : World} {s : State} → Runs blocks w s → (ps : List Pair) →
-    Holds (nodeLimit blocks) (bookOf s) ps → ValidAll cs → ValuesFit cs → 1 + (mostNumbers * length cs + last (s .run)) < bound32 → RunAgrees blocks t cs n w s
-run-agrees t [] n k ps h valid values number = record { runs = k; charge = λ q. refl; replies = refl; number = omega arith }
-run-agrees {blocks} t (c ∷ cs) n {w} {s} k ps h valid values number =
+    Holds (nodeLimit blocks) (bookOf s) ps → ValidAll cs → 1 + (mostNumbers * length cs + last (s .run)) < bound32 → RunAgrees blocks t cs n w s
+run-agrees t [] n k ps h valid number = record { runs = k; charge = λ q. refl; replies = refl; number = omega arith }
+run-agrees {blocks} t (c ∷ cs) n {w} {s} k ps h valid number =
     let limit = nodeLimit blocks in
-    let one = command-agrees k ps h t (omega arith) c (valid .0) (values .0) in
+    let one = command-agrees k ps h t (omega arith) c (valid .0) in
     let said = batch-batched blocks t (omega (arith, k .few)) (c ∷ []) n s ps (valid .0, tt) (k .sound) h in
     let pairs = mapRun limit t (c ∷ []) n (bookOf s) ps in
     let rest =
     run-agrees t cs (sessionAfter c (answer limit c (bookOf s)) n) (one .runs) pairs
-    (subst (λ (z : Book). Holds limit z pairs) (sym (said .says .is)) (said .holds)) (valid .1) (values .1) (omega (arith, one .number)) in
+    (subst (λ (z : Book). Holds limit z pairs) (sym (said .says .is)) (said .holds)) (valid .1) (omega (arith, one .number)) in
     record {
       runs = rest .runs;
       charge = λ q. ap₂ _+_ (ap (λ (k : ℕ). only (n .panel) k q) (one .charge)) (rest .charge q);

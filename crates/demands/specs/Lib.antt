@@ -2,7 +2,9 @@ pub mod Says
 pub mod Step
 pub mod Commands
 pub mod Run
+pub mod TwoBatches
 pub mod Panels
+pub mod Ceilings
 pub mod Mount
 pub mod Close
 pub mod Prepare

@@ -1,17 +1,14 @@
 -- Panels (document 02, P2): the sixteen charges add up to what all commands cost, and a batch without its panels leaves the same but for who is
 -- charged. Assumes nothing.
 use mathlib.Core.Path.{_≡_, refl, ap, _∙_, subst}
-use mathlib.Core.Bool.{Bool, true, false}
 use mathlib.Core.List.{List, [], _∷_, _++_}
 use mathlib.Core.Option.{some}
 use Prim.Native.Nat.{ℕ, _+_, _<_}
 use native.Mathlib.Omega.{arith}
-use lib.Dec.{leb}
 use lib.ListN.{length}
-use Rattle.laws.specs.Tests.{choose}
 use Rattle.laws.specs.Lay.{lay}
 use Rattle.laws.specs.Update.{only, sum, sumBelow, sumBelow-add, sum-only}
-use Rattle.layout.specs.Layout.{panels, nodeLimit, tableBytes}
+use Rattle.layout.specs.Layout.{panels, nodeLimit}
 use Rattle.account.specs.declared.Tariff.{Tariff}
 use Rattle.command.specs.declared.Command.{Command}
 use Rattle.command.specs.declared.Command.the-variants.{Panel}
@@ -25,10 +22,10 @@ use Rattle.book.specs.InTurn.{eachPanel, total, chargeOn}
 use Rattle.book.specs.PanelLaws.{names-panel, speaks-below, sum-each}
 use Rattle.model.specs.State.{State}
 use Rattle.model.specs.Batch.{replyOf, done, cost, run, answers, closed}
-use Rattle.model.specs.Mount.{Mounted, refused, opened}
 use Rattle.model.specs.Bytes.{bytesOf}
-use Rattle.model.specs.Call.{Outcome, charge, refuse, blocksOf, poolLength, cleared, mountOf, accept, batchMounted, batchAsked, batchOf}
+use Rattle.model.specs.Call.{Outcome, charge, blocksOf, accept, batchOf}
 use Rattle.demands.specs.Commands.{ValidAll}
+use Rattle.demands.specs.TwoBatches.{both-end}
 
 -- THE SUM, of any kind of book.
 module _ {B : Type 0} (reply : Command → B → Reply) (after : Command → B → B) (amount : Command → B → ℕ) where
@@ -157,28 +154,7 @@ module _ (pool table buffer : List ℕ) (cs : List Command) (valid : ValidAll cs
         charge = omega (arith, paid cs atFirst s valid (omega arith), paid (unnamed cs) atFirst s (unnamed-valid cs valid) (omega arith), r .total);
       }
 
-  mounted-same : (m : Mounted) → SameBut (batchMounted m cs pool table buffer) (batchMounted m (unnamed cs) pool table buffer)
-  mounted-same (refused n) = same-but refl
-  mounted-same (opened t s) = accepts-same t s
-
-  asked-same : SameBut (batchAsked (some cs) pool table buffer) (batchAsked (some (unnamed cs)) pool table buffer)
-  asked-same = rw (← unnamed-room cs) (go (leb (roomForAll cs) (length buffer)))
-    where
-      go : (b : Bool) →
-          SameBut (choose b (batchMounted (mountOf pool) cs pool table buffer) (refuse 4 pool (cleared (blocksOf pool) table) buffer))
-          (choose b (batchMounted (mountOf pool) (unnamed cs) pool table buffer) (refuse 4 pool (cleared (blocksOf pool) table) buffer))
-      go true = mounted-same (mountOf pool)
-      go false = same-but refl
-
   -- PANELS LEAVE NO TRACE: not in the number, not in the pool, not in table or answers, not in the sum of the charges.
   pub unnamed-leaves : (batch batch′ : List ℕ) → commandsOf batch ≡ some cs → commandsOf batch′ ≡ some (unnamed cs) →
       SameBut (batchOf pool table batch buffer) (batchOf pool table batch′ buffer)
-  unfolding batchOf
-  unnamed-leaves batch batch′ e f = rw (e, f) (go (poolLength pool) (leb (tableBytes (blocksOf pool)) (length table)))
-    where
-      go : (a b : Bool) →
-          SameBut (choose a (choose b (batchAsked (some cs) pool table buffer) (refuse 2 pool table buffer)) (refuse 1 pool table buffer))
-          (choose a (choose b (batchAsked (some (unnamed cs)) pool table buffer) (refuse 2 pool table buffer)) (refuse 1 pool table buffer))
-      go false b = same-but refl
-      go true false = same-but refl
-      go true true = asked-same
+  unnamed-leaves = both-end SameBut (λ o. same-but refl) pool table buffer cs (unnamed cs) (unnamed-room cs) accepts-same

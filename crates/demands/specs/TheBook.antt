@@ -3,8 +3,8 @@
 -- this crate. Assumes nothing.
 use mathlib.Core.Path.{_≡_, refl, sym, ap, ap₂, _∙_}
 use mathlib.Core.Bool.{true}
-use mathlib.Core.List.{List, [], _++_, map}
-use mathlib.Core.Option.{some}
+use mathlib.Core.List.{List, [], _∷_, _++_, map}
+use mathlib.Core.Option.{Option, none, some}
 use Prim.Native.Nat.{ℕ, _+_, _*_, _^_, _≤_, _<_}
 use native.Mathlib.Omega.{arith}
 use lib.Dec.{eqb}
@@ -12,23 +12,29 @@ use lib.ListN.{length}
 use Rattle.laws.specs.Every.{Every}
 use Rattle.laws.specs.BigEndian.{Bytes}
 use Rattle.laws.specs.Update.{sum}
-use Rattle.layout.specs.Layout.{nodeLimit, panels, lastSequence}
+use Rattle.layout.specs.Layout.{nodeLimit, panels, lastSequence, lastKey, bound32}
 use Rattle.account.specs.declared.Mode.the-variants.{Log}
 use Rattle.account.specs.declared.Tariff.{Tariff}
 use Rattle.account.specs.Tariff.{switchTo}
 use Rattle.account.specs.Schedule.{Schedule}
-use Rattle.pairs.specs.Pairs.{Pair}
+use Rattle.pairs.specs.Pairs.{Pair, lookup, ceiling, Within}
+use Rattle.pairs.specs.Ceiling.{CeilingIs}
+use Rattle.pairs.specs.Ceiling.{ceiling-is as nearest-is, ceiling-none as none-above}
 use Rattle.command.specs.declared.Command.{Command}
+use Rattle.command.specs.declared.Command.the-variants.{Scan, Ceiling}
 use Rattle.command.specs.Batch.{commandsOf}
 use Rattle.tree.specs.NodeRequest.{NodeRequest}
 use Rattle.tree.specs.Spells.{mapOf}
+use Rattle.tree_laws.specs.GetLaws.{pairs-within}
 use Rattle.store.specs.Reopen.{newest}
 use Rattle.book.specs.Book.{Book, charges}
+use Rattle.book.specs.Command.{ceilingReply}
+use Rattle.book.specs.Command.{requests as requestsFor}
 use Rattle.book.specs.Session.{atFirst}
 use Rattle.book.specs.InTurn.{noCharges}
 use Rattle.book.specs.PanelLaws.{sum-each}
 use Rattle.book.specs.Batch.{chargesBook, requestsBook}
-use Rattle.book.specs.OrderedMap.{mapAnswers}
+use Rattle.book.specs.OrderedMap.{mapAnswer, mapAnswers}
 use Rattle.book.specs.Schedule.{paid}
 use Rattle.model.specs.State.{State, bookOf}
 use Rattle.model.specs.Mount.{opened}
@@ -40,6 +46,7 @@ use Rattle.model.specs.Calls.{booksAfter, lastBook, allBooks, allCharges, allRe
 use Rattle.demands.specs.Ends.{Ends, asFound, tableCleared, done, batch-ends, tableAfter, refused-found, ends-table, ends-panels}
 use Rattle.demands.specs.Ends.{prepare-ends, prepare-found}
 use Rattle.demands.specs.Panels.{unnamed, SameBut, unnamed-leaves}
+use Rattle.demands.specs.Ceilings.{Swept, SameReads, swept-same}
 use Rattle.demands.specs.CommandBytes.{commandsOf-batch}
 use Rattle.demands.specs.ChargesFit.{batch-charge-fits}
 use Rattle.demands.specs.FirstNo.{numberOf, mount-first, batch-first, buffers-right, prepare-first}
@@ -257,3 +264,38 @@ pub panels-invisible : (pool table buffer batch batch′ : List ℕ) (cs : List 
     commandsOf batch′ ≡ some (unnamed cs) → SameBut (batchOf pool table batch buffer) (batchOf pool table batch′ buffer)
 panels-invisible pool table buffer batch batch′ cs bytes e f =
     unnamed-leaves pool table buffer cs (commandsOf-batch batch bytes cs e .valid) batch batch′ e f
+
+-- DOCUMENT 02, P3. "A setter types a number and wants that route or the nearest above. Command 07 .. answers 87 with route and word .., or 80 if none is
+-- at or above."
+
+-- 07 answers the next key up of the map that the pool spells; where it stands among other commands, demand 2's `answers` says the same.
+pub ceiling-answers : {t : Tariff} {pool : List ℕ} {b : Book} {ps : List Pair} → Stands t pool b ps → (l : Lent) → Bytes (l .batch) → (k : ℕ) →
+    commandsOf (l .batch) ≡ some (Ceiling k ∷ []) → outcome pool l .number ≡ 0 →
+    answered (outcome pool l) ≡ laidOver (l .buffer) (ceilingReply (ceiling k ps) ∷ [])
+unfolding mapAnswer
+ceiling-answers {t} {pool} {b} {ps} s l bytes k e z =
+    called (stands-open s) l bytes .answers ∙
+    ap (λ (cs : List Command). laidOver (l .buffer) (mapAnswers (nodeLimit (blocksOf pool)) t cs atFirst b ps))
+    (ap₂ (λ (n : ℕ) (o : Option (List Command)). commandsBy (eqb n 0) o) z e)
+
+-- What that is: a pair of the map, at or above the key, with nothing of the map between; 80 exactly where nothing of the map is at or above.
+module _ {t : Tariff} {pool : List ℕ} {b : Book} {ps : List Pair} (s : Stands t pool b ps) (k : ℕ) where
+  ascending : Within 0 bound32 ps
+  ascending = pairs-within (b .table) (b .count) ps (stands-open s .ready .holds .spells)
+
+  pub ceiling-is : CeilingIs lookup k ps (ceiling k ps)
+  ceiling-is = nearest-is k 0 bound32 ps ascending
+
+  pub ceiling-none : ((j : ℕ) → k ≤ j → lookup j ps ≡ none) → ceiling k ps ≡ none
+  ceiling-none = none-above k 0 bound32 ps ascending
+
+-- "It reads as a sweep of that route to FFFFFFFF with a most of 1 does": by definition ..
+pub ceiling-reads : (limit k : ℕ) (b : Book) → requestsFor limit (Ceiling k) b ≡ requestsFor limit (Scan k lastKey 1) b
+unfolding requestsFor
+ceiling-reads limit k b = refl
+
+-- .. and so on any pool, with any table and answer buffer: where such sweeps stand for the ceilings of a batch, the call returns the same number and
+-- charges, and leaves the same pool and table.
+pub ceilings-read : (pool table buffer batch batch′ : List ℕ) (cs ds : List Command) → Swept cs ds → commandsOf batch ≡ some cs →
+    commandsOf batch′ ≡ some ds → SameReads (batchOf pool table batch buffer) (batchOf pool table batch′ buffer)
+ceilings-read pool table buffer batch batch′ cs ds r = swept-same pool table buffer cs ds r batch batch′

@@ -1,16 +1,19 @@
 -- One command put together: served, then its reply laid. Assumes nothing.
 use mathlib.Core.Path.{_≡_, refl, sym, ap, _∙_, subst}
-use mathlib.Core.List.{List}
+use mathlib.Core.List.{List, [], _∷_}
+use mathlib.Core.Option.{none, some}
 use Prim.Native.Nat.{ℕ, _+_, _≤_}
 use native.Mathlib.Omega.{arith}
-use lib.ListN.{length}
+use lib.ListN.{length, getD}
 use Rattle.laws.specs.Lay.{lay, lay-nil}
+use Rattle.layout.specs.Layout.{lastKey}
+use Rattle.pairs.specs.Pairs.{Pair, first}
 use Rattle.account.specs.declared.Tariff.{Tariff}
 use Rattle.command.specs.declared.Command.{Command}
-use Rattle.command.specs.declared.Command.the-variants.{Get, Put, Delete, Scan, Panel}
+use Rattle.command.specs.declared.Command.the-variants.{Get, Put, Delete, Scan, Panel, Ceiling}
 use Rattle.command.specs.Command.{InRange}
 use Rattle.command.specs.Answer.{answerBytes, scanBytes}
-use Rattle.book.specs.Command.{replyBytes}
+use Rattle.book.specs.Command.{ceilingReply, replyBytes}
 use Rattle.flash_rows.specs.Worktable.{Worktable}
 use Rattle.flash_allocate.specs.World.{World}
 use Rattle.run_serve.specs.declared.charged.Charged.{Charged}
@@ -19,7 +22,8 @@ use Rattle.run_serve.specs.Step.{ChargedAs, charged-none, charged-is}
 use Rattle.run_lookup.specs.Get.{GotAs}
 use Rattle.run_lookup.specs.Delete.{DeletedAs}
 use Rattle.run_scan.specs.declared.scan.Scanned.{Scanned}
-use Rattle.run_scan.specs.Pairs.{pairsOf}
+use Rattle.run_scan.specs.declared.Pairs.{Pairs}
+use Rattle.run_scan.specs.Pairs.{listed, pairsOf, Sized, listed-none, length-listed, getD-listed}
 use Rattle.run_scan.specs.Scan.{ScannedAs}
 use Rattle.run_split.specs.Growing.{Growing, Grew, grew-same, grew-charged}
 use Rattle.run_put.specs.Put as Put
@@ -67,6 +71,27 @@ module _ {P T : ℕ} {pages : List (List ℕ)} {table : Worktable} (t : Tariff) 
     pub scan-replied : {low high most : ℕ} {ids : List ℕ} {d : Scanned} → c ≡ Scan low high most → ScannedAs P T pages table ids d t low high most w →
         RepliedAs before after r (d .charged) at (scanBytes (pairsOf (d .pairs))) → CommandAs P T pages table before after r t c at w
     scan-replied e h l = replied e (grew-charged g (h .charged)) (omega arith) (ap scanBytes (h .pairs)) l
+
+    pub ceiling-replied : {k : ℕ} {ids : List ℕ} {d : Scanned} → c ≡ Ceiling k → ScannedAs P T pages table ids d t k lastKey 1 w →
+        RepliedAs before after r (d .charged) at (replyBytes (ceilingReply (first (pairsOf (d .pairs))))) → CommandAs P T pages table before after r t c at w
+    ceiling-replied e h l =
+        replied e (grew-charged g (h .charged)) (omega arith) (ap (λ (ps : List Pair). replyBytes (ceilingReply (first ps))) (h .pairs)) l
+
+-- The first pair that a scan found: none where it found none, and else the one in front.
+first-is : (ps : List Pair) → 1 ≤ length ps → first ps ≡ some (getD ps 0 (0, 0))
+first-is [] l = absurd (omega arith)
+first-is (p ∷ ps) l = refl
+
+module _ (p : Pairs) where
+  pub first-none : p .count ≡ 0 → first (pairsOf p) ≡ none
+  first-none e = ap (λ (n : ℕ). first (listed n (p .keys) (p .values))) e ∙ ap first (listed-none (p .keys) (p .values))
+
+  pub first-found : Sized p → (p .count ≡ 0 → ⊥) → first (pairsOf p) ≡ some (getD (p .keys) 0 0, getD (p .values) 0 0)
+  first-found s some-found =
+      let n = p .count in
+      let l : 1 ≤ n = omega (arith, some-found) in
+      let found = length-listed n (p .keys) (p .values) (s .keyRoom) (s .valueRoom) (s .size) in
+      first-is (pairsOf p) (omega (arith, found)) ∙ ap some (getD-listed n (p .keys) (p .values) (s .keyRoom) (s .valueRoom) 0 l)
 
 -- A panel: nothing is served, and nothing laid.
 pub panel-replied : (t : Tariff) (w : World) {P T : ℕ} → Growing P T (w .state) → {answers : List ℕ} {at panel : ℕ} {c : Command} → c ≡ Panel panel →

@@ -1,23 +1,25 @@
 -- No reply is longer than the room that question 4 asks for its command. Assumes nothing.
 use mathlib.Core.Bool.{Bool, true, false}
 use mathlib.Core.List.{List, [], _++_}
+use mathlib.Core.Option.{Option, none, some}
 use Prim.Native.Nat.{ℕ, zero, suc, _-_, _≤_}
 use native.Mathlib.Omega.{arith}
 use lib.Dec.{ltb}
 use lib.ListN.{length, length-append}
+use Rattle.layout.specs.Layout.{lastKey}
 use Rattle.account.specs.declared.Tariff.{Tariff}
-use Rattle.pairs.specs.Pairs.{Pair}
+use Rattle.pairs.specs.Pairs.{Pair, first}
 use Rattle.pairs.specs.Ranges.{length-range}
 use Rattle.node.specs.Node.{pairsOf, linkOf}
 use Rattle.tree.specs.Table.{Table}
 use Rattle.tree.specs.Scan.{stopsIn, taken, pairsFrom}
 use Rattle.command.specs.declared.Answer.the-variants.{Got, Deleted}
 use Rattle.command.specs.declared.Command.{Command}
-use Rattle.command.specs.declared.Command.the-variants.{Get, Put, Delete, Scan, Panel}
+use Rattle.command.specs.declared.Command.the-variants.{Get, Put, Delete, Scan, Panel, Ceiling}
 use Rattle.command.specs.Answer.{valueOr}
-use Rattle.command.specs.AnswerLaws.{length-answerBytes, length-scanBytes}
-use Rattle.command.specs.Batch.{roomFor}
-use Rattle.book.specs.Command.{replyBytes}
+use Rattle.command.specs.AnswerLaws.{length-answerBytes, length-scanBytes, length-ceilingBytes, length-absent}
+use Rattle.command.specs.Command.{roomFor}
+use Rattle.book.specs.Command.{ceilingReply, replyBytes}
 use Rattle.flash_allocate.specs.World.{World}
 use Rattle.run_path.specs.Descend.{descent}
 use Rattle.run_lookup.specs.Value.{valueIn}
@@ -50,9 +52,15 @@ scan-few t low high most w = go (ltb high low)
     go true = omega arith
     go false = pairs-few _ _ low high most _
 
+-- A ceiling's reply is 80 or 87.
+ceiling-room : (o : Option Pair) → length (replyBytes (ceilingReply o)) ≤ 11
+ceiling-room none = omega (arith, length-absent)
+ceiling-room (some p) = omega (arith, length-ceilingBytes p)
+
 pub reply-room : (t : Tariff) (c : Command) (w : World) → length (replyBytes (commandReply t c w)) ≤ roomFor c
 reply-room t (Get k) w = length-answerBytes (valueOr Got (valueIn t k w))
 reply-room t (Put k v) w = length-answerBytes (put t k v w .answer)
 reply-room t (Delete k) w = length-answerBytes (valueOr Deleted (valueIn t k w))
 reply-room t (Scan low high most) w = omega (arith, length-scanBytes (scanPairs t low high most w), scan-few t low high most w)
 reply-room t (Panel panel) w = omega arith
+reply-room t (Ceiling k) w = ceiling-room (first (scanPairs t k lastKey 1 w))

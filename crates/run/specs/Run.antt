@@ -1,17 +1,18 @@
 -- What commands make of pages, table and state: the world after one and after all, what is charged, and what is answered (document 01, "Commands
--- and answers"; document 02, P2).
+-- and answers"; document 02, P2 and P3).
 use mathlib.Core.Path.{_≡_}
 use mathlib.Core.List.{List}
 use Prim.Native.Nat.{ℕ, _+_, _*_}
 use lib.ListN.{length}
 use Rattle.laws.specs.Lay.{lay}
-use Rattle.layout.specs.Layout.{mostNodes}
+use Rattle.layout.specs.Layout.{mostNodes, lastKey}
+use Rattle.pairs.specs.Pairs.{first}
 use Rattle.account.specs.declared.Tariff.{Tariff}
 use Rattle.command.specs.declared.Answer.the-variants.{Got, Deleted}
 use Rattle.command.specs.declared.Command.{Command}
-use Rattle.command.specs.declared.Command.the-variants.{Get, Put, Delete, Scan, Panel}
+use Rattle.command.specs.declared.Command.the-variants.{Get, Put, Delete, Scan, Panel, Ceiling}
 use Rattle.command.specs.Answer.{valueOr}
-use Rattle.book.specs.Command.{Reply, short, listed, silent, replyBytes, repliesBytes}
+use Rattle.book.specs.Command.{Reply, short, listed, silent, ceilingReply, replyBytes, repliesBytes}
 use Rattle.book.specs.Session.{Session, atFirst}
 use Rattle.book.specs.InTurn.{eachPanel, afterAll, repliesTo, chargeOn}
 use Rattle.flash_rows.specs.Worktable.{Worktable}
@@ -33,6 +34,7 @@ commandWorld t (Put k v) w = put t k v w .now
 commandWorld t (Delete k) w = delete t k w
 commandWorld t (Scan low high most) w = scanWorld t low high most w
 commandWorld t (Panel panel) w = w
+commandWorld t (Ceiling k) w = scanWorld t k lastKey 1 w
 
 abbrev pub commandCharge : Tariff → Command → World → ℕ
 commandCharge t (Get k) w = descent t k w .charge
@@ -40,6 +42,7 @@ commandCharge t (Put k v) w = put t k v w .charge
 commandCharge t (Delete k) w = deleteCharge t k w
 commandCharge t (Scan low high most) w = scanCharge t low high most w
 commandCharge t (Panel panel) w = 0
+commandCharge t (Ceiling k) w = scanCharge t k lastKey 1 w
 
 abbrev pub commandReply : Tariff → Command → World → Reply
 commandReply t (Get k) w = short (valueOr Got (valueIn t k w))
@@ -47,6 +50,7 @@ commandReply t (Put k v) w = short (put t k v w .answer)
 commandReply t (Delete k) w = short (valueOr Deleted (valueIn t k w))
 commandReply t (Scan low high most) w = listed (scanPairs t low high most w)
 commandReply t (Panel panel) w = silent
+commandReply t (Ceiling k) w = ceilingReply (first (scanPairs t k lastKey 1 w))
 
 -- All commands in turn: the world after them, what they are answered, the charge of one panel and of each.
 abbrev pub runWorld : Tariff → List Command → Session → World → World

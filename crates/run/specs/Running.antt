@@ -15,7 +15,8 @@ use Rattle.command.specs.declared.Command.{Command}
 use Rattle.command.specs.declared.Step.the-variants.{Next, Invalid}
 use Rattle.command.specs.Command.{InRange, Onward, commandAt}
 use Rattle.command.specs.CommandLaws.{commandAt-onward}
-use Rattle.command.specs.Batch.{before, commandsFrom, roomFor, roomForAll}
+use Rattle.command.specs.Command.{roomFor}
+use Rattle.command.specs.Batch.{before, commandsFrom, roomForAll}
 use Rattle.command.specs.BatchLaws.{commandsFrom-end, commandsFrom-next, commandsFrom-invalid}
 use Rattle.book.specs.Command.{replyBytes, repliesBytes}
 use Rattle.book.specs.Session.{Session, atFirst, panelAfter}

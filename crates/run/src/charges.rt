@@ -23,6 +23,7 @@ pub fn panel_after(command: Command, panel: usize) -> usize
             most: _,
         } => panel,
         Command::Panel { panel: named } => named,
+        Command::Ceiling { key: _ } => panel,
     }
 }
 

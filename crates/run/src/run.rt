@@ -4,11 +4,10 @@ ghost use lib.ListN.{length};
 ghost use mathlib.Core.Path.{_≡_};
 ghost use Rattle.layout.specs.Layout.{nodeLimit, mostBlocks};
 ghost use Rattle.account.specs.Range.{Ranged};
-ghost use Rattle.command.specs.Batch.{roomFor};
 ghost use Rattle.flash_allocate.specs.World.{worldIn};
 ghost use Rattle.run_split.specs.Growing.{Growing};
 ghost use Rattle.run_serve.specs.Step.{InBytes};
-ghost use Rattle.command.specs.Command.{InRange};
+ghost use Rattle.command.specs.Command.{InRange, roomFor};
 ghost use Rattle.book.specs.InTurn.{noCharges};
 ghost use Rattle.run.specs.Run.{CommandAs, RunAs};
 ghost use Rattle.run.specs.Valid.{commandsIn, Fits};
@@ -17,12 +16,14 @@ use super::Ran;
 use super::charges::add;
 use super::charges::panel_after;
 use super::replies::reply;
+use super::replies::reply_ceiling;
 use super::replies::reply_pairs;
 use account::Tariff;
 use command::Command;
 use command::Step;
 use command::batch::command_at;
 use flash_allocate::state::State;
+use layout::LAST_KEY;
 use layout::MOST_NODES;
 use layout::PANELS;
 use run_lookup::delete::delete;
@@ -31,7 +32,8 @@ use run_put::put::put;
 use run_scan::scan::scan;
 use run_serve::charged::Charged;
 
-// Runs a command and lays its reply at a place. A put has the ids of its path in the lent array, a scan those of its leaves.
+// Runs a command and lays its reply at a place. A put has the ids of its path in the lent array, a scan those of its leaves. A ceiling is a scan up to
+// the greatest key that ends at the first pair.
 pub fn run_command(
     pool: &mut [u8],
     table: &mut [u8],
@@ -68,6 +70,10 @@ pub fn run_command(
         Command::Panel { panel: _ } => {
             let charged = Charged { state, charge: 0 };
             return Progress { charged, at };
+        }
+        Command::Ceiling { key } => {
+            let done = scan(pool, table, ids, state, tariff, key, LAST_KEY, 1);
+            return reply_ceiling(answers, at, done);
         }
     }
 }

@@ -7,13 +7,13 @@ use native.Mathlib.Omega.{arith}
 use lib.ListN.{length}
 use Rattle.laws.specs.Every.{Every}
 use Rattle.layout.specs.Layout.{noLeaf, bound32}
-use Rattle.pairs.specs.Pairs.{Pair, lookup}
+use Rattle.pairs.specs.Pairs.{Pair, lookup, Within}
 use Rattle.node.specs.Node.{Neat}
 use Rattle.tree.specs.Table.{Table, path, leafFor}
 use Rattle.tree.specs.Get.{getRequests, getAnswer}
 use Rattle.tree.specs.Spells.{Spells}
 use Rattle.tree_laws.specs.Ids.{used-in}
-use Rattle.tree_laws.specs.Standing.{Proper, stands-proper}
+use Rattle.tree_laws.specs.Standing.{Proper, stands-proper, stands-within}
 use Rattle.tree_laws.specs.Size.{spells-once, depth-count}
 use Rattle.tree_laws.specs.LeafOfKey.{LeafOf, leaf-of, lookup-leaf, path-used}
 use Rattle.tree_laws.specs.Served.{Served, served-reads}
@@ -26,6 +26,10 @@ module _ (table : Table) (count : ℕ) (pairs : List Pair) (s : Spells table cou
 
   pub node-neat : (i : ℕ) → i < count → Neat (table i)
   node-neat i l = node-proper i l .neat
+
+  -- its keys ascend, and have 32 bits
+  pub pairs-within : Within 0 bound32 pairs
+  pairs-within = rw (s .spelled) at (stands-within (s .depth) table (s .tree) 0 bound32 noLeaf (omega arith) (s .stands))
 
   module _ (k : ℕ) (small : k < bound32) where
     pub leaf-found : LeafOf (s .depth) table (s .tree) k 0 bound32 (leafFor count table k 0)

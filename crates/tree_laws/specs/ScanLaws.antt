@@ -10,7 +10,7 @@ use lib.ListN.{length, length-append}
 use Rattle.laws.specs.Every.{Every, none, both, every-append}
 use Rattle.laws.specs.Tests.{or-left, or-right}
 use Rattle.layout.specs.Layout.{noLeaf, lastKey, bound32}
-use Rattle.pairs.specs.Pairs.{Pair, range, ceiling, first, hasAbove, Within}
+use Rattle.pairs.specs.Pairs.{Pair, range, ceiling, first, hasAbove}
 use Rattle.pairs.specs.Ranges.{range-none, range-append-below, range-append-stop, range-append-full, range-append-on}
 use Rattle.pairs.specs.Ceiling.{range-ceiling}
 use Rattle.node.specs.Node.{Node, pairsOf, linkOf}
@@ -21,8 +21,7 @@ use Rattle.tree.specs.Spells.{Spells}
 use Rattle.tree_laws.specs.Ids.{used-below}
 use Rattle.tree_laws.specs.Size.{depth-leaves, size-count, depth-count}
 use Rattle.tree_laws.specs.LeafChain.{Chain, Onward, onward}
-use Rattle.tree_laws.specs.Standing.{stands-within}
-use Rattle.tree_laws.specs.GetLaws.{path-found}
+use Rattle.tree_laws.specs.GetLaws.{pairs-within, path-found}
 
 -- Why a scan stops in a leaf.
 data Stop (high most : ℕ) (leaf : Node) (got : List Pair) : Type 0 where
@@ -193,5 +192,5 @@ module _ (table : Table) (count : ℕ) (pairs : List Pair) (s : Spells table cou
 pub ceiling-answer : (table : Table) (count : ℕ) (pairs : List Pair) → Spells table count pairs → (k : ℕ) → count ≤ noLeaf → k < bound32 →
     first (scanAnswer count table k lastKey 1) ≡ ceiling k pairs
 ceiling-answer table count pairs s k small l =
-    let within : Within 0 bound32 pairs = rw (s .spelled) at (stands-within (s .depth) table (s .tree) 0 bound32 noLeaf (omega arith) (s .stands)) in
-    ap first (scan-answer table count pairs s k lastKey 1 small l) ∙ range-ceiling k 0 bound32 lastKey pairs within (omega arith)
+    ap first (scan-answer table count pairs s k lastKey 1 small l) ∙
+    range-ceiling k 0 bound32 lastKey pairs (pairs-within table count pairs s) (omega arith)

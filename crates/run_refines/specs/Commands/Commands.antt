@@ -12,10 +12,11 @@ use Rattle.book.specs.Command.{requests}
 use Rattle.store.specs.Serve as Store
 use Rattle.store_laws.specs.Numbers.{last}
 use Rattle.model.specs.State.{State, bookOf}
-use Rattle.demands.specs.Commands.{Valid, does}
+use Rattle.command.specs.Command.{Valid}
+use Rattle.demands.specs.Commands.{does}
 use Rattle.demands.specs.Run.{Holds}
 use Rattle.demands.specs.NodesNarrow.{book-narrow}
-use Rattle.demands.specs.CommandFits.{ValueFits, command-narrow}
+use Rattle.demands.specs.CommandFits.{command-narrow}
 use Rattle.demands.specs.RequestCount.{command-length}
 use Rattle.demands.specs.BatchFits.{mostNumbers}
 use Rattle.flash_allocate.specs.World.{World}
@@ -37,12 +38,12 @@ module _ {blocks : ℕ} {w : World} {s : State} (k : Runs blocks w s) (ps : List
   limit = nodeLimit blocks
 
   -- THE REQUESTS OF A COMMAND
-  pub command-runs : (t : Tariff) (c : Command) → Valid c → ValueFits c → 1 + (mostNumbers + last (s .run)) < bound32 → Ran blocks t (requests limit c (bookOf s)) w s
-  command-runs t c valid value number =
+  pub command-runs : (t : Tariff) (c : Command) → Valid c → 1 + (mostNumbers + last (s .run)) < bound32 → Ran blocks t (requests limit c (bookOf s)) w s
+  command-runs t c valid number =
       let b = bookOf s in
       let rs = requests limit c b in
       let d = does limit (omega (arith, k .few)) b ps (h .spells) (h .most) c valid in
       let l = command-length limit c b ps (h .spells) (omega (arith, h .most, k .few)) valid in
       list-runs t rs (countAfterAll rs (b .count)) k (d .served .fits)
-      (command-narrow limit b ps (h .spells) (omega (arith, h .most, k .few)) (book-narrow s (k .fits .now)) c valid value)
+      (command-narrow limit b ps (h .spells) (omega (arith, h .most, k .few)) (book-narrow s (k .fits .now)) c valid)
       (omega (arith, l, h .most, k .few))

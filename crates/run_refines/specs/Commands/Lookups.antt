@@ -1,4 +1,4 @@
--- GET, DELETE AND SCAN by the code agree with the model's: what is left, the charge, the answer. Assumes nothing.
+-- GET, DELETE, SCAN AND CEILING by the code agree with the model's: what is left, the charge, the answer. Assumes nothing.
 use mathlib.Core.Path.{_≡_, refl, sym, ap, ap₂, _∙_}
 use mathlib.Core.Bool.{Bool, true, false}
 use mathlib.Core.List.{List, [], _++_, map, map-append}
@@ -6,11 +6,11 @@ use mathlib.Core.Option.{Option, none, some}
 use Prim.Native.Nat.{ℕ, _+_, _<_}
 use native.Mathlib.Omega.{arith}
 use lib.Dec.{ltb}
-use Rattle.layout.specs.Layout.{nodeLimit, bound32}
-use Rattle.pairs.specs.Pairs.{Pair, lookup}
+use Rattle.layout.specs.Layout.{nodeLimit, lastKey, bound32}
+use Rattle.pairs.specs.Pairs.{Pair, lookup, first}
 use Rattle.account.specs.declared.Tariff.{Tariff}
 use Rattle.command.specs.declared.Answer.the-variants.{Got, Deleted}
-use Rattle.command.specs.declared.Command.the-variants.{Get, Delete, Scan}
+use Rattle.command.specs.declared.Command.the-variants.{Get, Delete, Scan, Ceiling}
 use Rattle.command.specs.Answer.{valueOr}
 use Rattle.node.specs.Node.{Node, pairsOf}
 use Rattle.node.specs.Change.{remove}
@@ -18,8 +18,8 @@ use Rattle.tree.specs.Table.{Table, path, leafFor}
 use Rattle.tree.specs.NodeRequest.{NodeRequest, read}
 use Rattle.tree.specs.Get.{getAnswer}
 use Rattle.tree.specs.Delete.{deletionFor, deleteRequests}
-use Rattle.tree.specs.Scan.{leavesAfter, pairsFrom, scanRequests, scanAnswer}
-use Rattle.book.specs.Command.{short, listed, requests, answer}
+use Rattle.tree.specs.Scan.{leavesAfter, pairsFrom, scanReads, scanAnswer}
+use Rattle.book.specs.Command.{short, listed, ceilingReply, requests, answer}
 use Rattle.store.specs.Serve as Store
 use Rattle.store_laws.specs.Numbers.{last}
 use Rattle.model.specs.State.{State, bookOf, serveAll}
@@ -164,17 +164,17 @@ module _ {blocks : ℕ} {w : World} {s : State} (k : Runs blocks w s) (ps : List
 
     -- "Low above high: an empty list and no node read."
     pub scan-world : scanWorld t low high most w ≡ servedAll t (requests limit (Scan low high most) (bookOf s)) w
-    unfolding scanWorld requests scanRequests
+    unfolding scanWorld requests scanReads
     scan-world = go (ltb high low)
       where
         go : (b : Bool) →
             elim b [ true ↦ w | false ↦ readAll t (leavesAlong low high most (descent t low w)) (descent t low w .now) ] ≡
-            servedAll t (elim b [ true ↦ [] | false ↦ map read (onPath low ++ behind) ]) w
+            servedAll t (map read (elim b [ true ↦ [] | false ↦ onPath low ++ behind ])) w
         go true = refl
         go false = read-world
 
     pub scan-charge : scanCharge t low high most w ≡ chargedAll t (requests limit (Scan low high most) (bookOf s)) w
-    unfolding scanCharge requests scanRequests
+    unfolding scanCharge requests scanReads
     scan-charge = go (ltb high low)
       where
         go : (b : Bool) →
@@ -182,16 +182,34 @@ module _ {blocks : ℕ} {w : World} {s : State} (k : Runs blocks w s) (ps : List
               | true ↦ 0
               | false ↦ descent t low w .charge + readCharges t (leavesAlong low high most (descent t low w)) (descent t low w .now)
             ] ≡
-            chargedAll t (elim b [ true ↦ [] | false ↦ map read (onPath low ++ behind) ]) w
+            chargedAll t (map read (elim b [ true ↦ [] | false ↦ onPath low ++ behind ])) w
         go true = refl
         go false = read-charge
 
-    pub scan-answer : answer limit (Scan low high most) (bookOf s) ≡ listed (scanPairs t low high most w)
-    unfolding answer scanAnswer scanPairs
-    scan-answer = ap listed (go (ltb high low))
+    pub scan-pairs : scanAnswer count table low high most ≡ scanPairs t low high most w
+    unfolding scanAnswer scanPairs
+    scan-pairs = go (ltb high low)
       where
         go : (b : Bool) →
             _≡_ {A = List Pair} (elim b [ true ↦ [] | false ↦ pairsFrom count table low high most (leaf low) ])
             (elim b [ true ↦ [] | false ↦ pairsAlong low high most (descent t low w) ])
         go true = refl
         go false = sym pairs-are
+
+    pub scan-answer : answer limit (Scan low high most) (bookOf s) ≡ listed (scanPairs t low high most w)
+    unfolding answer
+    scan-answer = ap listed scan-pairs
+
+  -- CEILING: what is served is that scan's, up to the greatest key and with a most of 1; it answers the first pair
+  module _ (key : ℕ) (small : key < bound32) where
+    pub ceiling-world : scanWorld t key lastKey 1 w ≡ servedAll t (requests limit (Ceiling key) (bookOf s)) w
+    unfolding requests
+    ceiling-world = scan-world key lastKey 1 small
+
+    pub ceiling-charge : scanCharge t key lastKey 1 w ≡ chargedAll t (requests limit (Ceiling key) (bookOf s)) w
+    unfolding requests
+    ceiling-charge = scan-charge key lastKey 1 small
+
+    pub ceiling-answer : answer limit (Ceiling key) (bookOf s) ≡ ceilingReply (first (scanPairs t key lastKey 1 w))
+    unfolding answer
+    ceiling-answer = ap (λ (found : List Pair). ceilingReply (first found)) (scan-pairs key lastKey 1 small)

@@ -1,11 +1,11 @@
 -- `run::run_command` meets its contract: each command is served by its own function, then its reply is laid. Assumes nothing.
 use mathlib.Core.Path.{ap}
 use native.Mathlib.Omega.{arith}
-use Rattle.command.specs.Batch.{roomFor}
+use Rattle.command.specs.Command.{roomFor}
 use Rattle.flash_rows.specs.Worktable.{tableFrom}
 use Rattle.flash_blocks.specs.Pages.{pagesOf}
 use Rattle.flash_allocate.specs.World.{world}
-use Rattle.run.specs.Replies.{put-replied, get-replied, delete-replied, scan-replied, panel-replied, range-is}
+use Rattle.run.specs.Replies.{put-replied, get-replied, delete-replied, scan-replied, ceiling-replied, panel-replied, range-is}
 use borrow.Author.Needs.{needs}
 use Rattle.run.proofs.run.run_command.Statement.{statement}
 use Rattle.run.proofs.run.run_command.Tie as tie
@@ -158,6 +158,42 @@ returns-5 c =
       c5 .pre .4,
     )
 
+enum-known-command-5 : tie.Need-enum-known-command-5
+enum-known-command-5 c = search needs
+
+scan-requires-2 : tie.Need-scan-requires-2
+scan-requires-2 c κs =
+    let c9 = c .before .before .before .before .before .before .before .before .before in
+    (c9 .pre .0 .good, c9 .pre .1, omega (arith, c9 .pre .0 .limited, c9 .pre .0 .good .most), omega arith, omega arith, c9 .pre .4)
+
+reply-ceiling-requires : tie.Need-reply-ceiling-requires
+reply-ceiling-requires c κs =
+    let c5 = c .before .before .before .before .before in
+    let c10 = c5 .before .before .before .before .before in
+    let c15 = c10 .before .before .before .before .before in
+    (c5 .scan2 .ensures .sized, omega (arith, c15 .pre .3, ap roomFor (c10 .command5 .given .1)))
+
+same-length-13 : tie.Need-same-length-13
+same-length-13 c = search needs
+
+same-length-14 : tie.Need-same-length-14
+same-length-14 c = search needs
+
+same-length-15 : tie.Need-same-length-15
+same-length-15 c = search needs
+
+returns-6 : tie.Need-returns-6
+returns-6 c =
+    let c2 = c .before .before in
+    let c8 = c2 .before .before .before .before .before .before in
+    let c13 = c8 .before .before .before .before .before in
+    let c18 = c13 .before .before .before .before .before in
+    let a = c18 .args in (
+      ceiling-replied (a .tariff) (world (pagesOf (a .pool .now)) (tableFrom (a .table .now)) (a .state)) (c18 .pre .0) (c13 .command5 .given .1)
+          (c8 .scan2 .ensures) (c2 .reply-ceiling .ensures),
+      c8 .scan2 .ensures .room,
+    )
+
 pub run-command-spec : {M : Type 1} → statement M
 run-command-spec =
     tie.close
@@ -191,4 +227,11 @@ run-command-spec =
     same-length-12
     returns-4
     enum-told
-    returns-5)
+    returns-5
+    enum-known-command-5
+    scan-requires-2
+    reply-ceiling-requires
+    same-length-13
+    same-length-14
+    same-length-15
+    returns-6)
