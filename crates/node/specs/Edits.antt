@@ -25,7 +25,8 @@ module _ (v : NodeValue) (s : Sized v) where
       take (v .count + 1) ks ≡ insertAt at k (take (v .count) (v .keys)) →
       take (v .count + 1) ps ≡ insertAt at p (take (v .count) (v .pointers)) →
       length ks ≡ mostKeys → length ps ≡ mostKeys →
-      Stands (record { shape = v .shape; count = v .count + 1; keys = ks; pointers = ps; link = v .link }) (node (v .shape) (insertAt at (k, p) (pairsIn v)) (v .link))
+      Stands (record { shape = v .shape; count = v .count + 1; keys = ks; pointers = ps; link = v .link })
+      (node (v .shape) (insertAt at (k, p) (pairsIn v)) (v .link))
   unfolding pairsIn
   stands-added at k p ks ps h e f a b =
       record {

@@ -25,6 +25,18 @@ foundAs false i = Above i
 abbrev pub found : ℕ → List Pair → Found
 found key ps = foundAs (present key ps) (place key ps)
 
+-- the place that an answer names, whether the key there is equal or above
+abbrev pub placeOf : Found → ℕ
+placeOf (At i) = i
+placeOf (Above i) = i
+
+placeOf-as : (b : Bool) (i : ℕ) → placeOf (foundAs b i) ≡ i
+placeOf-as true i = refl
+placeOf-as false i = refl
+
+pub placeOf-found : (key : ℕ) (ps : List Pair) → placeOf (found key ps) ≡ place key ps
+placeOf-found key ps = placeOf-as (present key ps) (place key ps)
+
 module _ (key : ℕ) (ps : List Pair) where
   pub present-true : Present key ps → present key ps ≡ true
   unfolding present

@@ -5,6 +5,7 @@ pub mod Replay
 pub mod Splice
 pub mod Search
 pub mod Found
+pub mod Says
 pub mod Fit
 pub mod Ascends
 pub mod Value

@@ -1,5 +1,5 @@
 -- The one search in a node: which key is the first at or above the wanted one, and whether it is equal. Reads, edits, scans and
--- the way down the tree all rest on it (document 01, "Nodes and tree"). Assumes nothing.
+-- the way down the tree all rest on it (document 01, "Nodes and tree"; document 02, P3). Assumes nothing.
 use mathlib.Core.Path.{_≡_, refl, sym, ap, _∙_}
 use mathlib.Core.Bool.{true, false}
 use mathlib.Core.List.{List, [], _∷_}

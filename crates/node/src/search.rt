@@ -4,7 +4,7 @@ ghost use Prim.Native.Nat.{_≤_, _<_};
 ghost use Rattle.layout.specs.Layout.{mostKeys};
 ghost use Rattle.node.specs.Search.{place, childPlace, keyAt, pointerAt};
 ghost use Rattle.node.specs.Ascends.{ascends};
-ghost use Rattle.node.specs.Found.{found};
+ghost use Rattle.node.specs.Found.{found, placeOf};
 ghost use Rattle.node.specs.FoundIn.{PlaceIn, FoundIn};
 ghost use Rattle.node.specs.Value.{pairsIn, Sized, Held};
 use crate::Found;
@@ -104,6 +104,16 @@ pub fn find(v: NodeValue, key: u32) -> Found
 {
     let keys = v.keys;
     find_by_halves(&keys, v.count, key)
+}
+
+// The place that a search answered, whether the key there is equal or above.
+pub fn place_of(found: Found) -> usize
+    ensures { λ r. ⌜ r ≡ placeOf found ⌝ }
+{
+    match found {
+        Found::At(i) => i,
+        Found::Above(i) => i,
+    }
 }
 
 // The place of the child for a key: that of the first key above it.

@@ -123,7 +123,9 @@ module _ {first : ℕ} {table : Table} {nodes low high most : ℕ} {keys values 
   given-is : taken low high (most - count) (table (a .id)) ≡ given
   given-is = ap (taken low high (most - count)) (sym (a .here .is))
 
-  result : (pairsFrom (nodes - visited) table low high (most - count) (a .id) ≡ given) → (leavesAfter (nodes - visited) table low high (most - count) (a .id) ≡ []) →
+  result :
+      (pairsFrom (nodes - visited) table low high (most - count) (a .id) ≡ given) →
+      (leavesAfter (nodes - visited) table low high (most - count) (a .id) ≡ []) →
       GatheredFrom first table nodes low high most leaves
       (record { pairs = record { keys = keys′; values = values′; count = count′ }; visited = visited })
   result e f =

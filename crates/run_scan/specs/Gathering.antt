@@ -32,15 +32,15 @@ module _ {first : ℕ} {table : Table} {nodes low high most : ℕ} {keys₀ valu
   -- at a key above the high one
   pub gathered-high : i < leaf .count → high < key → GatheredFrom first table nodes low high most leaves (gathered keys values count visited)
   gathered-high l h =
-      let out = taking-high bound (a .here .held .sized) t l order h in
+      let out = taking-high bound (a .here .held) t l order h in
       along-stop bound a keys values count (t .keyRoom) (t .valueRoom) few (out .0)
       (stops-above high (most - count₀) leaf (range low high (most - count₀) (pairsIn leaf)) (out .1))
 
   -- with the last pair that is wanted
-  pub gathered-last : i < leaf .count → low ≤ key → key ≤ high → count + 1 ≡ most →
+  pub gathered-last : i < leaf .count → key ≤ high → count + 1 ≡ most →
       GatheredFrom first table nodes low high most leaves (gathered (set keys count key) (set values count value) (count + 1) visited)
-  gathered-last l b h e =
-      let all = taking-last bound (a .here .held .sized) t l b h e in
+  gathered-last l h e =
+      let all = taking-last bound (a .here .held) t l h e in
       let keyRoom : length (set keys count key) ≡ mostPairs = length-set keys count key ∙ t .keyRoom in
       let valueRoom : length (set values count value) ≡ mostPairs = length-set values count value ∙ t .valueRoom in
       let size = length-given bound a (set keys count key) (set values count value) (count + 1) keyRoom valueRoom (omega arith) all in
@@ -51,20 +51,20 @@ module _ {first : ℕ} {table : Table} {nodes low high most : ℕ} {keys₀ valu
   module _ (l : leaf .count ≤ i) where
     pub gathered-end : leaf .link ≡ noLeaf → GatheredFrom first table nodes low high most leaves (gathered keys values count visited)
     gathered-end e =
-        let out = taking-end bound (a .here .held .sized) t l in
+        let out = taking-end bound (a .here .held) t l in
         along-stop bound a keys values count (t .keyRoom) (t .valueRoom) few (out .0)
         (stops-last high (most - count₀) leaf (range low high (most - count₀) (pairsIn leaf)) e)
 
     pub gathered-out : visited ≡ nodes → GatheredFrom first table nodes low high most leaves (gathered keys values count visited)
     gathered-out e =
-        let out = taking-end bound (a .here .held .sized) t l in
+        let out = taking-end bound (a .here .held) t l in
         along-out bound a keys values count (t .keyRoom) (t .valueRoom) few (out .0) e
 
     pub gathering-next : nodes ≤ nodeLimit mostBlocks → (leaf .link ≡ noLeaf → ⊥) → (visited ≡ nodes → ⊥) → (v : NodeValue) → Becomes v
         (table (leaf .link)) →
         Along first table nodes low high most keys values count (set leaves visited (leaf .link)) (visited + 1) v
     gathering-next limit e o v b =
-        let out = taking-end bound (a .here .held .sized) t l in
+        let out = taking-end bound (a .here .held) t l in
         let size = length-given bound a keys values count (t .keyRoom) (t .valueRoom) few (out .0) in
         along-next bound a keys values count (t .keyRoom) (t .valueRoom) few (out .0) limit (t .wanted) o
         (goes-on high (most - count₀) leaf (range low high (most - count₀) (pairsIn leaf)) (out .1) (omega (arith, t .wanted)) e) v b

@@ -1,19 +1,24 @@
--- The pairs of one leaf taken a key at a time: what is left of it from here gives what the whole leaf gives. Assumes nothing.
+-- The pairs of one leaf taken a key at a time, from the place of the low key on: what is left of it from here gives what the whole leaf gives. Assumes
+-- nothing.
 use mathlib.Core.Path.{_≡_, refl, sym, ap, ap₂, _∙_}
 use mathlib.Core.Bool.{true, false}
 use mathlib.Core.List.{List, [], _∷_, _++_, append-nil, append-assoc}
-use Prim.Native.Nat.{ℕ, suc, _+_, _-_, _≤_, _<_}
+use mathlib.Core.Logic.{_⊎_, inl, inr}
+use Prim.Native.Nat.{ℕ, zero, suc, _+_, _-_, _≤_, _<_}
 use native.Mathlib.Numerals.{add-one}
 use native.Mathlib.Omega.{arith}
 use borrow.Author.Tests.{lt-ltb, le-ltb}
 use lib.ListN.{length, getD, drop, set, length-set, drop-of-length-le}
 use lib.Seq.{drop-cons}
+use Rattle.laws.specs.Order.{le-or}
 use Rattle.pairs.specs.Pairs.{Pair, range, hasAbove}
 use Rattle.pairs.specs.Clauses.{range-zero, range-skip, range-stop, range-take}
 use Rattle.node.specs.declared.NodeValue.{NodeValue}
-use Rattle.node.specs.Search.{keyAt-getD, pointerAt-getD}
-use Rattle.node.specs.Value.{pairsIn, Sized, length-pairsIn, keyAt-pairsIn, pointerAt-pairsIn}
-use Rattle.layout.specs.Layout.{mostPairs}
+use Rattle.node.specs.declared.Found.{Found}
+use Rattle.node.specs.Search.{place, place-below, place-first, place-le-length, lt-place, keyAt-getD, pointerAt-getD}
+use Rattle.node.specs.Found.{found, placeOf, placeOf-found}
+use Rattle.node.specs.Value.{pairsIn, Sized, Held, length-pairsIn, keyAt-pairsIn, pointerAt-pairsIn}
+use Rattle.layout.specs.Layout.{mostPairs, bound32}
 use Rattle.run_scan.specs.Pairs.{listed, listed-more}
 
 -- The pair at a place of a node, in front of those behind it.
@@ -48,6 +53,7 @@ range-nil low high most = refl
 -- At place i of a leaf: pairs found before the leaf, and by now.
 pub record Taking (low high most : ℕ) (leaf : NodeValue) (keys₀ values₀ : List ℕ) (count₀ : ℕ) (keys values : List ℕ) (count i : ℕ) : Type 0 where
   pub inside : i ≤ leaf .count
+  pub from : place low (pairsIn leaf) ≤ i
   pub keyRoom : length keys ≡ mostPairs
   pub valueRoom : length values ≡ mostPairs
   pub wanted : count < most
@@ -56,13 +62,55 @@ pub record Taking (low high most : ℕ) (leaf : NodeValue) (keys₀ values₀ : 
       listed count₀ keys₀ values₀ ++ range low high (most - count₀) (pairsIn leaf)
   pub above : hasAbove high (drop i (pairsIn leaf)) ≡ hasAbove high (pairsIn leaf)
 
-pub taking-start : (low high most : ℕ) (leaf : NodeValue) (keys values : List ℕ) (count : ℕ) → length keys ≡ mostPairs → length values ≡ mostPairs →
-    count < most → Taking low high most leaf keys values count keys values count 0
-taking-start low high most leaf keys values count e f l =
-    record { inside = omega arith; keyRoom = e; valueRoom = f; wanted = l; since = omega arith; taken = refl; above = refl }
+-- The keys before the place of the low one count for nothing: none is taken, none is above the high one.
+range-from : (low high most : ℕ) (ps : List Pair) → range low high most (drop (place low ps) ps) ≡ range low high most ps
+unfolding place
+range-from low high zero ps = range-zero low high (drop (place low ps) ps) ∙ sym (range-zero low high ps)
+range-from low high (suc most) [] = refl
+range-from low high (suc most) (p ∷ ps) = go (le-or low (p .0)) (range-from low high (suc most) ps)
+  where
+    go :
+        (low ≤ p .0) ⊎ (p .0 < low) →
+        range low high (suc most) (drop (place low ps) ps) ≡ range low high (suc most) ps →
+        range low high (suc most) (drop (place low (p ∷ ps)) (p ∷ ps)) ≡ range low high (suc most) (p ∷ ps)
+    go (inl l) r = ap (λ (n : ℕ). range low high (suc most) (drop n (p ∷ ps))) (place-first low p ps l)
+    go (inr l) r =
+        ap (λ (n : ℕ). range low high (suc most) (drop n (p ∷ ps))) (place-below low p ps l) ∙ r ∙ sym (range-skip low high most p ps l)
+
+above-from : (low high : ℕ) (ps : List Pair) → low ≤ high → hasAbove high (drop (place low ps) ps) ≡ hasAbove high ps
+unfolding place
+above-from low high [] o = refl
+above-from low high (p ∷ ps) o = go (le-or low (p .0)) (above-from low high ps o)
+  where
+    go :
+        (low ≤ p .0) ⊎ (p .0 < low) →
+        hasAbove high (drop (place low ps) ps) ≡ hasAbove high ps →
+        hasAbove high (drop (place low (p ∷ ps)) (p ∷ ps)) ≡ hasAbove high (p ∷ ps)
+    go (inl l) r = ap (λ (n : ℕ). hasAbove high (drop n (p ∷ ps))) (place-first low p ps l)
+    go (inr l) r =
+        ap (λ (n : ℕ). hasAbove high (drop n (p ∷ ps))) (place-below low p ps l) ∙ r ∙ sym (hasAbove-below high p ps (omega arith))
+
+-- At the place that the search for the low key answers: a sweep rests on it (document 02, P3).
+pub taking-start : (low high most : ℕ) (leaf : NodeValue) (keys values : List ℕ) (count : ℕ) → low ≤ high → Held leaf →
+    length keys ≡ mostPairs → length values ≡ mostPairs → count < most → (r : Found) → r ≡ found low (pairsIn leaf) → (i : ℕ) → i ≡ placeOf r →
+    Taking low high most leaf keys values count keys values count i
+taking-start low high most leaf keys values count o h e f l r is i of =
+    let at : i ≡ place low (pairsIn leaf) = of ∙ ap placeOf is ∙ placeOf-found low (pairsIn leaf) in
+    record {
+      inside = omega (arith, place-le-length low (pairsIn leaf), length-pairsIn leaf (h .sized));
+      from = omega arith;
+      keyRoom = e;
+      valueRoom = f;
+      wanted = l;
+      since = omega arith;
+      taken =
+          ap (λ (ps : List Pair). listed count keys values ++ ps)
+          (ap (λ (n : ℕ). range low high (most - count) (drop n (pairsIn leaf))) at ∙ range-from low high (most - count) (pairsIn leaf));
+      above = ap (λ (n : ℕ). hasAbove high (drop n (pairsIn leaf))) at ∙ above-from low high (pairsIn leaf) o;
+    }
 
 module _ {low high most : ℕ} {leaf : NodeValue} {keys₀ values₀ : List ℕ} {count₀ : ℕ} {keys values : List ℕ} {count i : ℕ} (bound : most ≤ mostPairs)
-    (s : Sized leaf)
+    (h : Held leaf)
     (t : Taking low high most leaf keys₀ values₀ count₀ keys values count i) where
   abbrev key : ℕ
   key = getD (leaf .keys) i 0
@@ -79,29 +127,21 @@ module _ {low high most : ℕ} {leaf : NodeValue} {keys₀ values₀ : List ℕ}
   -- a pair of the leaf is left
   module _ (l : i < leaf .count) where
     from-here : (m : ℕ) → range low high m (drop i (pairsIn leaf)) ≡ range low high m ((key, value) ∷ drop (i + 1) (pairsIn leaf))
-    from-here m = ap (range low high m) (drop-pairsIn leaf s i l)
+    from-here m = ap (range low high m) (drop-pairsIn leaf (h .sized) i l)
 
     above-here : hasAbove high ((key, value) ∷ drop (i + 1) (pairsIn leaf)) ≡ hasAbove high (pairsIn leaf)
-    above-here = ap (hasAbove high) (sym (drop-pairsIn leaf s i l)) ∙ t .above
+    above-here = ap (hasAbove high) (sym (drop-pairsIn leaf (h .sized) i l)) ∙ t .above
 
-    -- its key is below the low one
-    pub taking-skip : low ≤ high → key < low → Taking low high most leaf keys₀ values₀ count₀ keys values count (i + 1)
-    taking-skip o b =
-        record {
-          inside = omega arith;
-          keyRoom = t .keyRoom;
-          valueRoom = t .valueRoom;
-          wanted = t .wanted;
-          since = t .since;
-          taken =
-              ap (λ (ps : List Pair). listed count keys values ++ ps)
-              (ap (λ (m : ℕ). range low high m (drop (i + 1) (pairsIn leaf))) more ∙
-              sym (range-skip low high (most - (count + 1)) (key, value) (drop (i + 1) (pairsIn leaf)) b) ∙
-              ap (λ (m : ℕ). range low high m ((key, value) ∷ drop (i + 1) (pairsIn leaf))) (sym more) ∙
-              sym (from-here (most - count))) ∙
-              t .taken;
-          above = sym (hasAbove-below high (key, value) (drop (i + 1) (pairsIn leaf)) (omega arith)) ∙ above-here;
-        }
+    -- its key is at or above the low one, since keys ascend
+    key-from : low ≤ key
+    key-from = go (le-or low key)
+      where
+        go : (low ≤ key) ⊎ (key < low) → low ≤ key
+        go (inl e) = e
+        go (inr e) =
+            let inside : i < length (pairsIn leaf) = omega (arith, length-pairsIn leaf (h .sized)) in
+            let below = lt-place low 0 bound32 (pairsIn leaf) i (h .ascending) inside (omega (arith, keyAt-pairsIn leaf (h .sized) i l)) in
+            absurd (omega (arith, t .from))
 
     -- it is above the high one: the leaf gives no more
     pub taking-high : low ≤ high → high < key → (listed count keys values ≡ all) × (hasAbove high (pairsIn leaf) ≡ true)
@@ -114,23 +154,25 @@ module _ {low high most : ℕ} {leaf : NodeValue} {keys₀ values₀ : List ℕ}
           sym above-here ∙ hasAbove-first high (key, value) (drop (i + 1) (pairsIn leaf)) b,
         )
 
-    -- it is in the range: one pair more
-    module _ (a : low ≤ key) (b : key ≤ high) where
+    -- it is at most the high one: one pair more
+    module _ (b : key ≤ high) where
       with-one : listed (count + 1) (set keys count key) (set values count value) ++ range low high (most - (count + 1)) (drop (i + 1) (pairsIn leaf)) ≡ all
       with-one =
           ap (λ (ps : List Pair). ps ++ range low high (most - (count + 1)) (drop (i + 1) (pairsIn leaf)))
           (listed-more count keys values (t .keyRoom) (t .valueRoom) key value (omega (arith, t .wanted))) ∙
           append-assoc (listed count keys values) ((key, value) ∷ []) (range low high (most - (count + 1)) (drop (i + 1) (pairsIn leaf))) ∙
           ap (λ (ps : List Pair). listed count keys values ++ ps)
-          (sym (range-take low high (most - (count + 1)) (key, value) (drop (i + 1) (pairsIn leaf)) a b) ∙
+          (sym (range-take low high (most - (count + 1)) (key, value) (drop (i + 1) (pairsIn leaf)) key-from b) ∙
           ap (λ (m : ℕ). range low high m ((key, value) ∷ drop (i + 1) (pairsIn leaf))) (sym more) ∙
           sym (from-here (most - count))) ∙
           t .taken
 
-      pub taking-more : (count + 1 ≡ most → ⊥) → Taking low high most leaf keys₀ values₀ count₀ (set keys count key) (set values count value) (count + 1) (i + 1)
+      pub taking-more : (count + 1 ≡ most → ⊥) →
+          Taking low high most leaf keys₀ values₀ count₀ (set keys count key) (set values count value) (count + 1) (i + 1)
       taking-more n =
           record {
             inside = omega arith;
+            from = omega (arith, t .from);
             keyRoom = length-set keys count key ∙ t .keyRoom;
             valueRoom = length-set values count value ∙ t .valueRoom;
             wanted = omega (arith, t .wanted);
@@ -151,7 +193,7 @@ module _ {low high most : ℕ} {leaf : NodeValue} {keys₀ values₀ : List ℕ}
   -- no pair of the leaf is left
   module _ (l : leaf .count ≤ i) where
     end : drop i (pairsIn leaf) ≡ []
-    end = drop-of-length-le (pairsIn leaf) {i = i} (omega (arith, length-pairsIn leaf s))
+    end = drop-of-length-le (pairsIn leaf) {i = i} (omega (arith, length-pairsIn leaf (h .sized)))
 
     pub taking-end : (listed count keys values ≡ all) × (hasAbove high (pairsIn leaf) ≡ false)
     taking-end =

@@ -39,7 +39,9 @@ module _ (s : List ℕ) (at : ℕ) (p : Pairs) (z : Sized p) (room : at + (3 + 8
       ap (λ (ps : List Pair). lay s (at + 3) (pairsBytes ps)) (sym more)
 
   -- all of them, and the head
-  pub laid-scan : i ≡ p .count → c ≡ lay b at (head scanTag (8 * i)) → (c ≡ lay s at (scanBytes (pairsOf p))) × (at + 3 + 8 * i ≡ at + length (scanBytes (pairsOf p)))
+  pub laid-scan :
+      i ≡ p .count → c ≡ lay b at (head scanTag (8 * i)) →
+      (c ≡ lay s at (scanBytes (pairsOf p))) × (at + 3 + 8 * i ≡ at + length (scanBytes (pairsOf p)))
   laid-scan l f =
       let whole : take i (pairsOf p) ≡ pairsOf p = take-all i (pairsOf p) (omega (arith, size)) in
       let many : i ≡ length (pairsOf p) = omega (arith, size) in (

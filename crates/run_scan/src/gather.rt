@@ -13,6 +13,8 @@ use flash_read::by_id::node_at;
 use layout::MOST_NODES;
 use layout::MOST_PAIRS;
 use layout::NO_LEAF;
+use node::search::find;
+use node::search::place_of;
 
 // The pairs, and how many leaves behind the first were gone to.
 pub struct Gathered {
@@ -20,8 +22,8 @@ pub struct Gathered {
     pub visited: usize,
 }
 
-// From a first leaf on; as many links are followed as there are nodes at most. The ids of the leaves behind the first are laid into `leaves`, in order:
-// they are lent, since a stack is small.
+// From a first leaf on, in each from the first key at or above the low one on; as many links are followed as there are nodes at most. The ids of the
+// leaves behind the first are laid into `leaves`, in order: they are lent, since a stack is small.
 pub fn gather<'a>(
     pool: &'a [u8],
     table: &'a [u8],
@@ -45,19 +47,17 @@ pub fn gather<'a>(
     'leaves: loop {
         let leaf_keys = leaf.keys;
         let leaf_values = leaf.pointers;
-        let mut i: usize = 0;
+        let mut i = place_of(find(leaf, low));
         'keys: while i < leaf.count {
             let key = leaf_keys[i];
             if high < key {
                 break 'leaves;
             }
-            if low <= key {
-                keys[count] = key;
-                values[count] = leaf_values[i];
-                count += 1;
-                if count == most {
-                    break 'leaves;
-                }
+            keys[count] = key;
+            values[count] = leaf_values[i];
+            count += 1;
+            if count == most {
+                break 'leaves;
             }
             i += 1;
         }
