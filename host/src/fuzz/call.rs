@@ -47,23 +47,21 @@ pub(super) fn refused_call(random: &mut Random, pool: &[u8], tally: &mut Tally) 
         }
         2 => call.table.truncate(random.below(table_bytes(pool.len()))),
         3 => call.batch = random_nonsense(random),
-        _ => {
-            let commands = random_askers(random);
-            let room = answer_room(&commands);
-            let any = random.below(room);
-            let lent = random.pick(&[room - 1, any]);
-            call = Call { batch: encode(&commands), answers: random.bytes(lent), ..call };
-        }
+        _ => call = short_of_room(random, call),
     }
     refused(call, number, tally)
 }
 
-/// Commands that ask for much room, for little and for none.
-fn random_askers(random: &mut Random) -> [Command; 5] {
+/// The call with commands that ask for much room, for little and for none, and with a byte less than that or fewer.
+fn short_of_room(random: &mut Random, call: Call) -> Call {
     let most = random.between(1, MAX_SCAN_PAIRS);
     let scan = Command::Scan { low: 5, high: random.next_u32() % 10, most };
     let ceiling = Command::Ceiling { key: random.next_u32() % 10 };
-    [Command::Panel { panel: 1 }, Command::Get { key: 1 }, Command::Panel { panel: 2 }, scan, ceiling]
+    let commands = [Command::Panel { panel: 1 }, Command::Get { key: 1 }, Command::Panel { panel: 2 }, scan, ceiling];
+    let room = answer_room(&commands);
+    let any = random.below(room);
+    let lent = random.pick(&[room - 1, any]);
+    Call { batch: encode(&commands), answers: random.bytes(lent), ..call }
 }
 
 /// Bytes that are no batch.
