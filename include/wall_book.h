@@ -16,8 +16,9 @@
  *                03 0004 key                delete    7
  *                04 000a low high most      scan      3 + 8 x most
  *                05 0001 panel              panel     no answer, 0 bytes
+ *                07 0004 key                ceiling   11
  *   answers   room for the sum of the last column, however short the answers turn out. Twenty bytes for each byte of
- *             commands are always enough; without a scan, as many as the commands have.
+ *             commands are always enough; without a scan, two.
  *
  * No two of these share a byte, `length` and `charges` included, and nobody else reads or writes them while a call
  * runs. A buffer of 0 bytes may be NULL: nothing is read or written through its pointer. `length` and `charges` may
@@ -25,6 +26,9 @@
  *
  * Command 05 names the panel that speaks: it is charged for the commands behind, up to the next 05 or the batch's end.
  * Every batch begins at panel 0. Nothing else depends on it: pool and answers are those of the batch without its 05s.
+ *
+ * Command 07 asks for the key, or the nearest above it: 87 0008 key value, or 80 0000 where none is at or above. It
+ * reads the nodes that a scan from the key to ffffffff for one pair reads.
  *
  * Nothing is kept between calls and the library has no data of its own: pools may be used by turns, and several at once
  * from several threads, each with buffers of its own.

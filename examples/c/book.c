@@ -63,6 +63,13 @@ static void lay_panel(uint32_t panel)
     lay(panel, 1);
 }
 
+/* Asks for the key, or the nearest above it. */
+static void lay_ceiling(uint32_t key)
+{
+    lay_head(0x07, 4);
+    lay(key, 4);
+}
+
 /* A number read back from an answer. */
 static uint32_t number(const uint8_t *at, int bytes)
 {
@@ -109,11 +116,11 @@ static int print_refused(uint32_t refused)
     return refused != WALL_BOOK_DONE;
 }
 
+/* Prints the pairs of a payload, and ends the line. */
 static void print_pairs(const uint8_t *payload, uint32_t length)
 {
     uint32_t at;
 
-    printf("  %u pairs:", (unsigned)length / 8);
     for (at = 0; at < length; at += 8)
         printf(" %u=%u", (unsigned)number(payload + at, 4), (unsigned)number(payload + at + 4, 4));
     printf("\n");
@@ -139,6 +146,11 @@ static const uint8_t *print_answer(const uint8_t *answer)
         printf("  deleted %u\n", (unsigned)number(payload, 4));
         break;
     case 0x84:
+        printf("  %u pairs:", (unsigned)length / 8);
+        print_pairs(payload, length);
+        break;
+    case 0x87:
+        printf("  ceiling");
         print_pairs(payload, length);
         break;
     case 0x8f:
@@ -275,6 +287,9 @@ static int go_on(const char *name)
     lay_delete(9);
     lay_get(9);
     run("reopened: get and scan of panel 3, delete and get of panel 12", sizeof answers);
+    lay_ceiling(1);
+    lay_ceiling(9);
+    run("ceilings of 1 and 9", sizeof answers);
     run_empty();
     meet_refusals();
     fill();

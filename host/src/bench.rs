@@ -63,7 +63,8 @@ pub const SECTIONS: &[Section] = &[
         name: "longest",
         title: "The longest calls known, in milliseconds",
         how: "Thread time, both books by turns, the shortest of a few rounds: a pool of 64 blocks in log mode with \
-              nearly as many leaves as fit, all emptied by deletes, and as many scans of all keys as a batch holds.",
+              nearly as many leaves as fit, all emptied by deletes, and as many scans of all keys, or ceilings of key \
+              0, as a batch holds.",
         rows: longest::rows,
     },
     Section {

@@ -5,17 +5,18 @@ use crate::node::Pair;
 use crate::wire::{
     next_field, put_head, Field, Numbers, FIELD_HEAD, NUMBER_BYTES, PAIR_BYTES, PANEL_BYTES, SCAN_BYTES,
 };
-use crate::wire::{TAG_DELETE, TAG_GET, TAG_PANEL, TAG_PUT, TAG_SCAN};
+use crate::wire::{TAG_CEILING, TAG_DELETE, TAG_GET, TAG_PANEL, TAG_PUT, TAG_SCAN};
 
 const TAG_ABSENT: u8 = 0x80;
 const TAG_GOT: u8 = 0x81;
 const TAG_REPLACED: u8 = 0x82;
 const TAG_DELETED: u8 = 0x83;
 const TAG_PAIRS: u8 = 0x84;
+const TAG_CEILING_PAIR: u8 = 0x87;
 const TAG_REFUSED: u8 = 0x8F;
 
-/// A command: look up, hang, strip and sweep of document 01; and document 02's naming of the panel that speaks from
-/// there on, which is charged for the commands behind it.
+/// A command: look up, hang, strip and sweep of document 01; and of document 02 the naming of the panel that speaks
+/// from there on, which is charged for the commands behind it, and the next route up: the key or the nearest above it.
 #[derive(Clone, Copy, PartialEq, Eq, Debug)]
 pub enum Command {
     Get { key: u32 },
@@ -23,6 +24,7 @@ pub enum Command {
     Delete { key: u32 },
     Scan { low: u32, high: u32, most: usize },
     Panel { panel: usize },
+    Ceiling { key: u32 },
 }
 
 /// Reads a batch, if it is within its length and made wholly of valid commands (question 3).
@@ -69,6 +71,7 @@ impl Command {
                 let panel = usize::from(numbers.u8());
                 (panel < PANELS).then_some(Command::Panel { panel })
             }
+            TAG_CEILING => Some(Command::Ceiling { key: numbers.u32() }),
             _ => None,
         }
     }
@@ -82,6 +85,7 @@ impl Command {
         match *self {
             Command::Panel { .. } => 0,
             Command::Scan { most, .. } => FIELD_HEAD + PAIR_BYTES * most,
+            Command::Ceiling { .. } => FIELD_HEAD + PAIR_BYTES,
             _ => FIELD_HEAD + NUMBER_BYTES,
         }
     }
@@ -101,6 +105,7 @@ impl Command {
                 put_head(out, TAG_PANEL, PANEL_BYTES);
                 out.push(panel as u8);
             }
+            Command::Ceiling { key } => put_numbers(out, TAG_CEILING, &[key]),
         }
     }
 }
@@ -108,12 +113,13 @@ impl Command {
 /// An answer to one command.
 #[derive(Clone, PartialEq, Eq, Debug)]
 pub enum Answer {
-    /// No such key; for a put, that it was not there before.
+    /// No such key; for a put, that it was not there before; for a ceiling, that none is at or above.
     Absent,
     Got(u32),
     Replaced(u32),
     Deleted(u32),
     Pairs(Vec<Pair>),
+    Ceiling(Pair),
     Refused(u8),
 }
 
@@ -132,6 +138,7 @@ impl Answer {
                     out.extend(pair.pointer.to_be_bytes());
                 }
             }
+            Answer::Ceiling(pair) => put_numbers(out, TAG_CEILING_PAIR, &[pair.key, pair.pointer]),
             Answer::Refused(number) => out.extend([TAG_REFUSED, 0, 1, *number]),
         }
     }
@@ -145,16 +152,19 @@ impl Answer {
             TAG_GOT => value().map(Answer::Got),
             TAG_REPLACED => value().map(Answer::Replaced),
             TAG_DELETED => value().map(Answer::Deleted),
-            TAG_PAIRS => {
-                let (pairs, rest) = payload.as_chunks::<PAIR_BYTES>();
-                let pair = |mut numbers: Numbers<'_>| Pair { key: numbers.u32(), pointer: numbers.u32() };
-                let pairs = pairs.iter().map(|bytes| pair(Numbers(bytes))).collect();
-                rest.is_empty().then_some(Answer::Pairs(pairs))
-            }
+            TAG_PAIRS => pairs_of(payload).map(Answer::Pairs),
+            TAG_CEILING_PAIR => <[Pair; 1]>::try_from(pairs_of(payload)?).ok().map(|[pair]| Answer::Ceiling(pair)),
             TAG_REFUSED => <[u8; 1]>::try_from(payload).ok().map(|[number]| Answer::Refused(number)),
             _ => None,
         }
     }
+}
+
+/// Reads pairs one behind the other; nothing if they are not whole pairs.
+fn pairs_of(payload: &[u8]) -> Option<Vec<Pair>> {
+    let (pairs, rest) = payload.as_chunks::<PAIR_BYTES>();
+    let pair = |mut numbers: Numbers<'_>| Pair { key: numbers.u32(), pointer: numbers.u32() };
+    rest.is_empty().then(|| pairs.iter().map(|bytes| pair(Numbers(bytes))).collect())
 }
 
 /// Reads answers one behind the other; nothing if they are not whole answers.
@@ -205,9 +215,10 @@ mod tests {
             Command::Delete { key: 0x0102_0304 },
             Command::Scan { low: 9, high: 3, most: 32 },
             Command::Panel { panel: 15 },
+            Command::Ceiling { key: 0xFFFF_FFFF },
         ];
         assert_eq!(parse(&encode(&commands)), Some(commands.clone()));
-        assert_eq!(answer_room(&commands), 7 + 7 + 7 + 3 + 8 * 32);
+        assert_eq!(answer_room(&commands), 7 + 7 + 7 + 3 + 8 * 32 + 11);
     }
 
     #[test]
@@ -219,10 +230,19 @@ mod tests {
             Answer::Deleted(0),
             Answer::Pairs(vec![]),
             Answer::Pairs(vec![Pair { key: 3, pointer: 4 }, Pair { key: 5, pointer: 6 }]),
+            Answer::Ceiling(Pair { key: u32::MAX, pointer: 1 }),
             Answer::Refused(9),
         ];
         assert_eq!(parse_answers(&encode_answers(&answers)), Some(answers));
-        for wrong in [&[0x81, 0, 3, 1, 2, 3][..], &[0x80, 0, 1, 0], &[0x84, 0, 7, 0, 0, 0, 0, 0, 0, 0], &[0x85, 0, 0]] {
+        for wrong in [
+            &[0x81, 0, 3, 1, 2, 3][..],
+            &[0x80, 0, 1, 0],
+            &[0x84, 0, 7, 0, 0, 0, 0, 0, 0, 0],
+            &[0x85, 0, 0],
+            &[0x87, 0, 0],
+            &[0x87, 0, 9, 0, 0, 0, 0, 0, 0, 0, 0, 0],
+            &[0x87, 0, 16, 0, 0, 0, 0, 0, 0, 0, 0, 0, 0, 0, 0, 0, 0, 0, 0],
+        ] {
             assert_eq!(parse_answers(wrong), None, "{wrong:?}");
         }
     }
@@ -240,6 +260,10 @@ mod tests {
         let panel = |panel| encode(&[Command::Panel { panel }]);
         assert!(parse(&panel(PANELS - 1)).is_some());
         assert!(parse(&panel(PANELS)).is_none());
+        assert!(parse(&[0x07, 0, 4, 0, 0, 0, 1]).is_some());
+        for wrong in [&[0x07, 0, 0][..], &[0x07, 0, 3, 0, 0, 1], &[0x06, 0, 4, 0, 0, 0, 1], &[0x08, 0, 0]] {
+            assert!(parse(wrong).is_none(), "{wrong:?}");
+        }
         let longest = vec![Command::Get { key: 0 }; MAX_BATCH_BYTES / 7];
         assert!(parse(&encode(&longest)).is_some());
         let too_long = vec![Command::Get { key: 0 }; MAX_BATCH_BYTES / 7 + 1];

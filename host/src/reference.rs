@@ -3,6 +3,10 @@
 //! It never sees a page. Shared with the book are the commands, the tree over a table of nodes
 //! (`tree::plan`) and the account of a node; pages, versions, allocation and mounting are not.
 
+mod ceilings;
+
+pub use ceilings::Ceilings;
+
 use crate::account::{Account, Request, Tariff};
 use crate::command::{Answer, Command};
 use crate::layout::PANELS;
@@ -40,6 +44,7 @@ pub struct Run {
     pub lines: Vec<Line>,
     /// Puts refused although some ids were unused, only too few.
     pub too_few_ids: u64,
+    pub ceilings: Ceilings,
 }
 
 impl Ledger {
@@ -55,6 +60,9 @@ impl Ledger {
         for (panel, command) in by_panel(commands) {
             let answer = tree::plan(&self.nodes, self.limit, command, &mut steps);
             run.too_few_ids += u64::from(matches!(answer, Some(Answer::Refused(_))) && self.nodes.len() < self.limit);
+            if let Command::Ceiling { key } = *command {
+                run.ceilings.count(key, answer.as_ref(), &steps, &self.nodes);
+            }
             run.answers.extend(answer);
             for step in steps.drain(..) {
                 if let Some(line) = self.step(&step) {

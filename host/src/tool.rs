@@ -5,6 +5,7 @@
 
 mod answer;
 mod bench;
+mod ceiling;
 mod check;
 mod csv;
 mod delete;
@@ -51,8 +52,8 @@ pub struct Verb {
 /// All verbs, in the order of the help.
 #[rustfmt::skip]
 pub const VERBS: &[Verb] = &[
-    prepare::VERB, get::VERB, put::VERB, delete::VERB, scan::VERB, import::VERB, export::VERB, run::VERB,
-    check::VERB, stats::VERB, show::VERB, page::VERB, node::VERB, diff::VERB, salvage::VERB,
+    prepare::VERB, get::VERB, put::VERB, delete::VERB, scan::VERB, ceiling::VERB, import::VERB, export::VERB,
+    run::VERB, check::VERB, stats::VERB, show::VERB, page::VERB, node::VERB, diff::VERB, salvage::VERB,
     picture::VERB, bench::VERB,
 ];
 
@@ -167,7 +168,7 @@ mod tests {
             for verb in ["check", "stats", "show", "node", "salvage", "export"] {
                 assert!(said(&[verb, &name]).status < 2, "{verb}");
             }
-            for verb in ["page", "get", "node", "delete"] {
+            for verb in ["page", "get", "ceiling", "node", "delete"] {
                 said(&[verb, &name, &random.below(8).to_string()]);
             }
             assert!(said(&["diff", &name, &other]).status < 2);

@@ -49,6 +49,7 @@ pub fn plan(nodes: &[Node], limit: usize, command: &Command, steps: &mut Vec<Ste
         Command::Delete { key } => plan_delete(nodes, key, steps),
         Command::Scan { low, high, .. } if low > high => Answer::Pairs(Vec::new()),
         Command::Scan { low, high, most } => Answer::Pairs(plan_scan(nodes, low, high, most, steps)),
+        Command::Ceiling { key } => plan_ceiling(nodes, key, steps),
         Command::Panel { .. } => return None,
     })
 }
@@ -93,6 +94,11 @@ fn plan_scan(nodes: &[Node], low: u32, high: u32, most: usize, steps: &mut Vec<S
         steps.push(Step { id, work: Work::Read });
     }
     found
+}
+
+/// Reads as a scan for one pair from the key on, with no end.
+fn plan_ceiling(nodes: &[Node], key: u32, steps: &mut Vec<Step>) -> Answer {
+    plan_scan(nodes, key, u32::MAX, 1, steps).pop().map_or(Answer::Absent, Answer::Ceiling)
 }
 
 fn plan_put(nodes: &[Node], limit: usize, pair: Pair, steps: &mut Vec<Step>) -> Answer {
@@ -247,6 +253,24 @@ mod tests {
         assert_eq!(reads(0, 4, 5), [0, 2], "stopped by the count at a leaf's end");
         assert_eq!(reads(4, 3, MAX_SCAN_PAIRS), [0; 0], "low above high reads nothing");
         assert_eq!(reads(5, 100, MAX_SCAN_PAIRS), [0, 1]);
+    }
+
+    #[test]
+    fn ceilings_read_on_until_there_is_a_key() {
+        // The leaves by their keys: node 3, node 1, which has none, and node 2.
+        let nodes = vec![branch(&[(5, 3), (9, 1)], 2), leaf(5..5, 2), leaf(20..22, NO_LINK), leaf(2..4, 1)];
+        assert_eq!(check(&nodes), Ok(()));
+        let ceiling = |key| {
+            let mut steps = Vec::new();
+            let answer = plan(&nodes, 20, &Command::Ceiling { key }, &mut steps);
+            (answer, steps.iter().map(|step| step.id).collect::<Vec<_>>())
+        };
+        let found = |key| Some(Answer::Ceiling(Pair { key, pointer: 0 }));
+        assert_eq!(ceiling(0), (found(2), vec![0, 3]));
+        assert_eq!(ceiling(3), (found(3), vec![0, 3]), "the key itself");
+        assert_eq!(ceiling(4), (found(20), vec![0, 3, 1, 2]), "through a leaf without a key");
+        assert_eq!(ceiling(5), (found(20), vec![0, 1, 2]), "from a leaf without a key");
+        assert_eq!(ceiling(22), (Some(Answer::Absent), vec![0, 2]), "there is no leaf behind the last");
     }
 
     /// A tree of full leaves below branches with so many keys, level by level from the root; ids by level.

@@ -8,6 +8,7 @@ pub const TAG_PUT: u8 = 0x02;
 pub const TAG_DELETE: u8 = 0x03;
 pub const TAG_SCAN: u8 = 0x04;
 pub const TAG_PANEL: u8 = 0x05;
+pub const TAG_CEILING: u8 = 0x07;
 /// Tags of page fields.
 pub const TAG_SEQUENCE: u8 = 0x10;
 pub const TAG_NODE: u8 = 0x11;
@@ -55,6 +56,7 @@ const LENGTHS: [Length; 256] = {
     table[TAG_DELETE as usize] = Length::Exactly(NUMBER_BYTES);
     table[TAG_SCAN as usize] = Length::Exactly(SCAN_BYTES);
     table[TAG_PANEL as usize] = Length::Exactly(PANEL_BYTES);
+    table[TAG_CEILING as usize] = Length::Exactly(NUMBER_BYTES);
     table[TAG_SEQUENCE as usize] = Length::Exactly(SEQUENCE_BYTES);
     table[TAG_NODE as usize] = Length::NodePage;
     table[TAG_ENTRY as usize] = Length::Exactly(ENTRY_BYTES);

@@ -35,11 +35,11 @@ static size_t lay(size_t at, uint32_t value, int bytes)
     return at;
 }
 
-/* One command of tag 1 to 5 at a place: mostly puts, so that the tree grows. Answers the place behind it. */
+/* One command of tag 1 to 5 or 7 at a place: mostly puts, so that the tree grows. Answers the place behind it. */
 static size_t lay_command(size_t at, uint32_t keys)
 {
-    static const uint8_t lengths[] = {0, 4, 8, 4, 10, 1};
-    static const uint8_t tags[] = {1, 2, 2, 2, 2, 3, 4, 5};
+    static const uint8_t lengths[] = {0, 4, 8, 4, 10, 1, 0, 4};
+    static const uint8_t tags[] = {1, 2, 2, 2, 2, 3, 4, 5, 7};
     uint32_t tag = tags[below(sizeof tags)];
 
     at = lay(lay(at, tag, 1), lengths[tag], 2);

@@ -9,7 +9,7 @@ use crate::layout::{
 };
 use crate::random::Random;
 use crate::refusal::Refusal;
-use crate::wire::TAG_PANEL;
+use crate::wire::{TAG_CEILING, TAG_PANEL};
 
 /// A call with buffers that are long enough, by nothing or by some bytes, and have anything in them.
 pub(super) fn random_call(random: &mut Random, pool: Vec<u8>, batch: Vec<u8>) -> Call {
@@ -47,24 +47,30 @@ pub(super) fn refused_call(random: &mut Random, pool: &[u8], tally: &mut Tally) 
         }
         2 => call.table.truncate(random.below(table_bytes(pool.len()))),
         3 => call.batch = random_nonsense(random),
-        _ => {
-            let most = random.between(1, MAX_SCAN_PAIRS);
-            let scan = Command::Scan { low: 5, high: random.next_u32() % 10, most };
-            let commands = [Command::Panel { panel: 1 }, Command::Get { key: 1 }, Command::Panel { panel: 2 }, scan];
-            call.batch = encode(&commands);
-            call.answers.truncate(random.below(answer_room(&commands)));
-        }
+        _ => call = short_of_room(random, call),
     }
     refused(call, number, tally)
+}
+
+/// The call with commands that ask for much room, for little and for none, and with a byte less than that or fewer.
+fn short_of_room(random: &mut Random, call: Call) -> Call {
+    let most = random.between(1, MAX_SCAN_PAIRS);
+    let scan = Command::Scan { low: 5, high: random.next_u32() % 10, most };
+    let ceiling = Command::Ceiling { key: random.next_u32() % 10 };
+    let commands = [Command::Panel { panel: 1 }, Command::Get { key: 1 }, Command::Panel { panel: 2 }, scan, ceiling];
+    let room = answer_room(&commands);
+    let any = random.below(room);
+    let lent = random.pick(&[room - 1, any]);
+    Call { batch: encode(&commands), answers: random.bytes(lent), ..call }
 }
 
 /// Bytes that are no batch.
 fn random_nonsense(random: &mut Random) -> Vec<u8> {
     let mut batch = encode(&[Command::Get { key: 1 }, Command::Put { key: 2, value: 3 }]);
-    match random.below(7) {
+    match random.below(8) {
         0 => batch.truncate(random.between(1, 6)),
         1 => batch.push(1),
-        2 => batch[0] = random.pick(&[0, 5, 0x10, 0x12, 0x1F, 0x80, 0x84, 0xFF]),
+        2 => batch[0] = random.pick(&[0, 5, 6, 8, 0x10, 0x12, 0x1F, 0x80, 0x84, 0x87, 0xFF]),
         3 => batch[2] = random.pick(&[0, 3, 5, 10]),
         4 => batch.extend(encode(&[Command::Scan {
             low: 9,
@@ -72,6 +78,7 @@ fn random_nonsense(random: &mut Random) -> Vec<u8> {
             most: random.pick(&[0, MAX_SCAN_PAIRS + 1, 0x100, 0xFFFF]),
         }])),
         5 => batch.extend(wrong_panel(random)),
+        6 => batch.extend(wrong_ceiling(random)),
         _ => batch = encode(&vec![Command::Delete { key: 5 }; MAX_BATCH_BYTES / 7 + 1]),
     }
     batch
@@ -83,6 +90,14 @@ fn wrong_panel(random: &mut Random) -> Vec<u8> {
     let next = [0, 1, PANELS as u8];
     let rest = random.pick(&[&above[..], &next, &[0, 0], &[0, 2, 0, 0], &[1, 1, 0], &[0, 1], &[]]);
     [&[TAG_PANEL], rest].concat()
+}
+
+/// A ceiling of another length, or cut short.
+fn wrong_ceiling(random: &mut Random) -> Vec<u8> {
+    let length = random.pick(&[0, 3, 5, 8, 10]);
+    let other = [&[0, length][..], &vec![0; usize::from(length)]].concat();
+    let rest = random.pick(&[&other[..], &[1, 4, 0, 0, 0, 0], &[0, 4, 0, 0, 0], &[0, 4], &[]]);
+    [&[TAG_CEILING], rest].concat()
 }
 
 /// Makes prepares that questions 10 and 1 refuse.

@@ -150,6 +150,7 @@ impl CheckedPool {
         self.check_pool()?;
         self.check_charges(&run, tally)?;
         tally.too_few_ids += run.too_few_ids;
+        tally.ceilings.add(&run.ceilings);
         tally.of_several_panels += u64::from(outcome.panels_charged() > 1);
         self.count(tally, commands, &seen, nodes_before);
         Ok(())
@@ -254,6 +255,9 @@ fn answer_of_map(map: &mut BTreeMap<u32, u32>, command: Command) -> Option<Answe
         Command::Scan { low, high, .. } if low > high => Answer::Pairs(Vec::new()),
         Command::Scan { low, high, most } => {
             Answer::Pairs(map.range(low..=high).take(most).map(|(&key, &pointer)| Pair { key, pointer }).collect())
+        }
+        Command::Ceiling { key } => {
+            map.range(key..).next().map_or(Answer::Absent, |(&key, &pointer)| Answer::Ceiling(Pair { key, pointer }))
         }
         Command::Panel { .. } => return None,
     })

@@ -52,7 +52,8 @@ impl Chooser<'_> {
                 Command::Put { key, value: self.style.value(random) }
             }
             Some(2) => Command::Delete { key: self.likely_key(random) },
-            _ => self.scan(random),
+            Some(3) => self.scan(random),
+            _ => self.ceiling(random),
         }
     }
 
@@ -66,6 +67,14 @@ impl Chooser<'_> {
             1 => Command::Scan { low, high: low, most },
             _ => Command::Scan { low, high, most },
         }
+    }
+
+    /// A ceiling of a likely key, of the next one, of one above all that are there, or of the greatest there can be.
+    fn ceiling(&self, random: &mut Random) -> Command {
+        let likely = self.likely_key(random);
+        let next = likely.saturating_add(1);
+        let above_all = self.map.last_key_value().map_or(0, |(key, _)| key.saturating_add(1));
+        Command::Ceiling { key: random.pick(&[likely, likely, likely, next, next, above_all, u32::MAX]) }
     }
 
     /// A key that is there, mostly, or one beside it.

@@ -5,8 +5,8 @@ use crate::random::Random;
 /// The keys, the shares of the commands, how often a panel is named, and the length of batches.
 pub(super) struct CommandStyle {
     pub keys: Keys,
-    /// Shares of gets, puts, deletes and scans.
-    pub shares: [usize; 4],
+    /// Shares of gets, puts, deletes, scans and ceilings.
+    pub shares: [usize; 5],
     /// One command in so many names a panel.
     pub turns: usize,
     pub longest: usize,
@@ -39,13 +39,14 @@ impl CommandStyle {
             _ => Keys::Below(u32::MAX),
         };
         let shares = random.pick(&[
-            [1, 8, 1, 1],
-            [1, 3, 3, 1],
-            [8, 2, 1, 1],
-            [0, 1, 0, 0],
-            [2, 2, 2, 4],
-            [1, 5, 4, 0],
-            [9, 1, 0, 0],
+            [1, 8, 1, 1, 1],
+            [1, 3, 3, 1, 1],
+            [8, 2, 1, 1, 1],
+            [0, 1, 0, 0, 0],
+            [2, 2, 2, 4, 1],
+            [1, 5, 4, 0, 0],
+            [9, 1, 0, 0, 0],
+            [0, 2, 4, 0, 4],
         ]);
         let turns = random.pick(&[2, 6, 30]);
         let longest = random.pick(&[3, 40, 300, 300, 1200]);
@@ -54,7 +55,7 @@ impl CommandStyle {
 
     /// Puts alone but for panels, in long batches, of the same keys.
     pub fn only_puts(&self) -> CommandStyle {
-        CommandStyle { shares: [0, 1, 0, 0], longest: 1200, ..*self }
+        CommandStyle { shares: [0, 1, 0, 0, 0], longest: 1200, ..*self }
     }
 
     /// The same commands, but of the greatest keys and values.

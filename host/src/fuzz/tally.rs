@@ -5,6 +5,7 @@ use std::collections::BTreeMap;
 use crate::audit::Seen;
 use crate::books::by_name;
 use crate::foreign::flaw::FLAWS;
+use crate::reference::Ceilings;
 
 /// How often each thing was exercised.
 #[derive(Clone, Debug, Default)]
@@ -20,6 +21,7 @@ pub struct Tally {
     pub root_splits: u64,
     pub keys_deleted: u64,
     pub scans: u64,
+    pub ceilings: Ceilings,
     /// Commands that name a panel.
     pub panels: u64,
     /// Batches in which more than one panel was charged.
@@ -63,7 +65,7 @@ impl Tally {
         lines
     }
 
-    fn plain_lines(&self) -> [(&'static str, u64); 34] {
+    fn plain_lines(&self) -> [(&'static str, u64); 39] {
         [
             ("cases", self.cases),
             ("batches accepted", self.batches),
@@ -77,6 +79,11 @@ impl Tally {
             ("of these with some ids unused", self.too_few_ids),
             ("keys deleted", self.keys_deleted),
             ("scans", self.scans),
+            ("ceilings", self.ceilings.all),
+            ("of these equal", self.ceilings.equal),
+            ("of these in a later leaf than the key's own", self.ceilings.in_later_leaf),
+            ("of these through an empty leaf", self.ceilings.through_empty_leaf),
+            ("of these none at or above", self.ceilings.none),
             ("panels named", self.panels),
             ("batches that charge several panels", self.of_several_panels),
             ("switches to disk", self.seen.switches_to_disk),

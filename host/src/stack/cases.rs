@@ -22,7 +22,10 @@ pub struct Case {
 pub const CASES: [Case; 4] = [
     Case { name: "prepare, 4 and 64 blocks", run: prepares },
     Case { name: "batch refused with 7: 4 blocks, a leftmost path of eight branches", run: left_paths },
-    Case { name: "batch of gets, puts, deletes and scans: 64 blocks, nine levels in log mode", run: deep_trees },
+    Case {
+        name: "batch of gets, puts, deletes, scans and ceilings: 64 blocks, nine levels in log mode",
+        run: deep_trees,
+    },
     Case { name: "batches at random: 2,000 on 200 pools", run: random_batches },
 ];
 
@@ -95,7 +98,7 @@ fn nodes_created(ledger: &Ledger, command: &Command) -> usize {
     steps.iter().filter(|step| matches!(step.work, Work::Create(_))).count()
 }
 
-/// The put first; then at every twentieth key a get, a put beside it, a delete and a scan to the next.
+/// The put first; then at every twentieth key a get, a put beside it, a delete, a scan to the next and a ceiling.
 fn deep_commands(ledger: &Ledger, put: Command) -> Vec<Command> {
     let pairs = tree::pairs(&ledger.nodes);
     let commands = |keys: &[u32]| {
@@ -105,6 +108,7 @@ fn deep_commands(ledger: &Ledger, put: Command) -> Vec<Command> {
             Command::Put { key: key.wrapping_add(1), value: 2 },
             Command::Delete { key },
             Command::Scan { low: key, high, most: MAX_SCAN_PAIRS },
+            Command::Ceiling { key },
         ]
     };
     let keys: Vec<u32> = pairs.iter().step_by(20).map(|pair| pair.key).collect();

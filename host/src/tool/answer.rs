@@ -4,12 +4,13 @@ use super::pool::Pool;
 use super::words::Options;
 use super::{Said, Stop};
 use crate::command::{Answer, Command};
+use crate::node::Pair;
 use crate::refusal::words;
 
 /// What an answer says to its command, and whether it is a no.
 pub(super) fn spoken(command: &Command, answer: &Answer) -> (String, bool) {
     let text = match (command, answer) {
-        (Command::Get { key }, Answer::Got(value)) => format!("key {key} has value {value}"),
+        (Command::Get { key }, Answer::Got(value)) => has_value(&Pair { key: *key, pointer: *value }),
         (Command::Put { key, value }, Answer::Absent) => format!("key {key} is new, with value {value}"),
         (Command::Put { key, value }, Answer::Replaced(old)) => format!("key {key} has value {value}, before {old}"),
         (Command::Delete { key }, Answer::Deleted(old)) => format!("key {key} is deleted, its value was {old}"),
@@ -23,9 +24,16 @@ pub(super) fn spoken(command: &Command, answer: &Answer) -> (String, bool) {
             let pairs: String = pairs.iter().map(|pair| format!("\n{},{}", pair.key, pair.pointer)).collect();
             format!("keys {low} to {high}:{}", if pairs.is_empty() { " none" } else { &pairs })
         }
+        (Command::Ceiling { key }, Answer::Ceiling(pair)) if pair.key == *key => has_value(pair),
+        (Command::Ceiling { key }, Answer::Ceiling(pair)) => format!("{}, the nearest above {key}", has_value(pair)),
+        (Command::Ceiling { key }, Answer::Absent) => return (format!("no key is at or above {key}"), true),
         _ => return (format!("{answer:?} is no answer to {command:?}"), true),
     };
     (text, false)
+}
+
+fn has_value(pair: &Pair) -> String {
+    format!("key {} has value {}", pair.key, pair.pointer)
 }
 
 /// Runs one command as a batch of its own, and says its answer and its charge.

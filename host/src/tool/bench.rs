@@ -20,10 +20,11 @@ const ROUNDS: usize = 20;
 pub(super) const VERB: Verb = Verb {
     name: "bench",
     words: "FILE",
-    about: "how long an empty batch, a get, a put and a scan take on a pool",
+    about: "how long an empty batch, a get, a put, a scan and a ceiling take on a pool",
     more: "Microseconds of processor time. Each batch runs 20 times on a copy of the pool, and the shortest counts.\n\
-           A get, a put of the value that is there and a scan for 32 pairs are a batch of 1,000 at keys taken at\n\
-           random, less an empty batch, divided. The program `bench` times both books on pools of its own.",
+           A get, a put of the value that is there, a scan for 32 pairs and a ceiling of the next number are a batch\n\
+           of 1,000 at keys taken at random, less an empty batch, divided. The program `bench` times both books on\n\
+           pools of its own.",
     options: &["--book"],
     run,
 };
@@ -52,10 +53,11 @@ fn run(words: &mut Words<'_>, options: &Options) -> Result<Said, Stop> {
 /// A kind of command, by its name: one at a key that is there.
 type Kind = (&'static str, fn(&Pair) -> Command);
 
-const KINDS: [Kind; 3] = [
+const KINDS: [Kind; 4] = [
     ("get", |pair| Command::Get { key: pair.key }),
     ("put", |pair| Command::Put { key: pair.key, value: pair.pointer }),
     ("scan", |pair| Command::Scan { low: pair.key, high: u32::MAX, most: MAX_SCAN_PAIRS }),
+    ("ceiling", |pair| Command::Ceiling { key: pair.key.saturating_add(1) }),
 ];
 
 /// As many pairs as a batch has commands, the same in every run.
@@ -99,7 +101,7 @@ mod tests {
         assert_eq!(std::fs::read(&pool).expect("is there"), before);
         let mut lines = lines.lines();
         assert!(lines.next().is_some_and(|line| line.ends_with(": 1 key")));
-        for what in ["empty batch", "get", "put", "scan"] {
+        for what in ["empty batch", "get", "put", "scan", "ceiling"] {
             let line = lines.next().unwrap_or_default();
             let time = line.strip_prefix(what).and_then(|rest| rest.trim().parse::<f64>().ok());
             assert!(time.is_some_and(|time| (0.0..1e6).contains(&time)), "{what}: {line}");

@@ -67,6 +67,10 @@ mod tests {
         assert_eq!(text(&["run", &pool, batch]), WORKED);
         assert_eq!(text(&["run", &pool, "04000a00000009000000030001"]), "keys 9 to 3: none\ncharge 0\n");
         assert_eq!(text(&["run", &pool, "-"]), "charge 0\n");
+        assert_eq!(text(&["run", &pool, "07000400000007"]), "no key is at or above 7\ncharge 4\n");
+        let batch = "0200080000000700000064 07000400000007 07000400000003";
+        let words = "key 7 is new, with value 100\nkey 7 has value 100\nkey 7 has value 100, the nearest above 3\n";
+        assert!(text(&["run", &pool, &batch.replace(' ', "")]).starts_with(words));
         let refused = said(&["run", &pool, "05"]);
         assert!(refused.status == 1 && refused.note.contains("refused with 3: the batch is over"), "{refused:?}");
         for (hex, why) in [("0x", "character 2 is none"), ("000", "3 digits are half a byte too many")] {

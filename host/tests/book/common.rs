@@ -3,9 +3,9 @@
 use yokehour_host::book::Outcome;
 use yokehour_host::both::{self, Call};
 use yokehour_host::command::{split_answers, Command};
-use yokehour_host::layout::{page_range, table_bytes, BLOCK_BYTES, MIN_BLOCKS};
+use yokehour_host::layout::{page_range, table_bytes, BLOCK_BYTES, MIN_BLOCKS, PANELS};
 use yokehour_host::page::{decode, used, Checkpoint, Content, Entry, Page};
-use yokehour_host::wire::{fnv1a64, to_hex};
+use yokehour_host::wire::{fnv1a64, from_hex, to_hex};
 
 /// The tariff of document 01's worked cases.
 pub const WORKED: [u32; 8] = [3, 1, 2, 1, 4, 4, 3, 2];
@@ -38,6 +38,12 @@ impl Fixture {
         self.run(Call { batch, answers: vec![0x66; room], ..Call::new(pool, &[]) })
     }
 
+    /// Runs a batch given in hexadecimal with so much room for its answers: its number, answers, charges and pool.
+    pub fn batch_of_hex(&mut self, hex: &str, room: usize) -> (u8, String, [u64; PANELS], String) {
+        let outcome = self.batch_of_bytes(from_hex(&plain(hex)).expect("is hexadecimal"), room);
+        (outcome.number, to_hex(&self.answers), outcome.charges, self.hash())
+    }
+
     fn run(&mut self, mut call: Call) -> Outcome {
         let outcome = make(&mut call);
         self.pool = call.pool;
@@ -66,6 +72,12 @@ impl Fixture {
         decode(&self.pool[page_range(page)]).expect("checks").expect("written")
     }
 }
+
+/// The pool of the worked cases after prepare, and its hash.
+pub fn prepared() -> Fixture {
+    Fixture::prepared(MIN_BLOCKS, WORKED)
+}
+pub const PREPARED: &str = "e5938a6f1717e51f";
 
 /// Makes a call on both books, which must agree in everything.
 pub fn make(call: &mut Call) -> Outcome {
@@ -143,6 +155,16 @@ pub fn prepare(pool: &mut [u8], tariff: [u32; 8]) -> u8 {
     both::prepare(pool, tariff).unwrap_or_else(|why| panic!("{why}"))
 }
 
+/// The sixteen charges where these panels have these, and the others none.
+pub fn charges<const N: usize>(charged: [(usize, u64); N]) -> [u64; PANELS] {
+    let mut charges = [0; PANELS];
+    charged.into_iter().for_each(|(panel, charge)| charges[panel] = charge);
+    charges
+}
+
+/// The charges of a refused batch.
+pub const NONE: [u64; PANELS] = [0; PANELS];
+
 /// Hexadecimal without the blanks that make it readable.
 pub fn plain(hex: &str) -> String {
     hex.split_whitespace().collect()
@@ -166,4 +188,8 @@ pub fn scan(low: u32, high: u32, most: usize) -> Command {
 
 pub fn panel(panel: usize) -> Command {
     Command::Panel { panel }
+}
+
+pub fn ceiling(key: u32) -> Command {
+    Command::Ceiling { key }
 }

@@ -1,9 +1,9 @@
 //! The limits of a call's buffers and of the tariff: at each limit and one past it, on both books.
 
-use crate::common::{checkpoint_of, Fixture, FIRST_CHECKPOINT_PAGE, FREE, POOL_BYTES, WORKED};
 use crate::common::{
-    delete, get, good, make, number, number_of, number_with, number_with_checkpoint, panel, prepare, put, scan,
+    ceiling, delete, get, good, make, number, number_of, number_with, number_with_checkpoint, panel, prepare, put, scan,
 };
+use crate::common::{checkpoint_of, Fixture, FIRST_CHECKPOINT_PAGE, FREE, POOL_BYTES, WORKED};
 use yokehour_host::both::Call;
 use yokehour_host::command::{encode, Command};
 use yokehour_host::layout::{BLANK, BLOCK_BYTES, MAX_BLOCKS, MIN_BLOCKS};
@@ -71,15 +71,15 @@ fn a_scan_is_for_1_to_32_pairs() {
 }
 
 #[test]
-fn answers_have_7_bytes_for_a_command_3_and_8_a_pair_for_a_scan_and_none_for_a_panel() {
+fn answers_have_7_bytes_for_a_command_3_and_8_a_pair_for_a_scan_11_for_a_ceiling_and_none_for_a_panel() {
     let pool = good().pool;
     let lent = |commands: &[Command], bytes: usize| {
         number(Call { answers: vec![0x66; bytes], ..Call::new(pool.clone(), commands) })
     };
     assert_eq!([lent(&[], 0), lent(&[panel(15)], 0)], [0, 0]);
     // 32,767 bytes of commands, which ask for the most that any batch does.
-    let longest = [vec![scan(0, 9, 32); 2_520], vec![get(1)]].concat();
-    let table: [(&[Command], usize); 12] = [
+    let longest = [vec![scan(0, 9, 32); 2_520], vec![ceiling(1)]].concat();
+    let table: [(&[Command], usize); 14] = [
         (&[get(1)], 7),
         (&[get(9)], 7),
         (&[put(1, 9)], 7),
@@ -89,9 +89,11 @@ fn answers_have_7_bytes_for_a_command_3_and_8_a_pair_for_a_scan_and_none_for_a_p
         (&[scan(0, 9, 1)], 11),
         (&[scan(0, 9, 32)], 259),
         (&[scan(9, 0, 32)], 259),
-        (&[get(1), put(9, 9), delete(1), scan(9, 0, 2)], 40),
+        (&[ceiling(1)], 11),
+        (&[ceiling(9)], 11),
+        (&[get(1), put(9, 9), delete(1), scan(9, 0, 2), ceiling(9)], 51),
         (&[panel(15), get(1), panel(0), scan(9, 0, 2), panel(7)], 26),
-        (&longest, 652_687),
+        (&longest, 652_691),
     ];
     for (commands, room) in table {
         assert_eq!([room - 1, room].map(|bytes| lent(commands, bytes)), [4, 0], "room {room}");
@@ -107,8 +109,10 @@ fn keys_and_values_have_all_their_32_bits() {
     let (first, last) = ("0000000000000000", "ffffffffffffffff");
     let expected = [format!("840010{first}{last}"), format!("840008{last}"), "840000".into(), format!("840008{first}")];
     assert_eq!(fixture.lines(), expected);
-    fixture.batch(&[delete(u32::MAX), delete(0), scan(0, u32::MAX, 32)]);
-    assert_eq!(fixture.lines(), ["830004ffffffff", "83000400000000", "840000"]);
+    fixture.batch(&[ceiling(u32::MAX), ceiling(1), ceiling(0)]);
+    assert_eq!(fixture.lines(), [last, last, first].map(|pair| format!("870008{pair}")));
+    fixture.batch(&[delete(u32::MAX), delete(0), scan(0, u32::MAX, 32), ceiling(0)]);
+    assert_eq!(fixture.lines(), ["830004ffffffff", "83000400000000", "840000", "800000"]);
 }
 
 #[test]

@@ -1,6 +1,7 @@
 //! The tests of the whole book, in one program so that it is linked once.
 
 mod blocks;
+mod ceiling;
 mod common;
 mod foreign;
 mod format;

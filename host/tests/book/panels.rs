@@ -1,63 +1,41 @@
 //! A charge for each panel (document 02, P2): worked cases byte for byte, limits, and batches without their panels.
 
-use crate::common::{get, panel, plain, put, scan, Fixture, WORKED};
+use crate::common::{charges, get, panel, plain, prepared, put, scan, Fixture, NONE, PREPARED};
 use yokehour_host::book::Outcome;
 use yokehour_host::command::Command;
 use yokehour_host::fuzz::Script;
 use yokehour_host::layout::{MIN_BLOCKS, PANELS};
 use yokehour_host::random::Random;
-use yokehour_host::wire::{from_hex, to_hex};
-
-/// The pool of the worked cases after prepare, and its hash.
-fn prepared() -> Fixture {
-    Fixture::prepared(MIN_BLOCKS, WORKED)
-}
-const PREPARED: &str = "e5938a6f1717e51f";
-
-/// The sixteen charges where these panels have these, and the others none.
-fn charges<const N: usize>(charged: [(usize, u64); N]) -> [u64; PANELS] {
-    let mut charges = [0; PANELS];
-    charged.into_iter().for_each(|(panel, charge)| charges[panel] = charge);
-    charges
-}
-
-const NONE: [u64; PANELS] = [0; PANELS];
-
-/// Runs a batch given in hexadecimal with so much room for its answers: its number, answers, charges and pool.
-fn run(fixture: &mut Fixture, hex: &str, room: usize) -> (u8, String, [u64; PANELS], String) {
-    let outcome = fixture.batch_of_bytes(from_hex(&plain(hex)).expect("is hexadecimal"), room);
-    (outcome.number, to_hex(&fixture.answers), outcome.charges, fixture.hash())
-}
 
 #[test]
 fn the_worked_batch_shared_by_three_panels() {
     let batch = "05000103 02000800000007 00000064 0500010f 01000400000007 03000400000007 05000100 01000400000007";
     let answers = plain("800000 81000400000064 83000400000064 800000");
     let charged = charges([(3, 4), (15, 7), (0, 3)]);
-    assert_eq!(run(&mut prepared(), batch, 28), (0, answers.clone(), charged, "cb649dfb17d509a7".into()));
+    assert_eq!(prepared().batch_of_hex(batch, 28), (0, answers.clone(), charged, "cb649dfb17d509a7".into()));
     // Without its panels the same, but that panel 0 is charged for all.
     let batch = "02000800000007 00000064 01000400000007 03000400000007 01000400000007";
-    assert_eq!(run(&mut prepared(), batch, 28), (0, answers, charges([(0, 14)]), "cb649dfb17d509a7".into()));
+    assert_eq!(prepared().batch_of_hex(batch, 28), (0, answers, charges([(0, 14)]), "cb649dfb17d509a7".into()));
 }
 
 #[test]
 fn a_batch_of_a_panel_alone_is_as_the_empty_one() {
     let closed = (0, String::new(), NONE, "090fe89309f52ac7".to_string());
-    assert_eq!(run(&mut prepared(), "05000107", 0), closed);
-    assert_eq!(run(&mut prepared(), "", 0), closed);
+    assert_eq!(prepared().batch_of_hex("05000107", 0), closed);
+    assert_eq!(prepared().batch_of_hex("", 0), closed);
     // 32,768 bytes, and four more.
-    assert_eq!(run(&mut prepared(), &"05000107".repeat(8_192), 0), closed);
-    assert_eq!(run(&mut prepared(), &"05000107".repeat(8_193), 0), (3, String::new(), NONE, PREPARED.into()));
+    assert_eq!(prepared().batch_of_hex(&"05000107".repeat(8_192), 0), closed);
+    assert_eq!(prepared().batch_of_hex(&"05000107".repeat(8_193), 0), (3, String::new(), NONE, PREPARED.into()));
 }
 
 #[test]
 fn a_panel_has_one_byte_and_is_0_to_15() {
     let refused = (3, String::new(), NONE, PREPARED.to_string());
     for batch in ["05000110", "0500020000", "050000", "050001", "0500", "05", "05010100", "01000400000007 05000110"] {
-        assert_eq!(run(&mut prepared(), batch, 1_000), refused, "{batch}");
+        assert_eq!(prepared().batch_of_hex(batch, 1_000), refused, "{batch}");
     }
     for panel in 0..=0xFF {
-        let number = run(&mut prepared(), &format!("050001{panel:02x}"), 0).0;
+        let number = prepared().batch_of_hex(&format!("050001{panel:02x}"), 0).0;
         assert_eq!(number, if panel < 16 { 0 } else { 3 }, "panel {panel}");
     }
 }
@@ -66,9 +44,9 @@ fn a_panel_has_one_byte_and_is_0_to_15() {
 fn a_panel_asks_for_no_answer_bytes_and_the_next_batch_begins_at_panel_0() {
     let batch = "05000102 01000400000007 05000109";
     let mut fixture = prepared();
-    assert_eq!(run(&mut fixture, batch, 6), (4, String::new(), NONE, PREPARED.into()));
-    assert_eq!(run(&mut fixture, batch, 7), (0, "800000".into(), charges([(2, 3)]), "78c00890fc67e127".into()));
-    let (number, answers, charged, _) = run(&mut fixture, "01000400000007", 7);
+    assert_eq!(fixture.batch_of_hex(batch, 6), (4, String::new(), NONE, PREPARED.into()));
+    assert_eq!(fixture.batch_of_hex(batch, 7), (0, "800000".into(), charges([(2, 3)]), "78c00890fc67e127".into()));
+    let (number, answers, charged, _) = fixture.batch_of_hex("01000400000007", 7);
     assert_eq!((number, answers.as_str(), charged), (0, "800000", charges([(0, 3)])));
 }
 
@@ -78,14 +56,14 @@ fn two_panels_take_turns() {
                  05000101 01000400000001 05000102 01000400000002 05000101 01000400000001";
     let answers = plain("800000 800000 81000400000001 81000400000002 81000400000001");
     let charged = charges([(1, 11), (2, 7)]);
-    assert_eq!(run(&mut prepared(), batch, 35), (0, answers, charged, "116b3b544887da44".into()));
+    assert_eq!(prepared().batch_of_hex(batch, 35), (0, answers, charged, "116b3b544887da44".into()));
 }
 
 #[test]
 fn a_put_with_9_charges_nobody() {
     let mut fixture = prepared();
     fixture.batch(&(0..240).map(|key| put(key, 0)).collect::<Vec<_>>());
-    let (number, answers, charged, _) = run(&mut fixture, "05000105 020008000000f0 00000000", 7);
+    let (number, answers, charged, _) = fixture.batch_of_hex("05000105 020008000000f0 00000000", 7);
     assert_eq!((number, answers.as_str(), charged), (0, "8f000109", NONE));
 }
 

@@ -1,7 +1,7 @@
 //! Each refusal number and their order on both books, with every buffer as document 01 leaves it.
 
+use crate::common::{ceiling, panel, FREE, POOL_BYTES, TABLE_BYTES, WORKED};
 use crate::common::{checkpoint_of, entries_of, get, good, make, mend, number, number_with, number_with_checkpoint};
-use crate::common::{panel, FREE, POOL_BYTES, TABLE_BYTES, WORKED};
 use crate::common::{prepare, put, scan, Fixture, CHECKPOINT_PAGE, FIRST_CHECKPOINT_PAGE, FIRST_LOG_PAGE, LOG_PAGE};
 use yokehour_host::book::Outcome;
 use yokehour_host::both::Call;
@@ -60,7 +60,7 @@ fn the_first_question_that_fails_gives_the_number() {
 
 /// The good call, with commands of three panels that would all be charged.
 fn of_three_panels() -> Call {
-    Call { batch: encode(&[get(1), panel(3), put(5, 6), panel(15), get(5)]), ..good() }
+    Call { batch: encode(&[get(1), panel(3), put(5, 6), panel(15), ceiling(5)]), ..good() }
 }
 
 #[test]
@@ -84,6 +84,7 @@ fn number_3_the_batch_is_not_wholly_valid() {
         vec![0x00, 0, 0],
         vec![0x01, 0, 4, 0, 0, 0],
         vec![0x01, 0, 5, 0, 0, 0, 0, 0],
+        vec![0x07, 0, 8, 0, 0, 0, 1, 0, 0, 0, 2],
         vec![0x80, 0, 0],
         [encode(&[get(1), scan(0, 9, 1)]), vec![0x04]].concat(),
         vec![0; 40_000],

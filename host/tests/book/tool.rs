@@ -46,6 +46,7 @@ fn exit_statuses_tell_scripts_how_it_went() {
     assert_eq!(folder.says("put p 7 100 --book second"), (Some(0), put));
     assert_eq!(folder.status("get p 7 --book second"), Some(0));
     assert_eq!(folder.status("get p 8 --book second"), Some(1), "an absent key");
+    assert_eq!(folder.status("ceiling p 8 --book second"), Some(1), "no key at or above");
     assert_eq!(folder.status("run p 05 --book second"), Some(1), "a refused batch");
     assert_eq!(folder.status("get p --book second"), Some(2), "a word too few");
     assert_eq!(folder.status("get q 7 --book second"), Some(2), "no such file");
@@ -59,6 +60,20 @@ fn exit_statuses_tell_scripts_how_it_went() {
     assert_eq!((folder.status("check q --book second"), folder.status("diff p q")), (Some(1), Some(1)));
     assert_eq!((folder.status("salvage p"), folder.status("salvage q")), (Some(0), Some(1)));
     assert_eq!(folder.status("check r --book second"), Some(2), "no such file");
+}
+
+#[test]
+fn a_ceiling_is_told_in_words() {
+    let folder = Folder::new("ceiling");
+    folder.status("prepare p 4 --book second");
+    folder.status("put p 7 100 --book second");
+    folder.status("put p 9 200 --book second");
+    let says = |key: u32| folder.says(&format!("ceiling p {key} --dry --book second"));
+    assert_eq!(says(7), (Some(0), "key 7 has value 100\ncharge 3\n".to_string()));
+    assert_eq!(says(8), (Some(0), "key 9 has value 200, the nearest above 8\ncharge 3\n".to_string()));
+    assert_eq!(says(10), (Some(1), "no key is at or above 10\ncharge 3\n".to_string()));
+    assert_eq!(says(0).1, "key 7 has value 100, the nearest above 0\ncharge 3\n");
+    assert_eq!(folder.status("ceiling p --book second"), Some(2), "a word too few");
 }
 
 #[test]
@@ -76,7 +91,8 @@ fn the_proved_book_does_the_work_where_it_is_here() {
     let csv: String = (0..200).map(|key| format!("{},{key}\n", key * 7919 % 1000)).collect();
     std::fs::write(folder.0.join("csv"), csv).expect("is written");
     let by_panels = "run FILE 05000103010004000000070500010f03000400000007";
-    for line in ["import FILE csv", "get FILE 7", "delete FILE 21", "scan FILE 0 500", by_panels] {
+    let (first, none) = ("ceiling FILE 0", "ceiling FILE 1000");
+    for line in ["import FILE csv", "get FILE 7", "delete FILE 21", "scan FILE 0 500", first, none, by_panels] {
         let proved = folder.says(&line.replace("FILE", "p"));
         let second = folder.says(&format!("{} --book second", line.replace("FILE", "q")));
         assert_eq!(proved, second, "{line}");

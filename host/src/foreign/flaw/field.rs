@@ -43,9 +43,10 @@ fn is_node(content: &Content) -> bool {
     matches!(content, Content::Node { .. })
 }
 
-/// An unknown tag, a command and an answer.
+/// An unknown tag, commands and an answer.
 pub(super) fn unknown(random: &mut Random, draft: &Draft, pool: &mut [u8]) -> bool {
-    let field = random.pick(&[&[0x16, 0, 0][..], &[0x01, 0, 4, 0, 0, 0, 1], &[0x05, 0, 1, 7], &[0x80, 0, 0]]);
+    let (get, panel, ceiling) = ([0x01, 0, 4, 0, 0, 0, 1], [0x05, 0, 1, 7], [0x07, 0, 4, 0, 0, 0, 1]);
+    let field = random.pick(&[&[0x16, 0, 0][..], &get, &panel, &ceiling, &[0x80, 0, 0]]);
     respell(random, draft, pool, is_any, |_, fields| fields.extend(field))
 }
 
