@@ -4,4 +4,6 @@ pub mod Pools
 pub mod Cases
 pub mod Limits
 pub mod Orders
+pub mod Batches
 pub mod Panels
+pub mod Ceilings

@@ -4,53 +4,12 @@ use mathlib.Core.Path.{_≡_, refl}
 use mathlib.Core.List.{List, [], _∷_, _++_, map}
 use Prim.Native.Nat.{ℕ}
 use lib.ListN.{replicate, take}
-use Rattle.model.specs.Call.{Outcome, batchOf}
+use Rattle.model.specs.Call.{batchOf}
 use Rattle.model.specs.Worked.{tariff, batchOn}
 use Rattle.model.specs.Computes.{computes}
 use Rattle.cases.specs.Traces.{workedPool}
-use Rattle.cases.specs.Pools.{poolBytes, inFirst, prepared, treeOf}
-
--- Commands as bytes: panel, look up, hang, strip.
-abbrev panel : ℕ → List ℕ
-panel p = 0x05 ∷ 0 ∷ 1 ∷ p ∷ []
-
-abbrev get : ℕ → List ℕ
-get k = 0x01 ∷ 0 ∷ 4 ∷ 0 ∷ 0 ∷ 0 ∷ k ∷ []
-
-abbrev put : ℕ → ℕ → List ℕ
-put k v = 0x02 ∷ 0 ∷ 8 ∷ 0 ∷ 0 ∷ 0 ∷ k ∷ 0 ∷ 0 ∷ 0 ∷ v ∷ []
-
-abbrev delete : ℕ → List ℕ
-delete k = 0x03 ∷ 0 ∷ 4 ∷ 0 ∷ 0 ∷ 0 ∷ k ∷ []
-
--- Answers as bytes: none; the value read; the value removed.
-abbrev absent : List ℕ
-absent = 0x80 ∷ 0 ∷ 0 ∷ []
-
-abbrev got : ℕ → List ℕ
-got v = 0x81 ∷ 0 ∷ 4 ∷ 0 ∷ 0 ∷ 0 ∷ v ∷ []
-
-abbrev deleted : ℕ → List ℕ
-deleted v = 0x83 ∷ 0 ∷ 4 ∷ 0 ∷ 0 ∷ 0 ∷ v ∷ []
-
--- A batch with so many bytes for its answers; and its number, answers and charges.
-pub record Result : Type 0 where
-  pub number : ℕ
-  pub answers : List ℕ
-  pub charges : List ℕ
-
-abbrev result : ℕ → List ℕ → List ℕ → Result
-result n said paid = record { number = n; answers = said; charges = paid }
-
-abbrev outcomeOf : ℕ → List ℕ → Outcome
-outcomeOf room batch = batchOf (poolBytes (inFirst prepared)) (replicate 4096 7) batch (replicate room 7)
-
-abbrev resultOf : ℕ → List ℕ → Result
-resultOf room batch = let o = outcomeOf room batch in result (o .number) (take (o .length) (o .answers)) (o .charges)
-
--- Nothing charged.
-abbrev none : List ℕ
-none = replicate 16 0
+use Rattle.cases.specs.Pools.{poolBytes, inFirst, treeOf}
+use Rattle.cases.specs.Batches.{panel, get, put, delete, absent, got, deleted, result, resultOf, none, first}
 
 -- Three panels share the worked batch of document 01; the same without them.
 abbrev shared : List ℕ
@@ -73,7 +32,7 @@ pub same-pool : batchOn tariff shared .pool ≡ workedPool
 unfolding computes
 same-pool = refl
 
-pub no-panel : resultOf 28 alone ≡ result 0 (absent ++ got 100 ++ deleted 100 ++ absent) (14 ∷ replicate 15 0)
+pub no-panel : resultOf 28 alone ≡ result 0 (absent ++ got 100 ++ deleted 100 ++ absent) (first 14)
 unfolding computes
 no-panel = refl
 

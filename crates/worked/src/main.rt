@@ -1,5 +1,5 @@
-// worked: the cases of document 01, section "Worked", that a program executes, the pools of two small runs, and panels (document 02, P2), through the
-// calls that C makes.
+// worked: the cases of document 01, section "Worked", that a program executes, the pools of two small runs, and of document 02 panels (P2) and the
+// next route up (P3), through the calls that C makes.
 // It prints a line for each; its file `stdout` has what must come out.
 ghost use mathlib.Core.Path.{_≡_};
 ghost use Prim.Native.Nat.{_+_, _≤_};
@@ -9,6 +9,7 @@ ghost use Rattle.layout.specs.Layout.{panels};
 pub mod hash;
 
 use hash::hash;
+use layout::LAST_KEY;
 use layout::PANELS;
 use wall_book::wall_book_batch;
 use wall_book::wall_book_prepare;
@@ -153,6 +154,15 @@ fn lay_put(commands: &mut [u8], at: usize, key: u32, value: u32)
     write32(commands, at + 7, value);
 }
 
+// One ceiling, seven bytes.
+fn lay_ceiling(commands: &mut [u8], at: usize, key: u32)
+    requires { ⌜ at + 7 ≤ length (now commands) ⌝ }
+    ensures { λ _. ⌜ length (now (commands .exit)) ≡ length (now (commands .entry)) ⌝ }
+{
+    lay_head(commands, at, 7, 4);
+    write32(commands, at + 3, key);
+}
+
 // Puts of the keys 0 to 24 with the values 100 to 124.
 fn lay_puts(commands: &mut [u8])
     requires { ⌜ length (now commands) ≡ 275 ⌝ }
@@ -235,10 +245,51 @@ fn panels() {
     refused(b"panel 16: ", &mut pool, &[5u8, 0, 1, 16]);
 }
 
+// "That route or the nearest above": below the first key, at it, between two and above both.
+fn ceilings() {
+    let mut pool = [0u8; 65536];
+    prepare(&mut pool);
+    let mut commands = [0u8; 50];
+    lay_put(&mut commands, 0, 7, 100);
+    lay_put(&mut commands, 11, 9, 200);
+    lay_ceiling(&mut commands, 22, 0);
+    lay_ceiling(&mut commands, 29, 7);
+    lay_ceiling(&mut commands, 36, 8);
+    lay_ceiling(&mut commands, 43, 10);
+    done(
+        b"put 7 and 9, ceilings of 0, 7, 8 and 10: ",
+        &mut pool,
+        &commands,
+    );
+}
+
+// The greatest key can be asked for, and be found; a ceiling with a byte too many gives 3.
+fn greatest_key() {
+    let mut pool = [0u8; 65536];
+    prepare(&mut pool);
+    let mut commands = [0u8; 32];
+    lay_put(&mut commands, 0, LAST_KEY, 1);
+    lay_ceiling(&mut commands, 11, LAST_KEY);
+    lay_ceiling(&mut commands, 18, 8);
+    lay_ceiling(&mut commands, 25, 0);
+    done(
+        b"put ffffffff, ceilings of it, 8 and 0: ",
+        &mut pool,
+        &commands,
+    );
+    refused(
+        b"ceiling of five bytes: ",
+        &mut pool,
+        &[7u8, 0, 5, 0, 0, 0, 0, 0],
+    );
+}
+
 fn main() {
     prepares();
     scans();
     first_run();
     second_run();
     panels();
+    ceilings();
+    greatest_key();
 }
