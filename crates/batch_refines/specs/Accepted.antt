@@ -49,7 +49,8 @@ module _ {blocks : ℕ} (least : fewestBlocks ≤ blocks) (t : Tariff) (s : Mode
   cells-hold : (c : Cells) → mountCells blocks c ≡ opened t s → Holds (nodeLimit blocks) (bookOf s) (mapOf (bookOf s .count) (bookOf s .table))
   cells-hold c e =
       let m = opened-mounts e in
-      subst (λ (z : Model.State). Holds (nodeLimit blocks) (bookOf z) (mapOf (bookOf z .count) (bookOf z .table))) (sym (m .is)) (mounts-ready least (m .mounts) .holds)
+      subst (λ (z : Model.State). Holds (nodeLimit blocks) (bookOf z) (mapOf (bookOf z .count) (bookOf z .table))) (sym (m .is))
+      (mounts-ready least (m .mounts) .holds)
 
   open-holds : (o : Option Cells) → mountBy blocks o ≡ opened t s → Holds (nodeLimit blocks) (bookOf s) (mapOf (bookOf s .count) (bookOf s .table))
   open-holds (some c) e = cells-hold c e
@@ -62,8 +63,8 @@ module _ {blocks : ℕ} (least : fewestBlocks ≤ blocks) (t : Tariff) (s : Mode
       apart : (m : Mounted) → refused 5 ≡ m → m ≡ opened t s → ⊥
       apart m a b = let z : _≡_ {A = ℕ} 5 0 = ap number (a ∙ b) in omega arith
 
-module _ {pool : List ℕ} {tableLength blocks : ℕ} {held : Worktable} {t : Tariff} {st : State} (o : Opens pool tableLength blocks held t st) (least : fewestBlocks ≤ blocks)
-    (size : length pool ≡ blockBytes * blocks) (batch : List ℕ) (bytes : Bytes batch) (cs : List Command) (are : commandsOf batch ≡ some cs) where
+module _ {pool : List ℕ} {tableLength blocks : ℕ} {held : Worktable} {t : Tariff} {st : State} (o : Opens pool tableLength blocks held t st)
+    (least : fewestBlocks ≤ blocks) (size : length pool ≡ blockBytes * blocks) (batch : List ℕ) (bytes : Bytes batch) (cs : List Command) (are : commandsOf batch ≡ some cs) where
   abbrev w : World
   w = world (pagesOf pool) held st
 

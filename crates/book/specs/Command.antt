@@ -66,22 +66,22 @@ pub record Look : Type 0 where
   pub reply : Book → Reply
 
 -- "Every command reads the nodes from root to leaf": a look up those, and answers the value there.
-abbrev lookUp : ℕ → Look
-lookUp k = record { reads = λ b. path (b .count) (b .table) k 0; reply = λ b. getReply (getAnswer (b .count) (b .table) k) }
+abbrev getLook : ℕ → Look
+getLook k = record { reads = λ b. path (b .count) (b .table) k 0; reply = λ b. getReply (getAnswer (b .count) (b .table) k) }
 
 -- "A sweep then leaf after leaf by links."
-abbrev sweep : ℕ → ℕ → ℕ → Look
-sweep low high most =
+abbrev scanLook : ℕ → ℕ → ℕ → Look
+scanLook low high most =
     record {
       reads = λ b. scanReads (b .count) (b .table) low high most;
       reply = λ b. listed (scanAnswer (b .count) (b .table) low high most);
     }
 
 -- "It reads as a sweep of that route to FFFFFFFF with a most of 1 does", and answers the pair that this finds.
-abbrev nextUp : ℕ → Look
-nextUp k =
+abbrev ceilingLook : ℕ → Look
+ceilingLook k =
     record {
-      reads = sweep k lastKey 1 .reads;
+      reads = scanLook k lastKey 1 .reads;
       reply = λ b. ceilingReply (first (scanAnswer (b .count) (b .table) k lastKey 1));
     }
 
@@ -93,12 +93,12 @@ pub data Task : Type 0 where
   names : ℕ → Task
 
 abbrev pub taskOf : Command → Task
-taskOf (Get k) = looks (lookUp k)
+taskOf (Get k) = looks (getLook k)
 taskOf (Put k v) = puts k v
 taskOf (Delete k) = deletes k
-taskOf (Scan low high most) = looks (sweep low high most)
+taskOf (Scan low high most) = looks (scanLook low high most)
 taskOf (Panel panel) = names panel
-taskOf (Ceiling k) = looks (nextUp k)
+taskOf (Ceiling k) = looks (ceilingLook k)
 
 -- Its node requests: one that looks makes reads alone, a panel none.
 abbrev pub requestsOf : ℕ → Task → Book → List NodeRequest

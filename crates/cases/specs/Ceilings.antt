@@ -1,7 +1,7 @@
 -- The next route up (document 02, P3), worked: batches on the pool that a prepare leaves, each with its number, its answers and the charges; and which
 -- nodes are read where a leaf is empty. By computation. Assumes nothing.
 use mathlib.Core.Path.{_≡_, refl}
-use mathlib.Core.List.{List, [], _∷_, _++_, map}
+use mathlib.Core.List.{[], _∷_, _++_, map}
 use Prim.Native.Nat.{ℕ, zero, suc}
 use lib.ListN.{replicate}
 use Rattle.layout.specs.Layout.{noLeaf}

@@ -129,7 +129,8 @@ pub field-bounds : (s : List ℕ) (at tag start end : ℕ) → fieldAt s at tag 
 unfolding standsAt fieldAt
 field-bounds s at tag start end e =
     let stand = stands-is s at tag (ap isPayload e) in
-    go stand (leb (at + 3) (length s)) (eqb (getD s at 0) tag && allowed (lengthOf tag) (lengthAt s at)) (leb (at + 3 + lengthAt s at) (length s)) refl refl refl
+    go stand (leb (at + 3) (length s)) (eqb (getD s at 0) tag && allowed (lengthOf tag) (lengthAt s at))
+    (leb (at + 3 + lengthAt s at) (length s)) refl refl refl
   where
     clash : {f : Field} → f ≡ Payload start end → isPayload f ≡ false → Bounds s at tag start end
     clash g h = let z : true ≡ false = sym (ap isPayload g) ∙ h in absurd (test-clash true refl z)

@@ -4,7 +4,7 @@ use mathlib.Core.Path.{_≡_, refl, ap, _∙_, subst}
 use mathlib.Core.Bool.{Bool, true, false}
 use mathlib.Core.List.{List, [], _∷_}
 use mathlib.Core.Option.{Option, none, some}
-use Prim.Native.Nat.{ℕ, zero, suc, _+_, _-_, _*_, _≤_, _<_}
+use Prim.Native.Nat.{ℕ, zero, suc, _+_, _-_, _*_, _≤_}
 use native.Mathlib.Omega.{arith}
 use borrow.Author.Tests.{leb-true}
 use lib.Dec.{leb}
@@ -61,7 +61,8 @@ module _ (s : List ℕ) (bytes : Bytes s) where
   run-spelled : (fuel at : ℕ) (cs : List Command) → run fuel s at ≡ some cs → Spelled s at cs
   unfolding run
   run-spelled zero at cs e = let z : _≡_ {A = ℕ} 0 1 = cc in absurd (omega arith)
-  run-spelled (suc fuel) at cs e = go (leb (length s) at) refl (commandAt s at) refl (commandAt-reads s bytes at) (commandAt-onward s at) (λ next ds. run-spelled fuel next ds)
+  run-spelled (suc fuel) at cs e =
+      go (leb (length s) at) refl (commandAt s at) refl (commandAt-reads s bytes at) (commandAt-onward s at) (λ next ds. run-spelled fuel next ds)
     where
       stop : (cs : List Command) → some [] ≡ some cs → Spelled s at cs
       stop [] f = record { valid = tt; few = omega arith }

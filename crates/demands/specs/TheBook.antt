@@ -46,7 +46,7 @@ use Rattle.model.specs.Calls.{booksAfter, lastBook, allBooks, allCharges, allRe
 use Rattle.demands.specs.Ends.{Ends, asFound, tableCleared, done, batch-ends, tableAfter, refused-found, ends-table, ends-panels}
 use Rattle.demands.specs.Ends.{prepare-ends, prepare-found}
 use Rattle.demands.specs.Panels.{unnamed, SameBut, unnamed-leaves}
-use Rattle.demands.specs.Ceilings.{Swept, SameReads, swept-same}
+use Rattle.demands.specs.Ceilings.{ScansFor, SameReads, scans-same}
 use Rattle.demands.specs.CommandBytes.{commandsOf-batch}
 use Rattle.demands.specs.ChargesFit.{batch-charge-fits}
 use Rattle.demands.specs.FirstNo.{numberOf, mount-first, batch-first, buffers-right, prepare-first}
@@ -294,8 +294,8 @@ pub ceiling-reads : (limit k : ℕ) (b : Book) → requestsFor limit (Ceiling k)
 unfolding requestsFor
 ceiling-reads limit k b = refl
 
--- .. and so on any pool, with any table and answer buffer: where such sweeps stand for the ceilings of a batch, the call returns the same number and
+-- .. and so on any pool, with any table and answer buffer: where such scans stand for the ceilings of a batch, the call returns the same number and
 -- charges, and leaves the same pool and table.
-pub ceilings-read : (pool table buffer batch batch′ : List ℕ) (cs ds : List Command) → Swept cs ds → commandsOf batch ≡ some cs →
+pub ceilings-read : (pool table buffer batch batch′ : List ℕ) (cs ds : List Command) → ScansFor cs ds → commandsOf batch ≡ some cs →
     commandsOf batch′ ≡ some ds → SameReads (batchOf pool table batch buffer) (batchOf pool table batch′ buffer)
-ceilings-read pool table buffer batch batch′ cs ds r = swept-same pool table buffer cs ds r batch batch′
+ceilings-read pool table buffer batch batch′ cs ds r = scans-same pool table buffer cs ds r batch batch′

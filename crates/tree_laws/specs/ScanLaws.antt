@@ -1,4 +1,5 @@
--- A scan is the range of the map that the table spells, and it reads nodes that are there, at most as many as there are nodes: a leaf that does not stop the scan hands on to the leaf that its link names. Assumes nothing.
+-- A scan is the range of the map that the table spells, and it reads nodes that are there, at most as many as there are nodes: a leaf that does not
+-- stop the scan hands on to the leaf that its link names. So the next key up is the map's too. Assumes nothing.
 use mathlib.Core.Path.{_≡_, refl, sym, ap, _∙_}
 use mathlib.Core.Bool.{Bool, true, false, _||_}
 use mathlib.Core.List.{List, [], _++_, append-nil}
@@ -115,7 +116,8 @@ module _ (table : Table) (count low high : ℕ) (small : count ≤ noLeaf) where
           let q = r (most - length (range low high most (c .here))) on in
           rw (e, leavesAfter, c .content) (both (chain-used n (c .link) (c .later) (c .more) on) (q .0), omega (arith, q .1))
 
-module _ (table : Table) (count : ℕ) (pairs : List Pair) (s : Spells table count pairs) (low high most : ℕ) (small : count ≤ noLeaf) (lowSmall : low < bound32) where
+module _ (table : Table) (count : ℕ) (pairs : List Pair) (s : Spells table count pairs) (low high most : ℕ)
+    (small : count ≤ noLeaf) (lowSmall : low < bound32) where
   scan-onward : Onward (s .depth) count table count low (s .tree) 0 0 []
   unfolding Chain
   scan-onward =

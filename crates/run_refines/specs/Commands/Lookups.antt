@@ -90,7 +90,8 @@ module _ {blocks : ℕ} {w : World} {s : State} (k : Runs blocks w s) (ps : List
     abbrev after : World
     after = descent t key w .now
 
-    deletion-served : (o : Option ℕ) → deletion t o (descent t key w .leaf) (descent t key w .node) key after ≡ servedAll t (deletionFor o (descent t key w .leaf) key) after
+    deletion-served : (o : Option ℕ) →
+        deletion t o (descent t key w .leaf) (descent t key w .node) key after ≡ servedAll t (deletionFor o (descent t key w .leaf) key) after
     deletion-served none = refl
     deletion-served (some old) =
         serve-holding (down .runs) (descent t key w .leaf) (descent t key w .node) held t (Store.edit (remove key))
