@@ -64,7 +64,8 @@ module _ {blocks : ℕ} (least : fewestBlocks ≤ blocks) (t : Tariff) (s : Mode
       apart m a b = let z : _≡_ {A = ℕ} 5 0 = ap number (a ∙ b) in omega arith
 
 module _ {pool : List ℕ} {tableLength blocks : ℕ} {held : Worktable} {t : Tariff} {st : State} (o : Opens pool tableLength blocks held t st)
-    (least : fewestBlocks ≤ blocks) (size : length pool ≡ blockBytes * blocks) (batch : List ℕ) (bytes : Bytes batch) (cs : List Command) (are : commandsOf batch ≡ some cs) where
+    (least : fewestBlocks ≤ blocks) (size : length pool ≡ blockBytes * blocks) (batch : List ℕ) (bytes : Bytes batch)
+    (cs : List Command) (are : commandsOf batch ≡ some cs) where
   abbrev w : World
   w = world (pagesOf pool) held st
 
