@@ -1,7 +1,7 @@
 -- The next key up (document 02, P3: "that route or the nearest above"): what it is, that nothing else is it, and that it is the first pair of a range
 -- up to the greatest key. Assumes nothing.
 use mathlib.Core.Path.{_≡_, refl, sym, ap, _∙_}
-use mathlib.Core.List.{List, [], _∷_}
+use mathlib.Core.List.{List, [], _∷_, map}
 use mathlib.Core.Logic.{_⊎_, inl, inr}
 use mathlib.Core.Option.{Option, none, some}
 use Prim.Native.Nat.{ℕ, suc, _≤_, _<_}
@@ -23,6 +23,12 @@ pub record Nearest (lookup : ℕ → List Pair → Option ℕ) (k : ℕ) (ps : L
 abbrev pub CeilingIs : (ℕ → List Pair → Option ℕ) → ℕ → List Pair → Option Pair → Type 0
 CeilingIs lookup k ps (some p) = Nearest lookup k ps p
 CeilingIs lookup k ps none = (j : ℕ) → k ≤ j → lookup j ps ≡ none
+
+-- Worked, of keys 7 and 9: below the first, at it, between them, at the last, above it.
+pub worked-ceilings : map (λ k. ceiling k ((7, 100) ∷ (9, 200) ∷ [])) (0 ∷ 7 ∷ 8 ∷ 9 ∷ 10 ∷ []) ≡
+    some (7, 100) ∷ some (7, 100) ∷ some (9, 200) ∷ some (9, 200) ∷ none ∷ []
+unfolding ceiling
+worked-ceilings = refl
 
 module _ (k : ℕ) (p : Pair) (ps : List Pair) where
   pub ceiling-here : k ≤ p .0 → ceiling k (p ∷ ps) ≡ some p
