@@ -1,6 +1,5 @@
 pub mod Copying
-pub mod Table
-pub mod Lengths
+pub mod Search
 pub mod Cases
 pub mod Running
 pub mod Plus

@@ -2,7 +2,7 @@
 -- document 02, P2 and P3). Assumes nothing.
 use mathlib.Core.Bool.{Bool, false, _&&_}
 use mathlib.Core.List.{List, [], _∷_}
-use Prim.Native.Nat.{ℕ, _+_, _*_, _%_}
+use Prim.Native.Nat.{ℕ, _+_, _*_, _/_, _%_}
 use lib.Dec.{eqb, leb}
 use Rattle.laws.specs.Tests.{choose}
 use Rattle.layout.specs.Layout.{mostKeys}
@@ -57,6 +57,11 @@ allowed (Exact k) n = eqb n k
 allowed Node n = isNodeBytes n
 allowed Unknown n = false
 
--- What a byte of the code's table stands for.
+-- The length that the lower byte of an entry of the code's table spells: FE is a whole node's.
 abbrev pub spelt : ℕ → Length
-spelt n = choose (eqb n 255) Unknown (choose (eqb n 254) Node (Exact n))
+spelt n = choose (eqb n 0xFE) Node (Exact n)
+
+-- The row that an entry is: its upper byte is the tag. "It keeps one entry for each command and page field in use, none besides"
+-- (document 02, P4): the table's entries are the rows, one for one.
+abbrev pub rowOf : ℕ → Row
+rowOf entry = row (entry / 256) (spelt (entry % 256))

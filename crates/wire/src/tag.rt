@@ -1,7 +1,7 @@
 // Tags and lengths: one table for commands and page fields.
+ghost use mathlib.Core.List.{map};
 ghost use mathlib.Core.Path.{_≡_};
-ghost use Prim.Native.Nat.{_<_};
-ghost use Rattle.wire.specs.Tag.{lengthOf, spelt, allowed, isNodeBytes};
+ghost use Rattle.wire.specs.Tag.{rows, rowOf, spelt, lengthOf, allowed, isNodeBytes};
 
 // The payload length that a tag asks for.
 pub enum Length {
@@ -13,65 +13,56 @@ pub enum Length {
     Unknown,
 }
 
-// The payload length of each tag below 0x20, by tag. 254: a whole node's; 255: no such tag. No tag is above these.
-const LENGTHS: [u8; 32] = [
-    255,
-    4,
-    8,
-    4,
-    10,
-    1,
-    255,
-    4,
-    255,
-    255,
-    255,
-    255,
-    255,
-    255,
-    255,
-    255,
-    4,
-    254,
-    15,
-    32,
-    6,
-    2,
-    255,
-    255,
-    255,
-    255,
-    255,
-    255,
-    255,
-    255,
-    255,
-    4,
+// One entry for each command and page field in use, and none besides: its tag, then its payload length, FE for a whole node's.
+const TABLE: [u16; 13] = [
+    // Commands: get, put, delete, scan, panel, ceiling.
+    0x0104,
+    0x0208,
+    0x0304,
+    0x040A,
+    0x0501,
+    0x0704,
+    // Page fields: sequence number, whole node, log entry, tariff, score, node count, sums.
+    0x1004,
+    0x11FE,
+    0x120F,
+    0x1320,
+    0x1406,
+    0x1502,
+    0x1F04,
 ];
 
-// What the table has for a tag below 0x20.
-fn entry(tag: usize) -> u8
-    requires { ⌜ tag < 32 ⌝ }
-    ensures { λ r. ⌜ spelt r ≡ lengthOf tag ⌝ }
+// The length that an entry's lower byte spells.
+fn spelt(byte: u16) -> Length
+    ensures { λ r. ⌜ r ≡ spelt byte ⌝ }
 {
-    LENGTHS[tag]
+    if byte == 0xFE {
+        return Length::Node;
+    }
+    Length::Exact(byte as u32)
+}
+
+// Searches a table that has one entry for each row of the documents, in order, and none besides.
+fn find(entries: &[u16], tag: u8) -> Length
+    requires { ⌜ map rowOf (now entries) ≡ rows ⌝ }
+    ensures { λ r. ⌜ r ≡ lengthOf tag ⌝ }
+{
+    let mut i: usize = 0;
+    while i < entries.len() {
+        let entry = entries[i];
+        if entry / 256 == tag as u16 {
+            return spelt(entry % 256);
+        }
+        i += 1;
+    }
+    Length::Unknown
 }
 
 // The length that a tag asks for.
 pub fn length_of(tag: u8) -> Length
     ensures { λ r. ⌜ r ≡ lengthOf tag ⌝ }
 {
-    if tag >= 32 {
-        return Length::Unknown;
-    }
-    let n = entry(tag as usize);
-    if n == 255 {
-        return Length::Unknown;
-    }
-    if n == 254 {
-        return Length::Node;
-    }
-    Length::Exact(n as u32)
+    find(&TABLE, tag)
 }
 
 // Whether so many bytes are a whole node's: 7 + 8k, k from 0 to 24.
