@@ -38,41 +38,37 @@ pub const SUM_BYTES: usize = 4;
 pub const NODE_HEAD: usize = 7;
 
 /// Which payload lengths a tag allows.
-#[derive(Clone, Copy, PartialEq, Eq, Debug)]
-pub enum Length {
-    /// The tag is in no field.
-    Unknown,
+#[derive(Clone, Copy)]
+enum Length {
     /// This length alone.
     Exactly(usize),
     /// 7 bytes and 8 for each of 0 to 24 pairs.
     NodePage,
 }
 
-/// The table of tags and lengths, indexed by the tag byte.
-const LENGTHS: [Length; 256] = {
-    let mut table = [Length::Unknown; 256];
-    table[TAG_GET as usize] = Length::Exactly(NUMBER_BYTES);
-    table[TAG_PUT as usize] = Length::Exactly(PAIR_BYTES);
-    table[TAG_DELETE as usize] = Length::Exactly(NUMBER_BYTES);
-    table[TAG_SCAN as usize] = Length::Exactly(SCAN_BYTES);
-    table[TAG_PANEL as usize] = Length::Exactly(PANEL_BYTES);
-    table[TAG_CEILING as usize] = Length::Exactly(NUMBER_BYTES);
-    table[TAG_SEQUENCE as usize] = Length::Exactly(SEQUENCE_BYTES);
-    table[TAG_NODE as usize] = Length::NodePage;
-    table[TAG_ENTRY as usize] = Length::Exactly(ENTRY_BYTES);
-    table[TAG_TARIFF as usize] = Length::Exactly(TARIFF_BYTES);
-    table[TAG_SCORE as usize] = Length::Exactly(SCORE_BYTES);
-    table[TAG_COUNT as usize] = Length::Exactly(COUNT_BYTES);
-    table[TAG_SUM as usize] = Length::Exactly(SUM_BYTES);
-    table
-};
+/// The table of tags and lengths: an entry for each command and page field in use, and none besides.
+const TABLE: [(u8, Length); 13] = [
+    (TAG_GET, Length::Exactly(NUMBER_BYTES)),
+    (TAG_PUT, Length::Exactly(PAIR_BYTES)),
+    (TAG_DELETE, Length::Exactly(NUMBER_BYTES)),
+    (TAG_SCAN, Length::Exactly(SCAN_BYTES)),
+    (TAG_PANEL, Length::Exactly(PANEL_BYTES)),
+    (TAG_CEILING, Length::Exactly(NUMBER_BYTES)),
+    (TAG_SEQUENCE, Length::Exactly(SEQUENCE_BYTES)),
+    (TAG_NODE, Length::NodePage),
+    (TAG_ENTRY, Length::Exactly(ENTRY_BYTES)),
+    (TAG_TARIFF, Length::Exactly(TARIFF_BYTES)),
+    (TAG_SCORE, Length::Exactly(SCORE_BYTES)),
+    (TAG_COUNT, Length::Exactly(COUNT_BYTES)),
+    (TAG_SUM, Length::Exactly(SUM_BYTES)),
+];
 
 /// Says whether the table allows this payload length for the tag.
 fn allows(tag: u8, length: usize) -> bool {
-    match LENGTHS[tag as usize] {
-        Length::Unknown => false,
-        Length::Exactly(only) => length == only,
-        Length::NodePage => {
+    match TABLE.iter().find(|&&(of, _)| of == tag) {
+        None => false,
+        Some(&(_, Length::Exactly(only))) => length == only,
+        Some((_, Length::NodePage)) => {
             length >= NODE_HEAD
                 && (length - NODE_HEAD).is_multiple_of(PAIR_BYTES)
                 && (length - NODE_HEAD) / PAIR_BYTES <= MAX_KEYS
@@ -221,12 +217,16 @@ mod tests {
         assert!(next_field(&[0x01, 0, 3, 1, 2, 3]).is_none(), "a wrong length");
         assert!(next_field(&[0x01, 0, 4, 1, 2, 3]).is_none(), "past the end");
         assert!(next_field(&[0x80, 0, 0]).is_none(), "answer tags are in no table");
-        for pairs in 0..=MAX_KEYS + 1 {
-            let length = NODE_HEAD + PAIR_BYTES * pairs;
-            assert_eq!(allows(TAG_NODE, length), pairs <= MAX_KEYS);
-            assert!(!allows(TAG_NODE, length + 1));
-        }
-        assert!(!allows(TAG_NODE, 0));
+    }
+
+    #[test]
+    fn every_tag_and_length_is_allowed_where_the_documents_have_it() {
+        let pairs = (0..=u8::MAX).flat_map(|tag| (0..=300).map(move |length| (tag, length)));
+        let commands = [(0x01, 4), (0x02, 8), (0x03, 4), (0x04, 10), (0x05, 1), (0x07, 4)];
+        let nodes = (0..=24).map(|pairs| (0x11, 7 + 8 * pairs));
+        let others = [(0x12, 15), (0x13, 32), (0x14, 6), (0x15, 2), (0x1F, 4)];
+        let expected = commands.into_iter().chain([(0x10, 4)]).chain(nodes).chain(others);
+        assert!(pairs.filter(|&(tag, length)| allows(tag, length)).eq(expected));
     }
 
     #[test]

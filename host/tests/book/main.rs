@@ -15,6 +15,7 @@ mod score_order;
 mod spelled;
 mod stack;
 mod sums;
+mod tags;
 mod tool;
 mod traces;
 mod worked;
