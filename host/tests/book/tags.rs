@@ -1,4 +1,4 @@
-//! Tags and lengths (document 02, P4): every tag with every length up to 300, as a command and as a field of a page, on both books.
+//! Tags and lengths (document 02, P4) on both books: every tag with every length up to 300, as a command and on a page.
 
 use crate::common::{number, number_of, prepared};
 use crate::spelled::{checkpoint, log_page, pool_of, LAST_LEAF};
