@@ -222,10 +222,10 @@ mod tests {
     #[test]
     fn every_tag_and_length_is_allowed_where_the_documents_have_it() {
         let pairs = (0..=u8::MAX).flat_map(|tag| (0..=300).map(move |length| (tag, length)));
-        let commands = [(0x01, 4), (0x02, 8), (0x03, 4), (0x04, 10), (0x05, 1), (0x07, 4)];
+        let below_nodes = [(0x01, 4), (0x02, 8), (0x03, 4), (0x04, 10), (0x05, 1), (0x07, 4), (0x10, 4)];
         let nodes = (0..=24).map(|pairs| (0x11, 7 + 8 * pairs));
-        let others = [(0x12, 15), (0x13, 32), (0x14, 6), (0x15, 2), (0x1F, 4)];
-        let expected = commands.into_iter().chain([(0x10, 4)]).chain(nodes).chain(others);
+        let above_nodes = [(0x12, 15), (0x13, 32), (0x14, 6), (0x15, 2), (0x1F, 4)];
+        let expected = below_nodes.into_iter().chain(nodes).chain(above_nodes);
         assert!(pairs.filter(|&(tag, length)| allows(tag, length)).eq(expected));
     }
 
