@@ -23,25 +23,24 @@ told-none : (o : Option (List Command)) → asked.Invalid ≡ askedAs o → o �
 told-none none e = refl
 told-none (some cs) e = cc
 
-told-some : (o : Option (List Command)) (n : ℕ) → asked.Bytes n ≡ askedAs o → (cs : List Command) × (o ≡ some cs) × (roomForAll cs ≡ n)
-told-some none n e = let z : _≡_ {A = ℕ} 0 1 = cc in absurd (omega arith)
-told-some (some cs) n e = (cs, refl, sym (room e))
+told-some : (o : Option (List Command)) (room n m : ℕ) → asked.Bytes room n m ≡ askedAs o →
+    (cs : List Command) × (o ≡ some cs) × (roomForAll cs ≡ room)
+told-some none room n m e = let z : _≡_ {A = ℕ} 0 1 = cc in absurd (omega arith)
+told-some (some cs) room n m e = (cs, refl, sym (ap bytes e))
   where
     bytes : Asked → ℕ
-    bytes (asked.Bytes k) = k
+    bytes (asked.Bytes k i j) = k
     bytes asked.Invalid = 0
-
-    room : asked.Bytes n ≡ asked.Bytes (roomForAll cs) → n ≡ roomForAll cs
-    room z = ap bytes z
 
 module _ (batch : List ℕ) where
   pub not-valid : asked.Invalid ≡ askedOf batch → commandsOf batch ≡ none
   unfolding askedOf
   not-valid e = told-none (commandsOf batch) e
 
-  pub asks-for : (n : ℕ) → asked.Bytes n ≡ askedOf batch → (cs : List Command) × (commandsOf batch ≡ some cs) × (roomForAll cs ≡ n)
+  pub asks-for : (room n m : ℕ) → asked.Bytes room n m ≡ askedOf batch →
+      (cs : List Command) × (commandsOf batch ≡ some cs) × (roomForAll cs ≡ room)
   unfolding askedOf
-  asks-for n e = told-some (commandsOf batch) n e
+  asks-for room n m e = told-some (commandsOf batch) room n m e
 
 -- What every refusal leaves: the number, and nothing but the table, if that, other than it was.
 pub refused-leaves : (number : ℕ) (pool table left answers charges : List ℕ) → left ≡ table → charges ≡ noCharges →

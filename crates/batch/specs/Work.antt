@@ -3,7 +3,7 @@ use mathlib.Core.Path.{_≡_, refl, sym, ap, _∙_, subst}
 use mathlib.Core.List.{List}
 use Prim.Native.Nat.{ℕ}
 use native.Mathlib.Omega.{arith}
-use lib.ListN.{length, replicate, length-replicate}
+use lib.ListN.{length, length-replicate}
 use Rattle.laws.specs.BigEndian.{Bytes}
 use Rattle.laws.specs.Lay.{lay-whole}
 use Rattle.laws.specs.Options.{some-same}
@@ -16,27 +16,20 @@ use Rattle.book.specs.PanelLaws.{length-each}
 use Rattle.model.specs.Mount.{Mounted, refused}
 use Rattle.model.specs.Call.{blocksOf, cleared, mountOf, batchMounted, accept}
 use Rattle.demands.specs.OneCall.{blocks-length}
-use Rattle.flash_rows.specs.Worktable.{Worktable}
+use Rattle.flash_rows.specs.Worktable.{Worktable, tableFrom}
 use Rattle.flash_blocks.specs.Pages.{pagesOf}
 use Rattle.flash_allocate.specs.declared.state.State.{State}
 use Rattle.flash_allocate.specs.World.{World, world}
-use Rattle.flash_checkpoint.specs.CheckpointPages.{checkpoint, Ended}
+use Rattle.flash_checkpoint.specs.CheckpointPages.{checkpoint}
 use Rattle.run_split.specs.Growing.{Growing}
 use Rattle.mount_refines.specs.Mount.Opens.{Opens}
 use Rattle.run.specs.declared.Ran.{Ran}
 use Rattle.run.specs.Run.{runWorld, runCharge, RunAs}
-use Rattle.run.specs.Valid.{commandsIn, commandsIn-is}
 use Rattle.batch_refines.specs.Accepted.{accepted}
 use Rattle.batch.specs.declared.answer.Outcome.{Outcome}
 use Rattle.batch.specs.Questions.{refused-leaves}
 use Rattle.batch.specs.Left.{refusedWith, Leaves, Accepts, Worked}
-
--- What is told of a batch that was run.
-abbrev pub doneWith : Ran → Outcome
-doneWith p = record { number = 0; length = p .at }
-
-abbrev pub zeros : ℕ → List ℕ
-zeros n = replicate n 0
+use Rattle.batch.specs.Closed.{doneWith, zeros, Unopened, Closed}
 
 -- A table of just the pool's size is all zero afterwards.
 pub cleared-whole : (blocks : ℕ) (table : List ℕ) → length table ≡ tableBytes blocks → cleared blocks table ≡ zeros (length table)
@@ -107,18 +100,23 @@ module _ (pool table batch answers : List ℕ) {blocks : ℕ} (a : Accepts (leng
         }
 
 -- The same, from what the code of each leaves.
-pub worked-by : {pool table batch answers : List ℕ} {blocks : ℕ} (a : Accepts (length pool) (length table) blocks batch (length answers)) (table′ : List ℕ) →
-    table′ ≡ zeros (length table) → Bytes batch → {tableLength P T P₂ T₂ : ℕ} {held held₁ held₂ : Worktable} {t : Tariff} {st st₂ : State} →
-    Opens pool tableLength blocks held t st → {pages₁ : List (List ℕ)} {answers₁ charges : List ℕ} {p : Ran} →
-    RunAs P T pages₁ held₁ answers answers₁ charges p t (commandsIn batch) (world (pagesOf pool) held st) → (pool′ : List ℕ) →
-    Ended P₂ T₂ (p .state) (world (pagesOf pool′) held₂ st₂) (checkpoint t (world pages₁ held₁ (p .state))) →
-    length pool′ ≡ length pool → Worked pool pool′ table table′ batch answers answers₁ charges (doneWith p)
-worked-by {pool} {table} {batch} {answers} a table′ zero bytes {tableLength} {P} {T} {P₂} {T₂} {held} {held₁} {held₂} {t} {st} {st₂} o {pages₁}
-    {answers₁} {charges} {p} ran pool′ ended size =
-    worked-done pool table batch answers a table′ zero bytes {P = P} {T = T} o
-    (subst (λ (cs : List Command). RunAs P T pages₁ held₁ answers answers₁ charges p t cs (world (pagesOf pool) held st))
-    (commandsIn-is batch (a .commands) (a .are)) ran)
-    pool′ (ended .is) (ended .blocks) size
+module _ {pool table batch answers : List ℕ} {blocks : ℕ} (a : Accepts (length pool) (length table) blocks batch (length answers)) {held : List ℕ}
+    (size : length held ≡ length table) {table′ : List ℕ} {r : Outcome} where
+  pub worked-unopened : {number : ℕ} → mountOf pool ≡ refused number → (charges : List ℕ) → charges ≡ noCharges → Unopened held table′ number r →
+      Worked pool pool table table′ batch answers answers charges r
+  worked-unopened {number} e charges none u =
+      subst (λ (o : Outcome). Worked pool pool table table′ batch answers answers charges o) (sym (u .says))
+      (worked-refused pool table batch answers a table′ (u .zero ∙ ap zeros size) number e charges none)
+
+  pub worked-closed : Bytes batch → {tableLength P T : ℕ} {rows : Worktable} {t : Tariff} {st : State} → Opens pool tableLength blocks rows t st →
+      {pool₁ answers₁ charges : List ℕ} {p : Ran} {cs : List Command} → cs ≡ a .commands →
+      RunAs P T (pagesOf pool₁) (tableFrom held) answers answers₁ charges p t cs (world (pagesOf pool) rows st) → {pool′ : List ℕ} →
+      Closed pool₁ pool′ held table′ p t r → length pool′ ≡ length pool → Worked pool pool′ table table′ batch answers answers₁ charges r
+  worked-closed bytes {P = P} {T = T} {rows} {t} {st} o {pool₁} {answers₁} {charges} {p} e ran {pool′} c same =
+      subst (λ (z : Outcome). Worked pool pool′ table table′ batch answers answers₁ charges z) (sym (c .says))
+      (worked-done pool table batch answers a table′ (c .zero ∙ ap zeros size) bytes {P = P} {T = T} o
+      (subst (λ (cs : List Command). RunAs P T (pagesOf pool₁) (tableFrom held) answers answers₁ charges p t cs (world (pagesOf pool) rows st)) e ran)
+      pool′ (c .ended .is) (c .ended .blocks) same)
 
 -- A pool that opens has what the commands and the checkpoint ask for.
 pub grows : {pool : List ℕ} {tableLength blocks : ℕ} {held : Worktable} {t : Tariff} {st : State} → Opens pool tableLength blocks held t st → Growing

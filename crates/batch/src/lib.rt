@@ -1,34 +1,26 @@
 // Batch: the questions in their order, then the commands, then the checkpoint.
 ghost use mathlib.Core.Path.{_≡_};
-ghost use Prim.Native.Nat.{_≤_};
 ghost use lib.ListN.{length};
 ghost use Rattle.book.specs.InTurn.{noCharges};
 ghost use Rattle.model.specs.Call.{batchOf};
-ghost use Rattle.batch.specs.Left.{Accepts, Worked, Leaves, wiped};
+ghost use Rattle.batch.specs.Left.{Accepts, Worked, Leaves};
 
 pub mod answer;
+pub mod end;
 
 use answer::Outcome;
 use answer::refused;
 use command::Asked;
 use command::batch::asked;
-use flash_checkpoint::checkpoint;
+use end::close;
+use end::unopened;
+use end::wipe;
 use layout::PANELS;
 use layout::TABLE_BYTES;
 use layout::pool_blocks;
 use mount::mount;
 use run::charges::clear;
 use run::run::run_commands;
-use wire::bytes::fill;
-use wire::bytes::fill_part;
-
-// The first bytes of the table zero.
-fn wipe(table: &mut [u8], bytes: usize)
-    requires { ⌜ bytes ≤ length (now table) ⌝ }
-    ensures { λ _. ⌜ now (table .exit) ≡ wiped bytes (now (table .entry)) ⌝ }
-{
-    fill_part(table, 0, bytes, 0);
-}
 
 // Questions 5 to 8, the commands and the checkpoint, in a table of the pool's size.
 fn work(
@@ -46,18 +38,12 @@ fn work(
 {
     let mounted = mount(pool, table, blocks);
     if mounted.refused == 0 {} else {
-        fill(table, 0);
-        return refused(mounted.refused);
+        return unopened(table, mounted.refused);
     }
     let tariff = mounted.tariff;
     let state = mounted.state;
     let done = run_commands(pool, table, commands, answers, charges, state, tariff);
-    checkpoint(pool, table, done.state, tariff);
-    fill(table, 0);
-    Outcome {
-        number: 0,
-        length: done.at,
-    }
+    close(pool, table, done, tariff)
 }
 
 // A batch: refused with its number, or run. The charges that it finds mean nothing.
@@ -81,14 +67,18 @@ pub fn batch(
     if table.len() < bytes {
         return refused(2);
     }
-    let room = asked(commands);
-    match room {
+    let wanted = asked(commands);
+    match wanted {
         Asked::Invalid => {
             wipe(table, bytes);
             return refused(3);
         }
-        Asked::Bytes(n) => {
-            if answers.len() < n {
+        Asked::Bytes {
+            room,
+            commands: _,
+            named: _,
+        } => {
+            if answers.len() < room {
                 wipe(table, bytes);
                 return refused(4);
             }

@@ -56,7 +56,7 @@ pub record Result : Type 0 where
 abbrev pub result : ℕ → List ℕ → List ℕ → Result
 result n said paid = record { number = n; answers = said; charges = paid }
 
-abbrev outcomeOf : ℕ → List ℕ → Outcome
+abbrev pub outcomeOf : ℕ → List ℕ → Outcome
 outcomeOf room batch = batchOf (poolBytes (inFirst prepared)) (replicate 4096 7) batch (replicate room 7)
 
 abbrev pub resultOf : ℕ → List ℕ → Result

@@ -7,3 +7,5 @@ pub mod Orders
 pub mod Batches
 pub mod Panels
 pub mod Ceilings
+pub mod Desks
+pub mod DeskLimit

@@ -7,6 +7,7 @@ use lib.Dec.{leb}
 use lib.ListN.{length}
 use Rattle.layout.specs.Layout.{mostBatchBytes}
 use Rattle.command.specs.declared.Command.{Command}
+use Rattle.command.specs.declared.Command.the-variants.{Get, Put, Delete, Scan, Panel, Ceiling}
 use Rattle.command.specs.declared.Step.the-variants.{Next, Invalid}
 use Rattle.command.specs.declared.Asked.{Asked}
 use Rattle.command.specs.declared.Asked.the-variants as asked
@@ -38,9 +39,22 @@ abbrev pub roomForAll : List Command → ℕ
 roomForAll [] = 0
 roomForAll (c ∷ cs) = roomFor c + roomForAll cs
 
+-- How many panels a command names, and all of them (document 02, P5: a queue that holds a command 05 is refused).
+abbrev pub named : Command → ℕ
+named (Get k) = 0
+named (Put k v) = 0
+named (Delete k) = 0
+named (Scan low high most) = 0
+named (Panel panel) = 1
+named (Ceiling k) = 0
+
+abbrev pub namedIn : List Command → ℕ
+namedIn [] = 0
+namedIn (c ∷ cs) = named c + namedIn cs
+
 abbrev pub askedAs : Option (List Command) → Asked
 askedAs none = asked.Invalid
-askedAs (some cs) = asked.Bytes (roomForAll cs)
+askedAs (some cs) = asked.Bytes (roomForAll cs) (length cs) (namedIn cs)
 
 unfoldable pub askedOf : List ℕ → Asked
 askedOf s = askedAs (commandsOf s)

@@ -1,23 +1,26 @@
--- The commands of a batch one after the other: what is left from each place, and the room that all ask for. Assumes nothing.
+-- The commands of a batch one after the other: what is left from each place, how many there are, and what all ask for. Assumes nothing.
 use mathlib.Core.Path.{_≡_, refl, sym, ap, _∙_}
 use mathlib.Core.Bool.{Bool, true, false}
-use mathlib.Core.List.{List, []}
+use mathlib.Core.List.{List, [], _∷_}
+use mathlib.Core.Logic.{_⊎_, inl, inr}
 use mathlib.Core.Option.{Option, none, some}
 use Prim.Native.Nat.{ℕ, zero, suc, _+_, _-_, _≤_, _<_}
-use native.Mathlib.Nat.{zero-add, add-zero, add-assoc}
 use native.Mathlib.Omega.{arith}
 use borrow.Author.Tests.{le-leb, lt-leb, leb-true, leb-false}
 use lib.Dec.{leb}
 use lib.ListN.{length}
+use Rattle.laws.specs.Options.{none-some, some-same}
+use Rattle.laws.specs.Order.{le-or}
 use Rattle.layout.specs.Layout.{mostBatchBytes}
 use Rattle.command.specs.declared.Command.{Command}
+use Rattle.command.specs.declared.Command.the-variants.{Get, Put, Delete, Scan, Panel, Ceiling}
 use Rattle.command.specs.declared.Step.{Step}
 use Rattle.command.specs.declared.Step.the-variants.{Next, Invalid}
 use Rattle.command.specs.declared.Asked.{Asked}
 use Rattle.command.specs.declared.Asked.the-variants as asked
 use Rattle.command.specs.Command.{commandAt, roomFor, Onward}
 use Rattle.command.specs.CommandLaws.{commandAt-onward}
-use Rattle.command.specs.Batch.{before, run, commandsFrom, commandsOf, roomForAll, askedAs, askedOf}
+use Rattle.command.specs.Batch.{before, run, commandsFrom, commandsOf, roomForAll, named, namedIn, askedAs, askedOf}
 
 -- what a step leaves to run
 abbrev runOn : ℕ → List ℕ → Step → Option (List Command)
@@ -74,18 +77,56 @@ module _ (s : List ℕ) (at : ℕ) where
   unfolding commandsFrom
   commandsFrom-invalid h e = run-inside (length s) s at h ∙ ap (runOn (length s) s) e
 
--- The room asked for, with that of the commands passed.
-abbrev pub askedWith : ℕ → Option (List Command) → Asked
-askedWith n none = asked.Invalid
-askedWith n (some cs) = asked.Bytes (n + roomForAll cs)
+-- Each takes a byte or more.
+run-few : (fuel : ℕ) (s : List ℕ) (at : ℕ) (cs : List Command) → run fuel s at ≡ some cs → length cs ≤ length s - at
+unfolding run
+run-few zero s at cs e = absurd (none-some e)
+run-few (suc fuel) s at cs e = go (le-or (length s) at) (λ next ds. run-few fuel s next ds)
+  where
+    on : (r : Step) → Onward s at r → at < length s → ((next : ℕ) (ds : List Command) → run fuel s next ≡ some ds → length ds ≤ length s - next) →
+        runOn fuel s r ≡ some cs → length cs ≤ length s - at
+    on (Next c next) w l few f = behind (run fuel s next) (few next) f
+      where
+        behind : (o : Option (List Command)) → ((ds : List Command) → o ≡ some ds → length ds ≤ length s - next) → before c o ≡ some cs →
+            length cs ≤ length s - at
+        behind none h g = absurd (none-some g)
+        behind (some ds) h g = omega (arith, ap length (some-same g), h ds refl, w .0, w .1)
+    on Invalid w l few f = absurd (none-some f)
 
-pub askedWith-before : (n : ℕ) (c : Command) (r : Option (List Command)) → askedWith n (before c r) ≡ askedWith (n + roomFor c) r
-askedWith-before n c none = refl
-askedWith-before n c (some cs) = ap asked.Bytes (sym (add-assoc n (roomFor c) (roomForAll cs)))
+    go : (length s ≤ at) ⊎ (at < length s) → ((next : ℕ) (ds : List Command) → run fuel s next ≡ some ds → length ds ≤ length s - next) →
+        length cs ≤ length s - at
+    go (inl l) few = omega (arith, ap length (some-same (sym (run-end fuel s at l) ∙ e)))
+    go (inr l) few = on (commandAt s at) (commandAt-onward s at) l few (sym (run-inside fuel s at l) ∙ e)
 
-askedWith-none : (r : Option (List Command)) → askedWith 0 r ≡ askedAs r
+pub commandsFrom-few : (s : List ℕ) (at : ℕ) (cs : List Command) → commandsFrom s at ≡ some cs → length cs ≤ length s - at
+unfolding commandsFrom
+commandsFrom-few s at cs e = run-few (suc (length s)) s at cs e
+
+pub named-le : (c : Command) → named c ≤ 1
+named-le (Get k) = omega arith
+named-le (Put k v) = omega arith
+named-le (Delete k) = omega arith
+named-le (Scan low high most) = omega arith
+named-le (Panel panel) = omega arith
+named-le (Ceiling k) = omega arith
+
+-- What is asked for, with what the commands passed ask for.
+abbrev pub askedWith : ℕ → ℕ → ℕ → Option (List Command) → Asked
+askedWith room n m none = asked.Invalid
+askedWith room n m (some cs) = asked.Bytes (room + roomForAll cs) (n + length cs) (m + namedIn cs)
+
+-- the same numbers, said otherwise
+asked-same : {a b c x y z : ℕ} → a ≡ x → b ≡ y → c ≡ z → asked.Bytes a b c ≡ asked.Bytes x y z
+asked-same e f g = rw (e, f, g) refl
+
+pub askedWith-before : (room n m : ℕ) (c : Command) (r : Option (List Command)) →
+    askedWith room n m (before c r) ≡ askedWith (room + roomFor c) (n + 1) (m + named c) r
+askedWith-before room n m c none = refl
+askedWith-before room n m c (some cs) = asked-same (omega arith) (omega arith) (omega arith)
+
+askedWith-none : (r : Option (List Command)) → askedWith 0 0 0 r ≡ askedAs r
 askedWith-none none = refl
-askedWith-none (some cs) = ap asked.Bytes (zero-add (roomForAll cs))
+askedWith-none (some cs) = asked-same (omega arith) (omega arith) (omega arith)
 
 module _ (s : List ℕ) where
   pub commandsOf-long : mostBatchBytes < length s → commandsOf s ≡ none
@@ -100,20 +141,21 @@ module _ (s : List ℕ) where
   unfolding askedOf
   asked-long h = sym (ap askedAs (commandsOf-long h))
 
-  pub asked-start : length s ≤ mostBatchBytes → askedWith 0 (commandsFrom s 0) ≡ askedOf s
+  pub asked-start : length s ≤ mostBatchBytes → askedWith 0 0 0 (commandsFrom s 0) ≡ askedOf s
   unfolding askedOf
   asked-start h = askedWith-none (commandsFrom s 0) ∙ sym (ap askedAs (commandsOf-short h))
 
-  pub asked-turn :
-      (at n : ℕ) → at < length s → (c : Command) (next : ℕ) → commandAt s at ≡ Next c next →
-      askedWith n (commandsFrom s at) ≡ askedOf s → askedWith (n + roomFor c) (commandsFrom s next) ≡ askedOf s
-  asked-turn at n h c next e i =
-      sym (askedWith-before n c (commandsFrom s next)) ∙ ap (askedWith n) (sym (commandsFrom-next s at h c next e)) ∙ i
+  module _ (at room n m : ℕ) where
+    pub asked-turn :
+        at < length s → (c : Command) (next : ℕ) → commandAt s at ≡ Next c next →
+        askedWith room n m (commandsFrom s at) ≡ askedOf s →
+        askedWith (room + roomFor c) (n + 1) (m + named c) (commandsFrom s next) ≡ askedOf s
+    asked-turn h c next e i =
+        sym (askedWith-before room n m c (commandsFrom s next)) ∙ ap (askedWith room n m) (sym (commandsFrom-next s at h c next e)) ∙ i
 
-  pub asked-invalid :
-      (at n : ℕ) → at < length s → commandAt s at ≡ Invalid → askedWith n (commandsFrom s at) ≡ askedOf s → asked.Invalid ≡ askedOf s
-  asked-invalid at n h e i = sym (ap (askedWith n) (commandsFrom-invalid s at h e)) ∙ i
+    pub asked-invalid : at < length s → commandAt s at ≡ Invalid → askedWith room n m (commandsFrom s at) ≡ askedOf s → asked.Invalid ≡ askedOf s
+    asked-invalid h e i = sym (ap (askedWith room n m) (commandsFrom-invalid s at h e)) ∙ i
 
-  pub asked-end : (at n : ℕ) → length s ≤ at → askedWith n (commandsFrom s at) ≡ askedOf s → asked.Bytes n ≡ askedOf s
-  asked-end at n h i =
-      ap asked.Bytes (sym (add-zero n)) ∙ sym (ap (askedWith n) (commandsFrom-end s at h)) ∙ i
+    pub asked-end : length s ≤ at → askedWith room n m (commandsFrom s at) ≡ askedOf s → asked.Bytes room n m ≡ askedOf s
+    asked-end h i =
+        asked-same (omega arith) (omega arith) (omega arith) ∙ sym (ap (askedWith room n m) (commandsFrom-end s at h)) ∙ i

@@ -3,6 +3,7 @@ pub mod CommandLaws
 pub mod Batch
 pub mod BatchLaws
 pub mod Spelled
+pub mod OneSpelling
 pub mod Answer
 pub mod AnswerLaws
 pub mod Worked

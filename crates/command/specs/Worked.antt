@@ -50,7 +50,7 @@ pub worked-room :
     (0x01 ∷ 0 ∷ 5 ∷ 0 ∷ 0 ∷ 0 ∷ 7 ∷ 0 ∷ []) ∷
     (0x01 ∷ 0 ∷ 4 ∷ 0 ∷ 0 ∷ 0 ∷ []) ∷
     []) ≡
-    Bytes 0 ∷ Bytes 28 ∷ Invalid ∷ Bytes 11 ∷ Bytes 259 ∷ Invalid ∷ Invalid ∷ Invalid ∷ Invalid ∷ []
+    Bytes 0 0 0 ∷ Bytes 28 4 0 ∷ Invalid ∷ Bytes 11 1 0 ∷ Bytes 259 1 0 ∷ Invalid ∷ Invalid ∷ Invalid ∷ Invalid ∷ []
 unfolding workedBatch sweepBatch askedOf commandsOf commandsFrom run commandAt commandOf inRange fieldAt lengthOf find rows isNodeBytes numberAt part
 worked-room = refl
 
@@ -65,7 +65,7 @@ pub worked-panels :
     (0x05 ∷ 0 ∷ 1 ∷ []) ∷
     (0x01 ∷ 0 ∷ 4 ∷ 0 ∷ 0 ∷ 0 ∷ 7 ∷ 0x05 ∷ 0 ∷ 1 ∷ 9 ∷ []) ∷
     []) ≡
-    Bytes 0 ∷ Bytes 0 ∷ Invalid ∷ Invalid ∷ Invalid ∷ Invalid ∷ Bytes 7 ∷ []
+    Bytes 0 1 1 ∷ Bytes 0 1 1 ∷ Invalid ∷ Invalid ∷ Invalid ∷ Invalid ∷ Bytes 7 2 1 ∷ []
 unfolding askedOf commandsOf commandsFrom run commandAt commandOf inRange fieldAt lengthOf find rows isNodeBytes numberAt part
 worked-panels = refl
 
@@ -80,7 +80,7 @@ pub worked-ceilings :
     (0x08 ∷ 0 ∷ 0 ∷ []) ∷
     (0x01 ∷ 0 ∷ 4 ∷ 0 ∷ 0 ∷ 0 ∷ 7 ∷ 0x07 ∷ 0 ∷ 4 ∷ 255 ∷ 255 ∷ 255 ∷ 255 ∷ []) ∷
     []) ≡
-    Bytes 11 ∷ Invalid ∷ Invalid ∷ Invalid ∷ Invalid ∷ Invalid ∷ Bytes 18 ∷ []
+    Bytes 11 1 0 ∷ Invalid ∷ Invalid ∷ Invalid ∷ Invalid ∷ Invalid ∷ Bytes 18 2 0 ∷ []
 unfolding askedOf commandsOf commandsFrom run commandAt commandOf inRange fieldAt lengthOf find rows isNodeBytes numberAt part
 worked-ceilings = refl
 

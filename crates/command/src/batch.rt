@@ -4,7 +4,7 @@ ghost use mathlib.Core.Bool.{true};
 ghost use lib.ListN.{length};
 ghost use Rattle.wire.specs.Tag.{lengthOf, allowed};
 ghost use Rattle.command.specs.Command.{commandOf, stepAs, commandAt, roomFor};
-ghost use Rattle.command.specs.Batch.{askedOf};
+ghost use Rattle.command.specs.Batch.{named, askedOf};
 use crate::Asked;
 use crate::Command;
 use crate::Step;
@@ -117,7 +117,25 @@ pub fn room_for(command: Command) -> usize
     }
 }
 
-// The answer bytes that a batch asks for, or that it is not valid.
+// How many panels a command names: one or none.
+pub fn named_by(command: Command) -> usize
+    ensures { λ r. ⌜ r ≡ named command ⌝ }
+{
+    match command {
+        Command::Get { key: _ } => 0,
+        Command::Put { key: _, value: _ } => 0,
+        Command::Delete { key: _ } => 0,
+        Command::Scan {
+            low: _,
+            high: _,
+            most: _,
+        } => 0,
+        Command::Panel { panel: _ } => 1,
+        Command::Ceiling { key: _ } => 0,
+    }
+}
+
+// What a batch asks for, or that it is not valid.
 pub fn asked(s: &[u8]) -> Asked
     ensures { λ r. ⌜ r ≡ askedOf (now (s .entry)) ⌝ }
 {
@@ -125,12 +143,16 @@ pub fn asked(s: &[u8]) -> Asked
         return Asked::Invalid;
     }
     let mut at: usize = 0;
-    let mut bytes: usize = 0;
+    let mut room: usize = 0;
+    let mut commands: usize = 0;
+    let mut named: usize = 0;
     while at < s.len() {
         let step = command_at(s, at);
         match step {
             Step::Next { command, next } => {
-                bytes += room_for(command);
+                room += room_for(command);
+                commands += 1;
+                named += named_by(command);
                 at = next;
             }
             Step::Invalid => {
@@ -138,5 +160,9 @@ pub fn asked(s: &[u8]) -> Asked
             }
         }
     }
-    Asked::Bytes(bytes)
+    Asked::Bytes {
+        room,
+        commands,
+        named,
+    }
 }

@@ -18,9 +18,13 @@ pub enum Step {
     Invalid,
 }
 
-// What a whole batch asks for: room for its answers, or it is not valid.
+// What a whole batch asks for: room for its answers; how many commands it has, and how many of them name a panel. Or it is not valid.
 pub enum Asked {
-    Bytes(usize),
+    Bytes {
+        room: usize,
+        commands: usize,
+        named: usize,
+    },
     Invalid,
 }
 

@@ -1,5 +1,5 @@
 -- The number that a call ends with is that of the first question answered with no: the questions are exact, and in their order. Assumes nothing.
-use mathlib.Core.Path.{_≡_, refl, ap, _∙_}
+use mathlib.Core.Path.{_≡_, refl, _∙_}
 use mathlib.Core.Bool.{Bool, true, false, _&&_}
 use mathlib.Core.List.{List, [], _∷_, _++_}
 use mathlib.Core.Option.{Option, none, some}
@@ -58,12 +58,12 @@ mount-first pool = go (cellsOf pool)
     go none = refl
     go (some c) = cells-first (blocksOf pool) c
 
-module _ (pool table batch buffer : List ℕ) where
+module _ (pool table buffer : List ℕ) where
   mounted-number : (cs : List Command) (m : Mounted) → batchMounted m cs pool table buffer .number ≡ numberOf m
   mounted-number cs (refused n) = refl
   mounted-number cs (opened t s) = refl
 
-  asked-first : (o : Option (List Command)) →
+  pub asked-first : (o : Option (List Command)) →
       batchAsked o pool table buffer .number ≡
       firstNo ((3, asked (λ cs. true) o) ∷ (4, asked (λ cs. leb (roomForAll cs) (length buffer)) o) ∷ ofPool pool)
   asked-first none = refl
@@ -75,27 +75,28 @@ module _ (pool table batch buffer : List ℕ) where
       go true = mounted-number cs (mountOf pool) ∙ mount-first pool
       go false = refl
 
-  -- THE BATCH.
-  pub batch-first : batchOf pool table batch buffer .number ≡ firstNo (ofBuffers pool table batch buffer ++ ofPool pool)
-  unfolding batchOf ofBuffers
-  batch-first = go (poolLength pool) (leb (tableBytes (blocksOf pool)) (length table))
-    where
-      go : (a b : Bool) →
-          choose {A = Outcome} a
-          (choose {A = Outcome} b (batchAsked (commandsOf batch) pool table buffer) (refuse 2 pool table buffer))
-          (refuse 1 pool table buffer) .number ≡
-          firstNo
-          ((1, a) ∷
-          (2, b) ∷
-          (3, asked (λ cs. true) (commandsOf batch)) ∷
-          (4, asked (λ cs. leb (roomForAll cs) (length buffer)) (commandsOf batch)) ∷
-          ofPool pool)
-      go false b = refl
-      go true false = refl
-      go true true = asked-first (commandsOf batch)
+-- THE BATCH.
+pub batch-first : (pool table batch buffer : List ℕ) →
+    batchOf pool table batch buffer .number ≡ firstNo (ofBuffers pool table batch buffer ++ ofPool pool)
+unfolding batchOf ofBuffers
+batch-first pool table batch buffer = go (poolLength pool) (leb (tableBytes (blocksOf pool)) (length table))
+  where
+    go : (a b : Bool) →
+        choose {A = Outcome} a
+        (choose {A = Outcome} b (batchAsked (commandsOf batch) pool table buffer) (refuse 2 pool table buffer))
+        (refuse 1 pool table buffer) .number ≡
+        firstNo
+        ((1, a) ∷
+        (2, b) ∷
+        (3, asked (λ cs. true) (commandsOf batch)) ∷
+        (4, asked (λ cs. leb (roomForAll cs) (length buffer)) (commandsOf batch)) ∷
+        ofPool pool)
+    go false b = refl
+    go true false = refl
+    go true true = asked-first pool table buffer (commandsOf batch)
 
 -- Where none of some questions is answered with no, those behind them decide.
-skipped : (xs ys : List Question) → Every (λ (q : Question). 1 ≤ q .0) xs → firstNo xs ≡ 0 → firstNo (xs ++ ys) ≡ firstNo ys
+pub skipped : (xs ys : List Question) → Every (λ (q : Question). 1 ≤ q .0) xs → firstNo xs ≡ 0 → firstNo (xs ++ ys) ≡ firstNo ys
 skipped [] ys Every.none e = refl
 skipped (q ∷ xs) ys (both l h) e = go (q .1) e (skipped xs ys h)
   where

@@ -22,12 +22,14 @@ pub mod PrepareFits
 pub mod PoolAfter
 pub mod Ends
 pub mod FirstNo
+pub mod Desk
 pub mod CommandBytes
 pub mod ScoreOrder
 pub mod OneCall
 pub mod Obeys
 pub mod Reordered
 pub mod AllCalls
+pub mod AnyCall
 pub mod AgainstSchedules
 pub mod PreparedPool
 pub mod TheBook

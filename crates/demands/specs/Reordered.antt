@@ -136,7 +136,7 @@ module _ {pool pool′ : List ℕ} (r : ReorderedPool pool pool′) where
   pub same-blocks : blocksOf pool′ ≡ B
   same-blocks = ap (λ (n : ℕ). n / blockBytes) (sym (r .length))
 
-  pool-asked : ofPool pool ≡ ofPool pool′
+  pub pool-asked : ofPool pool ≡ ofPool pool′
   unfolding ofPool
   pool-asked = ap (ofPages B) (r .reads) ∙ pages-asked ∙ sym (ap₂ ofPages same-blocks (r .reads′))
 

@@ -54,6 +54,10 @@ mostPairs = 32
 abbrev pub panels : ℕ
 panels = 16
 
+-- The length of a queue has four bytes (document 02, P5).
+abbrev pub lengthBytes : ℕ
+lengthBytes = 4
+
 -- A node has 0 to 24 keys; the first 12 stay in a split.
 abbrev pub mostKeys : ℕ
 mostKeys = 24

@@ -65,12 +65,14 @@ pub const SCORES_LESS: usize = OTHER_SCORES - FIRST_SCORES;
 
 pub const SCORES_ROUND_UP: usize = SCORES_LESS + OTHER_SCORES - 1;
 
-// A batch, a scan, the panels of a wall, and the sequence numbers with which a pool opens.
+// A batch, a scan, the panels of a wall, the length of a queue, and the sequence numbers with which a pool opens.
 pub const MOST_BATCH_BYTES: usize = 32768;
 
 pub const MOST_PAIRS: usize = 32;
 
 pub const PANELS: usize = 16;
+
+pub const LENGTH_BYTES: usize = 4;
 
 pub const LAST_SEQUENCE: u32 = 4000000000;
 

@@ -6,5 +6,7 @@ pub mod Bytes
 pub mod Call
 pub mod Questions
 pub mod Calls
+pub mod Desk
+pub mod AnyCalls
 pub mod Computes
 pub mod Worked

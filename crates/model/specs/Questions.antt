@@ -1,5 +1,5 @@
--- "Questions before the work", side by side in document 01's order, each with its number and its answer. `batchOf` and `prepareOf` ask one
--- after the other; that they end with the number of the first "no" is proved in `demands`. Assumes nothing.
+-- "Questions before the work", side by side in the documents' order, each with its number and its answer. `batchOf`, `deskOf` and `prepareOf` ask
+-- one after the other; that they end with the number of the first "no" is proved in `demands`. Assumes nothing.
 use mathlib.Core.Bool.{Bool, true, false, _&&_}
 use mathlib.Core.List.{List, [], _∷_}
 use mathlib.Core.Option.{Option, none, some}
@@ -11,6 +11,8 @@ use Rattle.layout.specs.Layout.{tableBytes}
 use Rattle.account.specs.declared.Tariff.{Tariff}
 use Rattle.account.specs.Range.{inRange}
 use Rattle.command.specs.Batch.{commandsOf, roomForAll}
+use Rattle.desk_queues.specs.Queues.{fills, queuesOf}
+use Rattle.desk_queues.specs.Joined.{joinedBy, joinedRead}
 use Rattle.store.specs.Checkpoint.{CheckpointPage, checkpointOf, tariffIn, complete}
 use Rattle.store.specs.Reopen.{Cells, reopened, pagesPass}
 use Rattle.model.specs.Mount.{treeSound, numbersLeft}
@@ -39,6 +41,17 @@ ofBuffers pool table batch buffer =
     (2, leb (tableBytes (blocksOf pool)) (length table)) ∷
     (3, asked (λ cs. true) (commandsOf batch)) ∷
     (4, asked (λ cs. leb (roomForAll cs) (length buffer)) (commandsOf batch)) ∷
+    []
+
+-- What the caller lends to the desk (document 02, P5): 1 and 2; 11, "asked between 2 and 3"; then 3 and 4, of the joined bytes.
+unfoldable pub ofDesk : List ℕ → List ℕ → List ℕ → List ℕ → List ℕ → List Question
+ofDesk pool table lengths queues buffer =
+    let commands = joinedRead (joinedBy (queuesOf lengths queues)) in
+    (1, poolLength pool) ∷
+    (2, leb (tableBytes (blocksOf pool)) (length table)) ∷
+    (11, fills lengths queues) ∷
+    (3, asked (λ cs. true) commands) ∷
+    (4, asked (λ cs. leb (roomForAll cs) (length buffer)) commands) ∷
     []
 
 -- "A complete closing set": it has the tariff too.

@@ -3,4 +3,5 @@ pub mod Run
 pub mod Replies
 pub mod Valid
 pub mod Room
+pub mod Stretch
 pub mod Running

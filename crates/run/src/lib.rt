@@ -1,4 +1,5 @@
-// The commands of a batch run one after another, each reply laid behind the last, each charge added to the panel that speaks.
+// The commands of a batch run one after another, each reply laid behind the last, each charge added to the panel that speaks. A desk runs its
+// commands by the same step.
 pub mod charges;
 pub mod replies;
 pub mod run;
@@ -12,8 +13,9 @@ pub struct Progress {
     pub at: usize,
 }
 
-// What a batch leaves beside its buffers: the state, and how many bytes of answers are laid.
+// Where a batch stands, beside its buffers: the state, the panel that speaks, and how many bytes of answers are laid.
 pub struct Ran {
     pub state: State,
+    pub panel: usize,
     pub at: usize,
 }

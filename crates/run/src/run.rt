@@ -10,6 +10,7 @@ ghost use Rattle.run_serve.specs.Step.{InBytes};
 ghost use Rattle.command.specs.Command.{InRange, roomFor};
 ghost use Rattle.book.specs.InTurn.{noCharges};
 ghost use Rattle.run.specs.Run.{CommandAs, RunAs};
+ghost use Rattle.run.specs.Stretch.{alone, Ready, RunOn};
 ghost use Rattle.run.specs.Valid.{commandsIn, Fits};
 use super::Progress;
 use super::Ran;
@@ -78,7 +79,38 @@ pub fn run_command(
     }
 }
 
-// Runs the commands of a valid batch in order, each reply laid behind the last, each charge added to the panel that speaks.
+// Runs a command where a batch stands: its reply is laid behind the last, its charge added to the panel that speaks.
+pub fn run_step(
+    pool: &mut [u8],
+    table: &mut [u8],
+    answers: &mut [u8],
+    ids: &mut [u32; MOST_NODES],
+    charges: &mut [u64; PANELS],
+    here: Ran,
+    tariff: Tariff,
+    command: Command,
+) -> Ran
+    requires { ⌜ (Ready (length (now pool)) (length (now table)) (length (now answers)) (now charges) here (alone command))
+        × (Ranged tariff) × (InRange command) × (length (now ids) ≡ nodeLimit mostBlocks) ⌝ }
+    ensures { λ r. ⌜ (InBytes RunOn (now (pool .exit)) (now (table .exit)) (now (answers .entry))
+        (now (answers .exit)) (now (charges .entry)) (now (charges .exit)) here r tariff (alone command)
+        (worldIn (now (pool .entry)) (now (table .entry)) (here .state)))
+        × (length (now (ids .exit)) ≡ nodeLimit mostBlocks) ⌝ }
+{
+    let before = here.state;
+    let done = run_command(pool, table, answers, ids, before, tariff, command, here.at);
+    let paid = done.charged;
+    add(charges, here.panel, paid.charge);
+    let state = paid.state;
+    let panel = panel_after(command, here.panel);
+    Ran {
+        state,
+        panel,
+        at: done.at,
+    }
+}
+
+// Runs the commands of a valid batch in order, from panel 0 on.
 pub fn run_commands(
     pool: &mut [u8],
     table: &mut [u8],
@@ -95,32 +127,32 @@ pub fn run_commands(
         (worldIn (now (pool .entry)) (now (table .entry)) state) ⌝ }
 {
     let mut ids = [0u32; MOST_NODES];
-    let mut s = state;
-    let mut panel: usize = 0;
-    let mut place: usize = 0;
+    let mut here = Ran {
+        state,
+        panel: 0,
+        at: 0,
+    };
     let mut at: usize = 0;
     while at < batch.len() {
         let step = command_at(batch, at);
         match step {
             Step::Next { command, next } => {
-                let done = run_command(pool, table, answers, &mut ids, s, tariff, command, place);
-                let paid = done.charged;
-                s = paid.state;
-                add(charges, panel, paid.charge);
-                panel = panel_after(command, panel);
-                place = done.at;
+                here = run_step(
+                    pool,
+                    table,
+                    answers,
+                    &mut ids,
+                    charges,
+                    here,
+                    tariff,
+                    command,
+                );
                 at = next;
             }
             Step::Invalid => {
-                return Ran {
-                    state: s,
-                    at: place,
-                };
+                return here;
             }
         }
     }
-    Ran {
-        state: s,
-        at: place,
-    }
+    here
 }

@@ -1,11 +1,13 @@
-// The wall book as C firmware calls it: prepare and batch, on lent buffers that do not overlap. Neither asks anything of its caller.
+// The wall book as C firmware calls it: prepare, batch and desk, on lent buffers that do not overlap. None asks anything of its caller.
 ghost use Rattle.account.specs.Tariff.{tariffOf};
 ghost use Rattle.model.specs.Call.{batchOf, prepareOf};
+ghost use Rattle.model.specs.Desk.{deskOf};
 ghost use Rattle.prepare.specs.Prepared as Prepare;
 ghost use Rattle.batch.specs.Left.{Leaves};
 ghost use Rattle.wall_book.specs.Entry.{outcome};
 use account::tariff_of;
 use batch::batch;
+use desk::desk;
 use layout::PANELS;
 use prepare::prepare;
 
@@ -57,4 +59,24 @@ pub extern "C" fn wall_book_batch(
     let done = batch(pool, table, commands, answers, charges);
     *length = done.length;
     done.number
+}
+
+// Serves up to sixteen queues, one command of each by turns. The answer is as that of a batch.
+#[no_mangle]
+pub extern "C" fn wall_book_desk(
+    pool: &mut [u8],
+    table: &mut [u8],
+    lengths: &[u8],
+    queues: &[u8],
+    answers: &mut [u8],
+    length: &mut usize,
+    charges: &mut [u64; PANELS],
+) -> u32
+    ensures { λ r. ⌜ Leaves (deskOf (now (pool .entry)) (now (table .entry)) (now (lengths .entry))
+        (now (queues .entry)) (now (answers .entry))) (outcome r (now (length .exit))) (now (pool .exit))
+        (now (table .exit)) (now (answers .exit)) (now (charges .exit)) ⌝ }
+{
+    let served = desk(pool, table, lengths, queues, answers, charges);
+    *length = served.length;
+    served.number
 }

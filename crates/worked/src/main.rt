@@ -1,5 +1,5 @@
-// worked: the cases of document 01, section "Worked", that a program executes, the pools of two small runs, and of document 02 panels (P2) and the
-// next route up (P3), through the calls that C makes.
+// worked: the cases of document 01, section "Worked", that a program executes, the pools of two small runs, and of document 02 panels (P2), the
+// next route up (P3) and the desk (P5), through the calls that C makes.
 // It prints a line for each; its file `stdout` has what must come out.
 ghost use mathlib.Core.Path.{_≡_};
 ghost use Prim.Native.Nat.{_+_, _≤_};
@@ -12,6 +12,7 @@ use hash::hash;
 use layout::LAST_KEY;
 use layout::PANELS;
 use wall_book::wall_book_batch;
+use wall_book::wall_book_desk;
 use wall_book::wall_book_prepare;
 use wire::field::lay_head;
 use wire::number::write32;
@@ -78,8 +79,38 @@ fn done(case: &[u8], pool: &mut [u8], commands: &[u8]) {
     let mut charges = [0u64; PANELS];
     run(pool, commands, &mut charges);
     io::write_all(1, case);
-    print_charges(&charges);
+    print_left(&charges, pool);
+}
+
+// Prints what each panel was charged, and the pool that is left.
+fn print_left(charges: &[u64; PANELS], pool: &[u8])
+    requires { ⌜ length (now charges) ≡ panels ⌝ }
+{
+    print_charges(charges);
     print_pool(b", ", pool);
+}
+
+// Serves queues with a table and answers that are long enough; prints the number, and where it is 0 what each panel is charged and the pool.
+fn served(case: &[u8], pool: &mut [u8], lengths: &[u8], queues: &[u8]) {
+    let mut table = [0u8; 4096];
+    let mut answers = [0u8; 1024];
+    let mut length: usize = 0;
+    let mut charges = [0u64; PANELS];
+    let number = wall_book_desk(
+        pool,
+        &mut table,
+        lengths,
+        queues,
+        &mut answers,
+        &mut length,
+        &mut charges,
+    );
+    if number == 0 {
+        io::write_all(1, case);
+        print_left(&charges, pool);
+        return;
+    }
+    print_number(case, number);
 }
 
 // "Pool of 49,152 bytes: 1; 65,536: accepted. Switch cost 0: 10."
@@ -154,12 +185,12 @@ fn lay_put(commands: &mut [u8], at: usize, key: u32, value: u32)
     write32(commands, at + 7, value);
 }
 
-// One ceiling, seven bytes.
-fn lay_ceiling(commands: &mut [u8], at: usize, key: u32)
+// One command of a key alone, seven bytes: a get, a delete or a ceiling, by its tag.
+fn lay_key(commands: &mut [u8], at: usize, tag: u8, key: u32)
     requires { ⌜ at + 7 ≤ length (now commands) ⌝ }
     ensures { λ _. ⌜ length (now (commands .exit)) ≡ length (now (commands .entry)) ⌝ }
 {
-    lay_head(commands, at, 7, 4);
+    lay_head(commands, at, tag, 4);
     write32(commands, at + 3, key);
 }
 
@@ -252,10 +283,10 @@ fn ceilings() {
     let mut commands = [0u8; 50];
     lay_put(&mut commands, 0, 7, 100);
     lay_put(&mut commands, 11, 9, 200);
-    lay_ceiling(&mut commands, 22, 0);
-    lay_ceiling(&mut commands, 29, 7);
-    lay_ceiling(&mut commands, 36, 8);
-    lay_ceiling(&mut commands, 43, 10);
+    lay_key(&mut commands, 22, 7, 0);
+    lay_key(&mut commands, 29, 7, 7);
+    lay_key(&mut commands, 36, 7, 8);
+    lay_key(&mut commands, 43, 7, 10);
     done(
         b"put 7 and 9, ceilings of 0, 7, 8 and 10: ",
         &mut pool,
@@ -269,9 +300,9 @@ fn greatest_key() {
     prepare(&mut pool);
     let mut commands = [0u8; 32];
     lay_put(&mut commands, 0, LAST_KEY, 1);
-    lay_ceiling(&mut commands, 11, LAST_KEY);
-    lay_ceiling(&mut commands, 18, 8);
-    lay_ceiling(&mut commands, 25, 0);
+    lay_key(&mut commands, 11, 7, LAST_KEY);
+    lay_key(&mut commands, 18, 7, 8);
+    lay_key(&mut commands, 25, 7, 0);
     done(
         b"put ffffffff, ceilings of it, 8 and 0: ",
         &mut pool,
@@ -284,6 +315,59 @@ fn greatest_key() {
     );
 }
 
+// "Serves one command from each queue that still has any, in panel order, round and round": panel 0 puts and gets, panel 1 gets and deletes, by
+// turns; three gets of panel 0 and one of panel 2; no queue at all.
+fn desks() {
+    let mut pool = [0u8; 65536];
+    prepare(&mut pool);
+    let mut queues = [0u8; 32];
+    lay_put(&mut queues, 0, 7, 100);
+    lay_key(&mut queues, 11, 1, 7);
+    lay_key(&mut queues, 18, 1, 7);
+    lay_key(&mut queues, 25, 3, 7);
+    let two = [0u8, 0, 0, 18, 0, 0, 0, 14];
+    served(
+        b"panel 0 put 7, get 7; panel 1 get 7, delete 7: ",
+        &mut pool,
+        &two,
+        &queues,
+    );
+    prepare(&mut pool);
+    lay_key(&mut queues, 0, 1, 7);
+    lay_key(&mut queues, 7, 1, 7);
+    lay_key(&mut queues, 14, 1, 7);
+    lay_key(&mut queues, 21, 1, 7);
+    let three = [0u8, 0, 0, 21, 0, 0, 0, 0, 0, 0, 0, 7];
+    served(
+        b"panel 0 three gets, panel 2 one: ",
+        &mut pool,
+        &three,
+        &queues[0..28],
+    );
+    prepare(&mut pool);
+    served(b"no queue: ", &mut pool, &[], &[]);
+}
+
+// "More than 16 lengths, part of one, or lengths that don't fill the queue buffer exactly, gives 11"; a queue that holds an 05 gives 3.
+fn desks_refused() {
+    let mut pool = [0u8; 65536];
+    prepare(&mut pool);
+    let mut get = [0u8; 7];
+    lay_key(&mut get, 0, 1, 7);
+    served(b"seventeen queues: ", &mut pool, &[0u8; 68], &[]);
+    served(b"part of a length: ", &mut pool, &[0u8, 0, 0, 7, 0], &get);
+    let wrapped = [255u8, 255, 255, 255, 0, 0, 0, 8];
+    served(b"lengths of 2^32 and 7 bytes: ", &mut pool, &wrapped, &get);
+    served(
+        b"an 05 in a queue: ",
+        &mut pool,
+        &[0u8, 0, 0, 4],
+        &[5u8, 0, 1, 0],
+    );
+    let border = [0u8, 0, 0, 3, 0, 0, 0, 4];
+    served(b"a get over a border: ", &mut pool, &border, &get);
+}
+
 fn main() {
     prepares();
     scans();
@@ -292,4 +376,6 @@ fn main() {
     panels();
     ceilings();
     greatest_key();
+    desks();
+    desks_refused();
 }

@@ -9,7 +9,7 @@ use Rattle.model.specs.Call as Model
 use Rattle.prepare.specs.Prepared.{no-pool, a-pool}
 use Rattle.batch.specs.Left.{wiped, Leaves}
 use Rattle.batch.specs.Questions.{not-valid, asks-for, refused-one, refused-two, refused-three, refused-four, passed-four}
-use Rattle.batch.proofs.Laws.{left-as, lent-work}
+use Rattle.batch.specs.Lent.{left-as, lent-work}
 use borrow.Author.Needs.{needs}
 use Rattle.batch.proofs.batch.Statement.{statement}
 use Rattle.batch.proofs.batch.Tie as tie
@@ -88,8 +88,8 @@ returns-3 c =
     (not-valid (a .commands .now) (sym (c5 .enum-told .given .1) ∙ c7 .asked .ensures)) (c3 .wipe .last .0)
     (c3 .wipe .ensures ∙ ap (λ (n : ℕ). wiped (tableBytes n) (a .table .now)) (b .ensures ∙ h .blocks)) (c11 .clear .last .0) (c11 .clear .ensures))
 
-enum-known-room : tie.Need-enum-known-room
-enum-known-room c = search needs
+enum-known-wanted : tie.Need-enum-known-wanted
+enum-known-wanted c = search needs
 
 wipe-requires-2 : tie.Need-wipe-requires-2
 wipe-requires-2 c κs = search needs
@@ -113,8 +113,8 @@ returns-4 c =
     let a = c13 .before .before .before .before .before .before .args in
     let b = c12 .pool-blocks in
     let h = a-pool (a .pool .now) (b .result) (b .ensures) (c11 .if1 .left) in
-    let told = c7 .room .given in
-    let asks = asks-for (a .commands .now) (told .0 .0) (sym (told .1) ∙ c9 .asked .ensures) in
+    let told = c7 .wanted .given in
+    let asks = asks-for (a .commands .now) (told .0 .0) (told .0 .1 .0) (told .0 .1 .1 .0) (sym (told .1) ∙ c9 .asked .ensures) in
     left-as (c .refused4 .ensures)
     (refused-four (a .pool .now) (a .table .now) (a .commands .now) (a .answers .now) h (omega (arith, b .ensures, h .blocks, c10 .if2 .left))
     (asks .0) (asks .1) (omega (arith, asks .2, c5 .if3 .taken)) (c3 .wipe2 .last .0)
@@ -140,8 +140,8 @@ work-requires c κs =
     let a = c12 .before .before .before .before .before .before .args in
     let b = c11 .pool-blocks in
     let h = a-pool (a .pool .now) (b .result) (b .ensures) (c10 .if1 .left) in
-    let told = c6 .room .given in
-    let asks = asks-for (a .commands .now) (told .0 .0) (sym (told .1) ∙ c8 .asked .ensures) in (
+    let told = c6 .wanted .given in
+    let asks = asks-for (a .commands .now) (told .0 .0) (told .0 .1 .0) (told .0 .1 .1 .0) (sym (told .1) ∙ c8 .asked .ensures) in (
       record {
         pool = omega (arith, h .whole, b .ensures, h .blocks);
         least = omega (arith, h .least, b .ensures, h .blocks);
@@ -175,8 +175,8 @@ returns-5 c =
     let a = c18 .before .before .before .before .before .before .before .args in
     let b = c18 .pool-blocks in
     let h = a-pool (a .pool .now) (b .result) (b .ensures) (c17 .if1 .left) in
-    let told = c13 .room .given in
-    let asks = asks-for (a .commands .now) (told .0 .0) (sym (told .1) ∙ c15 .asked .ensures) in
+    let told = c13 .wanted .given in
+    let asks = asks-for (a .commands .now) (told .0 .0) (told .0 .1 .0) (told .0 .1 .1 .0) (sym (told .1) ∙ c15 .asked .ensures) in
     let w = c6 .work in
     let bytes : tableBytes (b .result) ≡ tableBytes (Model.blocksOf (a .pool .now)) = ap tableBytes (b .ensures ∙ h .blocks) in
     subst (λ (right : Model.Outcome). Leaves right (w .result) (w .last .0)
@@ -205,7 +205,7 @@ batch-spec =
     refused-requires-3
     same-length
     returns-3
-    enum-known-room
+    enum-known-wanted
     wipe-requires-2
     refused-requires-4
     same-length-2

@@ -1,23 +1,18 @@
 -- `work` meets its contract: a pool refused, or its commands run and its checkpoint written. Assumes nothing.
-use mathlib.Core.Path.{sym, ap, _∙_, subst}
+use mathlib.Core.Path.{_∙_}
 use lib.ListN.{length}
-use Rattle.laws.specs.BigEndian.{bytes-getD}
-use Rattle.run.specs.Valid.{valid-fits}
-use Rattle.batch.specs.declared.answer.Outcome.{Outcome}
-use Rattle.batch.specs.Left.{Worked}
-use Rattle.batch.specs.Work.{zeros, worked-refused, worked-by, grows}
 use borrow.Author.Needs.{needs}
+use Rattle.laws.specs.BigEndian.{bytes-getD}
+use Rattle.run.specs.Valid.{commandsIn-is, valid-fits}
+use Rattle.batch.specs.Work.{worked-unopened, worked-closed, grows}
 use Rattle.batch.proofs.work.Statement.{statement}
 use Rattle.batch.proofs.work.Tie as tie
 
 mount-requires : tie.Need-mount-requires
 mount-requires c κs = search needs
 
-fill-requires : tie.Need-fill-requires
-fill-requires c κs = search needs
-
-refused-requires : tie.Need-refused-requires
-refused-requires c κs = search needs
+unopened-requires : tie.Need-unopened-requires
+unopened-requires c κs = search needs
 
 same-length : tie.Need-same-length
 same-length c = search needs
@@ -27,17 +22,13 @@ same-length-2 c = search needs
 
 returns : tie.Need-returns
 returns c =
-    let c3 = c .before .before .before in
-    let c5 = c3 .before .before in
-    let c9 = c5 .before .before .before .before in
-    let c16 = c9 .before .before .before .before .before .before .before in
-    let a = c16 .args in
-    let m = c9 .mount in
-    let f = c3 .fill in
-    subst (λ (r : Outcome). Worked (a .pool .now) (a .pool .now) (a .table .now) (f .last .0) (a .commands .now)
-    (a .answers .now) (a .answers .now) (a .charges .now) r) (sym (c .refused .ensures))
-    (worked-refused (a .pool .now) (a .table .now) (a .commands .now) (a .answers .now) (c16 .pre .0) (f .last .0)
-    (f .ensures ∙ ap zeros (m .kept .1 .0)) (m .result .refused) (m .ensures .refused (c5 .if1 .left)) (a .charges .now) (c16 .pre .1))
+    let c2 = c .before .before in
+    let c4 = c2 .before .before in
+    let c8 = c4 .before .before .before .before in
+    let c15 = c8 .before .before .before .before .before .before .before in
+    let m = c8 .mount in
+    worked-unopened (c15 .pre .0) (m .kept .1 .0) (m .ensures .refused (c4 .if1 .left)) (c15 .args .charges .now) (c15 .pre .1)
+    (c2 .unopened .ensures)
 
 run-commands-requires : tie.Need-run-commands-requires
 run-commands-requires c κs =
@@ -49,56 +40,45 @@ run-commands-requires c κs =
     let o = c10 .mount .ensures .opened (c6 .if1 .taken) in
     (grows o, o .ranged, valid-fits (a .commands .now) (pre .commands) (pre .are) (length (a .answers .now)) (pre .enough), c17 .pre .1)
 
-checkpoint-requires : tie.Need-checkpoint-requires
-checkpoint-requires c κs = search needs
-
-fill-requires-2 : tie.Need-fill-requires-2
-fill-requires-2 c κs = search needs
+close-requires : tie.Need-close-requires
+close-requires c κs = c .before .before .before .before .before .before .before .before .run-commands .ensures .kept .growing
 
 same-length-3 : tie.Need-same-length-3
 same-length-3 c = search needs
 
 same-length-4 : tie.Need-same-length-4
-same-length-4 c =
-    let c2 = c .before .before in
-    let c8 = c2 .before .before .before .before .before .before in
-    let c17 = c8 .before .before .before .before .before .before .before .before .before in
-    let c28 = c17 .before .before .before .before .before .before .before .before .before .before .before in
-    c2 .fill2 .kept .0 ∙ c8 .checkpoint .kept .1 .0 ∙ c17 .run-commands .kept .1 .0 ∙ c28 .mount .kept .1 .0
+same-length-4 c = search needs
 
 same-length-5 : tie.Need-same-length-5
 same-length-5 c = search needs
 
 returns-2 : tie.Need-returns-2
 returns-2 c =
-    let c2 = c .before .before in
-    let c8 = c2 .before .before .before .before .before .before in
-    let c17 = c8 .before .before .before .before .before .before .before .before .before in
-    let c24 = c17 .before .before .before .before .before .before .before in
+    let c4 = c .before .before .before .before in
+    let c13 = c4 .before .before .before .before .before .before .before .before .before in
+    let c20 = c13 .before .before .before .before .before .before .before in
+    let c24 = c20 .before .before .before .before in
+    let c31 = c24 .before .before .before .before .before .before .before in
     let c28 = c24 .before .before .before .before in
-    let c32 = c28 .before .before .before .before in
-    let c35 = c32 .before .before .before in
-    let a = c35 .args in
-    let m = c28 .mount in
-    let r = c17 .run-commands in
-    let e = c8 .checkpoint in
-    worked-by (c35 .pre .0) (c2 .fill2 .last .0) (c2 .fill2 .ensures ∙ ap zeros (e .kept .1 .0 ∙ r .kept .1 .0 ∙ m .kept .1 .0))
-    (bytes-getD (a .commands .now) (λ i. c32 .shared-slice-known .given i .fits)) (m .ensures .opened (c24 .if1 .taken)) (r .ensures) (e .last .0) (e .ensures)
-    (e .kept .0 ∙ r .kept .0)
+    let a = c31 .args in
+    let pre = c31 .pre .0 in
+    let m = c24 .mount in
+    let r = c13 .run-commands in
+    worked-closed pre (r .kept .1 .0 ∙ m .kept .1 .0) (bytes-getD (a .commands .now) (λ i. c28 .shared-slice-known .given i .fits))
+    (m .ensures .opened (c20 .if1 .taken)) (commandsIn-is (a .commands .now) (pre .commands) (pre .are)) (r .ensures) (c4 .close .ensures)
+    (c4 .close .kept .0 ∙ r .kept .0)
 
 pub work-spec : {M : Type 1} → statement M
 work-spec =
     tie.close
     (tie.spec
     mount-requires
-    fill-requires
-    refused-requires
+    unopened-requires
     same-length
     same-length-2
     returns
     run-commands-requires
-    checkpoint-requires
-    fill-requires-2
+    close-requires
     same-length-3
     same-length-4
     same-length-5

@@ -1,6 +1,6 @@
--- `command::batch::asked` meets its contract: the invariant says that what is left, with the bytes so far, asks for what the whole
+-- `command::batch::asked` meets its contract: the invariant says that what is left, with what was asked so far, asks for what the whole
 -- batch asks for. Assumes nothing.
-use mathlib.Core.Path.{_≡_, sym, ap, _∙_}
+use mathlib.Core.Path.{_≡_, sym, ap₂, _∙_}
 use Prim.Native.Nat.{ℕ, _+_, _-_, _*_, _≤_}
 use native.Mathlib.Omega.{arith}
 use borrow.Author.Needs.{needs}
@@ -9,16 +9,16 @@ use Rattle.command.specs.declared.Step.the-variants.{Next}
 use Rattle.command.specs.Command.{commandAt, Onward}
 use Rattle.command.specs.CommandLaws.{commandAt-onward, roomFor-le}
 use Rattle.command.specs.Batch.{commandsFrom, askedOf}
-use Rattle.command.specs.BatchLaws.{askedWith, asked-long, asked-start, asked-turn, asked-invalid, asked-end}
+use Rattle.command.specs.BatchLaws.{askedWith, named-le, asked-long, asked-start, asked-turn, asked-invalid, asked-end}
 use Rattle.command.proofs.batch.asked.Statement.{statement}
 use Rattle.command.proofs.batch.asked.Tie as tie
 
 abbrev Inv-loop : tie.InvT-loop
-Inv-loop s at₀ bytes₀ at bytes =
-    (at ≤ length s) × (bytes ≤ 259 * at) × (askedWith bytes (commandsFrom s at) ≡ askedOf s)
+Inv-loop s at₀ room₀ commands₀ named₀ at room commands named =
+    (at ≤ length s) × (room ≤ 259 * at) × (commands ≤ at) × (named ≤ at) × (askedWith room commands named (commandsFrom s at) ≡ askedOf s)
 
 abbrev μ-loop : tie.MeasureT-loop
-μ-loop s at₀ bytes₀ at bytes = length s - at
+μ-loop s at₀ room₀ commands₀ named₀ at room commands named = length s - at
 
 -- the command found, and that it goes on
 step-is : (c : tie.After-known-told Inv-loop μ-loop) →
@@ -39,7 +39,7 @@ returns : tie.Need-returns Inv-loop μ-loop
 returns c = asked-long _ (c .if1 .taken)
 
 loop-holds : tie.Need-loop-holds Inv-loop μ-loop
-loop-holds c = (omega arith, omega arith, asked-start _ (c .if1 .left))
+loop-holds c = (omega arith, omega arith, omega arith, omega arith, asked-start _ (c .if1 .left))
 
 command-at-requires : tie.Need-command-at-requires Inv-loop μ-loop
 command-at-requires c κs = search needs
@@ -50,8 +50,8 @@ enum-known-step c = search needs
 room-for-requires : tie.Need-room-for-requires Inv-loop μ-loop
 room-for-requires c κs = search needs
 
-add-bytes : tie.Need-add-bytes Inv-loop μ-loop
-add-bytes c =
+add-room : tie.Need-add-room Inv-loop μ-loop
+add-room c =
     let c1 = c .before in
     let c2 = c1 .before in
     let c6 = c2 .before .before .before .before in
@@ -60,26 +60,45 @@ add-bytes c =
     let turn = c6 .loop in
     omega (arith, c .room-for .ensures, roomFor-le (c2 .step .given .0 .0) (w .2), turn .inv .0, turn .inv .1, c7 .if1 .left)
 
+add-commands : tie.Need-add-commands Inv-loop μ-loop
+add-commands c =
+    let c6 = c .before .before .before .before .before .before in
+    omega (arith, c6 .loop .inv .0, c6 .loop .inv .2, c6 .before .if1 .left)
+
+named-by-requires : tie.Need-named-by-requires Inv-loop μ-loop
+named-by-requires c κs = search needs
+
+add-named : tie.Need-add-named Inv-loop μ-loop
+add-named c =
+    let c3 = c .before .before .before in
+    let c7 = c3 .before .before .before .before in
+    omega (arith, c .named-by .ensures, named-le (c3 .step .given .0 .0), c7 .loop .inv .0, c7 .loop .inv .3, c7 .before .if1 .left)
+
 loop-less : tie.Need-loop-less Inv-loop μ-loop
 loop-less c =
-    let w = onward (c .before) in
-    omega (arith, w .0, w .1, c .before .before .before .before .before .loop-test .taken)
+    let c2 = c .before .before in
+    let w = onward (c2) in
+    omega (arith, w .0, w .1, c2 .before .before .before .before .loop-test .taken)
 
 loop-again : tie.Need-loop-again Inv-loop μ-loop
 loop-again c =
-    let c1 = c .before in
-    let c2 = c1 .before in
-    let c5 = c2 .before .before .before in
-    let c6 = c5 .before in
-    let c9 = c6 .before .before .before in
-    let w = onward (c1) in
-    let turn = c6 .loop in
-    let s = c9 .args .s .now in
-    let next = c2 .step .given .0 .1 .0 in (
+    let c2 = c .before .before in
+    let c3 = c2 .before in
+    let c6 = c3 .before .before .before in
+    let c7 = c6 .before in
+    let c10 = c7 .before .before .before in
+    let w = onward (c2) in
+    let turn = c7 .loop in
+    let s = c10 .args .s .now in
+    let found = c3 .step .given .0 .0 in
+    let next = c3 .step .given .0 .1 .0 in (
       w .1,
-      omega (arith, w .0, c .room-for .ensures, roomFor-le (c2 .step .given .0 .0) (w .2), turn .inv .1),
-      ap (λ (n : ℕ). askedWith (turn .bytes + n) (commandsFrom s next)) (c .room-for .ensures) ∙
-          asked-turn s (turn .at) (turn .bytes) (c5 .loop-test .taken) _ next (step-is (c1)) (turn .inv .2),
+      omega (arith, w .0, c .before .room-for .ensures, roomFor-le found (w .2), turn .inv .1),
+      omega (arith, w .0, turn .inv .2),
+      omega (arith, w .0, c .named-by .ensures, named-le found, turn .inv .3),
+      ap₂ (λ (k m : ℕ). askedWith (turn .room + k) (turn .commands + 1) (turn .named + m) (commandsFrom s next)) (c .before .room-for .ensures)
+          (c .named-by .ensures) ∙
+          asked-turn s (turn .at) (turn .room) (turn .commands) (turn .named) (c6 .loop-test .taken) found next (step-is (c2)) (turn .inv .4),
     )
 
 enum-told : tie.Need-enum-told Inv-loop μ-loop
@@ -91,14 +110,14 @@ returns-2 c =
     let c3 = c2 .before in
     let c4 = c3 .before in
     let turn = c4 .loop in
-    asked-invalid _ (turn .at) (turn .bytes) (c3 .loop-test .taken)
+    asked-invalid _ (turn .at) (turn .room) (turn .commands) (turn .named) (c3 .loop-test .taken)
     (sym (c2 .command-at .ensures) ∙ c .enum-told .given .1)
-    (turn .inv .2)
+    (turn .inv .4)
 
 returns-3 : tie.Need-returns-3 Inv-loop μ-loop
 returns-3 c =
     let turn = c .before .loop in
-    asked-end _ (turn .at) (turn .bytes) (c .loop-test .left) (turn .inv .2)
+    asked-end _ (turn .at) (turn .room) (turn .commands) (turn .named) (c .loop-test .left) (turn .inv .4)
 
 pub asked-spec : {M : Type 1} → statement M
 asked-spec =
@@ -111,7 +130,10 @@ asked-spec =
     command-at-requires
     enum-known-step
     room-for-requires
-    add-bytes
+    add-room
+    add-commands
+    named-by-requires
+    add-named
     loop-less
     loop-again
     enum-told

@@ -1,4 +1,4 @@
--- `run::run_commands` meets its contract: the commands left, from here, give the whole. Assumes nothing.
+-- `run::run_commands` meets its contract: the commands run so far, and those left, are the whole. Assumes nothing.
 use mathlib.Core.Path.{_≡_, refl, sym, _∙_}
 use Prim.Native.Nat.{ℕ, _-_}
 use native.Mathlib.Omega.{arith}
@@ -10,20 +10,18 @@ use Rattle.command.specs.Command.{commandAt}
 use Rattle.flash_rows.specs.Worktable.{tableFrom}
 use Rattle.flash_blocks.specs.Pages.{pagesOf}
 use Rattle.flash_allocate.specs.World.{world}
-use Rattle.run.specs.Running.{Running, running-start, running-further, running-range, running-room, running-sum, running-next, running-valid}
-use Rattle.run.specs.Running.{running-end, running-as}
+use Rattle.run.specs.Running.{Running, running-start, running-further, running-range, running-ready, running-next, running-valid, running-end}
 use Rattle.run.proofs.run.run_commands.Statement.{statement}
 use Rattle.run.proofs.run.run_commands.Tie as tie
 
 abbrev Inv-loop : tie.InvT-loop
-Inv-loop pool₀ table₀ batch answers₀ charges₀ tariff ids₀ s₀ panel₀ place₀ at₀ pool table answers charges ids s panel place at =
+Inv-loop pool₀ table₀ batch answers₀ charges₀ tariff ids₀ here₀ at₀ pool table answers charges ids here at =
     (length pool ≡ length pool₀) × (length table ≡ length table₀) × (length answers ≡ length answers₀) × (length ids ≡ nodeLimit mostBlocks) ×
-    Running (length pool) (length table) tariff batch answers₀ at (world (pagesOf pool₀) (tableFrom table₀) s₀)
-    (world (pagesOf pool) (tableFrom table) s) answers charges panel place
+    Running (length pool) (length table) tariff batch answers₀ at (world (pagesOf pool₀) (tableFrom table₀) (here₀ .state)) (pagesOf pool)
+    (tableFrom table) answers charges₀ charges here
 
 abbrev μ-loop : tie.MeasureT-loop
-μ-loop pool₀ table₀ batch answers₀ charges₀ tariff ids₀ s₀ panel₀ place₀ at₀ pool table answers charges ids s panel place at =
-    length batch - at
+μ-loop pool₀ table₀ batch answers₀ charges₀ tariff ids₀ here₀ at₀ pool table answers charges ids here at = length batch - at
 
 -- the command found
 step-is : (k : tie.After-known-told Inv-loop μ-loop) →
@@ -50,58 +48,37 @@ command-at-requires c κs = search needs
 enum-known-step : tie.Need-enum-known-step Inv-loop μ-loop
 enum-known-step c = search needs
 
-run-command-requires : tie.Need-run-command-requires Inv-loop μ-loop
-run-command-requires c κs =
-    let c4 = c .before .before .before .before in
-    let c8 = c4 .before .before .before .before in
-    let c9 = c8 .before in
-    let c14 = c9 .before .before .before .before .before in
-    let l = c9 .loop in (
-      l .inv .4 .growing,
-      c14 .pre .1,
-      running-range (l .inv .4) (c8 .loop-test .taken) _ _ (step-is c4),
-      omega
-          (arith, running-room (l .inv .4) (c8 .loop-test .taken) _ _ (step-is c4), l .inv .2),
+run-step-requires : tie.Need-run-step-requires Inv-loop μ-loop
+run-step-requires c κs =
+    let c5 = c .before .before .before .before .before in
+    let c9 = c5 .before .before .before .before in
+    let l = c9 .before .loop in
+    let c15 = c9 .before .before .before .before .before .before in (
+      running-ready (l .inv .4) (c9 .loop-test .taken) _ _ (step-is c5) (length (l .answers)) (l .inv .2),
+      c15 .pre .1,
+      running-range (l .inv .4) (c9 .loop-test .taken) _ _ (step-is c5),
       l .inv .3,
     )
 
-add-requires : tie.Need-add-requires Inv-loop μ-loop
-add-requires c κs =
-    let c9 = c .before .before .before .before .before .before .before .before .before in
-    let c14 = c9 .before .before .before .before .before in
-    let c18 = c14 .before .before .before .before in
-    let c19 = c18 .before in
-    let c24 = c19 .before .before .before .before .before in
-    let r = c19 .loop .inv .4 in (
-      r .sixteen,
-      r .speaks,
-      running-sum r (c18 .loop-test .taken) _ _ (step-is c14) (c9 .run-command .ensures .0) (c24 .pre .2 .short),
-    )
-
-panel-after-requires : tie.Need-panel-after-requires Inv-loop μ-loop
-panel-after-requires c κs = search needs
-
 loop-less : tie.Need-loop-less Inv-loop μ-loop
 loop-less c =
-    let c16 = c .before .before .before .before .before .before .before .before .before .before .before .before .before .before .before .before in
-    let c20 = c16 .before .before .before .before in
-    let further = running-further (c20 .before .loop .inv .4) (c20 .loop-test .taken) _ _ (step-is c16) in
-    omega (arith, further .0, further .1, c20 .loop-test .taken)
+    let c12 = c .before .before .before .before .before .before .before .before .before .before .before .before in
+    let c16 = c12 .before .before .before .before in
+    let further = running-further (c16 .before .loop .inv .4) (c16 .loop-test .taken) _ _ (step-is c12) in
+    omega (arith, further .0, further .1, c16 .loop-test .taken)
 
 loop-again : tie.Need-loop-again Inv-loop μ-loop
 loop-again c =
-    let c1 = c .before in
-    let c11 = c1 .before .before .before .before .before .before .before .before .before .before in
-    let c16 = c11 .before .before .before .before .before in
-    let c20 = c16 .before .before .before .before in
-    let c21 = c20 .before in
-    let l = c21 .loop in
-    let x = c11 .run-command in (
+    let c6 = c .before .before .before .before .before .before in
+    let c12 = c6 .before .before .before .before .before .before in
+    let c16 = c12 .before .before .before .before in
+    let l = c16 .before .loop in
+    let x = c6 .run-step in (
       x .kept .0 ∙ l .inv .0,
       x .kept .1 .0 ∙ l .inv .1,
       x .kept .1 .1 .0 ∙ l .inv .2,
       x .ensures .1,
-      running-as (c1 .add .ensures) (c .panel-after .ensures) (running-next (l .inv .4) (c20 .loop-test .taken) _ _ (step-is c16) (x .ensures .0)),
+      running-next (l .inv .4) (c16 .loop-test .taken) _ _ (step-is c12) (x .ensures .0),
     )
 
 enum-told : tie.Need-enum-told Inv-loop μ-loop
@@ -133,7 +110,7 @@ same-length-6 : tie.Need-same-length-6 Inv-loop μ-loop
 same-length-6 c = c .before .loop .inv .2
 
 returns-2 : tie.Need-returns-2 Inv-loop μ-loop
-returns-2 c = running-end (c .before .loop .inv .4) (c .loop-test .left)
+returns-2 c = running-end (c .before .loop .inv .4) (c .loop-test .left) (c .before .before .before .before .before .before .pre .3)
 
 pub run-commands-spec : {M : Type 1} → statement M
 run-commands-spec =
@@ -144,9 +121,7 @@ run-commands-spec =
     loop-holds
     command-at-requires
     enum-known-step
-    run-command-requires
-    add-requires
-    panel-after-requires
+    run-step-requires
     loop-less
     loop-again
     enum-told

@@ -15,12 +15,17 @@ use Rattle.model.specs.Call as Model
 use Rattle.model.specs.Mount.{Mounted, refused, opened}
 use Rattle.batch.specs.declared.answer.Outcome.{Outcome}
 use Rattle.batch.specs.Left.{wiped, Leaves}
-use Rattle.batch.specs.Work.{zeros, cleared-whole}
+use Rattle.batch.specs.Closed.{zeros}
+use Rattle.batch.specs.Work.{cleared-whole}
 
 length-zeros : (n : ℕ) → length (zeros n) ≡ n
 length-zeros n = length-replicate {A = ℕ} n 0
 
--- The first bytes lent, and given back as zeros.
+-- The first bytes lent.
+pub lent-length : (table : List ℕ) (bytes : ℕ) → bytes ≤ length table → length (take (bytes - 0) (drop 0 table)) ≡ bytes
+lent-length table bytes l = length-take-le (bytes - 0) (drop 0 table) (rw sub-zero l) ∙ sub-zero bytes
+
+-- .. and given back as zeros.
 pub lent-zero : (table : List ℕ) (bytes : ℕ) (part : List ℕ) → part ≡ zeros bytes → putMid 0 (bytes - 0) table part ≡ wiped bytes table
 unfolding wiped
 lent-zero table bytes part e =
@@ -53,7 +58,7 @@ pub lent-work : (m : Mounted) (cs : List Command) (pool table answers : List ℕ
 unfolding wiped
 lent-work m cs pool table answers bytes e l {r} {left} {rest} {replies} {charges} h =
     let part : List ℕ = take (bytes - 0) (drop 0 table) in
-    let long : length part ≡ bytes = length-take-le (bytes - 0) (drop 0 table) (rw sub-zero l) ∙ sub-zero bytes in
+    let long : length part ≡ bytes = lent-length table bytes l in
     widened m cs pool part table answers r left rest replies charges h (putMid 0 (bytes - 0) table rest)
     (lent-zero table bytes rest (h .cleared ∙ table-cleared m cs pool part answers ∙ cleared-whole (blocksOf pool) part (long ∙ e) ∙ ap zeros long) ∙
     ap (λ (n : ℕ). lay table 0 (zeros n)) e)

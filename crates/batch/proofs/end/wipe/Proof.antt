@@ -1,4 +1,4 @@
--- `wipe` meets its contract: the part in front filled with zeros. Assumes nothing.
+-- `end::wipe` meets its contract: the part in front filled with zeros. Assumes nothing.
 use mathlib.Core.Path.{ap, _∙_}
 use Prim.Native.Nat.{ℕ}
 use native.Mathlib.Nat.{sub-zero}
@@ -6,8 +6,8 @@ use lib.ListN.{replicate}
 use borrow.Author.Needs.{needs}
 use Rattle.laws.specs.Lay.{lay}
 use Rattle.batch.specs.Left.{wiped}
-use Rattle.batch.proofs.wipe.Statement.{statement}
-use Rattle.batch.proofs.wipe.Tie as tie
+use Rattle.batch.proofs.end.wipe.Statement.{statement}
+use Rattle.batch.proofs.end.wipe.Tie as tie
 
 fill-part-requires : tie.Need-fill-part-requires
 fill-part-requires c κs = search needs

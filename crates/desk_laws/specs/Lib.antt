@@ -1,0 +1,4 @@
+pub mod ValidBytes
+pub mod Read
+pub mod JoinedLaws
+pub mod QueueLaws

@@ -1,0 +1,1 @@
+// The order of service is definitions and theorems in specs/; there is no code here.

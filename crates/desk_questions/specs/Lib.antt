@@ -1,0 +1,9 @@
+pub mod Served
+pub mod Lengths
+pub mod Sums
+pub mod Queue
+pub mod Total
+pub mod Passed
+pub mod Answers
+pub mod Limit
+pub mod Worked

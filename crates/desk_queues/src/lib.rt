@@ -1,0 +1,1 @@
+// The queues that a desk is lent.
