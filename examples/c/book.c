@@ -1,4 +1,5 @@
-/* A wall book that is kept in a file: `book FILE` prepares a pool, runs batches, reopens it, and meets refusals.
+/* A wall book that is kept in a file: `book FILE` prepares a pool, runs batches, reopens it, serves the queues of three
+ * panels at a desk, and meets refusals.
  *
  * `rt staticlib wall_book` makes the proved library, `make -C examples/c` builds target/book. The file is C99 and C++.
  */
@@ -16,11 +17,22 @@ static uint8_t commands[COMMANDS_BYTES];
 static size_t commands_bytes;
 static uint8_t answers[ANSWERS_BYTES];
 
-/* Lays a number behind the commands, its most significant byte first. */
-static void lay(uint32_t number, int bytes)
+/* For a desk: a length for each queue, how many there are, and how many bytes of the commands are in them. */
+static uint8_t lengths[4 * WALL_BOOK_PANELS];
+static size_t queues, queues_bytes;
+
+/* Lays a number at a place, its most significant byte first. */
+static void lay_at(uint8_t *at, uint32_t number, int bytes)
 {
     while (bytes-- > 0)
-        commands[commands_bytes++] = (uint8_t)(number >> 8 * bytes);
+        *at++ = (uint8_t)(number >> 8 * bytes);
+}
+
+/* Lays a number behind the commands. */
+static void lay(uint32_t number, int bytes)
+{
+    lay_at(commands + commands_bytes, number, bytes);
+    commands_bytes += (size_t)bytes;
 }
 
 static void lay_head(uint32_t tag, uint32_t length)
@@ -70,6 +82,13 @@ static void lay_ceiling(uint32_t key)
     lay(key, 4);
 }
 
+/* Makes the commands laid since the last queue the next panel's: none is an empty queue. */
+static void end_queue(void)
+{
+    lay_at(lengths + 4 * queues++, (uint32_t)(commands_bytes - queues_bytes), 4);
+    queues_bytes = commands_bytes;
+}
+
 /* A number read back from an answer. */
 static uint32_t number(const uint8_t *at, int bytes)
 {
@@ -88,7 +107,7 @@ static const char *in_words(uint32_t refused)
     case WALL_BOOK_TABLE_LENGTH:
         return "the table has fewer than 1,024 bytes a block";
     case WALL_BOOK_BATCH:
-        return "the batch is too long or not wholly of valid commands";
+        return "the batch or a queue is too long or not wholly of valid commands";
     case WALL_BOOK_ANSWER_ROOM:
         return "the answers might not fit their buffer";
     case WALL_BOOK_PAGES:
@@ -103,6 +122,8 @@ static const char *in_words(uint32_t refused)
         return "node ids do not suffice";
     case WALL_BOOK_TARIFF:
         return "a tariff number is out of range";
+    case WALL_BOOK_QUEUE_LENGTHS:
+        return "the lengths are not those of the queues";
     default:
         return "no refusal of this book";
     }
@@ -179,19 +200,52 @@ static void print_charges(const uint64_t *charges)
             printf("  panel %d is charged %lu\n", panel, (unsigned long)charges[panel]);
 }
 
+/* Prints what a call answered and cost. */
+static void print_done(size_t length, const uint64_t *charges)
+{
+    const uint8_t *answer = answers;
+
+    while (answer < answers + length)
+        answer = print_answer(answer);
+    print_charges(charges);
+}
+
 /* Runs them and prints what comes of it. */
 static void run(const char *what, size_t room)
 {
-    const uint8_t *answer = answers;
     size_t length;
     uint64_t charges[WALL_BOOK_PANELS];
 
     printf("%s\n", what);
-    if (print_refused(batch(room, &length, charges)))
-        return;
-    while (answer < answers + length)
-        answer = print_answer(answer);
-    print_charges(charges);
+    if (!print_refused(batch(room, &length, charges)))
+        print_done(length, charges);
+}
+
+/* Serves the queues laid so far and prints what comes of it: the answers come in the order of service. */
+static void serve(const char *what)
+{
+    size_t bytes = commands_bytes, lengths_bytes = 4 * queues, length;
+    uint64_t charges[WALL_BOOK_PANELS];
+
+    commands_bytes = queues = queues_bytes = 0;
+    printf("%s\n", what);
+    if (!print_refused(wall_book_desk(pool, sizeof pool, table, sizeof table, lengths, lengths_bytes,
+                                      commands, bytes, answers, sizeof answers, &length, charges)))
+        print_done(length, charges);
+}
+
+/* Three panels hand in together; the second has nothing to ask. */
+static void serve_three(void)
+{
+    lay_get(7);
+    lay_get(8);
+    end_queue();
+    end_queue();
+    lay_put(9, 301);
+    lay_ceiling(8);
+    lay_delete(9);
+    end_queue();
+    serve("a desk: gets of panel 0, put, ceiling and delete of panel 2");
 }
 
 /* A batch without commands: a buffer of 0 bytes may be NULL. */
@@ -236,6 +290,11 @@ static void meet_refusals(void)
     run("a scan for 33 pairs", sizeof answers);
     lay_get(7);
     run("a get with room for 6 bytes", 6);
+    lay_panel(3);
+    end_queue();
+    serve("a queue that names a panel");
+    lay_get(7);
+    serve("a queue without its length");
     pool[9] ^= 1;
     run("a flipped bit in the pool", sizeof answers);
     pool[9] ^= 1;
@@ -290,6 +349,7 @@ static int go_on(const char *name)
     lay_ceiling(1);
     lay_ceiling(9);
     run("ceilings of 1 and 9", sizeof answers);
+    serve_three();
     run_empty();
     meet_refusals();
     fill();

@@ -4,6 +4,7 @@ mod aged;
 mod by_turns;
 mod clock;
 mod copies;
+mod desk;
 mod emptied;
 mod longest;
 mod place;
@@ -64,8 +65,15 @@ pub const SECTIONS: &[Section] = &[
         title: "The longest calls known, in milliseconds",
         how: "Thread time, both books by turns, the shortest of a few rounds: a pool of 64 blocks in log mode with \
               nearly as many leaves as fit, all emptied by deletes, and as many scans of all keys, or ceilings of key \
-              0, as a batch holds.",
+              0, as a batch holds, or a desk joins.",
         rows: longest::rows,
+    },
+    Section {
+        name: "desk",
+        title: "A get and a put at a desk and in a batch, in microseconds",
+        how: "Thread time, both books by turns, the shortest of many rounds, on the pool of 64 blocks in log mode and \
+              with the commands of the first table: 2,000 in one call, less an empty batch, divided.",
+        rows: desk::rows,
     },
     Section {
         name: "copies",

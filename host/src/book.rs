@@ -1,7 +1,8 @@
-//! The trait of a book, and the second book: prepare and batch, as the papers have them.
+//! The trait of a book, and the second book: prepare, batch and desk, as the papers have them.
 
 use crate::account::Tariff;
 use crate::command::{self, Command};
+use crate::desk;
 use crate::flash::Store;
 use crate::layout::{block_count, node_limit, PANELS, TABLE_BYTES_PER_BLOCK};
 use crate::mount::mount;
@@ -10,7 +11,7 @@ use crate::observe::{Observer, Unobserved};
 use crate::refusal::Refusal;
 use crate::tree;
 
-/// What batch returns.
+/// What batch and desk return.
 #[derive(Clone, Copy, PartialEq, Eq, Debug, Default)]
 pub struct Outcome {
     /// 0, or the number of the refusal.
@@ -33,13 +34,19 @@ impl Outcome {
     }
 }
 
-/// A book: the two entry points over the caller's buffers, which may be called from any thread.
+/// A book: the three entry points over the caller's buffers, which may be called from any thread.
 pub trait Book: Send {
     /// Makes the pool an empty book, and returns 0 or the number of the refusal.
     fn prepare(&mut self, pool: &mut [u8], tariff: [u32; 8]) -> u8;
 
     /// Runs a batch on the pool and answers it.
     fn batch(&mut self, pool: &mut [u8], table: &mut [u8], batch: &[u8], answers: &mut [u8]) -> Outcome;
+
+    /// Serves queues, a command of each in turn, and answers in the order of service.
+    ///
+    /// The lengths of the queues have four bytes each; queue p is panel p's.
+    fn desk(&mut self, pool: &mut [u8], table: &mut [u8], lengths: &[u8], queues: &[u8], answers: &mut [u8])
+        -> Outcome;
 }
 
 /// The book of this package.
@@ -52,6 +59,17 @@ impl Book for SecondBook {
 
     fn batch(&mut self, pool: &mut [u8], table: &mut [u8], batch: &[u8], answers: &mut [u8]) -> Outcome {
         self::batch(pool, table, batch, answers, &mut Unobserved)
+    }
+
+    fn desk(
+        &mut self,
+        pool: &mut [u8],
+        table: &mut [u8],
+        lengths: &[u8],
+        queues: &[u8],
+        answers: &mut [u8],
+    ) -> Outcome {
+        self::desk(pool, table, lengths, queues, answers, &mut Unobserved)
     }
 }
 
@@ -77,17 +95,45 @@ pub fn batch(
     answers: &mut [u8],
     observer: &mut dyn Observer,
 ) -> Outcome {
-    match run(pool, table, batch, answers, observer) {
+    run(pool, table, || parsed(batch), answers, observer)
+}
+
+/// Serves queues: joins them, and runs what comes of it as a batch.
+pub fn desk(
+    pool: &mut [u8],
+    table: &mut [u8],
+    lengths: &[u8],
+    queues: &[u8],
+    answers: &mut [u8],
+    observer: &mut dyn Observer,
+) -> Outcome {
+    run(pool, table, || parsed(&desk::join(lengths, queues)?), answers, observer)
+}
+
+/// The commands of a batch (question 3).
+fn parsed(batch: &[u8]) -> Result<Vec<Command>, Refusal> {
+    command::parse(batch).ok_or(Refusal::Batch)
+}
+
+/// Runs commands that are read only once pool and table have their lengths.
+fn run(
+    pool: &mut [u8],
+    table: &mut [u8],
+    read: impl FnOnce() -> Result<Vec<Command>, Refusal>,
+    answers: &mut [u8],
+    observer: &mut dyn Observer,
+) -> Outcome {
+    match asked(pool, table, read, answers, observer) {
         Ok((length, charges)) => Outcome { number: 0, length, charges },
         Err(refusal) => Outcome { number: refusal.number(), ..Outcome::default() },
     }
 }
 
-/// Asks questions 1 to 8, does the commands and closes.
-fn run(
+/// Asks the questions in their order, does the commands and closes.
+fn asked(
     pool: &mut [u8],
     table: &mut [u8],
-    batch: &[u8],
+    read: impl FnOnce() -> Result<Vec<Command>, Refusal>,
     answers: &mut [u8],
     observer: &mut dyn Observer,
 ) -> Result<(usize, [u64; PANELS]), Refusal> {
@@ -95,7 +141,7 @@ fn run(
     let table = table.get_mut(..TABLE_BYTES_PER_BLOCK * blocks).ok_or(Refusal::TableLength)?;
     // This book keeps its rows in memory of its own; all that is seen of the table is that it ends zero.
     table.fill(0);
-    let commands = command::parse(batch).ok_or(Refusal::Batch)?;
+    let commands = read()?;
     if answers.len() < command::answer_room(&commands) {
         return Err(Refusal::AnswerRoom);
     }

@@ -1,26 +1,38 @@
 //! A call on both books: each is lent buffers of its own, and everything is compared.
 
-use crate::book::{self, Outcome};
+use crate::book::{self, Book, Outcome};
 use crate::books::proved_to_compare;
-use crate::command::{answer_room, encode, Command};
+use crate::command::{answer_room, Command};
+use crate::desk::Queues;
+use crate::input::Input;
 use crate::layout::{table_bytes, PANELS};
 use crate::observe::{Observer, Unobserved};
 use crate::score_order;
 
-/// The buffers that a batch is lent.
+/// The buffers that a batch or a desk is lent.
 #[derive(Clone)]
 pub struct Call {
     pub pool: Vec<u8>,
     pub table: Vec<u8>,
-    pub batch: Vec<u8>,
+    pub input: Input,
     pub answers: Vec<u8>,
 }
 
 impl Call {
-    /// A call of these commands with buffers that are just long enough, and not zero.
+    /// A batch of these commands with buffers that are just long enough, and not zero.
     pub fn new(pool: Vec<u8>, commands: &[Command]) -> Call {
         let table = vec![0x77; table_bytes(pool.len())];
-        Call { pool, table, batch: encode(commands), answers: vec![0x66; answer_room(commands)] }
+        Call { pool, table, input: Input::batch(commands), answers: vec![0x66; answer_room(commands)] }
+    }
+
+    /// A desk of these queues with buffers that are just long enough, and not zero.
+    pub fn desk(pool: Vec<u8>, queues: &[Vec<Command>]) -> Call {
+        Call { input: Input::desk(queues), ..Call::new(pool, &queues.concat()) }
+    }
+
+    /// Makes the call on a book.
+    pub fn run(&mut self, book: &mut dyn Book) -> Outcome {
+        self.input.run(book, &mut self.pool, &mut self.table, &mut self.answers)
     }
 
     /// Makes the call on both books and gives what both came to, or where they part.
@@ -33,7 +45,7 @@ impl Call {
     /// The buffers are then as the second book left them, and as document 01 says.
     pub fn make_observed(&mut self, observer: &mut dyn Observer) -> Result<Outcome, String> {
         let found = self.clone();
-        let outcome = book::batch(&mut self.pool, &mut self.table, &self.batch, &mut self.answers, observer);
+        let outcome = self.run_observed(observer);
         self.compare(found.clone(), outcome)?;
         match outcome.number {
             0 => self.check_accepted(&found, outcome)?,
@@ -42,10 +54,19 @@ impl Call {
         Ok(outcome)
     }
 
+    /// Makes the call on the second book.
+    fn run_observed(&mut self, observer: &mut dyn Observer) -> Outcome {
+        let Call { pool, table, input, answers } = self;
+        match input {
+            Input::Batch(batch) => book::batch(pool, table, batch, answers, observer),
+            Input::Desk(Queues { lengths, bytes }) => book::desk(pool, table, lengths, bytes, answers, observer),
+        }
+    }
+
     /// Makes the call on the proved book with the buffers as they were found, and compares everything.
     fn compare(&self, mut found: Call, outcome: Outcome) -> Result<(), String> {
         let Some(mut proved) = proved_to_compare()? else { return Ok(()) };
-        let other = proved.batch(&mut found.pool, &mut found.table, &found.batch, &mut found.answers);
+        let other = found.run(proved.as_mut());
         if other != outcome {
             return Err(format!("the second book came to {outcome:?}, the proved one to {other:?}"));
         }

@@ -1,15 +1,17 @@
 //! Random cases against everything that document 01 promises of a call.
 //!
-//! A case is a pool and some calls on it, all from one seed. After every call: the answers are those of an
-//! ordered map and of the reference model, the pool opens again and spells the same, each panel's charge, modes
-//! and scores are the reference model's, no state passed has a node on more than three log pages, charges are
-//! within three times the optimum, and a refused call has changed nothing. Where this build has the proved
-//! book, every call is made on it too, and number, length, charges and all bytes must be the same.
+//! A case is a pool and some calls on it, batches and desks, all from one seed. After every call: the answers are
+//! those of an ordered map and of the reference model, the pool opens again and spells the same, each panel's charge,
+//! modes and scores are the reference model's, no state passed has a node on more than three log pages, charges are
+//! within three times the optimum, a desk has left what the batch of its joined bytes leaves, and a refused call has
+//! changed nothing. Where this build has the proved book, every call is made on it too, and number, length, charges and
+//! all bytes must be the same.
 
 mod call;
 mod charges;
 mod checked_pool;
 mod commands;
+mod deal;
 mod script;
 mod style;
 mod tally;
@@ -23,7 +25,7 @@ use crate::layout::{MAX_BLOCKS, MIN_BLOCKS};
 use crate::mount::mount;
 use crate::random::Random;
 use crate::refusal::Refusal;
-use call::{random_call, refused};
+use call::{empty_call, refused};
 use checked_pool::CheckedPool;
 use style::CommandStyle;
 
@@ -48,7 +50,7 @@ fn random_blocks(random: &mut Random) -> usize {
     }
 }
 
-/// Batches on a prepared pool.
+/// Calls on a prepared pool.
 fn prepared_case(random: &mut Random, tally: &mut Tally) -> Result<(), String> {
     let mut checked = CheckedPool::prepared(random, tally)?;
     let style = checked.random_style(random);
@@ -62,7 +64,7 @@ fn prepared_case(random: &mut Random, tally: &mut Tally) -> Result<(), String> {
     Ok(())
 }
 
-/// Batches on a foreign pool.
+/// Calls on a foreign pool.
 fn foreign_case(random: &mut Random, tally: &mut Tally) -> Result<(), String> {
     let mut checked = CheckedPool::foreign(random, tally);
     let style = checked.random_style(random);
@@ -79,7 +81,7 @@ fn flawed_case(random: &mut Random, tally: &mut Tally) -> Result<(), String> {
         let flaw = &FLAWS[random.below(FLAWS.len())];
         if let Some(pool) = flaw.make(random, style) {
             *tally.flaws.entry(flaw.name).or_default() += 1;
-            let call = random_call(random, pool, Vec::new());
+            let call = empty_call(random, pool);
             refused(call, flaw.number, tally).map_err(|why| format!("{}: {why}", flaw.name))?;
         }
     }
@@ -104,7 +106,7 @@ fn damage_once(random: &mut Random, tally: &mut Tally, mut pool: Vec<u8>, style:
         0 => {
             damage::change_byte(random, &mut pool);
             tally.plain_damage += 1;
-            refused(random_call(random, pool, Vec::new()), Refusal::Pages.number(), tally)?;
+            refused(empty_call(random, pool), Refusal::Pages.number(), tally)?;
         }
         1 => {
             damage::move_pages(random, &mut pool);
@@ -124,7 +126,7 @@ fn damage_once(random: &mut Random, tally: &mut Tally, mut pool: Vec<u8>, style:
 fn after_damage(random: &mut Random, tally: &mut Tally, pool: Vec<u8>, style: &CommandStyle) -> Result<bool, String> {
     match mount(&pool) {
         Err(fault) => {
-            refused(random_call(random, pool, Vec::new()), fault.refusal.number(), tally)?;
+            refused(empty_call(random, pool), fault.refusal.number(), tally)?;
             Ok(false)
         }
         Ok(mounted) => {

@@ -2,9 +2,9 @@
 //! to run beside the proved one.
 //!
 //! From bytes upwards: [`wire`], [`page`], [`node`], [`tree`]; [`mount`] reads a closed pool, [`flash`]
-//! is the store while a batch runs, [`book`] has the two entry points. [`books`] has the books by name, and
-//! [`both`] makes a call on both. [`reference`] is the model that charges are compared with, [`optimum`]
-//! the cheapest schedule. [`tool`] is the program for a person, over any book.
+//! is the store while a batch runs, [`desk`] makes a batch of queues, [`book`] has the three entry points.
+//! [`books`] has the books by name, and [`both`] makes a call on both. [`reference`] is the model that charges
+//! are compared with, [`optimum`] the cheapest schedule. [`tool`] is the program for a person, over any book.
 
 pub mod account;
 pub mod audit;
@@ -15,9 +15,11 @@ pub mod both;
 pub mod chart;
 pub mod command;
 pub mod damage;
+pub mod desk;
 pub mod flash;
 pub mod foreign;
 pub mod fuzz;
+pub mod input;
 pub mod layout;
 pub mod markdown;
 pub mod marks;

@@ -1,4 +1,4 @@
-//! The proved book, called as firmware calls it: by the two functions of `include/wall_book.h`.
+//! The proved book, called as firmware calls it: by the three functions of `include/wall_book.h`.
 
 use crate::book::{Book, Outcome};
 use crate::layout::PANELS;
@@ -29,6 +29,21 @@ extern "C" {
         length: *mut usize,
         charges: *mut u64,
     ) -> u32;
+
+    fn wall_book_desk(
+        pool: *mut u8,
+        pool_bytes: usize,
+        table: *mut u8,
+        table_bytes: usize,
+        lengths: *const u8,
+        lengths_bytes: usize,
+        queues: *const u8,
+        queues_bytes: usize,
+        answers: *mut u8,
+        answers_bytes: usize,
+        length: *mut usize,
+        charges: *mut u64,
+    ) -> u32;
 }
 
 /// The book that is proved.
@@ -42,12 +57,9 @@ impl Book for ProvedBook {
     }
 
     fn batch(&mut self, pool: &mut [u8], table: &mut [u8], batch: &[u8], answers: &mut [u8]) -> Outcome {
-        // Anything but zero, so that a place that the book leaves out shows.
-        let mut length = usize::MAX;
-        let mut charges = [u64::MAX; PANELS];
         // SAFETY: each pointer and length are those of one slice, and slices that are lent mutably do not overlap;
         // the charges are as many as the header says.
-        let refused = unsafe {
+        outcome(|length, charges| unsafe {
             wall_book_batch(
                 pool.as_mut_ptr(),
                 pool.len(),
@@ -57,12 +69,47 @@ impl Book for ProvedBook {
                 batch.len(),
                 answers.as_mut_ptr(),
                 answers.len(),
-                &mut length,
+                length,
                 charges.as_mut_ptr(),
             )
-        };
-        Outcome { number: number(refused), length, charges }
+        })
     }
+
+    fn desk(
+        &mut self,
+        pool: &mut [u8],
+        table: &mut [u8],
+        lengths: &[u8],
+        queues: &[u8],
+        answers: &mut [u8],
+    ) -> Outcome {
+        // SAFETY: as for a batch.
+        outcome(|length, charges| unsafe {
+            wall_book_desk(
+                pool.as_mut_ptr(),
+                pool.len(),
+                table.as_mut_ptr(),
+                table.len(),
+                lengths.as_ptr(),
+                lengths.len(),
+                queues.as_ptr(),
+                queues.len(),
+                answers.as_mut_ptr(),
+                answers.len(),
+                length,
+                charges.as_mut_ptr(),
+            )
+        })
+    }
+}
+
+/// What a call comes to that is lent places for its length and its charges.
+fn outcome(call: impl FnOnce(&mut usize, &mut [u64; PANELS]) -> u32) -> Outcome {
+    // Anything but zero, so that a place that the book leaves out shows.
+    let mut length = usize::MAX;
+    let mut charges = [u64::MAX; PANELS];
+    let refused = call(&mut length, &mut charges);
+    Outcome { number: number(refused), length, charges }
 }
 
 /// The place of the book's code in memory.
@@ -70,7 +117,7 @@ pub fn code_address() -> usize {
     wall_book_batch as *const () as usize
 }
 
-/// Refusals are 1 to 10; anything else shows as 255.
+/// Refusals are 1 to 11; anything else shows as 255.
 fn number(refused: u32) -> u8 {
     u8::try_from(refused).unwrap_or(u8::MAX)
 }

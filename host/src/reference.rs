@@ -4,8 +4,10 @@
 //! (`tree::plan`) and the account of a node; pages, versions, allocation and mounting are not.
 
 mod ceilings;
+mod turns;
 
 pub use ceilings::Ceilings;
+pub use turns::in_turns;
 
 use crate::account::{Account, Request, Tariff};
 use crate::command::{Answer, Command};
@@ -53,7 +55,7 @@ impl Ledger {
         Ledger { limit, tariff, nodes: vec![Node::empty_leaf()], accounts: vec![Account::default()] }
     }
 
-    /// Runs an accepted batch. A refused one changes nothing and is not fed.
+    /// Runs an accepted batch, or the joined commands of a desk. A refused call changes nothing and is not fed.
     pub fn batch(&mut self, commands: &[Command]) -> Run {
         let mut run = Run::default();
         let mut steps = Vec::new();
@@ -87,7 +89,7 @@ impl Ledger {
 }
 
 /// Each command with the panel that speaks, which is 0 at first.
-fn by_panel(commands: &[Command]) -> impl Iterator<Item = (usize, &Command)> {
+pub fn by_panel(commands: &[Command]) -> impl Iterator<Item = (usize, &Command)> {
     commands.iter().scan(0, |speaks, command| {
         if let Command::Panel { panel } = command {
             *speaks = *panel;

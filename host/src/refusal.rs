@@ -2,7 +2,7 @@
 
 use std::fmt;
 
-/// Why a call is refused; the discriminants are document 01's numbers.
+/// Why a call is refused; the discriminants are the papers' numbers.
 #[derive(Clone, Copy, PartialEq, Eq, Debug, Hash, PartialOrd, Ord)]
 #[repr(u8)]
 pub enum Refusal {
@@ -15,6 +15,7 @@ pub enum Refusal {
     Tree = 7,
     SequenceNumbers = 8,
     Tariff = 10,
+    QueueLengths = 11,
 }
 
 impl Refusal {
@@ -28,7 +29,7 @@ pub fn words(number: u8) -> &'static str {
     match number {
         1 => "the pool is not 4 to 64 blocks of 16,384 bytes",
         2 => "the table has fewer than 1,024 bytes a block",
-        3 => "the batch is over 32,768 bytes or not valid",
+        3 => "the batch is over 32,768 bytes or not valid, or a queue is not valid or names a panel",
         4 => "the answers would not fit their buffer",
         5 => "a page, or the pages together, break the layout",
         6 => "the newest checkpoint is incomplete",
@@ -36,6 +37,7 @@ pub fn words(number: u8) -> &'static str {
         8 => "the sequence numbers are used up",
         9 => "too few node ids are left for the split that it needs",
         10 => "a tariff number is out of range",
+        11 => "the lengths of the queues are over sixteen, or not whole, or do not add up to the queues' bytes",
         _ => "a number that no book should give",
     }
 }

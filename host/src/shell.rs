@@ -4,6 +4,8 @@ use std::fs;
 use std::str::SplitWhitespace;
 
 use crate::book::Book;
+use crate::desk::Queues;
+use crate::input::Input;
 use crate::layout::{page_at, table_bytes, BLANK, BLOCK_BYTES};
 use crate::mount::mount;
 use crate::page::used;
@@ -13,9 +15,10 @@ use crate::wire::{fnv1a64, from_hex, to_hex};
 /// The lines that the shell knows, for help and for errors.
 pub const LINES: &str = "  prepare B t0 .. t7     prepares B blocks of 16,384 bytes: number N pool H
   batch HEX              runs a batch: number N answers HEX charges C0,..,C15 pool H, a charge for each panel
+  desk LENGTHS QUEUES    serves queues, both in HEX, four bytes a length; it answers as a batch does
   load FILE              sets the pool from a file: loaded LENGTH
   save FILE              writes the pool to a file: saved LENGTH
-  lengths TABLE ANSWERS  sets the lengths of table and answer buffer for batches after it
+  lengths TABLE ANSWERS  sets the lengths of table and answer buffer for calls after it
                          (at first, and for -: 1,024 x B and 700,000): lengths TABLE ANSWERS
   spell                  a line for each node, or: refused N
   dump PAGE              the used bytes of a page; pages count through the pool from 0
@@ -57,6 +60,7 @@ impl Shell {
         match verb {
             "prepare" => self.prepare(words).map(one),
             "batch" => self.batch(words).map(one),
+            "desk" => self.desk(words).map(one),
             "load" => self.load(file_name(line, verb)?).map(one),
             "save" => self.save(file_name(line, verb)?).map(one),
             "lengths" => self.lengths(words).map(one),
@@ -84,15 +88,23 @@ impl Shell {
     }
 
     fn batch(&mut self, mut words: SplitWhitespace<'_>) -> Result<String, String> {
-        let bytes = match words.next() {
-            None | Some("-") => Vec::new(),
-            Some(hex) => from_hex(hex).ok_or("a batch is pairs of hexadecimal digits")?,
-        };
+        let batch = bytes(&mut words, "a batch is")?;
         ended(words)?;
+        self.call(&Input::Batch(batch))
+    }
+
+    fn desk(&mut self, mut words: SplitWhitespace<'_>) -> Result<String, String> {
+        let lengths = bytes(&mut words, "lengths are")?;
+        let bytes = bytes(&mut words, "queues are")?;
+        ended(words)?;
+        self.call(&Input::Desk(Queues { lengths, bytes }))
+    }
+
+    fn call(&mut self, input: &Input) -> Result<String, String> {
         // What the table holds at entry means nothing, so it is anything but zero.
         let mut table = vec![0xA5; self.table_bytes()];
         let mut answers = vec![0; self.answer_bytes()];
-        let outcome = self.book.batch(&mut self.pool, &mut table, &bytes, &mut answers);
+        let outcome = input.run(self.book.as_mut(), &mut self.pool, &mut table, &mut answers);
         let answers = answers.get(..outcome.length).ok_or("the book answers more than its buffer holds")?;
         let answers = if answers.is_empty() { "-".to_string() } else { to_hex(answers) };
         let charges = outcome.charges.map(|charge| charge.to_string()).join(",");
@@ -151,6 +163,14 @@ fn one(line: String) -> Vec<String> {
 fn number<N: std::str::FromStr>(words: &mut SplitWhitespace<'_>, what: &str) -> Result<N, String> {
     let word = words.next().ok_or_else(|| format!("{what} expected"))?;
     word.parse().map_err(|_| format!("{what} expected, not {word:?}"))
+}
+
+/// Bytes in hexadecimal; `-`, or no word at all, is none.
+fn bytes(words: &mut SplitWhitespace<'_>, what: &str) -> Result<Vec<u8>, String> {
+    match words.next() {
+        None | Some("-") => Ok(Vec::new()),
+        Some(hex) => from_hex(hex).ok_or_else(|| format!("{what} pairs of hexadecimal digits")),
+    }
 }
 
 /// A buffer's length; `-` is the one it had at first.
@@ -221,14 +241,33 @@ mod tests {
     }
 
     #[test]
+    fn queues_at_a_desk() {
+        let mut shell = shell();
+        shell.answer("prepare 4 3 1 2 1 4 4 3 2");
+        let queues = "020008000000070000006401000400000007 0100040000000703000400000007".replace(' ', "");
+        let (answers, charges) =
+            ("800000810004000000648100040000006483000400000064", "7,11,0,0,0,0,0,0,0,0,0,0,0,0,0,0");
+        let expected = format!("number 0 answers {answers} charges {charges} pool 455a56a2d1d014a8");
+        assert_eq!(shell.answer(&format!("desk 000000120000000e {queues}")), [expected]);
+        for line in ["desk - -", "desk 00000000 -", "desk 0000000000000000", "desk"] {
+            let answer = &shell.answer(line)[0];
+            assert!(answer.starts_with("number 0 answers - charges 0,0,"), "{line}: {answer}");
+        }
+    }
+
+    #[test]
     fn refused_calls() {
         let mut shell = shell();
         shell.answer("prepare 4 3 1 2 1 4 4 3 2");
         let none = "0,0,0,0,0,0,0,0,0,0,0,0,0,0,0,0";
         let refused = |number: u8| format!("number {number} answers - charges {none} pool e5938a6f1717e51f");
         assert_eq!(shell.answer("batch 05"), [refused(3)]);
+        assert_eq!(shell.answer("desk 00000004 05000100"), [refused(3)]);
+        assert_eq!(shell.answer("desk 0000000700 01000400000000"), [refused(11)]);
+        assert_eq!(shell.answer("desk - 01000400000000"), [refused(11)]);
         shell.answer("lengths 4095 700000");
         assert_eq!(shell.answer("batch -"), [refused(2)]);
+        assert_eq!(shell.answer("desk - 05"), [refused(2)]);
         shell.answer("lengths 4096 6");
         assert_eq!(shell.answer("batch 01000400000000"), [refused(4)]);
         assert_eq!(shell.answer("lengths - -"), ["lengths 4096 700000"]);
@@ -250,6 +289,9 @@ mod tests {
             "batch 0",
             "batch xx",
             "batch 00 00",
+            "desk 0 00",
+            "desk 00 xx",
+            "desk 00 00 00",
             "load",
             "load /nowhere/at/all",
             "lengths",

@@ -9,6 +9,7 @@ mod ceiling;
 mod check;
 mod csv;
 mod delete;
+mod desk;
 mod diff;
 mod doubts;
 mod export;
@@ -53,7 +54,7 @@ pub struct Verb {
 #[rustfmt::skip]
 pub const VERBS: &[Verb] = &[
     prepare::VERB, get::VERB, put::VERB, delete::VERB, scan::VERB, ceiling::VERB, import::VERB, export::VERB,
-    run::VERB, check::VERB, stats::VERB, show::VERB, page::VERB, node::VERB, diff::VERB, salvage::VERB,
+    run::VERB, desk::VERB, check::VERB, stats::VERB, show::VERB, page::VERB, node::VERB, diff::VERB, salvage::VERB,
     picture::VERB, bench::VERB,
 ];
 

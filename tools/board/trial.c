@@ -1,6 +1,6 @@
 /* Calls of the wall book from a fixed stream of numbers; a line for each tells everything that it left.
  *
- * The same file runs on the desk and on a board: the lines must be the same.
+ * The same file runs on this machine and on a board: the lines must be the same.
  */
 #include "wall_book.h"
 
@@ -11,11 +11,12 @@ static void print(const char *text) { fputs(text, stdout); }
 void print(const char *text);
 #endif
 
-enum { BLOCK = 16384, MOST_BLOCKS = 64, MOST_COMMANDS = 400, BATCHES = 60 };
+enum { BLOCK = 16384, MOST_BLOCKS = 64, MOST_COMMANDS = 400, ROUNDS = 60 };
 
 static uint8_t pool[MOST_BLOCKS * BLOCK];
 static uint8_t table[MOST_BLOCKS * 1024];
 static uint8_t commands[MOST_COMMANDS * 13];
+static uint8_t lengths[4 * WALL_BOOK_PANELS];
 static uint8_t answers[MOST_COMMANDS * 259];
 static uint32_t state;
 
@@ -35,14 +36,16 @@ static size_t lay(size_t at, uint32_t value, int bytes)
     return at;
 }
 
-/* One command of tag 1 to 5 or 7 at a place: mostly puts, so that the tree grows. Answers the place behind it. */
-static size_t lay_command(size_t at, uint32_t keys)
-{
-    static const uint8_t lengths[] = {0, 4, 8, 4, 10, 1, 0, 4};
-    static const uint8_t tags[] = {1, 2, 2, 2, 2, 3, 4, 5, 7};
-    uint32_t tag = tags[below(sizeof tags)];
+enum { KINDS = 9, KINDS_OF_QUEUES = 8 };
 
-    at = lay(lay(at, tag, 1), lengths[tag], 2);
+/* One command of so many kinds at a place: mostly puts, so that the tree grows. Answers the place behind it. */
+static size_t lay_command(size_t at, uint32_t kinds, uint32_t keys)
+{
+    static const uint8_t payloads[] = {0, 4, 8, 4, 10, 1, 0, 4};
+    static const uint8_t tags[KINDS] = {1, 2, 2, 2, 2, 3, 4, 7, 5};
+    uint32_t tag = tags[below(kinds)];
+
+    at = lay(lay(at, tag, 1), payloads[tag], 2);
     if (tag == 5)
         return lay(at, below(WALL_BOOK_PANELS), 1);
     at = lay(at, below(keys), 4);
@@ -74,16 +77,25 @@ static void print_number(uint64_t number)
     print(text);
 }
 
-static void run(size_t blocks, size_t commands_bytes, size_t answers_bytes)
+/* The places that a call writes its length and its charges to. */
+static size_t length;
+static uint64_t charges[WALL_BOOK_PANELS];
+
+static void spoil_places(void)
 {
-    size_t length = 77;
-    uint64_t charges[WALL_BOOK_PANELS];
     int panel;
 
+    length = 77;
     for (panel = 0; panel < WALL_BOOK_PANELS; panel++)
         charges[panel] = 77;
-    print_number(wall_book_batch(pool, blocks * BLOCK, table, sizeof table, commands, commands_bytes,
-                                 answers, answers_bytes, &length, charges));
+}
+
+/* A line of all that a call left. */
+static void print_left(uint32_t number, size_t blocks)
+{
+    int panel;
+
+    print_number(number);
     print_number(length);
     for (panel = 0; panel < WALL_BOOK_PANELS; panel++)
         print_number(charges[panel]);
@@ -100,26 +112,63 @@ static void try_batch(size_t blocks, uint32_t keys)
     size_t bytes = 0;
 
     while (count-- > 0)
-        bytes = lay_command(bytes, keys);
+        bytes = lay_command(bytes, KINDS, keys);
     if (turn < 2)
         pool[place] ^= 0x10;
-    run(blocks, turn == 2 && bytes > 0 ? bytes - 1 : bytes, turn == 3 ? 100 : sizeof answers);
+    if (turn == 2 && bytes > 0)
+        bytes--;
+    spoil_places();
+    print_left(wall_book_batch(pool, blocks * BLOCK, table, sizeof table, commands, bytes,
+                               answers, turn == 3 ? 100 : sizeof answers, &length, charges), blocks);
     if (turn < 2)
         pool[place] ^= 0x10;
+}
+
+/* Random commands for each of 16 queues, one in four of which is empty. Answers how many bytes they have. */
+static size_t lay_queues(uint32_t kinds, uint32_t keys)
+{
+    size_t panel, start, at = 0;
+    uint32_t count;
+    int byte;
+
+    for (panel = 0; panel < WALL_BOOK_PANELS; panel++) {
+        start = at;
+        for (count = below(4) == 0 ? 0 : below(MOST_COMMANDS / WALL_BOOK_PANELS); count > 0; count--)
+            at = lay_command(at, kinds, keys);
+        for (byte = 0; byte < 4; byte++)
+            lengths[4 * panel + byte] = (uint8_t)((at - start) >> 8 * (3 - byte));
+    }
+    return at;
+}
+
+/* A desk of random queues. One in 16 has part of a length, one a byte too few, one little room, and one 05s in it. */
+static void try_desk(size_t blocks, uint32_t keys)
+{
+    uint32_t turn = below(16);
+    size_t bytes = lay_queues(turn == 3 ? KINDS : KINDS_OF_QUEUES, keys);
+
+    if (turn == 1 && bytes > 0)
+        bytes--;
+    spoil_places();
+    print_left(wall_book_desk(pool, blocks * BLOCK, table, sizeof table,
+                              lengths, turn == 0 ? sizeof lengths - 1 : sizeof lengths, commands, bytes,
+                              answers, turn == 2 ? 100 : sizeof answers, &length, charges), blocks);
 }
 
 int main(void)
 {
     static const uint32_t sizes[][2] = {{4, 400}, {9, 1500}, {64, 9000}};
     size_t i;
-    int batch;
+    int round;
 
     state = 1;
     for (i = 0; i < 3; i++) {
         print_number(wall_book_prepare(pool, sizes[i][0] * BLOCK, 3, 1, 2, 1, 4, 4, 3, 2));
         print("\n");
-        for (batch = 0; batch < BATCHES; batch++)
+        for (round = 0; round < ROUNDS; round++) {
             try_batch(sizes[i][0], sizes[i][1]);
+            try_desk(sizes[i][0], sizes[i][1]);
+        }
     }
     return 0;
 }

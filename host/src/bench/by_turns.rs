@@ -39,8 +39,7 @@ pub fn shortest(setup: &Setup, calls: &[Call], rounds: usize) -> Result<Vec<Time
 
 /// The time of a call on a book.
 fn time(book: &mut dyn Book, call: &mut Call) -> Result<Duration, String> {
-    let Call { pool, table, batch, answers } = call;
-    let (outcome, time) = timed(|| book.batch(pool, table, batch, answers));
+    let (outcome, time) = timed(|| call.run(book));
     accepted(outcome.number).map(|()| time)
 }
 

@@ -37,9 +37,8 @@ pub fn rows(setup: &Setup) -> Rows {
 
 /// What a call copies.
 fn copies(setup: &Setup, book: &mut dyn Book, mut call: Call) -> Result<Copies, String> {
-    let Call { pool, table, batch, answers } = &mut call;
     let mut number = 0;
-    let copies = (setup.count_copies)(&mut || number = book.batch(pool, table, batch, answers).number);
+    let copies = (setup.count_copies)(&mut || number = call.run(book).number);
     match number {
         0 if copies == Copies::default() => Err("no copy was counted; build.rs tells the linker to".to_string()),
         0 => Ok(copies),

@@ -5,6 +5,7 @@ use super::emptied::EMPTYINGS;
 use super::{Rows, Setup};
 use crate::both::Call;
 use crate::command::{encode, Command};
+use crate::input::Input;
 use crate::layout::{MAX_BATCH_BYTES, MAX_BLOCKS, MAX_SCAN_PAIRS};
 use crate::markdown::{grouped, head};
 
@@ -25,11 +26,9 @@ pub fn rows(setup: &Setup) -> Rows {
         let place = format!("over {LEAVES} leaves emptied {}", emptying.name);
         (setup.say)(&format!("building: {place}"));
         let pool = emptying.pool(MAX_BLOCKS, LEAVES)?;
-        for (name, command) in READERS {
-            let commands = as_many_as_fit(command);
-            let call = Call::new(pool.clone(), &commands);
+        for (name, call) in of_pool(&pool) {
             pool_after(call.clone())?;
-            names.push(format!("{} {name} {place}", grouped(commands.len() as u128)));
+            names.push(format!("{name} {place}"));
             calls.push(call);
         }
     }
@@ -40,9 +39,22 @@ pub fn rows(setup: &Setup) -> Rows {
     Ok(std::iter::once(head(&["call", "proved", "second", "ratio"])).chain(rows).collect())
 }
 
-/// As many of a command as a batch holds.
-fn as_many_as_fit(command: Command) -> Vec<Command> {
-    vec![command; MAX_BATCH_BYTES / encode(&[command]).len()]
+/// A batch of each reader, and a desk of the last.
+fn of_pool(pool: &[u8]) -> Vec<(String, Call)> {
+    let named = |name: &str, count: usize| format!("{} {name}", grouped(count as u128));
+    let batch = |(name, command): (&str, Command)| {
+        let commands = as_many_as_fit(&[command]);
+        (named(name, commands.len()), Call::new(pool.to_vec(), &commands))
+    };
+    let (name, command) = READERS[1];
+    let turns = vec![command; as_many_as_fit(&[Command::Panel { panel: 0 }, command]).len() / 2];
+    let desk = Call { input: Input::in_queues(&turns), ..Call::new(pool.to_vec(), &turns) };
+    READERS.into_iter().map(batch).chain([(named(name, turns.len()) + " at a desk", desk)]).collect()
+}
+
+/// As many of some commands as a batch holds.
+fn as_many_as_fit(commands: &[Command]) -> Vec<Command> {
+    commands.repeat(MAX_BATCH_BYTES / encode(commands).len())
 }
 
 #[cfg(test)]
@@ -52,7 +64,7 @@ mod tests {
     #[test]
     fn a_batch_holds_no_command_more() {
         let counts = READERS.map(|(_, command)| {
-            let commands = as_many_as_fit(command);
+            let commands = as_many_as_fit(&[command]);
             let length = encode(&commands).len();
             assert!(length <= MAX_BATCH_BYTES && length + encode(&[command]).len() > MAX_BATCH_BYTES);
             commands.len()

@@ -46,7 +46,7 @@ fn row(&[empty, gets, puts]: &[Times; 3]) -> Vec<String> {
 }
 
 /// Microseconds of one command: those of a batch of them, less an empty batch, divided.
-fn command_times(all: Times, empty: Times) -> [f64; 2] {
+pub fn command_times(all: Times, empty: Times) -> [f64; 2] {
     let one = |book: usize| (all[book].as_secs_f64() - empty[book].as_secs_f64()) * 1e6 / COMMANDS as f64;
     [one(0), one(1)]
 }

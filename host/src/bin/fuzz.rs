@@ -60,10 +60,11 @@ fn run(time: Duration, seed: u64) -> Result<(), String> {
         if told.elapsed() >= Duration::from_secs(5) {
             told = Instant::now();
             eprintln!(
-                "{:>4} s: {} cases, {} batches, {} states",
+                "{:>4} s: {} cases, {} batches, {} desks, {} states",
                 start.elapsed().as_secs(),
                 tally.cases,
                 tally.batches,
+                tally.desks.accepted,
                 tally.seen.states
             );
         }

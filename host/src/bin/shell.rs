@@ -1,4 +1,4 @@
-//! `shell`: prepares pools and runs batches, a line at a time.
+//! `shell`: prepares pools, runs batches and serves queues, a line at a time.
 
 use std::io::{self, BufRead};
 use std::process::ExitCode;

@@ -1,8 +1,10 @@
 //! Random calls, and calls that must be refused.
 
+use super::deal::{batch_or_desk, wrong_lengths, wrong_queues};
 use super::Tally;
 use crate::both::{self, Call};
 use crate::command::{answer_room, encode, parse, Command};
+use crate::input::Input;
 use crate::layout::{
     table_bytes, BLANK, BLOCK_BYTES, MAX_BATCH_BYTES, MAX_BLOCKS, MAX_SCAN_PAIRS, MAX_TARIFF, MIN_BLOCKS, PAGE_BYTES,
     PANELS,
@@ -12,11 +14,17 @@ use crate::refusal::Refusal;
 use crate::wire::{TAG_CEILING, TAG_PANEL};
 
 /// A call with buffers that are long enough, by nothing or by some bytes, and have anything in them.
-pub(super) fn random_call(random: &mut Random, pool: Vec<u8>, batch: Vec<u8>) -> Call {
-    let room = parse(&batch).map_or(0, |commands| answer_room(&commands));
+pub(super) fn random_call(random: &mut Random, pool: Vec<u8>, input: Input) -> Call {
+    let room = parse(input.command_bytes()).map_or(0, |commands| answer_room(&commands));
     let beyond = random.pick(&[0, 0, 1, 500]);
     let table = random.bytes(table_bytes(pool.len()) + beyond);
-    Call { pool, table, batch, answers: random.bytes(room + beyond) }
+    Call { pool, table, input, answers: random.bytes(room + beyond) }
+}
+
+/// A batch or a desk without a command.
+pub(super) fn empty_call(random: &mut Random, pool: Vec<u8>) -> Call {
+    let input = batch_or_desk(random, &[]);
+    random_call(random, pool, input)
 }
 
 /// Makes a call that must be refused with this number.
@@ -25,31 +33,30 @@ pub(super) fn refused(mut call: Call, number: u8, tally: &mut Tally) -> Result<(
     if outcome.number != number {
         return Err(format!("a call to be refused with {number} came to {outcome:?}"));
     }
-    tally.calls += 1;
-    tally.refusals[usize::from(number)] += 1;
+    tally.count_refused(&call.input, number);
     Ok(())
 }
 
-/// Makes a call that one of questions 1 to 4 refuses.
+/// Makes a call that one of questions 1 to 4 or 11 refuses.
 pub(super) fn refused_call(random: &mut Random, pool: &[u8], tally: &mut Tally) -> Result<(), String> {
-    let mut call = random_call(random, pool.to_vec(), encode(&[Command::Get { key: 1 }]));
-    let number = random.between(1, 4) as u8;
+    let input = batch_or_desk(random, &[Command::Get { key: 1 }]);
+    let mut call = random_call(random, pool.to_vec(), input);
+    let number = random.pick(&[1, 2, 3, 4, 11]);
     match number {
-        1 => {
-            let length = random.pick(&[
-                0,
-                (MIN_BLOCKS - 1) * BLOCK_BYTES,
-                (MAX_BLOCKS + 1) * BLOCK_BYTES,
-                pool.len() - 1,
-                pool.len() + PAGE_BYTES,
-            ]);
-            call.pool.resize(length, BLANK);
-        }
+        1 => call.pool.resize(wrong_pool_length(random, pool.len()), BLANK),
         2 => call.table.truncate(random.below(table_bytes(pool.len()))),
-        3 => call.batch = random_nonsense(random),
-        _ => call = short_of_room(random, call),
+        3 if random.once_in(2) => call.input = Input::Desk(wrong_queues(random)),
+        3 => call.input = Input::Batch(random_nonsense(random)),
+        4 => call = short_of_room(random, call),
+        _ => call.input = Input::Desk(wrong_lengths(random)),
     }
     refused(call, number, tally)
+}
+
+/// A length that no pool has.
+fn wrong_pool_length(random: &mut Random, right: usize) -> usize {
+    let [too_few, too_many] = [MIN_BLOCKS - 1, MAX_BLOCKS + 1].map(|blocks| blocks * BLOCK_BYTES);
+    random.pick(&[0, too_few, too_many, right - 1, right + PAGE_BYTES])
 }
 
 /// The call with commands that ask for much room, for little and for none, and with a byte less than that or fewer.
@@ -61,11 +68,11 @@ fn short_of_room(random: &mut Random, call: Call) -> Call {
     let room = answer_room(&commands);
     let any = random.below(room);
     let lent = random.pick(&[room - 1, any]);
-    Call { batch: encode(&commands), answers: random.bytes(lent), ..call }
+    Call { input: batch_or_desk(random, &commands), answers: random.bytes(lent), ..call }
 }
 
 /// Bytes that are no batch.
-fn random_nonsense(random: &mut Random) -> Vec<u8> {
+pub(super) fn random_nonsense(random: &mut Random) -> Vec<u8> {
     let mut batch = encode(&[Command::Get { key: 1 }, Command::Put { key: 2, value: 3 }]);
     match random.below(8) {
         0 => batch.truncate(random.between(1, 6)),

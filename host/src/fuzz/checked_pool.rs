@@ -5,20 +5,22 @@ use std::collections::BTreeMap;
 use super::call::{random_call, refused, refused_call, refused_prepares};
 use super::charges::{self, NodeCharges};
 use super::commands::{Chooser, MAX_PUTS};
+use super::deal::{batch_or_desk, deal};
 use super::style::CommandStyle;
 use super::{random_blocks, Tally};
 use crate::account::{Account, Tariff};
 use crate::audit::{add_wraps, Audit, Seen};
 use crate::book::Outcome;
 use crate::both::{self, Call};
-use crate::command::{encode, encode_answers, Answer, Command};
+use crate::command::{encode_answers, Answer, Command};
 use crate::foreign::{self, random_tariff, Build, PoolStyle, BRINK_BLOCKS};
+use crate::input::Input;
 use crate::layout::{node_limit, BLOCK_BYTES, FIRST_CHECKPOINT_SCORES, MAX_SEQUENCE, PAGE_BYTES};
 use crate::mount::{read, Mounted};
 use crate::node::Pair;
 use crate::page::{is_blank, sums_wrap};
 use crate::random::Random;
-use crate::reference::{Ledger, Run};
+use crate::reference::{in_turns, Ledger, Run};
 use crate::refusal::Refusal;
 use crate::score_order;
 use crate::tree::{self, IDS_USED_UP};
@@ -97,15 +99,20 @@ impl CheckedPool {
         }
     }
 
-    /// A batch that is accepted, and now and then a call before it that is not.
+    /// A batch or a desk that is accepted, and now and then a call before it that is not.
     pub fn any_call(&mut self, random: &mut Random, tally: &mut Tally, style: &CommandStyle) -> Result<(), String> {
         if random.once_in(4) {
             refused_call(random, &self.pool, tally)?;
         }
         let commands = self.random_commands(random, style);
         if self.last_sequence > MAX_SEQUENCE {
-            let call = random_call(random, self.pool.clone(), encode(&commands));
+            let input = batch_or_desk(random, &commands);
+            let call = random_call(random, self.pool.clone(), input);
             return refused(call, Refusal::SequenceNumbers.number(), tally);
+        }
+        if random.once_in(3) {
+            let queues = deal(random, &commands);
+            return self.desk(random, tally, &queues);
         }
         self.batch(random, tally, &commands)
     }
@@ -132,20 +139,44 @@ impl CheckedPool {
         Chooser { style, map: &self.map, puts: &mut self.puts, near }.commands(random)
     }
 
-    /// Runs a batch and asks everything of it.
     fn batch(&mut self, random: &mut Random, tally: &mut Tally, commands: &[Command]) -> Result<(), String> {
-        let mut call = random_call(random, std::mem::take(&mut self.pool), encode(commands));
+        let mut call = random_call(random, self.pool.clone(), Input::batch(commands));
+        self.run(tally, &mut call, commands)?;
+        tally.batches += 1;
+        Ok(())
+    }
+
+    /// Serves queues; the batch of their commands as joined here must leave the same of the same buffers.
+    fn desk(&mut self, random: &mut Random, tally: &mut Tally, queues: &[Vec<Command>]) -> Result<(), String> {
+        let joined = in_turns(queues);
+        let mut call = random_call(random, self.pool.clone(), Input::desk(queues));
+        let mut batch = Call { input: Input::batch(&joined), ..call.clone() };
+        let outcome = self.run(tally, &mut call, &joined)?;
+        let of_batch = batch.make()?;
+        if of_batch != outcome {
+            return Err(format!("a desk came to {outcome:?}, the batch of its joined bytes to {of_batch:?}"));
+        }
+        if (batch.pool, batch.table, batch.answers) != (call.pool, call.table, call.answers) {
+            return Err("a desk leaves other bytes than the batch of its joined bytes".to_string());
+        }
+        tally.calls += 1;
+        tally.desks.count_accepted(queues);
+        Ok(())
+    }
+
+    /// Makes a call that does these commands, and asks everything of it.
+    fn run(&mut self, tally: &mut Tally, call: &mut Call, commands: &[Command]) -> Result<Outcome, String> {
         let modes = self.ledger.accounts.iter().map(|account| account.mode).collect();
         let nodes_before = self.ledger.nodes.len();
         let run = self.ledger.batch(commands);
-        let mut audit = Audit::new(&call.pool, modes, self.ledger.limit, &run.lines);
+        let mut audit = Audit::new(&self.pool, modes, self.ledger.limit, &run.lines);
         let outcome = call.make_observed(&mut audit)?;
         if outcome.number != 0 {
-            return Err(format!("a good batch was refused with {}", outcome.number));
+            return Err(format!("a good call was refused with {}", outcome.number));
         }
         let seen = audit.finish(&call.pool)?;
-        check_run(&call, outcome, &run)?;
-        self.pool = call.pool;
+        check_run(call, outcome, &run)?;
+        self.pool.clone_from(&call.pool);
         self.check_answers(commands, &run.answers, tally)?;
         self.check_pool()?;
         self.check_charges(&run, tally)?;
@@ -153,12 +184,11 @@ impl CheckedPool {
         tally.ceilings.add(&run.ceilings);
         tally.of_several_panels += u64::from(outcome.panels_charged() > 1);
         self.count(tally, commands, &seen, nodes_before);
-        Ok(())
+        Ok(outcome)
     }
 
     fn count(&self, tally: &mut Tally, commands: &[Command], seen: &Seen, nodes_before: usize) {
         tally.calls += 1;
-        tally.batches += 1;
         tally.commands += commands.len() as u64;
         let count = |wanted: fn(&&Command) -> bool| commands.iter().filter(wanted).count() as u64;
         tally.scans += count(|command| matches!(command, Command::Scan { .. }));

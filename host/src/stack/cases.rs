@@ -1,4 +1,4 @@
-//! Calls that bring a book's stack deep: a hostile pool, a deep tree, and random batches.
+//! Calls that bring a book's stack deep: a hostile pool and a deep tree, by batch and by desk, and random batches.
 
 use super::deepest;
 use crate::book::{Book, Outcome};
@@ -6,6 +6,7 @@ use crate::both::Call;
 use crate::command::Command;
 use crate::foreign::{self, flaw::LEFT_PATH, Build, Foreign, PoolStyle};
 use crate::fuzz::Script;
+use crate::input::Input;
 use crate::layout::{BLOCK_BYTES, MAX_BLOCKS, MAX_SCAN_PAIRS, MIN_BLOCKS};
 use crate::random::Random;
 use crate::reference::Ledger;
@@ -19,13 +20,18 @@ pub struct Case {
 }
 
 /// All cases.
-pub const CASES: [Case; 4] = [
+pub const CASES: [Case; 6] = [
     Case { name: "prepare, 4 and 64 blocks", run: prepares },
-    Case { name: "batch refused with 7: 4 blocks, a leftmost path of eight branches", run: left_paths },
+    Case {
+        name: "batch refused with 7: 4 blocks, a leftmost path of eight branches",
+        run: |book| left_paths(book, &Input::batch(&[])),
+    },
+    Case { name: "desk refused with 7: the same pools", run: |book| left_paths(book, &Input::in_queues(&[])) },
     Case {
         name: "batch of gets, puts, deletes, scans and ceilings: 64 blocks, nine levels in log mode",
-        run: deep_trees,
+        run: |book| deep_trees(book, Input::batch),
     },
+    Case { name: "desk of the same commands in sixteen queues", run: |book| deep_trees(book, Input::in_queues) },
     Case { name: "batches at random: 2,000 on 200 pools", run: random_batches },
 ];
 
@@ -36,10 +42,9 @@ impl Case {
     }
 }
 
-/// Makes a batch, and gives what it came to and the stack that it took.
-fn batch(book: &mut dyn Book, call: &mut Call) -> Result<(Outcome, usize), String> {
-    let Call { pool, table, batch, answers } = call;
-    deepest(|| book.batch(pool, table, batch, answers))
+/// Makes a call, and gives what it came to and the stack that it took.
+fn make(book: &mut dyn Book, call: &mut Call) -> Result<(Outcome, usize), String> {
+    deepest(|| call.run(book))
 }
 
 fn prepares(book: &mut dyn Book) -> Result<usize, String> {
@@ -54,12 +59,13 @@ fn prepares(book: &mut dyn Book) -> Result<usize, String> {
 }
 
 /// Pools of 17 nodes whose tree is walked as deep as any before it is found unsound.
-fn left_paths(book: &mut dyn Book) -> Result<usize, String> {
+fn left_paths(book: &mut dyn Book, input: &Input) -> Result<usize, String> {
     let mut random = Random::new(17);
     let mut most = 0;
     for build in [Build::Tight, Build::Any].repeat(10) {
         let pool = LEFT_PATH.make(&mut random, PoolStyle { blocks: MIN_BLOCKS, build }).ok_or("no such pool")?;
-        let (outcome, bytes) = batch(book, &mut Call::new(pool, &[]))?;
+        let mut call = Call { input: input.clone(), ..Call::new(pool, &[]) };
+        let (outcome, bytes) = make(book, &mut call)?;
         expect(outcome.number, LEFT_PATH.number)?;
         most = most.max(bytes);
     }
@@ -67,15 +73,16 @@ fn left_paths(book: &mut dyn Book) -> Result<usize, String> {
 }
 
 /// Pools of nine levels; in one of them at least, a put splits a leaf and two branches.
-fn deep_trees(book: &mut dyn Book) -> Result<usize, String> {
+fn deep_trees(book: &mut dyn Book, input: fn(&[Command]) -> Input) -> Result<usize, String> {
     let mut random = Random::new(9);
     let (mut most, mut most_created) = (0, 0);
     for _ in 0..6 {
         let style = PoolStyle { blocks: MAX_BLOCKS, build: Build::Deep };
         let Foreign { pool, ledger } = foreign::make(&mut random, style);
         let (created, put) = splitting_put(&ledger).ok_or("a deep tree has keys")?;
-        let mut call = Call::new(pool, &deep_commands(&ledger, put));
-        let (outcome, bytes) = batch(book, &mut call)?;
+        let commands = deep_commands(&ledger, put);
+        let mut call = Call { input: input(&commands), ..Call::new(pool, &commands) };
+        let (outcome, bytes) = make(book, &mut call)?;
         expect(outcome.number, 0)?;
         (most, most_created) = (most.max(bytes), most_created.max(created));
     }
@@ -123,7 +130,7 @@ fn random_batches(book: &mut dyn Book) -> Result<usize, String> {
         let Script { mut pool, batches } = Script::random(&mut random, 10)?;
         for commands in batches {
             let mut call = Call::new(pool, &commands);
-            let (outcome, bytes) = batch(book, &mut call)?;
+            let (outcome, bytes) = make(book, &mut call)?;
             if outcome.number != Refusal::SequenceNumbers.number() {
                 expect(outcome.number, 0)?;
             }

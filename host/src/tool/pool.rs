@@ -7,6 +7,7 @@ use super::{file, Stop};
 use crate::bench::timed;
 use crate::book::Book;
 use crate::command::{answer_room, encode, parse_answers, Answer, Command};
+use crate::input::Input;
 use crate::layout::{table_bytes, BLANK, BLOCK_BYTES, MAX_BLOCKS, PANELS};
 use crate::mount::mount;
 use crate::refusal::{words, Fault};
@@ -19,7 +20,7 @@ pub(super) struct Pool<'a> {
     name: &'a str,
     book: Box<dyn Book>,
     pub bytes: Vec<u8>,
-    /// What each panel was charged by the batches so far.
+    /// What each panel was charged by the calls so far.
     pub charges: [u64; PANELS],
     dry: bool,
 }
@@ -44,7 +45,7 @@ impl<'a> Pool<'a> {
 
     /// Runs commands as one batch.
     pub fn batch(&mut self, commands: &[Command]) -> Result<Vec<Answer>, Stop> {
-        self.batch_of_bytes(&encode(commands), answer_room(commands))
+        self.call(&Input::batch(commands), answer_room(commands))
     }
 
     /// Runs commands as one batch on a copy: the pool stays as it is.
@@ -68,11 +69,11 @@ impl<'a> Pool<'a> {
         }
     }
 
-    /// Runs the bytes of a batch with so much room for its answers.
-    pub fn batch_of_bytes(&mut self, batch: &[u8], room: usize) -> Result<Vec<Answer>, Stop> {
+    /// Makes a call with so much room for its answers.
+    pub fn call(&mut self, input: &Input, room: usize) -> Result<Vec<Answer>, Stop> {
         let mut table = vec![0; table_bytes(self.bytes.len())];
         let mut answers = vec![0; room];
-        let outcome = self.book.batch(&mut self.bytes, &mut table, batch, &mut answers);
+        let outcome = input.run(self.book.as_mut(), &mut self.bytes, &mut table, &mut answers);
         if outcome.number != 0 {
             return Err(self.refused(outcome.number));
         }
@@ -81,7 +82,7 @@ impl<'a> Pool<'a> {
         answers.ok_or_else(|| Stop::no(format!("{}: the book's answers cannot be read", self.name)))
     }
 
-    /// What the batches so far were charged.
+    /// What the calls so far were charged.
     pub fn charge(&self) -> u64 {
         self.charges.iter().sum()
     }

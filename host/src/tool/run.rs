@@ -4,8 +4,8 @@ use super::pool::{Pool, CALL_OPTIONS};
 use super::words::{Options, Words};
 use super::{answer, Said, Stop, Verb};
 use crate::command::{answer_room, parse};
+use crate::input::Input;
 use crate::layout::PANELS;
-use crate::wire::from_hex;
 
 pub(super) const VERB: Verb = Verb {
     name: "run",
@@ -19,36 +19,27 @@ pub(super) const VERB: Verb = Verb {
 };
 
 fn run(words: &mut Words<'_>, options: &Options) -> Result<Said, Stop> {
-    let (file, hex) = (words.word("a file")?, words.word("a batch")?);
+    let (file, batch) = (words.word("a file")?, words.bytes("a batch")?);
     words.end()?;
-    let digits = if hex == "-" { "" } else { hex };
-    let batch = from_hex(digits).ok_or_else(|| Stop::wrong(not_hex(digits)))?;
     let mut pool = Pool::open(file, options)?;
     // A batch that cannot be read goes to the book all the same: the refusal is its own.
     let commands = parse(&batch).unwrap_or_default();
-    let answers = pool.batch_of_bytes(&batch, answer_room(&commands))?;
+    let answers = pool.call(&Input::Batch(batch), answer_room(&commands))?;
     pool.save()?;
     let answered = commands.iter().filter(|command| command.is_answered());
     let mut text: String =
         answered.zip(&answers).map(|(command, said)| answer::spoken(command, said).0 + "\n").collect();
-    text.push_str(&format!("charge {}\n{}", pool.charge(), by_panel(&pool.charges)));
+    text.push_str(&format!("charge {}\n", pool.charge()));
+    if pool.charges[1..].iter().any(|&charge| charge > 0) {
+        text.push_str(&by_panel(&pool.charges));
+    }
     Ok(Said::text(text))
 }
 
-/// A line for each panel that is charged; none where that is panel 0 alone.
-fn by_panel(charges: &[u64; PANELS]) -> String {
-    if charges[1..].iter().all(|&charge| charge == 0) {
-        return String::new();
-    }
+/// A line for each panel that is charged.
+pub(super) fn by_panel(charges: &[u64; PANELS]) -> String {
     let charged = charges.iter().enumerate().filter(|(_, &charge)| charge > 0);
     charged.map(|(panel, charge)| format!("panel {panel}: charge {charge}\n")).collect()
-}
-
-fn not_hex(digits: &str) -> String {
-    match digits.chars().position(|digit| !digit.is_ascii_hexdigit()) {
-        Some(at) => format!("a batch is pairs of hexadecimal digits, and character {} is none", at + 1),
-        None => format!("a batch is pairs of hexadecimal digits, and {} digits are half a byte too many", digits.len()),
-    }
 }
 
 #[cfg(test)]

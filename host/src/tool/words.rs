@@ -3,6 +3,7 @@
 use super::Stop;
 use crate::book::Book;
 use crate::books::{by_name, BOOK_NAMES};
+use crate::wire::from_hex;
 
 /// The options that were given.
 #[derive(Default)]
@@ -89,9 +90,22 @@ impl<'a> Words<'a> {
         number(word).ok_or_else(|| Stop::wrong(format!("{what} expected, a number below 2^32, not {word:?}")))
     }
 
+    /// The next word, bytes in hexadecimal; `-` is none.
+    pub fn bytes(&mut self, what: &str) -> Result<Vec<u8>, Stop> {
+        let word = self.word(what)?;
+        let digits = if word == "-" { "" } else { word };
+        from_hex(digits)
+            .ok_or_else(|| Stop::wrong(format!("{what} is pairs of hexadecimal digits, and {}", odd(digits))))
+    }
+
+    /// Says whether a word is left.
+    pub fn any_left(&self) -> bool {
+        self.rest.len() > 0
+    }
+
     /// The next word, a number, if there is one.
     pub fn number_if_any(&mut self, what: &str) -> Result<Option<u32>, Stop> {
-        if self.rest.len() == 0 {
+        if !self.any_left() {
             return Ok(None);
         }
         self.number(what).map(Some)
@@ -115,6 +129,14 @@ pub(super) fn number(word: &str) -> Option<u32> {
     // The library would also take a sign.
     let plain = digits.chars().all(|digit| digit.is_digit(base));
     u32::from_str_radix(digits, base).ok().filter(|_| plain)
+}
+
+/// Why digits are not pairs of hexadecimal ones.
+fn odd(digits: &str) -> String {
+    match digits.chars().position(|digit| !digit.is_ascii_hexdigit()) {
+        Some(at) => format!("character {} is none", at + 1),
+        None => format!("{} digits are half a byte too many", digits.len()),
+    }
 }
 
 /// So many of a thing.

@@ -3,6 +3,8 @@
 use yokehour_host::book::Outcome;
 use yokehour_host::both::{self, Call};
 use yokehour_host::command::{split_answers, Command};
+use yokehour_host::desk::Queues;
+use yokehour_host::input::Input;
 use yokehour_host::layout::{page_range, table_bytes, BLOCK_BYTES, MIN_BLOCKS, PANELS};
 use yokehour_host::page::{decode, used, Checkpoint, Content, Entry, Page};
 use yokehour_host::wire::{fnv1a64, from_hex, to_hex};
@@ -35,12 +37,26 @@ impl Fixture {
     /// Runs bytes as one batch on both books, with so much room for answers.
     pub fn batch_of_bytes(&mut self, batch: Vec<u8>, room: usize) -> Outcome {
         let pool = std::mem::take(&mut self.pool);
-        self.run(Call { batch, answers: vec![0x66; room], ..Call::new(pool, &[]) })
+        self.run(Call { input: Input::Batch(batch), answers: vec![0x66; room], ..Call::new(pool, &[]) })
     }
 
     /// Runs a batch given in hexadecimal with so much room for its answers: its number, answers, charges and pool.
     pub fn batch_of_hex(&mut self, hex: &str, room: usize) -> (u8, String, [u64; PANELS], String) {
-        let outcome = self.batch_of_bytes(from_hex(&plain(hex)).expect("is hexadecimal"), room);
+        let outcome = self.batch_of_bytes(bytes(hex), room);
+        (outcome.number, to_hex(&self.answers), outcome.charges, self.hash())
+    }
+
+    /// Serves queues of commands on both books.
+    pub fn desk(&mut self, queues: &[Vec<Command>]) -> Outcome {
+        let pool = std::mem::take(&mut self.pool);
+        self.run(Call::desk(pool, queues))
+    }
+
+    /// Serves queues given in hexadecimal, as [`Fixture::batch_of_hex`] runs a batch.
+    pub fn desk_of_hex(&mut self, lengths: &str, queues: &str, room: usize) -> (u8, String, [u64; PANELS], String) {
+        let queues = Queues { lengths: bytes(lengths), bytes: bytes(queues) };
+        let pool = std::mem::take(&mut self.pool);
+        let outcome = self.run(Call { input: Input::Desk(queues), answers: vec![0x66; room], ..Call::new(pool, &[]) });
         (outcome.number, to_hex(&self.answers), outcome.charges, self.hash())
     }
 
@@ -164,6 +180,11 @@ pub fn charges<const N: usize>(charged: [(usize, u64); N]) -> [u64; PANELS] {
 
 /// The charges of a refused batch.
 pub const NONE: [u64; PANELS] = [0; PANELS];
+
+/// The bytes of hexadecimal with blanks that make it readable.
+pub fn bytes(hex: &str) -> Vec<u8> {
+    from_hex(&plain(hex)).expect("is hexadecimal")
+}
 
 /// Hexadecimal without the blanks that make it readable.
 pub fn plain(hex: &str) -> String {

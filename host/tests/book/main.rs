@@ -3,6 +3,7 @@
 mod blocks;
 mod ceiling;
 mod common;
+mod desk;
 mod foreign;
 mod format;
 mod fuzz;

@@ -6,6 +6,8 @@ use crate::common::{prepare, put, scan, Fixture, CHECKPOINT_PAGE, FIRST_CHECKPOI
 use yokehour_host::book::Outcome;
 use yokehour_host::both::Call;
 use yokehour_host::command::encode;
+use yokehour_host::desk::Queues;
+use yokehour_host::input::Input;
 use yokehour_host::layout::{page_range, BLANK, BLOCK_BYTES, BLOCK_PAGES, MIN_BLOCKS, PAGE_BYTES};
 use yokehour_host::mount::mount;
 use yokehour_host::node::{Change, Shape};
@@ -33,34 +35,60 @@ fn a_good_call_is_accepted() {
     assert!(call.table[TABLE_BYTES..].iter().all(|&byte| byte == 0x78));
 }
 
-/// What is wrong with the good call for each question, in the order of the questions; any of them go together.
-const WRONGS: [fn(&mut Call); 8] = [
-    |call| call.pool.push(BLANK),
-    |call| call.table.truncate(TABLE_BYTES - 1),
-    |call| call.batch.push(0x05),
-    |call| call.answers.clear(),
-    |call| call.pool[PAGE_BYTES - 1] = 0,
-    |call| mend(&mut call.pool, CHECKPOINT_PAGE, |page| checkpoint_of(page).count = Some(2)),
-    |call| mend(&mut call.pool, CHECKPOINT_PAGE, |page| checkpoint_of(page).scores[0].score = 5),
-    |call| mend(&mut call.pool, CHECKPOINT_PAGE, |page| page.sequence = 4_000_000_001),
+/// A question's number, and what is wrong with a good call for it; any of them go together.
+type Wrong = (u8, fn(&mut Call));
+
+/// What is wrong with either call, in the order of the questions: before its commands are read, and after.
+const BEFORE: [Wrong; 2] = [(1, |call| call.pool.push(BLANK)), (2, |call| call.table.truncate(TABLE_BYTES - 1))];
+const AFTER: [Wrong; 5] = [
+    (4, |call| call.answers.clear()),
+    (5, |call| call.pool[PAGE_BYTES - 1] = 0),
+    (6, |call| mend(&mut call.pool, CHECKPOINT_PAGE, |page| checkpoint_of(page).count = Some(2))),
+    (7, |call| mend(&mut call.pool, CHECKPOINT_PAGE, |page| checkpoint_of(page).scores[0].score = 5)),
+    (8, |call| mend(&mut call.pool, CHECKPOINT_PAGE, |page| page.sequence = 4_000_000_001)),
 ];
+
+/// Any of the wrongs together give the number of the first of them; the call without one charges three panels.
+fn check_order(call: Call, wrongs: &[Wrong]) {
+    for chosen in 1u32..1 << wrongs.len() {
+        let mut call = call.clone();
+        let chosen_wrongs = || wrongs.iter().enumerate().filter(|(at, _)| chosen >> at & 1 == 1);
+        chosen_wrongs().for_each(|(_, (_, wrong))| wrong(&mut call));
+        // No length, and sixteen charges of 0.
+        let refused = Outcome { number: wrongs[chosen.trailing_zeros() as usize].0, ..Outcome::default() };
+        assert_eq!(make(&mut call), refused, "wrong: questions {chosen:09b}, the first on the right");
+    }
+    assert_eq!(make(&mut call.clone()).panels_charged(), 3);
+}
 
 #[test]
 fn the_first_question_that_fails_gives_the_number() {
-    for wrongs in 1..1 << WRONGS.len() {
-        let mut call = of_three_panels();
-        let chosen = WRONGS.iter().enumerate().filter(|(at, _)| wrongs >> at & 1 == 1);
-        chosen.for_each(|(_, wrong)| wrong(&mut call));
-        // No length, and sixteen charges of 0.
-        let refused = Outcome { number: u32::trailing_zeros(wrongs) as u8 + 1, ..Outcome::default() };
-        assert_eq!(make(&mut call), refused, "wrong: questions {wrongs:08b}, the first on the right");
-    }
-    assert_eq!(make(&mut of_three_panels()).panels_charged(), 3);
+    let commands = [get(1), panel(3), put(5, 6), panel(15), ceiling(5)];
+    let invalid: Wrong = (3, |call| call.input = Input::Batch([call.input.command_bytes(), &[0x05]].concat()));
+    let wrongs = [&BEFORE[..], &[invalid], &AFTER].concat();
+    check_order(Call { input: Input::batch(&commands), ..good() }, &wrongs);
 }
 
-/// The good call, with commands of three panels that would all be charged.
-fn of_three_panels() -> Call {
-    Call { batch: encode(&[get(1), panel(3), put(5, 6), panel(15), ceiling(5)]), ..good() }
+#[test]
+fn a_desk_asks_11_between_2_and_3() {
+    let queues = [vec![get(1)], vec![], vec![put(5, 6)], vec![ceiling(5)]];
+    let part_of_a_length: Wrong = (11, |call| queues_of(call).lengths.push(0));
+    // Queue 1 was empty.
+    let a_panel: Wrong = (3, |call| {
+        let Queues { lengths, bytes } = queues_of(call);
+        lengths[7] = 4;
+        bytes.splice(7..7, encode(&[panel(1)]));
+    });
+    let wrongs = [&BEFORE[..], &[part_of_a_length, a_panel], &AFTER].concat();
+    check_order(Call { input: Input::desk(&queues), ..good() }, &wrongs);
+}
+
+/// The queues of a desk's call.
+fn queues_of(call: &mut Call) -> &mut Queues {
+    match &mut call.input {
+        Input::Desk(queues) => queues,
+        Input::Batch(_) => panic!("no desk"),
+    }
 }
 
 #[test]
@@ -89,7 +117,7 @@ fn number_3_the_batch_is_not_wholly_valid() {
         [encode(&[get(1), scan(0, 9, 1)]), vec![0x04]].concat(),
         vec![0; 40_000],
     ] {
-        assert_eq!(number(Call { batch, answers: vec![0x66; 1_000], ..good() }), 3);
+        assert_eq!(number(Call { input: Input::Batch(batch), answers: vec![0x66; 1_000], ..good() }), 3);
     }
 }
 

@@ -3,6 +3,7 @@
 use crate::common::{number, number_of, prepared};
 use crate::spelled::{checkpoint, log_page, pool_of, LAST_LEAF};
 use yokehour_host::both::Call;
+use yokehour_host::input::Input;
 use yokehour_host::layout::{page_range, BLANK, MIN_BLOCKS};
 use yokehour_host::wire::{page_sum, put_head};
 
@@ -35,7 +36,7 @@ fn command(kind: Kind) -> Vec<u8> {
 /// The number of each batch on one pool.
 fn numbers_of(batches: impl Iterator<Item = Vec<u8>>) -> impl Iterator<Item = u8> {
     let call = Call { answers: vec![0x66; 11], ..Call::new(prepared().pool, &[]) };
-    batches.map(move |batch| number(Call { batch, ..call.clone() }))
+    batches.map(move |batch| number(Call { input: Input::Batch(batch), ..call.clone() }))
 }
 
 #[test]

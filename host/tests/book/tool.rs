@@ -48,6 +48,8 @@ fn exit_statuses_tell_scripts_how_it_went() {
     assert_eq!(folder.status("get p 8 --book second"), Some(1), "an absent key");
     assert_eq!(folder.status("ceiling p 8 --book second"), Some(1), "no key at or above");
     assert_eq!(folder.status("run p 05 --book second"), Some(1), "a refused batch");
+    assert_eq!(folder.status("desk p - 05000100 --book second"), Some(1), "a queue that names a panel");
+    assert_eq!(folder.status("desk p - 01000400000007 --dry --book second"), Some(0));
     assert_eq!(folder.status("get p --book second"), Some(2), "a word too few");
     assert_eq!(folder.status("get q 7 --book second"), Some(2), "no such file");
     assert_eq!(folder.status("help"), Some(0));
@@ -91,8 +93,10 @@ fn the_proved_book_does_the_work_where_it_is_here() {
     let csv: String = (0..200).map(|key| format!("{},{key}\n", key * 7919 % 1000)).collect();
     std::fs::write(folder.0.join("csv"), csv).expect("is written");
     let by_panels = "run FILE 05000103010004000000070500010f03000400000007";
+    let queues = "desk FILE 0100040000000703000400000007 - 0200080000000700000064";
     let (first, none) = ("ceiling FILE 0", "ceiling FILE 1000");
-    for line in ["import FILE csv", "get FILE 7", "delete FILE 21", "scan FILE 0 500", first, none, by_panels] {
+    let calls = ["get FILE 7", "delete FILE 21", "scan FILE 0 500", first, none, by_panels, queues];
+    for line in ["import FILE csv"].into_iter().chain(calls) {
         let proved = folder.says(&line.replace("FILE", "p"));
         let second = folder.says(&format!("{} --book second", line.replace("FILE", "q")));
         assert_eq!(proved, second, "{line}");
