@@ -26,7 +26,7 @@
  * runs. A buffer of 0 bytes may be NULL: nothing is read or written through its pointer. `length` and `charges` may
  * not.
  *
- * Command 05 names the panel that speaks: it is charged for the commands behind, up to the next 05 or the batch's end.
+ * Command 05 names the current panel: it is charged for the commands behind, up to the next 05 or the batch's end.
  * Every batch begins at panel 0. Nothing else depends on it: pool and answers are those of the batch without its 05s.
  *
  * Command 07 asks for the key, or the nearest above it: 87 0008 key value, or 80 0000 where none is at or above. It

@@ -13,7 +13,7 @@ use Rattle.command.specs.declared.Asked.the-variants as asked
 use Rattle.command.specs.declared.Command.{Command}
 use Rattle.command.specs.Batch.{commandsOf, roomForAll, askedAs, askedOf}
 use Rattle.book.specs.InTurn.{noCharges}
-use Rattle.book.specs.PanelLaws.{length-each}
+use Rattle.book.specs.EachPanel.{length-each}
 use Rattle.model.specs.Call.{refuse, blocksOf, poolLength, cleared, batchOf, batchMounted, mountOf}
 use Rattle.prepare.specs.Prepared.{IsPool}
 use Rattle.batch.specs.Left.{refusedWith, wiped, Leaves}

@@ -12,7 +12,7 @@ use Rattle.account.specs.declared.Tariff.{Tariff}
 use Rattle.command.specs.declared.Command.{Command}
 use Rattle.book.specs.Session.{atFirst}
 use Rattle.book.specs.InTurn.{noCharges}
-use Rattle.book.specs.PanelLaws.{length-each}
+use Rattle.book.specs.EachPanel.{length-each}
 use Rattle.model.specs.Mount.{Mounted, refused}
 use Rattle.model.specs.Call.{blocksOf, cleared, mountOf, batchMounted, accept}
 use Rattle.demands.specs.OneCall.{blocks-length}
@@ -65,10 +65,10 @@ module _ (pool table batch answers : List ℕ) {blocks : ℕ} (a : Accepts (leng
     abbrev w : World
     w = world (pagesOf pool) held st
 
-    end : world (pagesOf pool′) held₂ st₂ ≡ checkpoint t (runWorld t (a .commands) atFirst w)
+    end : world (pagesOf pool′) held₂ st₂ ≡ checkpoint t (runWorld (a .commands) (atFirst t) w)
     end = ended ∙ ap (checkpoint t) (ran .kept .is)
 
-    blocks-end : checkpoint t (runWorld t (a .commands) atFirst w) .state .blocks ≡ blocks
+    blocks-end : checkpoint t (runWorld (a .commands) (atFirst t) w) .state .blocks ≡ blocks
     blocks-end =
         ap (λ (z : World). z .state .blocks) (sym end) ∙ kept ∙ ran .kept .blocks ∙ sym (o .runs .agrees .mirrors .pages .size) ∙
         o .runs .sound .good .invariant .rules .size
@@ -84,7 +84,7 @@ module _ (pool table batch answers : List ℕ) {blocks : ℕ} (a : Accepts (leng
           replies = ran .answers ∙ l .answers;
           long = ran .behind ∙ l .length;
           paid = ran .paid ∙ l .charges;
-          sixteen = ap length (ran .paid) ∙ length-each (λ q. runCharge t q (a .commands) atFirst w);
+          sixteen = ap length (ran .paid) ∙ length-each (λ q. runCharge q (a .commands) (atFirst t) w);
         }
 
     pub worked-done : Worked pool pool′ table table′ batch answers answers₁ charges (doneWith p)

@@ -14,7 +14,7 @@ use Rattle.command.specs.Batch.{commandsOf}
 use Rattle.tree.specs.Spells.{mapOf}
 use Rattle.book.specs.Command.{Reply, repliesBytes}
 use Rattle.book.specs.Session.{atFirst}
-use Rattle.book.specs.PanelLaws.{each-same}
+use Rattle.book.specs.EachPanel.{each-same}
 use Rattle.store.specs.Reopen.{Cells}
 use Rattle.model.specs.State.{bookOf}
 use Rattle.model.specs.State as Model
@@ -86,21 +86,21 @@ module _ {pool : List ℕ} {tableLength blocks : ℕ} {held : Worktable} {t : Ta
   number-left = omega (arith, o .left, o .runs .agrees .mirrors .last)
 
   -- THE COMMANDS
-  pub ran : RunAgrees blocks t cs atFirst w s
+  pub ran : RunAgrees blocks cs (atFirst t) w s
   ran =
-      run-agrees t cs atFirst (o .runs) (mapOf (bookOf s .count) (bookOf s .table)) holds (asked .valid)
+      run-agrees cs (atFirst t) (o .runs) (mapOf (bookOf s .count) (bookOf s .table)) holds (asked .valid)
       (omega (arith, asked .few, number-left))
 
   -- THE BATCH
-  pub accepted : (table answers : List ℕ) (pool′ : List ℕ) → pagesOf pool′ ≡ checkpoint t (runWorld t cs atFirst w) .pages →
-      checkpoint t (runWorld t cs atFirst w) .state .blocks ≡ blocks → length pool′ ≡ blockBytes * blocks →
-      Left pool′ (lay answers 0 (repliesBytes (runReplies t cs atFirst w))) (length (repliesBytes (runReplies t cs atFirst w))) (runCharges t cs atFirst w)
-      (accept blocks t cs s table answers)
+  pub accepted : (table answers : List ℕ) (pool′ : List ℕ) → pagesOf pool′ ≡ checkpoint t (runWorld cs (atFirst t) w) .pages →
+      checkpoint t (runWorld cs (atFirst t) w) .state .blocks ≡ blocks → length pool′ ≡ blockBytes * blocks →
+      Left pool′ (lay answers 0 (repliesBytes (runReplies cs (atFirst t) w))) (length (repliesBytes (runReplies cs (atFirst t) w)))
+      (runCharges cs (atFirst t) w) (accept blocks t cs s table answers)
   accepted table answers pool′ e b l =
       record {
         pool = pool-closed (ran .runs) t (omega (arith, ran .number, asked .few, number-left)) pool′ e b l;
         answers = ap (λ (rs : List Reply). lay answers 0 (repliesBytes rs)) (ran .replies);
         length = ap (λ (rs : List Reply). length (repliesBytes rs)) (ran .replies);
         charges =
-            each-same (λ q. runCharge t q cs atFirst w) (λ q. chargeOf (nodeLimit blocks) t q cs atFirst s) (ran .charge);
+            each-same (λ q. runCharge q cs (atFirst t) w) (λ q. chargeOf (nodeLimit blocks) q cs (atFirst t) s) (ran .charge);
       }

@@ -1,5 +1,5 @@
--- A command on a book: its node requests and its answer (document 01, "Commands and answers", "Nodes and tree"; document 02, P2 and P3). Both the run
--- over the flash store and the reference model ask these functions, so neither has requests or answers of its own. Assumes nothing.
+-- A command on a book, in a session: its node requests and its answer (document 01, "Commands and answers", "Nodes and tree"; document 02, P2 and P3).
+-- Both the run over the flash store and the reference model ask these functions, so neither has requests or answers of its own. Assumes nothing.
 use mathlib.Core.Bool.{Bool, true, false}
 use mathlib.Core.List.{List, [], _∷_, _++_, map}
 use mathlib.Core.Option.{Option, none, some}
@@ -18,6 +18,7 @@ use Rattle.tree.specs.Put.{putRequests, putRefused}
 use Rattle.tree.specs.Delete.{deleteRequests}
 use Rattle.tree.specs.Scan.{scanReads, scanAnswer}
 use Rattle.book.specs.Book.{Book}
+use Rattle.book.specs.Session.{Session}
 
 -- What a command asks at most of a tree of so many nodes, each read at most once, with room for what it writes and for commands to come.
 abbrev pub mostRequests : ℕ → ℕ
@@ -85,20 +86,20 @@ ceilingLook k =
       reply = λ b. ceilingReply (first (scanAnswer (b .count) (b .table) k lastKey 1));
     }
 
--- What a command does: it looks, puts, deletes, or names a panel.
+-- What a command does in a session: it looks, puts, deletes, or names a panel.
 pub data Task : Type 0 where
   looks : Look → Task
   puts : ℕ → ℕ → Task
   deletes : ℕ → Task
   names : ℕ → Task
 
-abbrev pub taskOf : Command → Task
-taskOf (Get k) = looks (getLook k)
-taskOf (Put k v) = puts k v
-taskOf (Delete k) = deletes k
-taskOf (Scan low high most) = looks (scanLook low high most)
-taskOf (Panel panel) = names panel
-taskOf (Ceiling k) = looks (ceilingLook k)
+abbrev pub taskOf : Session → Command → Task
+taskOf n (Get k) = looks (getLook k)
+taskOf n (Put k v) = puts k v
+taskOf n (Delete k) = deletes k
+taskOf n (Scan low high most) = looks (scanLook low high most)
+taskOf n (Panel panel) = names panel
+taskOf n (Ceiling k) = looks (ceilingLook k)
 
 -- Its node requests: one that looks makes reads alone, a panel none.
 abbrev pub requestsOf : ℕ → Task → Book → List NodeRequest
@@ -122,11 +123,11 @@ answerOf limit (deletes k) b = deleteReply (getAnswer (b .count) (b .table) k)
 answerOf limit (names panel) b = silent
 
 -- "In an accepted one each command makes its node requests .. none for a hang with 9."
-unfoldable pub requests : ℕ → Command → Book → List NodeRequest
-requests limit c b = requestsOf limit (taskOf c) b
+unfoldable pub requests : ℕ → Session → Command → Book → List NodeRequest
+requests limit n c b = requestsOf limit (taskOf n c) b
 
-unfoldable pub refuses : ℕ → Command → Book → Bool
-refuses limit c b = refusesOf limit (taskOf c) b
+unfoldable pub refuses : ℕ → Session → Command → Book → Bool
+refuses limit n c b = refusesOf limit (taskOf n c) b
 
-unfoldable pub answer : ℕ → Command → Book → Reply
-answer limit c b = answerOf limit (taskOf c) b
+unfoldable pub answer : ℕ → Session → Command → Book → Reply
+answer limit n c b = answerOf limit (taskOf n c) b

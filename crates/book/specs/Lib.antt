@@ -1,9 +1,11 @@
 pub mod Book
-pub mod Command
 pub mod Session
+pub mod Command
+pub mod SessionAfter
+pub mod Naming
 pub mod InTurn
 pub mod Batch
-pub mod PanelLaws
+pub mod EachPanel
 pub mod OrderedMap
 pub mod Schedule
 pub mod Bound

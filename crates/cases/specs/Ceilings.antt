@@ -13,6 +13,7 @@ use Rattle.command.specs.declared.Answer.the-variants.{Absent}
 use Rattle.tree.specs.NodeRequest.{read}
 use Rattle.book.specs.Book.{Book}
 use Rattle.book.specs.Command.{short, nearest, requests, answer}
+use Rattle.book.specs.Session.{Session}
 use Rattle.model.specs.Computes.{computes}
 use Rattle.cases.specs.Pools.{pairs}
 use Rattle.cases.specs.Batches.{greatest, put, ceilingAt, ceiling, absent, foundAt, found, result, resultOf, none, first}
@@ -58,15 +59,16 @@ abbrev with : (ℕ → Node) → Book
 with table = record { count = 4; table = table; account = λ i. fresh }
 
 -- Root to leaf; then leaf after leaf by links while no key at or above was met, an empty leaf too; after the last leaf none.
-pub nodes-read : map (λ k. requests 20 (Ceiling k) (with leaves)) (11 ∷ 12 ∷ 37 ∷ []) ≡
+pub nodes-read : (n : Session) → map (λ k. requests 20 n (Ceiling k) (with leaves)) (11 ∷ 12 ∷ 37 ∷ []) ≡
     (read 0 ∷ read 1 ∷ []) ∷ (read 0 ∷ read 2 ∷ read 3 ∷ []) ∷ (read 0 ∷ read 3 ∷ []) ∷ []
 unfolding computes
-nodes-read = refl
+nodes-read n = refl
 
-pub answers-there : map (λ k. answer 20 (Ceiling k) (with leaves)) (11 ∷ 12 ∷ 37 ∷ []) ≡ nearest (11, 111) ∷ nearest (24, 124) ∷ short Absent ∷ []
+pub answers-there : (n : Session) →
+    map (λ k. answer 20 n (Ceiling k) (with leaves)) (11 ∷ 12 ∷ 37 ∷ []) ≡ nearest (11, 111) ∷ nearest (24, 124) ∷ short Absent ∷ []
 unfolding computes
-answers-there = refl
+answers-there n = refl
 
-pub all-read : requests 20 (Ceiling 0) (with emptied) ≡ read 0 ∷ read 1 ∷ read 2 ∷ read 3 ∷ []
+pub all-read : (n : Session) → requests 20 n (Ceiling 0) (with emptied) ≡ read 0 ∷ read 1 ∷ read 2 ∷ read 3 ∷ []
 unfolding computes
-all-read = refl
+all-read n = refl

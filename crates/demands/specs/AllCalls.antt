@@ -91,10 +91,10 @@ module _ {t : Tariff} where
       let next = outcome pool l .pool in
       let cs = commandsIn (fedOf pool l) in
       let b′ = fedBook B t (fedOf pool l) b in
-      let ps′ = mapRun (nodeLimit B) t cs atFirst b ps in
+      let ps′ = mapRun (nodeLimit B) cs (atFirst t) b ps in
       let y = all-called ls next b′ ps′ bytes (x .stands) in
       let e : blocksOf next ≡ B = x .length in
-      let rs = requestsBook (nodeLimit B) t cs atFirst b in
+      let rs = requestsBook (nodeLimit B) cs (atFirst t) b in
       record {
         charges = ap₂ {B = List (List ℕ)} _∷_ (x .charges) (y .charges ∙ ap (λ (k : ℕ). allCharges k t (fed next ls) b′) e);
         requests =
@@ -111,13 +111,13 @@ module _ {t : Tariff} where
         total =
             ap₂ _+_ (x .paid)
             (y .total ∙
-            ap₂ (λ (k : ℕ) (z : Book). Book.charges t (allRequests k t (fed next ls) b′) z) e (runBook-requests (nodeLimit B) t cs atFirst b)) ∙
+            ap₂ (λ (k : ℕ) (z : Book). Book.charges t (allRequests k t (fed next ls) b′) z) e (runBook-requests (nodeLimit B) cs (atFirst t) b)) ∙
             sym (charges-append t rs (allRequests B t (fed next ls) b′) b);
         fits =
             fits-append (nodeLimit B) rs (allRequests B t (fed next ls) b′) (b .table) (b .count) (b′ .count)
             (lastBook B t (fed next ls) b′ .count) (x .fits)
             (subst (λ (z : Table). Fits (nodeLimit B) (allRequests B t (fed next ls) b′) z (b′ .count) (lastBook B t (fed next ls) b′ .count))
-            (ap (λ (z : Book). z .table) (runBook-requests (nodeLimit B) t cs atFirst b) ∙ serveAll-table t rs b)
+            (ap (λ (z : Book). z .table) (runBook-requests (nodeLimit B) cs (atFirst t) b) ∙ serveAll-table t rs b)
             (subst
             (λ (k : ℕ). Fits (nodeLimit k) (allRequests k t (fed next ls) b′) (b′ .table) (b′ .count) (lastBook k t (fed next ls) b′ .count)) e
             (y .fits)));

@@ -18,7 +18,8 @@ use Rattle.store_laws.specs.Numbers.{last}
 use Rattle.store_laws.specs.Closing.{close-closed}
 use Rattle.book.specs.Book.{Book}
 use Rattle.book.specs.Command.{mostRequests, requests}
-use Rattle.book.specs.Session.{Session, atFirst, sessionAfter}
+use Rattle.book.specs.Session.{Session, atFirst}
+use Rattle.book.specs.SessionAfter.{sessionAfter}
 use Rattle.book.specs.Batch.{runBook, requestsBook}
 use Rattle.book.specs.OrderedMap.{mapRun}
 use Rattle.book.specs.Bound.{Scored, scored-all}
@@ -58,32 +59,32 @@ batch-numbers = refl
 pub numbers-left : numbersOf mostCommands + lastSequence < bound32
 numbers-left = omega arith
 
-module _ (blocks : ℕ) (t : Tariff) (small : blocks ≤ mostBlocks) where
+module _ (blocks : ℕ) (small : blocks ≤ mostBlocks) where
   abbrev nodes : ℕ
   nodes = nodeLimit blocks
 
-  command-took : (c : Command) (s : State) (ps : List Pair) → Valid c → Sound blocks s → Holds nodes (bookOf s) ps →
-      RunFits (s .run) → 1 + (mostNumbers + last (s .run)) < bound32 → Took mostNumbers (s .run) (done nodes t c s .run)
-  command-took c s ps valid v h fits b =
+  command-took : (n : Session) (c : Command) (s : State) (ps : List Pair) → Valid c → Sound blocks s → Holds nodes (bookOf s) ps →
+      RunFits (s .run) → 1 + (mostNumbers + last (s .run)) < bound32 → Took mostNumbers (s .run) (done nodes n c s .run)
+  command-took n c s ps valid v h fits b =
       let book = bookOf s in
-      let rs = requests nodes c book in
-      let d = does nodes (omega arith) book ps (h .spells) (h .most) c valid in
-      let l = command-length nodes c book ps (h .spells) (omega (arith, h .most)) valid in
+      let rs = requests nodes n c book in
+      let d = does nodes (omega arith) book ps (h .spells) (h .most) n c valid in
+      let l = command-length nodes n c book ps (h .spells) (omega (arith, h .most)) valid in
       took-more (omega (arith, l, h .most))
-      (serveAll-took blocks t (omega arith) rs s (countAfterAll rs (book .count)) v fits (d .served .fits)
-      (command-narrow nodes book ps (h .spells) (omega (arith, h .most)) (book-narrow s (fits .now)) c valid)
+      (serveAll-took blocks (n .tariff) (omega arith) rs s (countAfterAll rs (book .count)) v fits (d .served .fits)
+      (command-narrow nodes book ps (h .spells) (omega (arith, h .most)) (book-narrow s (fits .now)) n c valid)
       (omega (arith, l, h .most)))
 
   -- THE COMMANDS OF A BATCH
   pub run-took : (cs : List Command) (n : Session) (s : State) (ps : List Pair) → ValidAll cs → Sound blocks s → Holds nodes (bookOf s) ps →
-      RunFits (s .run) → 1 + (mostNumbers * length cs + last (s .run)) < bound32 → Took (mostNumbers * length cs) (s .run) (run nodes t cs n s .run)
+      RunFits (s .run) → 1 + (mostNumbers * length cs + last (s .run)) < bound32 → Took (mostNumbers * length cs) (s .run) (run nodes cs n s .run)
   run-took [] n s ps valid v h fits b = record { fits = fits; number = omega arith }
   run-took (c ∷ cs) n s ps valid v h fits b =
-      let one = command-took c s ps (valid .0) v h fits (omega arith) in
-      let said = batch-batched blocks t (omega arith) (c ∷ []) n s ps (valid .0, tt) v h in
-      let pairs = mapRun nodes t (c ∷ []) n (bookOf s) ps in
+      let one = command-took n c s ps (valid .0) v h fits (omega arith) in
+      let said = batch-batched blocks (omega arith) (c ∷ []) n s ps (valid .0, tt) v h in
+      let pairs = mapRun nodes (c ∷ []) n (bookOf s) ps in
       took-then (omega arith) one
-      (run-took cs (sessionAfter c (replyOf nodes t c s) n) (done nodes t c s) pairs (valid .1) (said .says .sound)
+      (run-took cs (sessionAfter c (replyOf nodes n c s) n) (done nodes n c s) pairs (valid .1) (said .says .sound)
       (subst (λ (z : Book). Holds nodes z pairs) (sym (said .says .is)) (said .holds)) (one .fits) (omega (arith, one .number)))
 
 -- THE CHECKPOINT at its end, of a state that says a book whose scores are below the limit T.
@@ -121,19 +122,19 @@ module _ {blocks : ℕ} {t : Tariff} {s : State} {b : Book} {ps : List Pair} (sm
     (fits : RunFits (s .run)) (opens : last (s .run) ≤ lastSequence) (cs : List Command) (valid : ValidAll cs)
     (few : length cs ≤ mostCommands) where
   abbrev after : State
-  after = run (nodeLimit blocks) t cs atFirst s
+  after = run (nodeLimit blocks) cs (atFirst t) s
 
   holds-now : Holds (nodeLimit blocks) (bookOf s) ps
   holds-now = subst (λ (z : Book). Holds (nodeLimit blocks) z ps) (sym (ready .says .is)) (ready .holds)
 
-  batched : Batched blocks t cs atFirst s ps
-  batched = batch-batched blocks t (omega arith) cs atFirst s ps valid (ready .says .sound) holds-now
+  batched : Batched blocks cs (atFirst t) s ps
+  batched = batch-batched blocks (omega arith) cs (atFirst t) s ps valid (ready .says .sound) holds-now
 
   pub sound-after : Sound blocks after
   sound-after = batched .says .sound
 
   took : Took (mostNumbers * length cs) (s .run) (after .run)
-  took = run-took blocks t small cs atFirst s ps valid (ready .says .sound) holds-now fits (omega arith)
+  took = run-took blocks small cs (atFirst t) s ps valid (ready .says .sound) holds-now fits (omega arith)
 
   -- before the checkpoint
   pub run-after : AfterBatch s after
@@ -142,14 +143,14 @@ module _ {blocks : ℕ} {t : Tariff} {s : State} {b : Book} {ps : List Pair} (sm
   scored-after : Scored t (bookOf after)
   scored-after =
       let limit = nodeLimit blocks in
-      let rs = requestsBook limit t cs atFirst (bookOf s) in
-      subst (Scored t) (sym (batched .says .is ∙ runBook-requests limit t cs atFirst (bookOf s)))
-      (scored-all limit t (limit-some (ready .ranged)) rs (bookOf s) (runBook limit t cs atFirst (bookOf s) .count)
+      let rs = requestsBook limit cs (atFirst t) (bookOf s) in
+      subst (Scored t) (sym (batched .says .is ∙ runBook-requests limit cs (atFirst t) (bookOf s)))
+      (scored-all limit t (limit-some (ready .ranged)) rs (bookOf s) (runBook limit cs (atFirst t) (bookOf s) .count)
       (subst (Scored t) (sym (ready .says .is)) (ready .scored)) (batched .fits))
 
   closing : Took 13 (after .run) (closed t after .run)
   closing =
-      let pairs = mapRun (nodeLimit blocks) t cs atFirst (bookOf s) ps in
+      let pairs = mapRun (nodeLimit blocks) cs (atFirst t) (bookOf s) ps in
       closed-took blocks t small after pairs sound-after
       (subst (λ (z : Book). Holds (nodeLimit blocks) z pairs) (sym (batched .says .is)) (batched .holds)) (ready .ranged) scored-after
       (took .fits) (omega (arith, took .number))

@@ -13,8 +13,9 @@ use Rattle.command.specs.Command.{roomFor}
 use Rattle.command.specs.Batch.{commandsOf, roomForAll}
 use Rattle.store.specs.Reopen.{poolOf}
 use Rattle.book.specs.Command.{requests}
-use Rattle.book.specs.Session.{Session, atFirst, sessionAfter}
-use Rattle.book.specs.PanelLaws.{each-same}
+use Rattle.book.specs.Session.{Session, atFirst}
+use Rattle.book.specs.SessionAfter.{sessionAfter}
+use Rattle.book.specs.EachPanel.{each-same}
 use Rattle.model.specs.State.{State}
 use Rattle.model.specs.Batch.{replyOf, done, cost, run, chargeOf, closed}
 use Rattle.model.specs.Bytes.{bytesOf}
@@ -40,21 +41,21 @@ scans-room nothing = refl
 scans-room (same c r) = ap (λ (n : ℕ). roomFor c + n) (scans-room r)
 scans-room (scan k r) = ap (λ (n : ℕ). 11 + n) (scans-room r)
 
-module _ (limit : ℕ) (t : Tariff) where
-  scans-run : {cs ds : List Command} → ScansFor cs ds → (n : Session) (s : State) → run limit t cs n s ≡ run limit t ds n s
+module _ (limit : ℕ) where
+  scans-run : {cs ds : List Command} → ScansFor cs ds → (n : Session) (s : State) → run limit cs n s ≡ run limit ds n s
   unfolding requests
   scans-run nothing n s = refl
-  scans-run (same c r) n s = scans-run r (sessionAfter c (replyOf limit t c s) n) (done limit t c s)
-  scans-run (scan k r) n s = scans-run r n (done limit t (Ceiling k) s)
+  scans-run (same c r) n s = scans-run r (sessionAfter c (replyOf limit n c s) n) (done limit n c s)
+  scans-run (scan k r) n s = scans-run r n (done limit n (Ceiling k) s)
 
-  scans-charge : {cs ds : List Command} → ScansFor cs ds → (q : ℕ) (n : Session) (s : State) → chargeOf limit t q cs n s ≡ chargeOf limit t q ds n s
+  scans-charge : {cs ds : List Command} → ScansFor cs ds → (q : ℕ) (n : Session) (s : State) → chargeOf limit q cs n s ≡ chargeOf limit q ds n s
   unfolding requests
   scans-charge nothing q n s = refl
   scans-charge (same c r) q n s =
-      ap (λ (k : ℕ). only (n .panel) (cost limit t c s) q + k)
-      (scans-charge r q (sessionAfter c (replyOf limit t c s) n) (done limit t c s))
+      ap (λ (k : ℕ). only (n .panel) (cost limit n c s) q + k)
+      (scans-charge r q (sessionAfter c (replyOf limit n c s) n) (done limit n c s))
   scans-charge (scan k r) q n s =
-      ap (λ (m : ℕ). only (n .panel) (cost limit t (Ceiling k) s) q + m) (scans-charge r q n (done limit t (Ceiling k) s))
+      ap (λ (m : ℕ). only (n .panel) (cost limit n (Ceiling k) s) q + m) (scans-charge r q n (done limit n (Ceiling k) s))
 
 -- A CEILING READS AS SUCH A SCAN: on any pool, with any table and answer buffer, refusals too.
 pub scans-same : (pool table buffer : List ℕ) (cs ds : List Command) → ScansFor cs ds → (batch batch′ : List ℕ) → commandsOf batch ≡ some cs →
@@ -67,8 +68,8 @@ scans-same pool table buffer cs ds r =
         let limit = nodeLimit (blocksOf pool) in
         record {
           number = refl;
-          pool = ap (λ (z : State). bytesOf (poolOf (closed t z .run .now))) (scans-run limit t r atFirst s);
+          pool = ap (λ (z : State). bytesOf (poolOf (closed t z .run .now))) (scans-run limit r (atFirst t) s);
           table = refl;
           charges =
-              each-same (λ q. chargeOf limit t q cs atFirst s) (λ q. chargeOf limit t q ds atFirst s) (λ q. scans-charge limit t r q atFirst s);
+              each-same (λ q. chargeOf limit q cs (atFirst t) s) (λ q. chargeOf limit q ds (atFirst t) s) (λ q. scans-charge limit r q (atFirst t) s);
         }

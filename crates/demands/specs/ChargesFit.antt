@@ -14,7 +14,8 @@ use Rattle.command.specs.declared.Command.{Command}
 use Rattle.tree.specs.NodeRequest.{NodeRequest, read, edit, rewrite, create}
 use Rattle.book.specs.Book.{Book, serve, charge, charges}
 use Rattle.book.specs.Command.{mostRequests, requests, refuses, answer}
-use Rattle.book.specs.Session.{Session, sessionAfter}
+use Rattle.book.specs.Session.{Session}
+use Rattle.book.specs.SessionAfter.{sessionAfter}
 use Rattle.book.specs.Batch.{doneBook, requestsBook}
 use Rattle.book.specs.OrderedMap.{mapAfter}
 use Rattle.demands.specs.Commands.{ValidAll}
@@ -40,22 +41,23 @@ module _ (t : Tariff) (ranged : Ranged t) where
   charges-most [] b = omega arith
   charges-most (r ∷ rs) b = omega (arith, charge-most r b, charges-most rs (serve t r b))
 
-  -- A batch on a book that spells a map.
-  module _ (limit : ℕ) (small : limit ≤ mostNodes) where
-    requests-few : (cs : List Command) (n : Session) (b : Book) (ps : List Pair) → ValidAll cs → Holds limit b ps →
-        length (requestsBook limit t cs n b) ≤ mostRequests mostNodes * length cs
-    requests-few [] n b ps valid h = omega arith
-    requests-few (c ∷ cs) n b ps valid h =
-        let m = sessionAfter c (answer limit c b) n in
-        let b′ = doneBook limit t c b in
-        omega (
-          arith,
-          length-append (requests limit c b) (requestsBook limit t cs m b′),
-          command-length limit c b ps (h .spells) (omega (arith, h .most)) (valid .0),
-          h .most,
-          requests-few cs m b′ (mapAfter (refuses limit c b) c ps) (valid .1) (command-holds limit t (omega arith) c b ps (valid .0) h),
-        )
+-- A batch on a book that spells a map.
+module _ (limit : ℕ) (small : limit ≤ mostNodes) where
+  requests-few : (cs : List Command) (n : Session) (b : Book) (ps : List Pair) → ValidAll cs → Holds limit b ps →
+      length (requestsBook limit cs n b) ≤ mostRequests mostNodes * length cs
+  requests-few [] n b ps valid h = omega arith
+  requests-few (c ∷ cs) n b ps valid h =
+      let m = sessionAfter c (answer limit n c b) n in
+      let b′ = doneBook limit n c b in
+      omega (
+        arith,
+        length-append (requests limit n c b) (requestsBook limit cs m b′),
+        command-length limit n c b ps (h .spells) (omega (arith, h .most)) (valid .0),
+        h .most,
+        requests-few cs m b′ (mapAfter n (refuses limit n c b) c ps) (valid .1) (command-holds limit (omega arith) n c b ps (valid .0) h),
+      )
 
-    pub batch-charge : (cs : List Command) (n : Session) (b : Book) (ps : List Pair) → ValidAll cs → Holds limit b ps → length cs ≤ mostCommands →
-        charges t (requestsBook limit t cs n b) b ≤ mostBatchCharge
-    batch-charge cs n b ps valid h few = omega (arith, charges-most (requestsBook limit t cs n b) b, requests-few cs n b ps valid h, few)
+  pub batch-charge : (cs : List Command) (n : Session) (b : Book) (ps : List Pair) → Ranged (n .tariff) → ValidAll cs → Holds limit b ps →
+      length cs ≤ mostCommands → charges (n .tariff) (requestsBook limit cs n b) b ≤ mostBatchCharge
+  batch-charge cs n b ps ranged valid h few =
+      omega (arith, charges-most (n .tariff) ranged (requestsBook limit cs n b) b, requests-few cs n b ps valid h, few)

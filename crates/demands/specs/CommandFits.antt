@@ -14,6 +14,7 @@ use Rattle.tree.specs.Narrow.{NarrowRequest}
 use Rattle.tree_laws.specs.NarrowLaws.{put-narrow, delete-narrow, reads-narrow}
 use Rattle.book.specs.Book.{Book}
 use Rattle.book.specs.Command.{Reply, Task, looks, puts, deletes, names, taskOf, requestsOf, requests}
+use Rattle.book.specs.Session.{Session}
 use Rattle.book.specs.OrderedMap.{mapAnswer}
 use Rattle.demands.specs.Commands.{Right, right}
 
@@ -25,6 +26,6 @@ module _ (limit : ℕ) (b : Book) (ps : List Pair) (s : Spells (b .table) (b .co
   task-narrow (deletes k) says r = delete-narrow (b .table) (b .count) ps s few (λ i l. narrow i) k (r .0)
   task-narrow (names panel) says r = none
 
-  pub command-narrow : (c : Command) → Valid c → Every NarrowRequest (requests limit c b)
+  pub command-narrow : (n : Session) (c : Command) → Valid c → Every NarrowRequest (requests limit n c b)
   unfolding requests
-  command-narrow c valid = task-narrow (taskOf c) (λ refused. mapAnswer refused c ps) (right b ps s (omega arith) c valid)
+  command-narrow n c valid = task-narrow (taskOf n c) (λ refused. mapAnswer n refused c ps) (right b ps s (omega arith) n c valid)

@@ -23,6 +23,7 @@ use Rattle.tree_laws.specs.ScanLaws.{scan-answer, scan-found, scan-few, ceiling
 use Rattle.book.specs.Book.{Book}
 use Rattle.book.specs.Command.{Reply, listed, silent, getReply, putReply, deleteReply, ceilingReply, requests, answer, refuses}
 use Rattle.book.specs.Command.{Look, Task, looks, puts, deletes, names, taskOf, requestsOf, refusesOf, answerOf}
+use Rattle.book.specs.Session.{Session}
 use Rattle.book.specs.OrderedMap.{mapAnswer, mapAfter, changed}
 
 abbrev pub ValidAll : List Command → Type 0
@@ -42,9 +43,9 @@ Right b ps (puts k v) says = (k < bound32) × (v < bound32) × ((refused : Bool)
 Right b ps (deletes k) says = (k < bound32) × (says false ≡ deleteReply (lookup k ps))
 Right b ps (names panel) says = (panel < panels) × (says false ≡ silent)
 
-module _ (b : Book) (ps : List Pair) (s : Spells (b .table) (b .count) ps) (small : b .count ≤ noLeaf) where
+module _ (b : Book) (ps : List Pair) (s : Spells (b .table) (b .count) ps) (small : b .count ≤ noLeaf) (n : Session) where
   -- EVERY VALID COMMAND SHOWS IT.
-  pub right : (c : Command) → Valid c → Right b ps (taskOf c) (λ refused. mapAnswer refused c ps)
+  pub right : (c : Command) → Valid c → Right b ps (taskOf n c) (λ refused. mapAnswer n refused c ps)
   unfolding mapAnswer
   right (Get k) h =
       record {
@@ -73,9 +74,9 @@ pub record TaskDoes (limit : ℕ) (b : Book) (ps : List Pair) (t : Task) (says :
   pub answers : answerOf limit t b ≡ says (refusesOf limit t b)
   pub served : Served limit (b .table) (b .count) (requestsOf limit t b) (changed (refusesOf limit t b) t ps)
 
-pub record Does (limit : ℕ) (c : Command) (b : Book) (ps : List Pair) : Type 0 where
-  pub answers : answer limit c b ≡ mapAnswer (refuses limit c b) c ps
-  pub served : Served limit (b .table) (b .count) (requests limit c b) (mapAfter (refuses limit c b) c ps)
+pub record Does (limit : ℕ) (n : Session) (c : Command) (b : Book) (ps : List Pair) : Type 0 where
+  pub answers : answer limit n c b ≡ mapAnswer n (refuses limit n c b) c ps
+  pub served : Served limit (b .table) (b .count) (requests limit n c b) (mapAfter n (refuses limit n c b) c ps)
 
 module _ (limit : ℕ) (small : limit < noLeaf) (b : Book) (ps : List Pair) (s : Spells (b .table) (b .count) ps) (l : b .count ≤ limit) where
   put-does : (says : Bool → Reply) (k v : ℕ) → Right b ps (puts k v) says → TaskDoes limit b ps (puts k v) says
@@ -106,8 +107,8 @@ module _ (limit : ℕ) (small : limit < noLeaf) (b : Book) (ps : List Pair) (s :
       }
   task-does (names panel) says r = record { answers = sym (r .1); served = record { kept = l; fits = refl; spells = s } }
 
-  pub does : (c : Command) → Valid c → Does limit c b ps
+  pub does : (n : Session) (c : Command) → Valid c → Does limit n c b ps
   unfolding answer mapAfter requests refuses
-  does c h =
-      let d = task-does (taskOf c) (λ refused. mapAnswer refused c ps) (right b ps s (omega arith) c h) in
+  does n c h =
+      let d = task-does (taskOf n c) (λ refused. mapAnswer n refused c ps) (right b ps s (omega arith) n c h) in
       record { answers = d .answers; served = d .served }

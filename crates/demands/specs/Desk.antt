@@ -17,7 +17,7 @@ use Rattle.command.specs.declared.Command.{Command}
 use Rattle.command.specs.Batch.{commandsOf, roomForAll}
 use Rattle.desk_queues.specs.Queues.{queuesIn, fills, queuesOf}
 use Rattle.desk_queues.specs.Joined.{joinedOf, joinedBy, joinedRead}
-use Rattle.book.specs.PanelLaws.{length-each}
+use Rattle.book.specs.EachPanel.{length-each}
 use Rattle.model.specs.Call.{Outcome, refuse, blocksOf, poolLength, cleared, batchOf}
 use Rattle.model.specs.Desk.{deskJoined, deskQueues, deskOf}
 use Rattle.model.specs.Questions.{Question, firstNo, asked, ofDesk, ofPool}

@@ -19,7 +19,7 @@ use Rattle.store.specs.Checkpoint.{checkpointOf, tariffIn, complete}
 use Rattle.store.specs.Reopen.{Cells, reopened, pagesPass}
 use Rattle.book.specs.Session.{atFirst}
 use Rattle.book.specs.InTurn.{noCharges}
-use Rattle.book.specs.PanelLaws.{length-each}
+use Rattle.book.specs.EachPanel.{length-each}
 use Rattle.model.specs.State.{State}
 use Rattle.model.specs.Batch.{chargeOf}
 use Rattle.model.specs.Mount.{Mounted, refused, opened, ask, treeSound, numbersLeft, stateOf, mountTree, mountCells}
@@ -109,7 +109,7 @@ ends-table (done t cs s p u q r m) = refl
 pub ends-panels : {pool table batch buffer : List ℕ} {o : Outcome} → Ends pool table batch buffer o → length (o .charges) ≡ panels
 ends-panels (asFound n l h) = length-each (λ q. 0)
 ends-panels (tableCleared n l h) = length-each (λ q. 0)
-ends-panels {pool} (done t cs s p u q r m) = length-each (λ k. chargeOf (nodeLimit (blocksOf pool)) t k cs atFirst s)
+ends-panels {pool} (done t cs s p u q r m) = length-each (λ k. chargeOf (nodeLimit (blocksOf pool)) k cs (atFirst t) s)
 
 -- A refusal changes and returns nothing.
 pub record Unchanged (before buffer : List ℕ) (o : Outcome) : Type 0 where

@@ -33,7 +33,7 @@ use Rattle.book.specs.Book.{Book}
 use Rattle.book.specs.Book as Book
 use Rattle.book.specs.Command.{answer}
 use Rattle.book.specs.Session.{atFirst}
-use Rattle.book.specs.PanelLaws.{sum-each, each-same}
+use Rattle.book.specs.EachPanel.{sum-each, each-same}
 use Rattle.book.specs.Batch.{doneBook, costBook, runBook, booksPassed, chargeBook, chargesBook, requestsBook}
 use Rattle.book.specs.Bound.{Scored, scored-all}
 use Rattle.book.specs.OrderedMap.{mapAnswers, mapRun}
@@ -111,17 +111,17 @@ fedOf pool l = record { batch = l .batch; accepted = accepted (outcome pool l) }
 -- What a call leaves, `r`, what it ran, `w`, and the commands that the reference model was fed.
 pub record CalledBy (t : Tariff) (pool buffer : List ℕ) (b : Book) (ps : List Pair) (r : Outcome) (w : Option Work) (cs : List Command) : Type 0 where
   pub length : blocksOf (r .pool) ≡ blocksOf pool
-  pub stands : OpenPool t (r .pool) (runBook (nodeLimit (blocksOf pool)) t cs atFirst b) (mapRun (nodeLimit (blocksOf pool)) t cs atFirst b ps)
+  pub stands : OpenPool t (r .pool) (runBook (nodeLimit (blocksOf pool)) cs (atFirst t) b) (mapRun (nodeLimit (blocksOf pool)) cs (atFirst t) b ps)
   pub ordered : r .number ≡ 0 → InNodeOrder (r .pool)
-  pub charges : r .charges ≡ chargesBook (nodeLimit (blocksOf pool)) t cs atFirst b
+  pub charges : r .charges ≡ chargesBook (nodeLimit (blocksOf pool)) cs (atFirst t) b
   pub few : charge r ≤ mostBatchCharge
-  pub paid : charge r ≡ Book.charges t (requestsBook (nodeLimit (blocksOf pool)) t cs atFirst b) b
-  pub passed : map bookOf (statesBy (blocksOf pool) w) ≡ booksPassed (nodeLimit (blocksOf pool)) t cs atFirst b
+  pub paid : charge r ≡ Book.charges t (requestsBook (nodeLimit (blocksOf pool)) cs (atFirst t) b) b
+  pub passed : map bookOf (statesBy (blocksOf pool) w) ≡ booksPassed (nodeLimit (blocksOf pool)) cs (atFirst t) b
   pub thin : Every Thin (momentsBy (blocksOf pool) w)
-  pub answers : answered r ≡ laidOver buffer (mapAnswers (nodeLimit (blocksOf pool)) t cs atFirst b ps)
+  pub answers : answered r ≡ laidOver buffer (mapAnswers (nodeLimit (blocksOf pool)) cs (atFirst t) b ps)
   pub fits :
-      Fits (nodeLimit (blocksOf pool)) (requestsBook (nodeLimit (blocksOf pool)) t cs atFirst b) (b .table) (b .count)
-      (runBook (nodeLimit (blocksOf pool)) t cs atFirst b .count)
+      Fits (nodeLimit (blocksOf pool)) (requestsBook (nodeLimit (blocksOf pool)) cs (atFirst t) b) (b .table) (b .count)
+      (runBook (nodeLimit (blocksOf pool)) cs (atFirst t) b .count)
 
 -- ONE CALL.
 abbrev pub Called : Tariff → List ℕ → Lent → Book → List Pair → Type 0
@@ -186,54 +186,55 @@ module _ {t : Tariff} {pool : List ℕ} {b : Book} {ps : List Pair} (o : OpenPoo
     small : limit < noLeaf
     small = omega (arith, sized pool p .most)
 
-    ran : Batched B t cs atFirst s ps
+    ran : Batched B cs (atFirst t) s ps
     ran =
-        batch-batched B t small cs atFirst s ps (commands .valid) (start .says .sound)
+        batch-batched B small cs (atFirst t) s ps (commands .valid) (start .says .sound)
         (subst (λ (z : Book). Run.Holds limit z ps) (sym (start .says .is)) (start .holds))
 
     -- The state after the commands.
     abbrev after : State
-    after = run limit t cs atFirst s
+    after = run limit cs (atFirst t) s
 
     abbrev book : Book
-    book = runBook limit t cs atFirst b
+    book = runBook limit cs (atFirst t) b
 
     says-after : Says B after book
-    says-after = subst (λ (z : Book). Says B after (runBook limit t cs atFirst z)) (start .says .is) (ran .says)
+    says-after = subst (λ (z : Book). Says B after (runBook limit cs (atFirst t) z)) (start .says .is) (ran .says)
 
-    fits-after : Fits limit (requestsBook limit t cs atFirst b) (b .table) (b .count) (book .count)
+    fits-after : Fits limit (requestsBook limit cs (atFirst t) b) (b .table) (b .count) (book .count)
     fits-after =
-        subst (λ (z : Book). Fits limit (requestsBook limit t cs atFirst z) (z .table) (z .count) (runBook limit t cs atFirst z .count))
+        subst (λ (z : Book). Fits limit (requestsBook limit cs (atFirst t) z) (z .table) (z .count) (runBook limit cs (atFirst t) z .count))
         (start .says .is) (ran .fits)
 
-    ended : Ready B t after book (mapRun limit t cs atFirst b ps)
+    ended : Ready B t after book (mapRun limit cs (atFirst t) b ps)
     ended =
         record {
           says = says-after;
-          holds = subst (λ (z : Book). Run.Holds limit (runBook limit t cs atFirst z) (mapRun limit t cs atFirst z ps)) (start .says .is) (ran .holds);
+          holds = subst (λ (z : Book). Run.Holds limit (runBook limit cs (atFirst t) z) (mapRun limit cs (atFirst t) z ps)) (start .says .is) (ran .holds);
           ranged = start .ranged;
           scored =
-              subst (Scored t) (sym (runBook-requests limit t cs atFirst b))
-              (scored-all limit t (limit-some (start .ranged)) (requestsBook limit t cs atFirst b) b (book .count) (start .scored) fits-after);
+              subst (Scored t) (sym (runBook-requests limit cs (atFirst t) b))
+              (scored-all limit t (limit-some (start .ranged)) (requestsBook limit cs (atFirst t) b) b (book .count) (start .scored) fits-after);
         }
 
-    charged : chargesOf limit t cs atFirst s ≡ chargesBook limit t cs atFirst b
+    charged : chargesOf limit cs (atFirst t) s ≡ chargesBook limit cs (atFirst t) b
     charged =
-        each-same (λ q. chargeOf limit t q cs atFirst s) (λ q. chargeBook limit t q cs atFirst b)
-        (λ q. ran .charge q ∙ ap (chargeBook limit t q cs atFirst) (start .says .is))
+        each-same (λ q. chargeOf limit q cs (atFirst t) s) (λ q. chargeBook limit q cs (atFirst t) b)
+        (λ q. ran .charge q ∙ ap (chargeBook limit q cs (atFirst t)) (start .says .is))
 
-    paid-all : sum (chargesBook limit t cs atFirst b) ≡ Book.charges t (requestsBook limit t cs atFirst b) b
+    paid-all : sum (chargesBook limit cs (atFirst t) b) ≡ Book.charges t (requestsBook limit cs (atFirst t) b) b
     paid-all =
-        sum-charges (answer limit) (doneBook limit t) (costBook limit t) cs atFirst b (commands .valid) (omega arith) ∙
-        total-requests limit t cs atFirst b
+        sum-charges (answer limit) (doneBook limit) (costBook limit) cs (atFirst t) b (commands .valid) (omega arith) ∙
+        total-requests limit cs (atFirst t) b
 
-    paid-few : Book.charges t (requestsBook limit t cs atFirst b) b ≤ mostBatchCharge
+    paid-few : Book.charges t (requestsBook limit cs (atFirst t) b) b ≤ mostBatchCharge
     paid-few =
-        batch-charge t (start .ranged) limit (omega (arith, sized pool p .most)) cs atFirst b ps (commands .valid) (start .holds) (commands .few)
+        batch-charge limit (omega (arith, sized pool p .most)) cs (atFirst t) b ps (start .ranged) (commands .valid) (start .holds)
+        (commands .few)
 
     pool-after : PoolAfter B s (closed t after)
     pool-after =
-        subst (λ (z : Tariff). PoolAfter B s (closed z (run limit z cs atFirst s))) same-tariff
+        subst (λ (z : Tariff). PoolAfter B s (closed z (run limit cs (atFirst z) s))) same-tariff
         (batch-pool (sized pool p .few) (sized pool p .most) pool (o .bytes) (sized pool p .bytes) (o .reads) mounted cs (commands .valid)
         (commands .few))
 
@@ -243,7 +244,7 @@ module _ {t : Tariff} {pool : List ℕ} {b : Book} {ps : List Pair} (o : OpenPoo
     same-blocks : blocksOf left ≡ B
     same-blocks = blocks-length left B (pool-after .size)
 
-    stands-left : OpenPool t left book (mapRun limit t cs atFirst b ps)
+    stands-left : OpenPool t left book (mapRun limit cs (atFirst t) b ps)
     stands-left =
         record {
           bytes = pool-after .bytes;
@@ -271,11 +272,11 @@ module _ {t : Tariff} {pool : List ℕ} {b : Book} {ps : List Pair} (o : OpenPoo
           charges = charged;
           few = omega (arith, ap sum charged, paid-all, paid-few);
           paid = ap sum charged ∙ paid-all;
-          passed = ran .passed ∙ ap (booksPassed limit t cs atFirst) (start .says .is);
+          passed = ran .passed ∙ ap (booksPassed limit cs (atFirst t)) (start .says .is);
           thin = every-weaken lean-thin (closed-says (sized pool p .most) ended .sound .good .passed);
           answers =
               ap (laidOver (l .buffer))
-              (ran .answers ∙ ap (λ (z : Book). mapAnswers limit t cs atFirst z ps) (start .says .is));
+              (ran .answers ∙ ap (λ (z : Book). mapAnswers limit cs (atFirst t) z ps) (start .says .is));
           fits = fits-after;
         })
       where

@@ -58,13 +58,13 @@ module _ {blocks : ℕ} (four : fewestBlocks ≤ blocks) (small : blocks ≤ mos
       let o = opened-mounts opens in
       subst (λ (z : State). Ready blocks t z (bookOf z) (mapOf (bookOf z .count) (bookOf z .table))) (sym (o .is)) (mounts-ready four (o .mounts))
 
-  pub batch-pool : PoolAfter blocks s (closed t (run (nodeLimit blocks) t cs atFirst s))
+  pub batch-pool : PoolAfter blocks s (closed t (run (nodeLimit blocks) cs (atFirst t) s))
   batch-pool =
       let after = closed-after small ready (enters .fits) (enters .left) cs valid few in
-      let kept = closed-blocks t (run (nodeLimit blocks) t cs atFirst s) small (sound-after small ready (enters .fits) (enters .left) cs valid few) in
+      let kept = closed-blocks t (run (nodeLimit blocks) cs (atFirst t) s) small (sound-after small ready (enters .fits) (enters .left) cs valid few) in
       record {
         batch = after;
         back = pool-back (after .fits .now);
-        bytes = bytes-bytesOf (poolOf (closed t (run (nodeLimit blocks) t cs atFirst s) .run .now));
+        bytes = bytes-bytesOf (poolOf (closed t (run (nodeLimit blocks) cs (atFirst t) s) .run .now));
         size = pool-size (after .fits .now) kept;
       }

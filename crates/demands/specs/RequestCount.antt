@@ -21,6 +21,7 @@ use Rattle.tree_laws.specs.GetLaws.{path-count}
 use Rattle.tree_laws.specs.PutLaws.{put-length}
 use Rattle.book.specs.Book.{Book}
 use Rattle.book.specs.Command.{mostRequests, Reply, Task, looks, puts, deletes, names, taskOf, requestsOf, requests}
+use Rattle.book.specs.Session.{Session}
 use Rattle.book.specs.OrderedMap.{mapAnswer}
 use Rattle.tree_laws.specs.Levels.{fewestNodes, stands-fewest}
 use Rattle.demands.specs.Commands.{Right, right}
@@ -72,7 +73,8 @@ module _ (limit : ℕ) (b : Book) (ps : List Pair) (s : Spells (b .table) (b .co
   task-length (deletes k) says r = omega (arith, delete-length (b .table) (b .count) ps s k (r .0))
   task-length (names panel) says r = omega arith
 
-pub command-length : (limit : ℕ) (c : Command) (b : Book) (ps : List Pair) → Spells (b .table) (b .count) ps → b .count ≤ noLeaf → Valid c →
-    length (requests limit c b) ≤ mostRequests (b .count)
+pub command-length : (limit : ℕ) (n : Session) (c : Command) (b : Book) (ps : List Pair) → Spells (b .table) (b .count) ps → b .count ≤ noLeaf → Valid c →
+    length (requests limit n c b) ≤ mostRequests (b .count)
 unfolding requests
-command-length limit c b ps s l valid = task-length limit b ps s (taskOf c) (λ refused. mapAnswer refused c ps) (right b ps s l c valid)
+command-length limit n c b ps s l valid =
+    task-length limit b ps s (taskOf n c) (λ refused. mapAnswer n refused c ps) (right b ps s l n c valid)

@@ -17,7 +17,8 @@ use Rattle.tree.specs.Spells.{Spells}
 use Rattle.book.specs.Book.{Book}
 use Rattle.book.specs.Book as Book
 use Rattle.book.specs.Command.{Reply, requests, answer, refuses}
-use Rattle.book.specs.Session.{Session, sessionAfter}
+use Rattle.book.specs.Session.{Session}
+use Rattle.book.specs.SessionAfter.{sessionAfter}
 use Rattle.book.specs.InTurn.{total}
 use Rattle.book.specs.Batch.{doneBook, costBook, runBook, booksPassed, chargeBook, requestsBook}
 use Rattle.book.specs.OrderedMap.{mapAnswer, mapAfter, mapAnswers, mapRun}
@@ -72,23 +73,23 @@ charges-append t [] ss b = omega arith
 charges-append t (r ∷ rs) ss b = omega (arith, charges-append t rs ss (Book.serve t r b))
 
 -- A batch in the reference model is all its node requests in a row.
-pub runBook-requests : (limit : ℕ) (t : Tariff) (cs : List Command) (n : Session) (b : Book) →
-    runBook limit t cs n b ≡ Book.serveAll t (requestsBook limit t cs n b) b
-runBook-requests limit t [] n b = refl
-runBook-requests limit t (c ∷ cs) n b =
-    let m = sessionAfter c (answer limit c b) n in
-    runBook-requests limit t cs m (doneBook limit t c b) ∙
-    sym (serveAll-append t (requests limit c b) (requestsBook limit t cs m (doneBook limit t c b)) b)
+pub runBook-requests : (limit : ℕ) (cs : List Command) (n : Session) (b : Book) →
+    runBook limit cs n b ≡ Book.serveAll (n .tariff) (requestsBook limit cs n b) b
+runBook-requests limit [] n b = refl
+runBook-requests limit (c ∷ cs) n b =
+    let m = sessionAfter c (answer limit n c b) n in
+    runBook-requests limit cs m (doneBook limit n c b) ∙
+    sym (serveAll-append (n .tariff) (requests limit n c b) (requestsBook limit cs m (doneBook limit n c b)) b)
 
-pub total-requests : (limit : ℕ) (t : Tariff) (cs : List Command) (n : Session) (b : Book) →
-    total (answer limit) (doneBook limit t) (costBook limit t) cs n b ≡ Book.charges t (requestsBook limit t cs n b) b
-total-requests limit t [] n b = refl
-total-requests limit t (c ∷ cs) n b =
-    let m = sessionAfter c (answer limit c b) n in
+pub total-requests : (limit : ℕ) (cs : List Command) (n : Session) (b : Book) →
+    total (answer limit) (doneBook limit) (costBook limit) cs n b ≡ Book.charges (n .tariff) (requestsBook limit cs n b) b
+total-requests limit [] n b = refl
+total-requests limit (c ∷ cs) n b =
+    let m = sessionAfter c (answer limit n c b) n in
     omega (
       arith,
-      total-requests limit t cs m (doneBook limit t c b),
-      charges-append t (requests limit c b) (requestsBook limit t cs m (doneBook limit t c b)) b,
+      total-requests limit cs m (doneBook limit n c b),
+      charges-append (n .tariff) (requests limit n c b) (requestsBook limit cs m (doneBook limit n c b)) b,
     )
 
 -- A book that spells a map, within the limit of nodes.
@@ -96,63 +97,64 @@ pub record Holds (limit : ℕ) (b : Book) (ps : List Pair) : Type 0 where
   pub spells : Spells (b .table) (b .count) ps
   pub most : b .count ≤ limit
 
-module _ (limit : ℕ) (t : Tariff) (small : limit < noLeaf) where
+module _ (limit : ℕ) (small : limit < noLeaf) where
   -- A command keeps it so.
-  pub command-holds : (c : Command) (b : Book) (ps : List Pair) → Valid c → Holds limit b ps →
-      Holds limit (doneBook limit t c b) (mapAfter (refuses limit c b) c ps)
-  command-holds c b ps valid h =
-      let d = does limit small b ps (h .spells) (h .most) c valid .served in
+  pub command-holds : (n : Session) (c : Command) (b : Book) (ps : List Pair) → Valid c → Holds limit b ps →
+      Holds limit (doneBook limit n c b) (mapAfter n (refuses limit n c b) c ps)
+  command-holds n c b ps valid h =
+      let d = does limit small b ps (h .spells) (h .most) n c valid .served in
       record {
-        spells = rw (serveAll-table t (requests limit c b) b, serveAll-count t (requests limit c b) b) (d .spells);
-        most = rw (serveAll-count t (requests limit c b) b) (d .kept);
+        spells = rw (serveAll-table (n .tariff) (requests limit n c b) b, serveAll-count (n .tariff) (requests limit n c b) b) (d .spells);
+        most = rw (serveAll-count (n .tariff) (requests limit n c b) b) (d .kept);
       }
 
 -- A BATCH.
-pub record Batched (blocks : ℕ) (t : Tariff) (cs : List Command) (n : Session) (s : State) (ps : List Pair) : Type 0 where
-  pub says : Says blocks (run (nodeLimit blocks) t cs n s) (runBook (nodeLimit blocks) t cs n (bookOf s))
-  pub charge : (q : ℕ) → chargeOf (nodeLimit blocks) t q cs n s ≡ chargeBook (nodeLimit blocks) t q cs n (bookOf s)
-  pub passed : map bookOf (statesPassed (nodeLimit blocks) t cs n s) ≡ booksPassed (nodeLimit blocks) t cs n (bookOf s)
-  pub answers : answers (nodeLimit blocks) t cs n s ≡ mapAnswers (nodeLimit blocks) t cs n (bookOf s) ps
-  pub holds : Holds (nodeLimit blocks) (runBook (nodeLimit blocks) t cs n (bookOf s)) (mapRun (nodeLimit blocks) t cs n (bookOf s) ps)
+pub record Batched (blocks : ℕ) (cs : List Command) (n : Session) (s : State) (ps : List Pair) : Type 0 where
+  pub says : Says blocks (run (nodeLimit blocks) cs n s) (runBook (nodeLimit blocks) cs n (bookOf s))
+  pub charge : (q : ℕ) → chargeOf (nodeLimit blocks) q cs n s ≡ chargeBook (nodeLimit blocks) q cs n (bookOf s)
+  pub passed : map bookOf (statesPassed (nodeLimit blocks) cs n s) ≡ booksPassed (nodeLimit blocks) cs n (bookOf s)
+  pub answers : answers (nodeLimit blocks) cs n s ≡ mapAnswers (nodeLimit blocks) cs n (bookOf s) ps
+  pub holds : Holds (nodeLimit blocks) (runBook (nodeLimit blocks) cs n (bookOf s)) (mapRun (nodeLimit blocks) cs n (bookOf s) ps)
   pub fits :
-      Fits (nodeLimit blocks) (requestsBook (nodeLimit blocks) t cs n (bookOf s)) (bookOf s .table) (bookOf s .count)
-      (runBook (nodeLimit blocks) t cs n (bookOf s) .count)
+      Fits (nodeLimit blocks) (requestsBook (nodeLimit blocks) cs n (bookOf s)) (bookOf s .table) (bookOf s .count)
+      (runBook (nodeLimit blocks) cs n (bookOf s) .count)
 
-module _ (blocks : ℕ) (t : Tariff) (small : nodeLimit blocks < noLeaf) where
+module _ (blocks : ℕ) (small : nodeLimit blocks < noLeaf) where
   abbrev limit : ℕ
   limit = nodeLimit blocks
 
   pub batch-batched : (cs : List Command) (n : Session) (s : State) (ps : List Pair) → ValidAll cs → Sound blocks s → Holds limit (bookOf s) ps →
-      Batched blocks t cs n s ps
+      Batched blocks cs n s ps
   batch-batched [] n s ps valid v h =
       record { says = record { sound = v; is = refl }; charge = λ q. refl; passed = refl; answers = refl; holds = h; fits = refl }
   batch-batched (c ∷ cs) n s ps valid v h =
       let b = bookOf s in
-      let rs = requests limit c b in
-      let d = does limit small b ps (h .spells) (h .most) c (valid .0) in
+      let t = n .tariff in
+      let rs = requests limit n c b in
+      let d = does limit small b ps (h .spells) (h .most) n c (valid .0) in
       let final = countAfterAll rs (b .count) in
       let one = serveAll-served blocks t rs s final v (d .served .fits) in
-      let b′ = doneBook limit t c b in
-      let e : bookOf (done limit t c s) ≡ b′ = one .says .is in
-      let ps′ = mapAfter (refuses limit c b) c ps in
-      let m = sessionAfter c (answer limit c b) n in
-      let f : m ≡ sessionAfter c (mapAnswer (refuses limit c b) c ps) n = ap (λ (r : Reply). sessionAfter c r n) (d .answers) in
+      let b′ = doneBook limit n c b in
+      let e : bookOf (done limit n c s) ≡ b′ = one .says .is in
+      let ps′ = mapAfter n (refuses limit n c b) c ps in
+      let m = sessionAfter c (answer limit n c b) n in
+      let f : m ≡ sessionAfter c (mapAnswer n (refuses limit n c b) c ps) n = ap (λ (r : Reply). sessionAfter c r n) (d .answers) in
       let rest =
-      batch-batched cs m (done limit t c s) ps′ (valid .1) (one .says .sound)
-      (subst (λ (z : Book). Holds limit z ps′) (sym e) (command-holds limit t small c b ps (valid .0) h)) in
+      batch-batched cs m (done limit n c s) ps′ (valid .1) (one .says .sound)
+      (subst (λ (z : Book). Holds limit z ps′) (sym e) (command-holds limit small n c b ps (valid .0) h)) in
       record {
-        says = record { sound = rest .says .sound; is = rest .says .is ∙ ap (runBook limit t cs m) e };
-        charge = λ q. ap₂ _+_ (ap (λ (k : ℕ). only (n .panel) k q) (one .charge)) (rest .charge q ∙ ap (chargeBook limit t q cs m) e);
+        says = record { sound = rest .says .sound; is = rest .says .is ∙ ap (runBook limit cs m) e };
+        charge = λ q. ap₂ _+_ (ap (λ (k : ℕ). only (n .panel) k q) (one .charge)) (rest .charge q ∙ ap (chargeBook limit q cs m) e);
         passed =
-            map-append bookOf (afterEach t rs s) (statesPassed limit t cs m (done limit t c s)) ∙
-            ap₂ {B = List Book} _++_ (one .passed) (rest .passed ∙ ap (booksPassed limit t cs m) e);
-        answers = ap₂ {B = List Reply} _∷_ (d .answers) (rest .answers ∙ ap₂ (λ (k : Session) (z : Book). mapAnswers limit t cs k z ps′) f e);
+            map-append bookOf (afterEach t rs s) (statesPassed limit cs m (done limit n c s)) ∙
+            ap₂ {B = List Book} _++_ (one .passed) (rest .passed ∙ ap (booksPassed limit cs m) e);
+        answers = ap₂ {B = List Reply} _∷_ (d .answers) (rest .answers ∙ ap₂ (λ (k : Session) (z : Book). mapAnswers limit cs k z ps′) f e);
         holds =
-            subst (λ (k : Session). Holds limit (runBook limit t cs m b′) (mapRun limit t cs k b′ ps′)) f
-            (subst (λ (z : Book). Holds limit (runBook limit t cs m z) (mapRun limit t cs m z ps′)) e (rest .holds));
+            subst (λ (k : Session). Holds limit (runBook limit cs m b′) (mapRun limit cs k b′ ps′)) f
+            (subst (λ (z : Book). Holds limit (runBook limit cs m z) (mapRun limit cs m z ps′)) e (rest .holds));
         fits =
-            fits-append limit rs (requestsBook limit t cs m b′) (b .table) (b .count) final (runBook limit t cs m b′ .count) (d .served .fits)
-            (subst (λ (z : Table). Fits limit (requestsBook limit t cs m b′) z final (runBook limit t cs m b′ .count)) (serveAll-table t rs b)
-            (subst (λ (k : ℕ). Fits limit (requestsBook limit t cs m b′) (b′ .table) k (runBook limit t cs m b′ .count)) (serveAll-count t rs b)
-            (subst (λ (z : Book). Fits limit (requestsBook limit t cs m z) (z .table) (z .count) (runBook limit t cs m z .count)) e (rest .fits))));
+            fits-append limit rs (requestsBook limit cs m b′) (b .table) (b .count) final (runBook limit cs m b′ .count) (d .served .fits)
+            (subst (λ (z : Table). Fits limit (requestsBook limit cs m b′) z final (runBook limit cs m b′ .count)) (serveAll-table t rs b)
+            (subst (λ (k : ℕ). Fits limit (requestsBook limit cs m b′) (b′ .table) k (runBook limit cs m b′ .count)) (serveAll-count t rs b)
+            (subst (λ (z : Book). Fits limit (requestsBook limit cs m z) (z .table) (z .count) (runBook limit cs m z .count)) e (rest .fits))));
       }

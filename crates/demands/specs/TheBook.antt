@@ -40,9 +40,9 @@ use Rattle.store.specs.Reopen.{newest}
 use Rattle.book.specs.Book.{Book, charges}
 use Rattle.book.specs.Command.{ceilingReply}
 use Rattle.book.specs.Command.{requests as requestsFor}
-use Rattle.book.specs.Session.{atFirst}
+use Rattle.book.specs.Session.{Session, atFirst}
 use Rattle.book.specs.InTurn.{noCharges}
-use Rattle.book.specs.PanelLaws.{sum-each}
+use Rattle.book.specs.EachPanel.{sum-each}
 use Rattle.book.specs.Batch.{chargesBook, requestsBook}
 use Rattle.book.specs.OrderedMap.{mapAnswer, mapAnswers}
 use Rattle.book.specs.Schedule.{paid}
@@ -319,7 +319,7 @@ module _ {t : Tariff} {pool pool′ : List ℕ} {b : Book} {ps : List Pair} (r :
   any-order-answers =
       answered-as pool ∙
       one .answers ∙
-      ap₂ (λ (k : ℕ) (cs : List Command). laidOver (lent .buffer) (mapAnswers (nodeLimit k) t cs atFirst b ps)) (sym (same-blocks r)) same-commands ∙
+      ap₂ (λ (k : ℕ) (cs : List Command). laidOver (lent .buffer) (mapAnswers (nodeLimit k) cs (atFirst t) b ps)) (sym (same-blocks r)) same-commands ∙
       sym (other .answers) ∙
       sym (answered-as pool′)
 
@@ -327,7 +327,7 @@ module _ {t : Tariff} {pool pool′ : List ℕ} {b : Book} {ps : List Pair} (r :
   any-order-charges =
       as-batch pool c .charges ∙
       one .charges ∙
-      ap₂ (λ (k : ℕ) (cs : List Command). chargesBook (nodeLimit k) t cs atFirst b) (sym (same-blocks r)) same-commands ∙
+      ap₂ (λ (k : ℕ) (cs : List Command). chargesBook (nodeLimit k) cs (atFirst t) b) (sym (same-blocks r)) same-commands ∙
       sym (other .charges) ∙
       sym (as-batch pool′ c .charges)
 
@@ -342,11 +342,11 @@ refused-zero pool c l =
 
 -- The sixteen charges of a call add up to what all its node requests are charged.
 pub charges-sum : {t : Tariff} {pool : List ℕ} {b : Book} {ps : List Pair} → Stands t pool b ps → (c : Call) → CallBytes c →
-    charge (callOutcome pool c) ≡ charges t (requestsBook (nodeLimit (blocksOf pool)) t (commandsIn (callFed pool c)) atFirst b) b
+    charge (callOutcome pool c) ≡ charges t (requestsBook (nodeLimit (blocksOf pool)) (commandsIn (callFed pool c)) (atFirst t) b) b
 charges-sum {t} {pool} {b} s c bytes =
     ap sum (as-batch pool c .charges) ∙
     called (stands-open s) (asBatch c) (batch-bytes c bytes) .paid ∙
-    ap (λ (f : Fed). charges t (requestsBook (nodeLimit (blocksOf pool)) t (commandsIn f) atFirst b) b) (sym (fed-same pool c))
+    ap (λ (f : Fed). charges t (requestsBook (nodeLimit (blocksOf pool)) (commandsIn f) (atFirst t) b) b) (sym (fed-same pool c))
 
 -- They fit in 64 bits, their sum too, by far: whatever the pool and the call hold, it is below 2^44.
 pub charges-fit : (pool : List ℕ) → Bytes pool → (c : Call) → CallBytes c → charge (callOutcome pool c) < 2 ^ 44
@@ -378,7 +378,7 @@ pub ceiling-answers : {t : Tariff} {pool : List ℕ} {b : Book} {ps : List Pair}
 unfolding mapAnswer
 ceiling-answers {t} {pool} {b} {ps} s l bytes k e z =
     called (stands-open s) l bytes .answers ∙
-    ap (λ (cs : List Command). laidOver (l .buffer) (mapAnswers (nodeLimit (blocksOf pool)) t cs atFirst b ps))
+    ap (λ (cs : List Command). laidOver (l .buffer) (mapAnswers (nodeLimit (blocksOf pool)) cs (atFirst t) b ps))
     (ap₂ (λ (n : ℕ) (o : Option (List Command)). commandsBy (eqb n 0) o) z e)
 
 -- What that is: a pair of the map, at or above the key, with nothing of the map between; 80 exactly where nothing of the map is at or above.
@@ -393,9 +393,9 @@ module _ {t : Tariff} {pool : List ℕ} {b : Book} {ps : List Pair} (s : Stands 
   ceiling-none = none-above k 0 bound32 ps ascending
 
 -- "It reads as a sweep of that route to FFFFFFFF with a most of 1 does": by definition ..
-pub ceiling-reads : (limit k : ℕ) (b : Book) → requestsFor limit (Ceiling k) b ≡ requestsFor limit (Scan k lastKey 1) b
+pub ceiling-reads : (limit : ℕ) (n : Session) (k : ℕ) (b : Book) → requestsFor limit n (Ceiling k) b ≡ requestsFor limit n (Scan k lastKey 1) b
 unfolding requestsFor
-ceiling-reads limit k b = refl
+ceiling-reads limit n k b = refl
 
 -- .. and so on any pool, with any table and answer buffer: where such scans stand for the ceilings of a batch, the call returns the same number and
 -- charges, and leaves the same pool and table.

@@ -13,7 +13,6 @@ use Rattle.laws.specs.Lay.{part}
 use Rattle.laws.specs.Order.{Tri, tri, eq-or}
 use Rattle.laws.specs.Update.{length-below, below-at, below-is}
 use Rattle.layout.specs.Layout.{panels, lengthBytes}
-use Rattle.account.specs.declared.Tariff.{Tariff}
 use Rattle.command.specs.declared.Command.{Command}
 use Rattle.command.specs.Batch.{commandsFrom}
 use Rattle.flash_rows.specs.Worktable.{Worktable}
@@ -32,24 +31,24 @@ abbrev pub ahead : List ℕ → List ℕ → List ℕ → ℕ → List (ℕ × C
 ahead lengths queues places panel = heads panel (drop panel (rests lengths queues places))
 
 -- Before the turn of a panel. `places₀` are those of the round's start.
-pub record Passing (poolLength tableLength : ℕ) (t : Tariff) (lengths queues : List ℕ) (panel start : ℕ) (w : World) (pages : List (List ℕ))
+pub record Passing (poolLength tableLength : ℕ) (lengths queues : List ℕ) (panel start : ℕ) (w : World) (pages : List (List ℕ))
     (table : Worktable) (empty answers none paid places₀ places : List ℕ) (here there : Ran) : Type 0 where
   pub within : panel ≤ queueCount lengths
   pub starts : start ≡ startAt lengths panel
   pub done : List (ℕ × Command)
   pub whole : done ++ ahead lengths queues places₀ panel ≡ heads 0 (rests lengths queues places₀)
-  pub ran : RunOn poolLength tableLength pages table empty answers none paid here there t (dealt done) w
+  pub ran : RunOn poolLength tableLength pages table empty answers none paid here there (dealt done) w
   pub ready : Ready poolLength tableLength (length empty) paid there (dealt (ahead lengths queues places₀ panel))
   pub sixteen : length places ≡ panels
   pub passed :
       (q : ℕ) → q < panel → commandsFrom (queueAt lengths queues q) (getD places q 0) ≡ some (drop 1 (restAt lengths queues places₀ q))
   pub same : (q : ℕ) → panel ≤ q → getD places q 0 ≡ getD places₀ q 0
 
-module _ {P T : ℕ} {t : Tariff} {lengths queues : List ℕ} where
+module _ {P T : ℕ} {lengths queues : List ℕ} where
   -- A round begins at panel 0.
   pub passing-start : {panel : ℕ} → panel ≡ 0 → {w : World} {empty none places : List ℕ} {here : Ran} → w .state ≡ here .state →
       Placed lengths queues places → Ready P T (length empty) none here (dealt (heads 0 (rests lengths queues places))) →
-      Passing P T t lengths queues panel 0 w (w .pages) (w .table) empty empty none none places places here here
+      Passing P T lengths queues panel 0 w (w .pages) (w .table) empty empty none none places places here here
   passing-start z {w} e p r =
       rw z
       record {
@@ -57,7 +56,7 @@ module _ {P T : ℕ} {t : Tariff} {lengths queues : List ℕ} where
         starts = refl;
         done = [];
         whole = refl;
-        ran = on-none t w e r;
+        ran = on-none w e r;
         ready = r;
         sixteen = p .sixteen;
         passed = λ q l. absurd (omega arith);
@@ -65,7 +64,7 @@ module _ {P T : ℕ} {t : Tariff} {lengths queues : List ℕ} where
       }
 
   module _ {panel start : ℕ} {w : World} {pages : List (List ℕ)} {table : Worktable} {empty answers none paid places₀ places : List ℕ}
-      {here there : Ran} (r : Passing P T t lengths queues panel start w pages table empty answers none paid places₀ places here there)
+      {here there : Ran} (r : Passing P T lengths queues panel start w pages table empty answers none paid places₀ places here there)
       (fill : fills lengths queues ≡ true) where
     fit : Filled lengths queues
     fit = filled lengths queues fill
@@ -146,9 +145,9 @@ module _ {P T : ℕ} {t : Tariff} {lengths queues : List ℕ} where
           same-next q l = getD-set-other places panel q next 0 (λ f. absurd (omega arith)) ∙ r .same q (omega arith)
 
           pub passing-next : {P′ T′ : ℕ} {pages′ : List (List ℕ)} {table′ : Worktable} {answers′ paid′ places′ : List ℕ} {yonder : Ran} {start′ : ℕ} →
-              RunOn P′ T′ pages′ table′ answers answers′ paid paid′ there yonder t (turnAt panel queue at) (world pages table (there .state)) →
+              RunOn P′ T′ pages′ table′ answers answers′ paid paid′ there yonder (turnAt panel queue at) (world pages table (there .state)) →
               start′ ≡ start + lengthAt lengths panel → places′ ≡ set places panel next →
-              Passing P′ T′ t lengths queues (panel + 1) start′ w pages′ table′ empty answers′ none paid′ places₀ places′ here yonder
+              Passing P′ T′ lengths queues (panel + 1) start′ w pages′ table′ empty answers′ none paid′ places₀ places′ here yonder
           passing-next {P′} {T′} {pages′} {table′} {answers′} {paid′} {places′} {yonder} {start′} x s f =
               rw (add-one panel, f)
               record {
@@ -160,7 +159,7 @@ module _ {P T : ℕ} {t : Tariff} {lengths queues : List ℕ} where
                     ap (λ (xs : List (ℕ × Command)). r .done ++ xs) (sym ahead-is) ∙
                     r .whole;
                 ran =
-                    subst (λ (cs : List Command). RunOn P′ T′ pages′ table′ empty answers′ none paid′ here yonder t cs w)
+                    subst (λ (cs : List Command). RunOn P′ T′ pages′ table′ empty answers′ none paid′ here yonder cs w)
                     (ap (λ (cs : List Command). dealt (r .done) ++ cs) (taken .turn) ∙ sym (dealt-append (r .done) turn))
                     (on-append (r .ran) (omega (arith, r .ready .room, r .ran .behind)) x);
                 ready = ready-behind served x;
@@ -174,9 +173,9 @@ module _ {P T : ℕ} {t : Tariff} {lengths queues : List ℕ} where
       at-end : queueCount lengths ≤ panel
       at-end = omega (arith, fit .whole, none-left)
 
-      pub passing-all : RunOn P T pages table empty answers none paid here there t (dealt (heads 0 (rests lengths queues places₀))) w
+      pub passing-all : RunOn P T pages table empty answers none paid here there (dealt (heads 0 (rests lengths queues places₀))) w
       passing-all =
-          subst (λ (xs : List (ℕ × Command)). RunOn P T pages table empty answers none paid here there t (dealt xs) w)
+          subst (λ (xs : List (ℕ × Command)). RunOn P T pages table empty answers none paid here there (dealt xs) w)
           (sym (append-nil (r .done)) ∙
           ap (λ (css : List (List Command)). r .done ++ heads panel css)
           (sym (below-done (queueCount lengths) (restAt lengths queues places₀) panel at-end)) ∙

@@ -6,6 +6,7 @@ use native.Mathlib.Omega.{arith}
 use lib.ListN.{length, replicate}
 use Rattle.layout.specs.Layout.{panels}
 use Rattle.account.specs.declared.Tariff.{Tariff}
+use Rattle.account.specs.Range.{Ranged}
 use Rattle.command.specs.declared.Command.{Command}
 use Rattle.book.specs.InTurn.{noCharges}
 use Rattle.flash_rows.specs.Worktable.{Worktable}
@@ -25,16 +26,16 @@ pub record Circling (poolLength tableLength : ℕ) (t : Tariff) (lengths queues 
   pub within : round ≤ most
   pub done : List (ℕ × Command)
   pub whole : done ++ rounds (most - round) (rests lengths queues places) ≡ turns (listsIn lengths queues)
-  pub ran : RunOn poolLength tableLength pages table empty answers none paid (atStart (w .state)) there t (dealt done) w
+  pub ran : RunOn poolLength tableLength pages table empty answers none paid (atStart (w .state) t) there (dealt done) w
   pub ready : Ready poolLength tableLength (length empty) paid there (dealt (rounds (most - round) (rests lengths queues places)))
   pub placed : Placed lengths queues places
 
 module _ {P T : ℕ} {t : Tariff} {lengths queues : List ℕ} {most : ℕ} where
-  pub circling-start : (w : World) (empty none : List ℕ) → Growing P T (w .state) → Serves lengths queues most (length empty) → none ≡ noCharges →
-      Circling P T t lengths queues most 0 w (w .pages) (w .table) empty empty none none (replicate panels 0) (atStart (w .state))
+  pub circling-start : (w : World) (empty none : List ℕ) → Growing P T (w .state) → Ranged t → Serves lengths queues most (length empty) → none ≡ noCharges →
+      Circling P T t lengths queues most 0 w (w .pages) (w .table) empty empty none none (replicate panels 0) (atStart (w .state) t)
   unfolding turns
-  circling-start w empty none g s e =
-      let r = ready-start {cs = joined (listsIn lengths queues)} e (length empty) g (s .room) (omega (arith, s .few)) in
+  circling-start w empty none g ranged s e =
+      let r = ready-start {cs = joined (listsIn lengths queues)} e (length empty) g ranged (s .room) (omega (arith, s .few)) in
       let all : turns (listsIn lengths queues) ≡ rounds (most - 0) (rests lengths queues (replicate panels 0)) =
       ap (λ (n : ℕ). rounds n (listsIn lengths queues)) {x = longest (listsIn lengths queues)} {y = most - 0} (omega (arith, s .rounds-are)) ∙
       ap (rounds (most - 0)) (sym (rests-start lengths queues (s .valid))) in
@@ -42,8 +43,8 @@ module _ {P T : ℕ} {t : Tariff} {lengths queues : List ℕ} {most : ℕ} where
         within = omega arith;
         done = [];
         whole = sym all;
-        ran = on-none t w refl r;
-        ready = subst (λ (xs : List (ℕ × Command)). Ready P T (length empty) none (atStart (w .state)) (dealt xs)) all r;
+        ran = on-none w refl r;
+        ready = subst (λ (xs : List (ℕ × Command)). Ready P T (length empty) none (atStart (w .state) t) (dealt xs)) all r;
         placed = placed-start lengths queues (s .valid);
       }
 
@@ -67,7 +68,7 @@ module _ {P T : ℕ} {t : Tariff} {lengths queues : List ℕ} {most : ℕ} where
       circling-ready n e = ready-front (dealt first) (dealt rest) both n e
 
       pub circling-next : {P′ T′ : ℕ} {pages′ : List (List ℕ)} {table′ : Worktable} {answers′ paid′ places′ : List ℕ} {yonder : Ran} →
-          RunOn P′ T′ pages′ table′ answers answers′ paid paid′ there yonder t (dealt (heads 0 (rests lengths queues places)))
+          RunOn P′ T′ pages′ table′ answers answers′ paid paid′ there yonder (dealt (heads 0 (rests lengths queues places)))
           (world pages table (there .state)) → RoundLeft lengths queues places places′ →
           Circling P′ T′ t lengths queues most (round + 1) w pages′ table′ empty answers′ none paid′ places′ yonder
       circling-next {P′} {T′} {pages′} {table′} {answers′} {paid′} {places′} {yonder} x l =
@@ -81,7 +82,7 @@ module _ {P T : ℕ} {t : Tariff} {lengths queues : List ℕ} {most : ℕ} where
                 ap (λ (xs : List (ℕ × Command)). c .done ++ xs) (sym parts) ∙
                 c .whole;
             ran =
-                subst (λ (cs : List Command). RunOn P′ T′ pages′ table′ empty answers′ none paid′ (atStart (w .state)) yonder t cs w)
+                subst (λ (cs : List Command). RunOn P′ T′ pages′ table′ empty answers′ none paid′ (atStart (w .state) t) yonder cs w)
                 (sym (dealt-append (c .done) first)) (on-append (c .ran) (omega arith) x);
             ready = subst (λ (xs : List (ℕ × Command)). Ready P′ T′ (length empty) paid′ yonder (dealt xs)) left (ready-behind both x);
             placed = l .placed;
@@ -95,4 +96,4 @@ module _ {P T : ℕ} {t : Tariff} {lengths queues : List ℕ} {most : ℕ} where
         let all : c .done ≡ turns (listsIn lengths queues) =
         sym (append-nil (c .done)) ∙ ap (λ (xs : List (ℕ × Command)). c .done ++ xs) (sym nothing) ∙ c .whole in
         on-whole e
-        (subst (λ (xs : List (ℕ × Command)). RunOn P T pages table empty answers none paid (atStart (w .state)) there t (dealt xs) w) all (c .ran))
+        (subst (λ (xs : List (ℕ × Command)). RunOn P T pages table empty answers none paid (atStart (w .state) t) there (dealt xs) w) all (c .ran))

@@ -4,7 +4,6 @@ use mathlib.Core.List.{List, [], _++_}
 use Prim.Native.Nat.{ℕ}
 use native.Mathlib.Omega.{arith}
 use lib.ListN.{length}
-use Rattle.account.specs.declared.Tariff.{Tariff}
 use Rattle.command.specs.declared.Command.{Command}
 use Rattle.command.specs.declared.Command.the-variants.{Panel}
 use Rattle.command.specs.declared.Step.the-variants.{Next, Invalid}
@@ -25,21 +24,21 @@ module _ (panel : ℕ) (queue : List ℕ) (at : ℕ) (before : List ℕ) {P T : 
     pub ready-name : Ready P T (length before) paid here (alone (Panel panel))
     ready-name = ready-front (alone (Panel panel)) (alone c) two (length before) refl
 
-    module _ {P′ T′ : ℕ} {pages : List (List ℕ)} {table : Worktable} {between paid′ : List ℕ} {there : Ran} {t : Tariff} {w : World}
-        (x : RunOn P′ T′ pages table before between paid paid′ here there t (alone (Panel panel)) w) where
+    module _ {P′ T′ : ℕ} {pages : List (List ℕ)} {table : Worktable} {between paid′ : List ℕ} {there : Ran} {w : World}
+        (x : RunOn P′ T′ pages table before between paid paid′ here there (alone (Panel panel)) w) where
       pub ready-own : length between ≡ length before → Ready P′ T′ (length between) paid′ there (alone c)
       ready-own f = ready-front (alone c) [] (ready-behind {cs = alone (Panel panel)} {ds = alone c} two x) (length between) f
 
       pub on-turn : {P″ T″ : ℕ} {pages′ : List (List ℕ)} {table′ : Worktable} {after paid″ : List ℕ} {yonder : Ran} →
-          RunOn P″ T″ pages′ table′ between after paid′ paid″ there yonder t (alone c) (world pages table (there .state)) →
-          RunOn P″ T″ pages′ table′ before after paid paid″ here yonder t (turnAt panel queue at) w
+          RunOn P″ T″ pages′ table′ between after paid′ paid″ there yonder (alone c) (world pages table (there .state)) →
+          RunOn P″ T″ pages′ table′ before after paid paid″ here yonder (turnAt panel queue at) w
       on-turn {P″} {T″} {pages′} {table′} {after} {paid″} {yonder} y =
-          subst (λ (cs : List Command). RunOn P″ T″ pages′ table′ before after paid paid″ here yonder t cs w)
+          subst (λ (cs : List Command). RunOn P″ T″ pages′ table′ before after paid paid″ here yonder cs w)
           (sym (turn-is panel queue at (Next c next) e)) (on-append x (omega (arith, r .room)) y)
 
   -- none is left
-  pub on-no-turn : commandAt queue at ≡ Invalid → (t : Tariff) (w : World) → w .state ≡ here .state →
-      RunOn P T (w .pages) (w .table) before before paid paid here here t (turnAt panel queue at) w
-  on-no-turn e t w f =
-      subst (λ (cs : List Command). RunOn P T (w .pages) (w .table) before before paid paid here here t cs w)
-      (sym (turn-is panel queue at Invalid e)) (on-none t w f r)
+  pub on-no-turn : commandAt queue at ≡ Invalid → (w : World) → w .state ≡ here .state →
+      RunOn P T (w .pages) (w .table) before before paid paid here here (turnAt panel queue at) w
+  on-no-turn e w f =
+      subst (λ (cs : List Command). RunOn P T (w .pages) (w .table) before before paid paid here here cs w)
+      (sym (turn-is panel queue at Invalid e)) (on-none w f r)

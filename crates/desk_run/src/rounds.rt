@@ -24,6 +24,7 @@ use layout::LENGTH_BYTES;
 use layout::MOST_NODES;
 use layout::PANELS;
 use run::Ran;
+use run::Session;
 use wire::number::read32;
 
 // A round: one command of each queue that still has any.
@@ -37,14 +38,13 @@ fn run_round(
     charges: &mut [u64; PANELS],
     places: &mut [usize; PANELS],
     here: Ran,
-    tariff: Tariff,
 ) -> Ran
     requires { ⌜ (Ready (length (now pool)) (length (now table)) (length (now answers)) (now charges) here
-        (dealt (heads 0 (rests (now lengths) (now queues) (now places))))) × (Ranged tariff)
+        (dealt (heads 0 (rests (now lengths) (now queues) (now places)))))
         × (fills (now lengths) (now queues) ≡ true) × (Placed (now lengths) (now queues) (now places))
         × (length (now ids) ≡ nodeLimit mostBlocks) ⌝ }
     ensures { λ r. ⌜ (InBytes RunOn (now (pool .exit)) (now (table .exit)) (now (answers .entry)) (now (answers .exit))
-        (now (charges .entry)) (now (charges .exit)) here r tariff
+        (now (charges .entry)) (now (charges .exit)) here r
         (dealt (heads 0 (rests (now (lengths .entry)) (now (queues .entry)) (now (places .entry)))))
         (worldIn (now (pool .entry)) (now (table .entry)) (here .state)))
         × (RoundLeft (now (lengths .entry)) (now (queues .entry)) (now (places .entry)) (now (places .exit)))
@@ -64,7 +64,6 @@ fn run_round(
             ids,
             charges,
             there,
-            tariff,
             panel,
             at,
         );
@@ -98,7 +97,7 @@ pub fn run_rounds(
     let mut places = [0usize; PANELS];
     let mut here = Ran {
         state,
-        panel: 0,
+        session: Session { panel: 0, tariff },
         at: 0,
     };
     let mut round: usize = 0;
@@ -113,7 +112,6 @@ pub fn run_rounds(
             charges,
             &mut places,
             here,
-            tariff,
         );
         round += 1;
     }

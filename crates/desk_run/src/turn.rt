@@ -3,13 +3,11 @@ ghost use Prim.Native.Nat.{_<_};
 ghost use lib.ListN.{length, getD, set};
 ghost use mathlib.Core.Path.{_≡_};
 ghost use Rattle.layout.specs.Layout.{nodeLimit, mostBlocks, panels};
-ghost use Rattle.account.specs.Range.{Ranged};
 ghost use Rattle.flash_allocate.specs.World.{worldIn};
 ghost use Rattle.run_serve.specs.Step.{InBytes};
 ghost use Rattle.run.specs.Stretch.{Ready, RunOn};
 ghost use Rattle.desk_run.specs.Turn.{turnAt, placeAfter};
 use super::Turned;
-use account::Tariff;
 use command::Command;
 use command::Step;
 use command::batch::command_at;
@@ -27,14 +25,13 @@ pub fn run_turn(
     ids: &mut [u32; MOST_NODES],
     charges: &mut [u64; PANELS],
     here: Ran,
-    tariff: Tariff,
     panel: usize,
     at: usize,
 ) -> Turned
     requires { ⌜ (Ready (length (now pool)) (length (now table)) (length (now answers)) (now charges) here
-        (turnAt panel (now queue) at)) × (Ranged tariff) × (panel < panels) × (length (now ids) ≡ nodeLimit mostBlocks) ⌝ }
+        (turnAt panel (now queue) at)) × (panel < panels) × (length (now ids) ≡ nodeLimit mostBlocks) ⌝ }
     ensures { λ r. ⌜ (InBytes RunOn (now (pool .exit)) (now (table .exit)) (now (answers .entry)) (now (answers .exit))
-        (now (charges .entry)) (now (charges .exit)) here (r .there) tariff (turnAt panel (now (queue .entry)) at)
+        (now (charges .entry)) (now (charges .exit)) here (r .there) (turnAt panel (now (queue .entry)) at)
         (worldIn (now (pool .entry)) (now (table .entry)) (here .state)))
         × (r .next ≡ placeAfter (now (queue .entry)) at) × (length (now (ids .exit)) ≡ nodeLimit mostBlocks) ⌝ }
 {
@@ -42,8 +39,8 @@ pub fn run_turn(
     match step {
         Step::Next { command, next } => {
             let name = Command::Panel { panel };
-            let named = run_step(pool, table, answers, ids, charges, here, tariff, name);
-            let there = run_step(pool, table, answers, ids, charges, named, tariff, command);
+            let named = run_step(pool, table, answers, ids, charges, here, name);
+            let there = run_step(pool, table, answers, ids, charges, named, command);
             return Turned { there, next };
         }
         Step::Invalid => {

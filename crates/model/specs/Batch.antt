@@ -9,23 +9,23 @@ use Rattle.book.specs.Session.{Session}
 use Rattle.book.specs.InTurn.{eachPanel, afterAll, repliesTo, inRow, chargeOn}
 use Rattle.model.specs.State.{State, bookOf, serveAll, afterEach, charges}
 
-module _ (limit : ℕ) (t : Tariff) where
-  -- A command: its reply, the state after it, and what all its node requests are charged.
-  abbrev pub replyOf : Command → State → Reply
-  replyOf c s = answer limit c (bookOf s)
+module _ (limit : ℕ) where
+  -- A command in a session: its reply, the state after it, and what all its node requests are charged.
+  abbrev pub replyOf : Session → Command → State → Reply
+  replyOf n c s = answer limit n c (bookOf s)
 
-  abbrev pub done : Command → State → State
-  done c s = serveAll t (requests limit c (bookOf s)) s
+  abbrev pub done : Session → Command → State → State
+  done n c s = serveAll (n .tariff) (requests limit n c (bookOf s)) s
 
-  abbrev pub cost : Command → State → ℕ
-  cost c s = charges t (requests limit c (bookOf s)) s
+  abbrev pub cost : Session → Command → State → ℕ
+  cost n c s = charges (n .tariff) (requests limit n c (bookOf s)) s
 
   -- After a batch: the state, the states passed after each node request, the answers, the charge of one panel and of each.
   abbrev pub run : List Command → Session → State → State
   run = afterAll replyOf done
 
   abbrev pub statesPassed : List Command → Session → State → List State
-  statesPassed = inRow replyOf done (λ c s. afterEach t (requests limit c (bookOf s)) s)
+  statesPassed = inRow replyOf done (λ n c s. afterEach (n .tariff) (requests limit n c (bookOf s)) s)
 
   abbrev pub answers : List Command → Session → State → List Reply
   answers = repliesTo replyOf done

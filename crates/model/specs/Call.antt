@@ -67,14 +67,14 @@ mountOf pool = mountBy (blocksOf pool) (cellsOf pool)
 abbrev pub accept : ℕ → Tariff → List Command → State → List ℕ → List ℕ → Outcome
 accept blocks t cs s table buffer =
     let limit = nodeLimit blocks in
-    let bytes = repliesBytes (answers limit t cs atFirst s) in
+    let bytes = repliesBytes (answers limit cs (atFirst t) s) in
     record {
       number = 0;
-      pool = bytesOf (poolOf (closed t (run limit t cs atFirst s) .run .now));
+      pool = bytesOf (poolOf (closed t (run limit cs (atFirst t) s) .run .now));
       table = cleared blocks table;
       answers = lay buffer 0 bytes;
       length = length bytes;
-      charges = chargesOf limit t cs atFirst s;
+      charges = chargesOf limit cs (atFirst t) s;
     }
 
 -- The pool mounted, or not.

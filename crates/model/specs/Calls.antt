@@ -84,11 +84,11 @@ workOf pool l = workBy (accepted (outcome pool l)) (commandsOf (l .batch)) (moun
 -- The states that it passes: after every node request; and after every page written and every node request, with the node count then.
 abbrev pub statesBy : ℕ → Option Work → List State
 statesBy blocks none = []
-statesBy blocks (some w) = statesPassed (nodeLimit blocks) (w .tariff) (w .commands) atFirst (w .start)
+statesBy blocks (some w) = statesPassed (nodeLimit blocks) (w .commands) (atFirst (w .tariff)) (w .start)
 
 abbrev pub momentsBy : ℕ → Option Work → List Moment
 momentsBy blocks none = []
-momentsBy blocks (some w) = closed (w .tariff) (run (nodeLimit blocks) (w .tariff) (w .commands) atFirst (w .start)) .run .passed
+momentsBy blocks (some w) = closed (w .tariff) (run (nodeLimit blocks) (w .commands) (atFirst (w .tariff)) (w .start)) .run .passed
 
 abbrev pub allStates : List ℕ → List Lent → List State
 allStates pool [] = []
@@ -122,7 +122,7 @@ module _ (blocks : ℕ) (t : Tariff) where
 
   -- The book after each call, the books after each node request, the charges of each call, all node requests.
   abbrev pub fedBook : Fed → Book → Book
-  fedBook f b = runBook limit t (commandsIn f) atFirst b
+  fedBook f b = runBook limit (commandsIn f) (atFirst t) b
 
   abbrev pub booksAfter : List Fed → Book → List Book
   booksAfter [] b = []
@@ -134,25 +134,25 @@ module _ (blocks : ℕ) (t : Tariff) where
 
   abbrev pub allBooks : List Fed → Book → List Book
   allBooks [] b = []
-  allBooks (f ∷ fs) b = booksPassed limit t (commandsIn f) atFirst b ++ allBooks fs (fedBook f b)
+  allBooks (f ∷ fs) b = booksPassed limit (commandsIn f) (atFirst t) b ++ allBooks fs (fedBook f b)
 
   abbrev pub allCharges : List Fed → Book → List (List ℕ)
   allCharges [] b = []
-  allCharges (f ∷ fs) b = chargesBook limit t (commandsIn f) atFirst b ∷ allCharges fs (fedBook f b)
+  allCharges (f ∷ fs) b = chargesBook limit (commandsIn f) (atFirst t) b ∷ allCharges fs (fedBook f b)
 
   abbrev pub allRequests : List Fed → Book → List NodeRequest
   allRequests [] b = []
-  allRequests (f ∷ fs) b = requestsBook limit t (commandsIn f) atFirst b ++ allRequests fs (fedBook f b)
+  allRequests (f ∷ fs) b = requestsBook limit (commandsIn f) (atFirst t) b ++ allRequests fs (fedBook f b)
 
   -- The plain ordered map, call after call.
   abbrev pub mapReplies : List Fed → Book → List Pair → List (List Reply)
   mapReplies [] b ps = []
   mapReplies (f ∷ fs) b ps =
-      mapAnswers limit t (commandsIn f) atFirst b ps ∷ mapReplies fs (fedBook f b) (mapRun limit t (commandsIn f) atFirst b ps)
+      mapAnswers limit (commandsIn f) (atFirst t) b ps ∷ mapReplies fs (fedBook f b) (mapRun limit (commandsIn f) (atFirst t) b ps)
 
   -- .. and after each call.
   abbrev pub mapsAfter : List Fed → Book → List Pair → List (List Pair)
   mapsAfter [] b ps = []
   mapsAfter (f ∷ fs) b ps =
-      let qs = mapRun limit t (commandsIn f) atFirst b ps in
+      let qs = mapRun limit (commandsIn f) (atFirst t) b ps in
       qs ∷ mapsAfter fs (fedBook f b) qs

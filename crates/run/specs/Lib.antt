@@ -1,3 +1,4 @@
+pub mod Session
 pub mod Charges
 pub mod Run
 pub mod Replies

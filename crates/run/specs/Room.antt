@@ -20,6 +20,7 @@ use Rattle.command.specs.Answer.{valueOr}
 use Rattle.command.specs.AnswerLaws.{length-answerBytes, length-scanBytes, length-ceilingBytes, length-absent}
 use Rattle.command.specs.Command.{roomFor}
 use Rattle.book.specs.Command.{ceilingReply, replyBytes}
+use Rattle.book.specs.Session.{Session}
 use Rattle.flash_allocate.specs.World.{World}
 use Rattle.run_path.specs.Descend.{descent}
 use Rattle.run_lookup.specs.Value.{valueIn}
@@ -57,10 +58,12 @@ ceiling-room : (o : Option Pair) → length (replyBytes (ceilingReply o)) ≤ 11
 ceiling-room none = omega (arith, length-absent)
 ceiling-room (some p) = omega (arith, length-ceilingBytes p)
 
-pub reply-room : (t : Tariff) (c : Command) (w : World) → length (replyBytes (commandReply t c w)) ≤ roomFor c
-reply-room t (Get k) w = length-answerBytes (valueOr Got (valueIn t k w))
-reply-room t (Put k v) w = length-answerBytes (put t k v w .answer)
-reply-room t (Delete k) w = length-answerBytes (valueOr Deleted (valueIn t k w))
-reply-room t (Scan low high most) w = omega (arith, length-scanBytes (scanPairs t low high most w), scan-few t low high most w)
-reply-room t (Panel panel) w = omega arith
-reply-room t (Ceiling k) w = ceiling-room (first (scanPairs t k lastKey 1 w))
+pub reply-room : (n : Session) (c : Command) (w : World) → length (replyBytes (commandReply n c w)) ≤ roomFor c
+reply-room n (Get k) w = length-answerBytes (valueOr Got (valueIn (n .tariff) k w))
+reply-room n (Put k v) w = length-answerBytes (put (n .tariff) k v w .answer)
+reply-room n (Delete k) w = length-answerBytes (valueOr Deleted (valueIn (n .tariff) k w))
+reply-room n (Scan low high most) w =
+    let t = n .tariff in
+    omega (arith, length-scanBytes (scanPairs t low high most w), scan-few t low high most w)
+reply-room n (Panel panel) w = omega arith
+reply-room n (Ceiling k) w = ceiling-room (first (scanPairs (n .tariff) k lastKey 1 w))

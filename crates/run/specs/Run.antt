@@ -27,43 +27,43 @@ use Rattle.run_put.specs.Put.{put}
 use Rattle.run.specs.declared.Progress.{Progress}
 use Rattle.run.specs.declared.Ran.{Ran}
 
--- One command: the world after it, its charge, its reply.
-abbrev pub commandWorld : Tariff → Command → World → World
-commandWorld t (Get k) w = descent t k w .now
-commandWorld t (Put k v) w = put t k v w .now
-commandWorld t (Delete k) w = delete t k w
-commandWorld t (Scan low high most) w = scanWorld t low high most w
-commandWorld t (Panel panel) w = w
-commandWorld t (Ceiling k) w = scanWorld t k lastKey 1 w
+-- One command in a session: the world after it, its charge, its reply.
+abbrev pub commandWorld : Session → Command → World → World
+commandWorld n (Get k) w = descent (n .tariff) k w .now
+commandWorld n (Put k v) w = put (n .tariff) k v w .now
+commandWorld n (Delete k) w = delete (n .tariff) k w
+commandWorld n (Scan low high most) w = scanWorld (n .tariff) low high most w
+commandWorld n (Panel panel) w = w
+commandWorld n (Ceiling k) w = scanWorld (n .tariff) k lastKey 1 w
 
-abbrev pub commandCharge : Tariff → Command → World → ℕ
-commandCharge t (Get k) w = descent t k w .charge
-commandCharge t (Put k v) w = put t k v w .charge
-commandCharge t (Delete k) w = deleteCharge t k w
-commandCharge t (Scan low high most) w = scanCharge t low high most w
-commandCharge t (Panel panel) w = 0
-commandCharge t (Ceiling k) w = scanCharge t k lastKey 1 w
+abbrev pub commandCharge : Session → Command → World → ℕ
+commandCharge n (Get k) w = descent (n .tariff) k w .charge
+commandCharge n (Put k v) w = put (n .tariff) k v w .charge
+commandCharge n (Delete k) w = deleteCharge (n .tariff) k w
+commandCharge n (Scan low high most) w = scanCharge (n .tariff) low high most w
+commandCharge n (Panel panel) w = 0
+commandCharge n (Ceiling k) w = scanCharge (n .tariff) k lastKey 1 w
 
-abbrev pub commandReply : Tariff → Command → World → Reply
-commandReply t (Get k) w = short (valueOr Got (valueIn t k w))
-commandReply t (Put k v) w = short (put t k v w .answer)
-commandReply t (Delete k) w = short (valueOr Deleted (valueIn t k w))
-commandReply t (Scan low high most) w = listed (scanPairs t low high most w)
-commandReply t (Panel panel) w = silent
-commandReply t (Ceiling k) w = ceilingReply (first (scanPairs t k lastKey 1 w))
+abbrev pub commandReply : Session → Command → World → Reply
+commandReply n (Get k) w = short (valueOr Got (valueIn (n .tariff) k w))
+commandReply n (Put k v) w = short (put (n .tariff) k v w .answer)
+commandReply n (Delete k) w = short (valueOr Deleted (valueIn (n .tariff) k w))
+commandReply n (Scan low high most) w = listed (scanPairs (n .tariff) low high most w)
+commandReply n (Panel panel) w = silent
+commandReply n (Ceiling k) w = ceilingReply (first (scanPairs (n .tariff) k lastKey 1 w))
 
 -- All commands in turn: the world after them, what they are answered, the charge of one panel and of each.
-abbrev pub runWorld : Tariff → List Command → Session → World → World
-runWorld t = afterAll (commandReply t) (commandWorld t)
+abbrev pub runWorld : List Command → Session → World → World
+runWorld = afterAll commandReply commandWorld
 
-abbrev pub runReplies : Tariff → List Command → Session → World → List Reply
-runReplies t = repliesTo (commandReply t) (commandWorld t)
+abbrev pub runReplies : List Command → Session → World → List Reply
+runReplies = repliesTo commandReply commandWorld
 
-abbrev pub runCharge : Tariff → ℕ → List Command → Session → World → ℕ
-runCharge t = chargeOn (commandReply t) (commandWorld t) (commandCharge t)
+abbrev pub runCharge : ℕ → List Command → Session → World → ℕ
+runCharge = chargeOn commandReply commandWorld commandCharge
 
-abbrev pub runCharges : Tariff → List Command → Session → World → List ℕ
-runCharges t cs n w = eachPanel (λ q. runCharge t q cs n w)
+abbrev pub runCharges : List Command → Session → World → List ℕ
+runCharges cs n w = eachPanel (λ q. runCharge q cs n w)
 
 -- At most so many requests are charged for one command: three a node, of a put whose path has them all and splits every one. It keeps the sum of a
 -- batch within 64 bits; how many a sound tree takes is counted in `demands`.
@@ -71,16 +71,16 @@ abbrev pub mostServed : ℕ
 mostServed = 3 * mostNodes
 
 -- What the code of one command leaves: this world, this charge, and its reply laid at a place of the answer buffer.
-pub record CommandAs (poolLength tableLength : ℕ) (pages : List (List ℕ)) (table : Worktable) (before after : List ℕ) (r : Progress) (t : Tariff)
+pub record CommandAs (poolLength tableLength : ℕ) (pages : List (List ℕ)) (table : Worktable) (before after : List ℕ) (r : Progress) (n : Session)
     (c : Command) (at : ℕ) (w : World) : Type 0 where
-  pub charged : ChargedAs Grew poolLength tableLength pages table (r .charged) (w .state) mostServed (commandWorld t c w) (commandCharge t c w)
-  pub answers : after ≡ lay before at (replyBytes (commandReply t c w))
-  pub behind : r .at ≡ at + length (replyBytes (commandReply t c w))
+  pub charged : ChargedAs Grew poolLength tableLength pages table (r .charged) (w .state) mostServed (commandWorld n c w) (commandCharge n c w)
+  pub answers : after ≡ lay before at (replyBytes (commandReply n c w))
+  pub behind : r .at ≡ at + length (replyBytes (commandReply n c w))
 
 -- What the code of a whole batch leaves.
 pub record RunAs (poolLength tableLength : ℕ) (pages : List (List ℕ)) (table : Worktable) (before after charges : List ℕ) (r : Ran) (t : Tariff)
     (cs : List Command) (w : World) : Type 0 where
-  pub kept : Grew poolLength tableLength (w .state) (world pages table (r .state)) (runWorld t cs atFirst w)
-  pub paid : charges ≡ runCharges t cs atFirst w
-  pub answers : after ≡ lay before 0 (repliesBytes (runReplies t cs atFirst w))
-  pub behind : r .at ≡ length (repliesBytes (runReplies t cs atFirst w))
+  pub kept : Grew poolLength tableLength (w .state) (world pages table (r .state)) (runWorld cs (atFirst t) w)
+  pub paid : charges ≡ runCharges cs (atFirst t) w
+  pub answers : after ≡ lay before 0 (repliesBytes (runReplies cs (atFirst t) w))
+  pub behind : r .at ≡ length (repliesBytes (runReplies cs (atFirst t) w))

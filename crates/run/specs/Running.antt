@@ -7,6 +7,7 @@ use native.Mathlib.Omega.{arith}
 use lib.ListN.{length}
 use Rattle.laws.specs.Options.{none-some}
 use Rattle.account.specs.declared.Tariff.{Tariff}
+use Rattle.account.specs.Range.{Ranged}
 use Rattle.command.specs.declared.Command.{Command}
 use Rattle.command.specs.declared.Step.the-variants.{Next, Invalid}
 use Rattle.command.specs.Command.{InRange, Onward, commandAt}
@@ -31,21 +32,21 @@ pub record Running (poolLength tableLength : ℕ) (t : Tariff) (batch empty : Li
   pub rest : List Command
   pub left : commandsFrom batch from ≡ some rest
   pub whole : done ++ rest ≡ commandsIn batch
-  pub ran : RunOn poolLength tableLength pages table empty answers none paid (atStart (start .state)) here t done start
+  pub ran : RunOn poolLength tableLength pages table empty answers none paid (atStart (start .state) t) here done start
   pub ready : Ready poolLength tableLength (length empty) paid here rest
 
-pub running-start : (P T : ℕ) (t : Tariff) (batch empty charges : List ℕ) (w : World) → Growing P T (w .state) → Fits batch (length empty) →
-    charges ≡ noCharges → Running P T t batch empty 0 w (w .pages) (w .table) empty charges charges (atStart (w .state))
-running-start P T t batch empty charges w g f e =
+pub running-start : (P T : ℕ) (t : Tariff) (batch empty charges : List ℕ) (w : World) → Growing P T (w .state) → Ranged t → Fits batch (length empty) →
+    charges ≡ noCharges → Running P T t batch empty 0 w (w .pages) (w .table) empty charges charges (atStart (w .state) t)
+running-start P T t batch empty charges w g ranged f e =
     let few = commandsFrom-few batch 0 (commandsIn batch) (f .valid) in
-    let r = ready-start {cs = commandsIn batch} e (length empty) g (f .room) (omega (arith, few, f .short)) in
+    let r = ready-start {cs = commandsIn batch} e (length empty) g ranged (f .room) (omega (arith, few, f .short)) in
     record {
       within = omega arith;
       done = [];
       rest = commandsIn batch;
       left = f .valid;
       whole = refl;
-      ran = on-none t w refl r;
+      ran = on-none w refl r;
       ready = r;
     }
 
@@ -82,7 +83,7 @@ module _ {P T : ℕ} {t : Tariff} {batch empty : List ℕ} {from : ℕ} {start :
     running-ready n e = ready-front (alone c) (first .tail) both n e
 
     pub running-next : {P′ T′ : ℕ} {pages′ : List (List ℕ)} {table′ : Worktable} {answers′ paid′ : List ℕ} {there : Ran} →
-        RunOn P′ T′ pages′ table′ answers answers′ paid paid′ here there t (alone c) (world pages table (here .state)) →
+        RunOn P′ T′ pages′ table′ answers answers′ paid paid′ here there (alone c) (world pages table (here .state)) →
         Running P′ T′ t batch empty next start pages′ table′ answers′ none paid′ there
     running-next x =
         record {
@@ -106,4 +107,4 @@ module _ {P T : ℕ} {t : Tariff} {batch empty : List ℕ} {from : ℕ} {start :
       let whole : r .done ≡ commandsIn batch =
       sym (append-nil (r .done)) ∙ ap (λ (cs : List Command). r .done ++ cs) (sym nothing) ∙ r .whole in
       on-whole e
-      (subst (λ (cs : List Command). RunOn P T pages table empty answers none paid (atStart (start .state)) here t cs start) whole (r .ran))
+      (subst (λ (cs : List Command). RunOn P T pages table empty answers none paid (atStart (start .state) t) here cs start) whole (r .ran))

@@ -10,12 +10,14 @@ ghost use Rattle.run_serve.specs.Step.{InBytes};
 ghost use Rattle.command.specs.Command.{InRange, roomFor};
 ghost use Rattle.book.specs.InTurn.{noCharges};
 ghost use Rattle.run.specs.Run.{CommandAs, RunAs};
+ghost use Rattle.run.specs.Session.{sessionOf};
 ghost use Rattle.run.specs.Stretch.{alone, Ready, RunOn};
 ghost use Rattle.run.specs.Valid.{commandsIn, Fits};
 use super::Progress;
 use super::Ran;
+use super::Session;
 use super::charges::add;
-use super::charges::panel_after;
+use super::charges::session_after;
 use super::replies::reply;
 use super::replies::reply_ceiling;
 use super::replies::reply_pairs;
@@ -41,16 +43,17 @@ pub fn run_command(
     answers: &mut [u8],
     ids: &mut [u32; MOST_NODES],
     state: State,
-    tariff: Tariff,
+    session: Session,
     command: Command,
     at: usize,
 ) -> Progress
-    requires { ⌜ (Growing (length (now pool)) (length (now table)) state) × (Ranged tariff) × (InRange command)
+    requires { ⌜ (Growing (length (now pool)) (length (now table)) state) × (Ranged (session .tariff)) × (InRange command)
         × (at + roomFor command ≤ length (now answers)) × (length (now ids) ≡ nodeLimit mostBlocks) ⌝ }
     ensures { λ r. ⌜ (InBytes CommandAs (now (pool .exit)) (now (table .exit)) (now (answers .entry))
-        (now (answers .exit)) r tariff command at (worldIn (now (pool .entry)) (now (table .entry)) state))
+        (now (answers .exit)) r (sessionOf session) command at (worldIn (now (pool .entry)) (now (table .entry)) state))
         × (length (now (ids .exit)) ≡ nodeLimit mostBlocks) ⌝ }
 {
+    let tariff = session.tariff;
     match command {
         Command::Get { key } => {
             let done = get(pool, table, state, tariff, key);
@@ -79,7 +82,7 @@ pub fn run_command(
     }
 }
 
-// Runs a command where a batch stands: its reply is laid behind the last, its charge added to the panel that speaks.
+// Runs a command where a batch stands: its reply is laid behind the last, its charge added to the current panel.
 pub fn run_step(
     pool: &mut [u8],
     table: &mut [u8],
@@ -87,25 +90,25 @@ pub fn run_step(
     ids: &mut [u32; MOST_NODES],
     charges: &mut [u64; PANELS],
     here: Ran,
-    tariff: Tariff,
     command: Command,
 ) -> Ran
     requires { ⌜ (Ready (length (now pool)) (length (now table)) (length (now answers)) (now charges) here (alone command))
-        × (Ranged tariff) × (InRange command) × (length (now ids) ≡ nodeLimit mostBlocks) ⌝ }
+        × (InRange command) × (length (now ids) ≡ nodeLimit mostBlocks) ⌝ }
     ensures { λ r. ⌜ (InBytes RunOn (now (pool .exit)) (now (table .exit)) (now (answers .entry))
-        (now (answers .exit)) (now (charges .entry)) (now (charges .exit)) here r tariff (alone command)
+        (now (answers .exit)) (now (charges .entry)) (now (charges .exit)) here r (alone command)
         (worldIn (now (pool .entry)) (now (table .entry)) (here .state)))
         × (length (now (ids .exit)) ≡ nodeLimit mostBlocks) ⌝ }
 {
     let before = here.state;
-    let done = run_command(pool, table, answers, ids, before, tariff, command, here.at);
+    let session = here.session;
+    let done = run_command(pool, table, answers, ids, before, session, command, here.at);
     let paid = done.charged;
-    add(charges, here.panel, paid.charge);
+    add(charges, session.panel, paid.charge);
     let state = paid.state;
-    let panel = panel_after(command, here.panel);
+    let next = session_after(command, session);
     Ran {
         state,
-        panel,
+        session: next,
         at: done.at,
     }
 }
@@ -129,7 +132,7 @@ pub fn run_commands(
     let mut ids = [0u32; MOST_NODES];
     let mut here = Ran {
         state,
-        panel: 0,
+        session: Session { panel: 0, tariff },
         at: 0,
     };
     let mut at: usize = 0;
@@ -137,16 +140,7 @@ pub fn run_commands(
         let step = command_at(batch, at);
         match step {
             Step::Next { command, next } => {
-                here = run_step(
-                    pool,
-                    table,
-                    answers,
-                    &mut ids,
-                    charges,
-                    here,
-                    tariff,
-                    command,
-                );
+                here = run_step(pool, table, answers, &mut ids, charges, here, command);
                 at = next;
             }
             Step::Invalid => {

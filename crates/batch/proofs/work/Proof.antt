@@ -47,7 +47,11 @@ same-length-3 : tie.Need-same-length-3
 same-length-3 c = search needs
 
 same-length-4 : tie.Need-same-length-4
-same-length-4 c = search needs
+same-length-4 c =
+    let c4 = c .before .before .before .before in
+    let c13 = c4 .before .before .before .before .before .before .before .before .before in
+    let c24 = c13 .before .before .before .before .before .before .before .before .before .before .before in
+    c4 .close .kept .1 .0 ∙ c13 .run-commands .kept .1 .0 ∙ c24 .mount .kept .1 .0
 
 same-length-5 : tie.Need-same-length-5
 same-length-5 c = search needs

@@ -9,6 +9,7 @@ use Rattle.account.specs.declared.Tariff.{Tariff}
 use Rattle.command.specs.declared.Command.{Command}
 use Rattle.tree.specs.NodeRequest.{read, countAfterAll}
 use Rattle.book.specs.Command.{requests}
+use Rattle.book.specs.Session.{Session}
 use Rattle.store.specs.Serve as Store
 use Rattle.store_laws.specs.Numbers.{last}
 use Rattle.model.specs.State.{State, bookOf}
@@ -38,12 +39,13 @@ module _ {blocks : ℕ} {w : World} {s : State} (k : Runs blocks w s) (ps : List
   limit = nodeLimit blocks
 
   -- THE REQUESTS OF A COMMAND
-  pub command-runs : (t : Tariff) (c : Command) → Valid c → 1 + (mostNumbers + last (s .run)) < bound32 → Ran blocks t (requests limit c (bookOf s)) w s
-  command-runs t c valid number =
+  pub command-runs : (n : Session) (c : Command) → Valid c → 1 + (mostNumbers + last (s .run)) < bound32 →
+      Ran blocks (n .tariff) (requests limit n c (bookOf s)) w s
+  command-runs n c valid number =
       let b = bookOf s in
-      let rs = requests limit c b in
-      let d = does limit (omega (arith, k .few)) b ps (h .spells) (h .most) c valid in
-      let l = command-length limit c b ps (h .spells) (omega (arith, h .most, k .few)) valid in
-      list-runs t rs (countAfterAll rs (b .count)) k (d .served .fits)
-      (command-narrow limit b ps (h .spells) (omega (arith, h .most, k .few)) (book-narrow s (k .fits .now)) c valid)
+      let rs = requests limit n c b in
+      let d = does limit (omega (arith, k .few)) b ps (h .spells) (h .most) n c valid in
+      let l = command-length limit n c b ps (h .spells) (omega (arith, h .most, k .few)) valid in
+      list-runs (n .tariff) rs (countAfterAll rs (b .count)) k (d .served .fits)
+      (command-narrow limit b ps (h .spells) (omega (arith, h .most, k .few)) (book-narrow s (k .fits .now)) n c valid)
       (omega (arith, l, h .most, k .few))

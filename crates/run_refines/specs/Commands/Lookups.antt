@@ -20,6 +20,7 @@ use Rattle.tree.specs.Get.{getAnswer}
 use Rattle.tree.specs.Delete.{deletionFor, deleteRequests}
 use Rattle.tree.specs.Scan.{leavesAfter, pairsFrom, scanReads, scanAnswer}
 use Rattle.book.specs.Command.{short, listed, ceilingReply, requests, answer}
+use Rattle.book.specs.Session.{Session}
 use Rattle.store.specs.Serve as Store
 use Rattle.store_laws.specs.Numbers.{last}
 use Rattle.model.specs.State.{State, bookOf, serveAll}
@@ -40,7 +41,10 @@ use Rattle.run_refines.specs.Commands.Descents.{Walked, descent-walked}
 use Rattle.run_refines.specs.Commands.Commands.{reads-served, reads-charged}
 
 module _ {blocks : ℕ} {w : World} {s : State} (k : Runs blocks w s) (ps : List Pair) (h : Holds (nodeLimit blocks) (bookOf s) ps)
-    (number : 1 + (mostNumbers + last (s .run)) < bound32) (t : Tariff) where
+    (number : 1 + (mostNumbers + last (s .run)) < bound32) (n : Session) where
+  abbrev t : Tariff
+  t = n .tariff
+
   abbrev limit : ℕ
   limit = nodeLimit blocks
 
@@ -71,15 +75,15 @@ module _ {blocks : ℕ} {w : World} {s : State} (k : Runs blocks w s) (ps : List
     value-is = ap (λ (x : Node). lookup key (pairsOf x)) (down .node)
 
     -- GET
-    pub get-world : descent t key w .now ≡ servedAll t (requests limit (Get key) (bookOf s)) w
+    pub get-world : descent t key w .now ≡ servedAll t (requests limit n (Get key) (bookOf s)) w
     unfolding requests
     get-world = down .world
 
-    pub get-charge : descent t key w .charge ≡ chargedAll t (requests limit (Get key) (bookOf s)) w
+    pub get-charge : descent t key w .charge ≡ chargedAll t (requests limit n (Get key) (bookOf s)) w
     unfolding requests
     get-charge = down .charge
 
-    pub get-answer : answer limit (Get key) (bookOf s) ≡ short (valueOr Got (valueIn t key w))
+    pub get-answer : answer limit n (Get key) (bookOf s) ≡ short (valueOr Got (valueIn t key w))
     unfolding answer
     get-answer = ap (λ (o : Option ℕ). short (valueOr Got o)) (sym value-is)
 
@@ -106,20 +110,20 @@ module _ {blocks : ℕ} {w : World} {s : State} (k : Runs blocks w s) (ps : List
     deletions-are : deletionFor (valueIn t key w) (descent t key w .leaf) key ≡ deletions
     deletions-are = ap₂ (λ (o : Option ℕ) (n : ℕ). deletionFor o n key) value-is (down .leaf)
 
-    pub delete-world : delete t key w ≡ servedAll t (requests limit (Delete key) (bookOf s)) w
+    pub delete-world : delete t key w ≡ servedAll t (requests limit n (Delete key) (bookOf s)) w
     unfolding delete requests deleteRequests
     delete-world =
         deletion-served (valueIn t key w) ∙
         ap₂ (servedAll t) deletions-are (down .world) ∙
         sym (servedAll-append t (reads key) deletions w)
 
-    pub delete-charge : deleteCharge t key w ≡ chargedAll t (requests limit (Delete key) (bookOf s)) w
+    pub delete-charge : deleteCharge t key w ≡ chargedAll t (requests limit n (Delete key) (bookOf s)) w
     unfolding deleteCharge requests deleteRequests
     delete-charge =
         ap₂ _+_ (down .charge) (deletion-charged (valueIn t key w) ∙ ap₂ (chargedAll t) deletions-are (down .world)) ∙
         sym (chargedAll-append t (reads key) deletions w)
 
-    pub delete-answer : answer limit (Delete key) (bookOf s) ≡ short (valueOr Deleted (valueIn t key w))
+    pub delete-answer : answer limit n (Delete key) (bookOf s) ≡ short (valueOr Deleted (valueIn t key w))
     unfolding answer
     delete-answer = ap (λ (o : Option ℕ). short (valueOr Deleted o)) (sym value-is)
 
@@ -164,7 +168,7 @@ module _ {blocks : ℕ} {w : World} {s : State} (k : Runs blocks w s) (ps : List
         ap (λ (rs : List NodeRequest). chargedAll t rs w) (sym (map-append read (onPath low) behind))
 
     -- "Low above high: an empty list and no node read."
-    pub scan-world : scanWorld t low high most w ≡ servedAll t (requests limit (Scan low high most) (bookOf s)) w
+    pub scan-world : scanWorld t low high most w ≡ servedAll t (requests limit n (Scan low high most) (bookOf s)) w
     unfolding scanWorld requests scanReads
     scan-world = go (ltb high low)
       where
@@ -174,7 +178,7 @@ module _ {blocks : ℕ} {w : World} {s : State} (k : Runs blocks w s) (ps : List
         go true = refl
         go false = read-world
 
-    pub scan-charge : scanCharge t low high most w ≡ chargedAll t (requests limit (Scan low high most) (bookOf s)) w
+    pub scan-charge : scanCharge t low high most w ≡ chargedAll t (requests limit n (Scan low high most) (bookOf s)) w
     unfolding scanCharge requests scanReads
     scan-charge = go (ltb high low)
       where
@@ -197,20 +201,20 @@ module _ {blocks : ℕ} {w : World} {s : State} (k : Runs blocks w s) (ps : List
         go true = refl
         go false = sym pairs-are
 
-    pub scan-answer : answer limit (Scan low high most) (bookOf s) ≡ listed (scanPairs t low high most w)
+    pub scan-answer : answer limit n (Scan low high most) (bookOf s) ≡ listed (scanPairs t low high most w)
     unfolding answer
     scan-answer = ap listed scan-pairs
 
   -- CEILING: what is served is that scan's, up to the greatest key and with a most of 1; it answers the first pair
   module _ (key : ℕ) (small : key < bound32) where
-    pub ceiling-world : scanWorld t key lastKey 1 w ≡ servedAll t (requests limit (Ceiling key) (bookOf s)) w
+    pub ceiling-world : scanWorld t key lastKey 1 w ≡ servedAll t (requests limit n (Ceiling key) (bookOf s)) w
     unfolding requests
     ceiling-world = scan-world key lastKey 1 small
 
-    pub ceiling-charge : scanCharge t key lastKey 1 w ≡ chargedAll t (requests limit (Ceiling key) (bookOf s)) w
+    pub ceiling-charge : scanCharge t key lastKey 1 w ≡ chargedAll t (requests limit n (Ceiling key) (bookOf s)) w
     unfolding requests
     ceiling-charge = scan-charge key lastKey 1 small
 
-    pub ceiling-answer : answer limit (Ceiling key) (bookOf s) ≡ ceilingReply (first (scanPairs t key lastKey 1 w))
+    pub ceiling-answer : answer limit n (Ceiling key) (bookOf s) ≡ ceilingReply (first (scanPairs t key lastKey 1 w))
     unfolding answer
     ceiling-answer = ap (λ (found : List Pair). ceilingReply (first found)) (scan-pairs key lastKey 1 small)

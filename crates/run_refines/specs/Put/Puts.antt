@@ -38,6 +38,7 @@ use Rattle.tree_laws.specs.Served.{count-reads}
 use Rattle.tree_laws.specs.PutLaws.{countPut, refused-past, put-refused, put-accepted, put-served}
 use Rattle.store_laws.specs.Numbers.{last}
 use Rattle.book.specs.Command.{short, answer}
+use Rattle.book.specs.Session.{Session}
 use Rattle.model.specs.State.{State, bookOf, serveAll, charges}
 use Rattle.demands.specs.Says.{bookOf-count}
 use Rattle.demands.specs.NodesNarrow.{book-narrow}
@@ -64,14 +65,17 @@ use Rattle.run_refines.specs.Put.Splits.{Course, fits-behind, countAfter
 use Rattle.run_refines.specs.Put.SplitsUpwards.{splitUpwards-is}
 
 -- What the code's put leaves, as the model has it.
-pub record PutAgrees (B : ℕ) (t : Tariff) (key value : ℕ) (s : State) (w : World) (rs : List NodeRequest) : Type 0 where
-  pub runs : Runs B (put t key value w .now) (serveAll t rs s)
-  pub charge : put t key value w .charge ≡ charges t rs s
-  pub answer : short (put t key value w .answer) ≡ answer (nodeLimit B) (Put key value) (bookOf s)
+pub record PutAgrees (B : ℕ) (n : Session) (key value : ℕ) (s : State) (w : World) (rs : List NodeRequest) : Type 0 where
+  pub runs : Runs B (put (n .tariff) key value w .now) (serveAll (n .tariff) rs s)
+  pub charge : put (n .tariff) key value w .charge ≡ charges (n .tariff) rs s
+  pub answer : short (put (n .tariff) key value w .answer) ≡ answer (nodeLimit B) n (Put key value) (bookOf s)
 
-module _ (t : Tariff) {B : ℕ} (s : State) (w : World) (a : Runs B w s) (pairs : List Pair) (spells : Spells (bookOf s .table) (bookOf s .count) pairs)
+module _ (n : Session) {B : ℕ} (s : State) (w : World) (a : Runs B w s) (pairs : List Pair) (spells : Spells (bookOf s .table) (bookOf s .count) pairs)
     (key value : ℕ) (small : key < bound32) (narrow : value < bound32)
     (number : 1 + (4 * length (putRequests (nodeLimit B) (bookOf s .count) (bookOf s .table) key value) + last (s .run)) < bound32) where
+  abbrev t : Tariff
+  t = n .tariff
+
   abbrev table : Table
   table = bookOf s .table
 
@@ -132,7 +136,7 @@ module _ (t : Tariff) {B : ℕ} (s : State) (w : World) (a : Runs B w s) (pairs 
 
   -- A put that is carried out, said as a list of requests that the code served.
   agreed : (answer′ : Answer) → put t key value w ≡ doing (servedAll t rs w) (chargedAll t rs w) answer′ →
-      short answer′ ≡ answer limit (Put key value) (bookOf s) → Suits B rs s (countAfterAll rs count) → PutAgrees B t key value s w rs
+      short answer′ ≡ answer limit n (Put key value) (bookOf s) → Suits B rs s (countAfterAll rs count) → PutAgrees B n key value s w rs
   agreed answer′ e f suits =
       let together = served-together t rs s w (countAfterAll rs count) a suits in
       record {
@@ -149,7 +153,7 @@ module _ (t : Tariff) {B : ℕ} (s : State) (w : World) (a : Runs B w s) (pairs 
         number = number;
       }
 
-  answer-accepted : putRefused limit count table key ≡ false → short (valueOr Replaced (getAnswer count table key)) ≡ answer limit (Put key value) (bookOf s)
+  answer-accepted : putRefused limit count table key ≡ false → short (valueOr Replaced (getAnswer count table key)) ≡ answer limit n (Put key value) (bookOf s)
   unfolding answer
   answer-accepted e = rw e refl
 
@@ -197,7 +201,7 @@ module _ (t : Tariff) {B : ℕ} (s : State) (w : World) (a : Runs B w s) (pairs 
         ) in
         λ i. record { now = now i; charge = paid i }
 
-    put-edits : PutAgrees B t key value s w rs
+    put-edits : PutAgrees B n key value s w rs
     put-edits =
         agreed (valueOr Replaced (getAnswer count table key))
         (put-by Room room ∙ ap (answering (valueOr Replaced (getAnswer count table key))) edit-is)
@@ -224,7 +228,7 @@ module _ (t : Tariff) {B : ℕ} (s : State) (w : World) (a : Runs B w s) (pairs 
         (ap₂ (λ (m n : ℕ). ltb (nodeLimit m) (n + idsNeeded table onPath)) (blocks-are a) (nodes-are a) ∙ e)
 
     -- refused
-    put-refuses : ltb limit (count + idsNeeded table onPath) ≡ true → PutAgrees B t key value s w rs
+    put-refuses : ltb limit (count + idsNeeded table onPath) ≡ true → PutAgrees B n key value s w rs
     unfolding answer
     put-refuses e =
         let none-asked : rs ≡ [] = put-refused table count pairs spells key value small limit within (asked true e) in
@@ -309,19 +313,19 @@ module _ (t : Tariff) {B : ℕ} (s : State) (w : World) (a : Runs B w s) (pairs 
           ) in
           λ i. record { now = now i; charge = paid i }
 
-      put-splits : PutAgrees B t key value s w rs
+      put-splits : PutAgrees B n key value s w rs
       put-splits =
           agreed Absent (new-by false e ∙ ap (answering Absent) split-is)
           (ap (λ (o : Option ℕ). short (valueOr Replaced o)) (sym new-key) ∙ answer-accepted accepted-new) (suits-accepted accepted-new)
 
   -- EVERY PUT
-  pub put-agrees : PutAgrees B t key value s w rs
+  pub put-agrees : PutAgrees B n key value s w rs
   put-agrees = go (fitOf key (pairsOf (table leaf))) refl
     where
-      new : (at : ℕ) → fitOf key (pairsOf (table leaf)) ≡ Full at → (b : Bool) → ltb limit (count + idsNeeded table onPath) ≡ b → PutAgrees B t key value s w rs
+      new : (at : ℕ) → fitOf key (pairsOf (table leaf)) ≡ Full at → (b : Bool) → ltb limit (count + idsNeeded table onPath) ≡ b → PutAgrees B n key value s w rs
       new at f true e = put-refuses at f e
       new at f false e = put-splits at f e
 
-      go : (f : Fitting) → fitOf key (pairsOf (table leaf)) ≡ f → PutAgrees B t key value s w rs
+      go : (f : Fitting) → fitOf key (pairsOf (table leaf)) ≡ f → PutAgrees B n key value s w rs
       go Room f = put-edits f
       go (Full at) f = new at f (ltb limit (count + idsNeeded table onPath)) refl

@@ -12,13 +12,13 @@ use Rattle.desk_run.proofs.rounds.run_rounds.Statement.{statement}
 use Rattle.desk_run.proofs.rounds.run_rounds.Tie as tie
 
 abbrev Inv-loop : tie.InvT-loop
-Inv-loop pool₀ table₀ lengths queues answers₀ charges₀ tariff rounds ids₀ places₀ here₀ round₀ pool table answers charges ids places here round =
+Inv-loop pool₀ table₀ lengths queues answers₀ charges₀ rounds ids₀ places₀ here₀ round₀ pool table answers charges ids places here round =
     (length pool ≡ length pool₀) × (length table ≡ length table₀) × (length answers ≡ length answers₀) × (length ids ≡ nodeLimit mostBlocks) ×
-    Circling (length pool) (length table) tariff lengths queues rounds round (world (pagesOf pool₀) (tableFrom table₀) (here₀ .state)) (pagesOf pool)
-    (tableFrom table) answers₀ answers charges₀ charges places here
+    Circling (length pool) (length table) (here₀ .session .tariff) lengths queues rounds round (world (pagesOf pool₀) (tableFrom table₀) (here₀ .state))
+    (pagesOf pool) (tableFrom table) answers₀ answers charges₀ charges places here
 
 abbrev μ-loop : tie.MeasureT-loop
-μ-loop pool₀ table₀ lengths queues answers₀ charges₀ tariff rounds ids₀ places₀ here₀ round₀ pool table answers charges ids places here round =
+μ-loop pool₀ table₀ lengths queues answers₀ charges₀ rounds ids₀ places₀ here₀ round₀ pool table answers charges ids places here round =
     rounds - round
 
 loop-holds : tie.Need-loop-holds Inv-loop μ-loop
@@ -30,7 +30,7 @@ loop-holds c =
       refl,
       length-replicate {A = ℕ} 620 0,
       circling-start (world (pagesOf (a .pool .now)) (tableFrom (a .table .now)) (a .state)) (a .answers .now) (a .charges .now) (c5 .pre .0)
-          (c5 .pre .2) (c5 .pre .3),
+          (c5 .pre .1) (c5 .pre .2) (c5 .pre .3),
     )
 
 run-round-requires : tie.Need-run-round-requires Inv-loop μ-loop
@@ -39,7 +39,6 @@ run-round-requires c κs =
     let l = c6 .before .loop in
     let c13 = c6 .before .before .before .before .before .before .before in (
       circling-ready (l .inv .4) (c6 .loop-test .taken) (length (l .answers)) (l .inv .2),
-      c13 .pre .1,
       c13 .pre .2 .fill,
       l .inv .4 .placed,
       l .inv .3,

@@ -27,7 +27,7 @@ run-step-requires c κs =
     let c5 = c .before .before .before .before .before in
     let c13 = c5 .before .before .before .before .before .before .before .before in
     let a = c13 .args in
-    (ready-name (a .panel) (a .queue .now) (a .at) (a .answers .now) (c13 .pre .0) (step-is c5), c13 .pre .1, c13 .pre .2, c13 .pre .3)
+    (ready-name (a .panel) (a .queue .now) (a .at) (a .answers .now) (c13 .pre .0) (step-is c5), c13 .pre .1, c13 .pre .2)
 
 run-step-requires-2 : tie.Need-run-step-requires-2
 run-step-requires-2 c κs =
@@ -38,7 +38,6 @@ run-step-requires-2 c κs =
     let w = worldIn (a .pool .now) (a .table .now) (a .here .state) in
     let x = c11 .run-step in (
       ready-own (a .panel) (a .queue .now) (a .at) (a .answers .now) (c25 .pre .0) (step-is c17) {w = w} (x .ensures .0) (x .kept .1 .1 .0),
-      c25 .pre .1,
       found-range (a .queue .now) (a .at) _ _ (step-is c17),
       x .ensures .1,
     )
@@ -76,9 +75,9 @@ returns-2 c =
     let a = c7 .args in
     let w = worldIn (a .pool .now) (a .table .now) (a .here .state) in
     let none = sym (c2 .command-at .ensures) ∙ c .enum-told .given .1 in (
-      on-no-turn (a .panel) (a .queue .now) (a .at) (a .answers .now) (c7 .pre .0) none (a .tariff) w refl,
+      on-no-turn (a .panel) (a .queue .now) (a .at) (a .answers .now) (c7 .pre .0) none w refl,
       sym (place-is (a .panel) (a .queue .now) (a .at) Invalid none),
-      c7 .pre .3,
+      c7 .pre .2,
     )
 
 pub run-turn-spec : {M : Type 1} → statement M

@@ -5,6 +5,7 @@ use Rattle.command.specs.Command.{roomFor}
 use Rattle.flash_rows.specs.Worktable.{tableFrom}
 use Rattle.flash_blocks.specs.Pages.{pagesOf}
 use Rattle.flash_allocate.specs.World.{world}
+use Rattle.run.specs.Session.{sessionOf}
 use Rattle.run.specs.Replies.{put-replied, get-replied, delete-replied, scan-replied, ceiling-replied, panel-replied, range-is}
 use borrow.Author.Needs.{needs}
 use Rattle.run.proofs.run.run_command.Statement.{statement}
@@ -19,8 +20,8 @@ get-requires c κs = search needs
 reply-requires : tie.Need-reply-requires
 reply-requires c κs =
     let c9 = c .before .before .before .before .before .before .before .before .before in
-    let c14 = c9 .before .before .before .before .before in
-    omega (arith, c14 .pre .3, ap roomFor (c9 .command .given .1))
+    let c15 = c9 .before .before .before .before .before .before in
+    omega (arith, c15 .pre .3, ap roomFor (c9 .command .given .1))
 
 same-length : tie.Need-same-length
 same-length c = search needs
@@ -36,11 +37,11 @@ returns c =
     let c2 = c .before .before in
     let c8 = c2 .before .before .before .before .before .before in
     let c12 = c8 .before .before .before .before in
-    let c17 = c12 .before .before .before .before .before in
-    let a = c17 .args in (
-      get-replied (a .tariff) (world (pagesOf (a .pool .now)) (tableFrom (a .table .now)) (a .state)) (c17 .pre .0) (c12 .command .given .1)
+    let c18 = c12 .before .before .before .before .before .before in
+    let a = c18 .args in (
+      get-replied (sessionOf (a .session)) (world (pagesOf (a .pool .now)) (tableFrom (a .table .now)) (a .state)) (c18 .pre .0) (c12 .command .given .1)
           (c8 .get .ensures) (c2 .reply .ensures),
-      c17 .pre .4,
+      c18 .pre .4,
     )
 
 enum-known-command-2 : tie.Need-enum-known-command-2
@@ -52,8 +53,8 @@ put-requires c κs = search needs
 reply-requires-2 : tie.Need-reply-requires-2
 reply-requires-2 c κs =
     let c10 = c .before .before .before .before .before .before .before .before .before .before in
-    let c15 = c10 .before .before .before .before .before in
-    omega (arith, c15 .pre .3, ap roomFor (c10 .command2 .given .1))
+    let c16 = c10 .before .before .before .before .before .before in
+    omega (arith, c16 .pre .3, ap roomFor (c10 .command2 .given .1))
 
 same-length-4 : tie.Need-same-length-4
 same-length-4 c = search needs
@@ -69,9 +70,9 @@ returns-2 c =
     let c2 = c .before .before in
     let c8 = c2 .before .before .before .before .before .before in
     let c13 = c8 .before .before .before .before .before in
-    let c18 = c13 .before .before .before .before .before in
-    let a = c18 .args in (
-      put-replied (a .tariff) (world (pagesOf (a .pool .now)) (tableFrom (a .table .now)) (a .state)) (c13 .command2 .given .1)
+    let c19 = c13 .before .before .before .before .before .before in
+    let a = c19 .args in (
+      put-replied (sessionOf (a .session)) (world (pagesOf (a .pool .now)) (tableFrom (a .table .now)) (a .state)) (c13 .command2 .given .1)
           (c8 .put .ensures .0) (c2 .reply2 .ensures),
       c8 .put .ensures .1,
     )
@@ -85,8 +86,8 @@ delete-requires c κs = search needs
 reply-requires-3 : tie.Need-reply-requires-3
 reply-requires-3 c κs =
     let c9 = c .before .before .before .before .before .before .before .before .before in
-    let c14 = c9 .before .before .before .before .before in
-    omega (arith, c14 .pre .3, ap roomFor (c9 .command3 .given .1))
+    let c15 = c9 .before .before .before .before .before .before in
+    omega (arith, c15 .pre .3, ap roomFor (c9 .command3 .given .1))
 
 same-length-7 : tie.Need-same-length-7
 same-length-7 c = search needs
@@ -102,11 +103,11 @@ returns-3 c =
     let c2 = c .before .before in
     let c8 = c2 .before .before .before .before .before .before in
     let c12 = c8 .before .before .before .before in
-    let c17 = c12 .before .before .before .before .before in
-    let a = c17 .args in (
-      delete-replied (a .tariff) (world (pagesOf (a .pool .now)) (tableFrom (a .table .now)) (a .state)) (c17 .pre .0) (c12 .command3 .given .1)
+    let c18 = c12 .before .before .before .before .before .before in
+    let a = c18 .args in (
+      delete-replied (sessionOf (a .session)) (world (pagesOf (a .pool .now)) (tableFrom (a .table .now)) (a .state)) (c18 .pre .0) (c12 .command3 .given .1)
           (c8 .delete .ensures) (c2 .reply3 .ensures),
-      c17 .pre .4,
+      c18 .pre .4,
     )
 
 enum-known-command-4 : tie.Need-enum-known-command-4
@@ -115,16 +116,16 @@ enum-known-command-4 c = search needs
 scan-requires : tie.Need-scan-requires
 scan-requires c κs =
     let c4 = c .before .before .before .before in
-    let c9 = c4 .before .before .before .before .before in
-    let range = range-is (c4 .command4 .given .1) (c9 .pre .2) in
-    (c9 .pre .0 .good, c9 .pre .1, omega (arith, c9 .pre .0 .limited, c9 .pre .0 .good .most), range .0, range .1, c9 .pre .4)
+    let c10 = c4 .before .before .before .before .before .before in
+    let range = range-is (c4 .command4 .given .1) (c10 .pre .2) in
+    (c10 .pre .0 .good, c10 .pre .1, omega (arith, c10 .pre .0 .limited, c10 .pre .0 .good .most), range .0, range .1, c10 .pre .4)
 
 reply-pairs-requires : tie.Need-reply-pairs-requires
 reply-pairs-requires c κs =
     let c5 = c .before .before .before .before .before in
     let c10 = c5 .before .before .before .before .before in
-    let c15 = c10 .before .before .before .before .before in
-    (c5 .scan .ensures .sized, omega (arith, c5 .scan .ensures .count, c15 .pre .3, ap roomFor (c10 .command4 .given .1)))
+    let c16 = c10 .before .before .before .before .before .before in
+    (c5 .scan .ensures .sized, omega (arith, c5 .scan .ensures .count, c16 .pre .3, ap roomFor (c10 .command4 .given .1)))
 
 same-length-10 : tie.Need-same-length-10
 same-length-10 c = search needs
@@ -140,9 +141,9 @@ returns-4 c =
     let c2 = c .before .before in
     let c8 = c2 .before .before .before .before .before .before in
     let c13 = c8 .before .before .before .before .before in
-    let c18 = c13 .before .before .before .before .before in
-    let a = c18 .args in (
-      scan-replied (a .tariff) (world (pagesOf (a .pool .now)) (tableFrom (a .table .now)) (a .state)) (c18 .pre .0) (c13 .command4 .given .1)
+    let c19 = c13 .before .before .before .before .before .before in
+    let a = c19 .args in (
+      scan-replied (sessionOf (a .session)) (world (pagesOf (a .pool .now)) (tableFrom (a .table .now)) (a .state)) (c19 .pre .0) (c13 .command4 .given .1)
           (c8 .scan .ensures) (c2 .reply-pairs .ensures),
       c8 .scan .ensures .room,
     )
@@ -152,10 +153,10 @@ enum-told c = search needs
 
 returns-5 : tie.Need-returns-5
 returns-5 c =
-    let c5 = c .before .before .before .before .before in
-    let a = c5 .args in (
-      panel-replied (a .tariff) (world (pagesOf (a .pool .now)) (tableFrom (a .table .now)) (a .state)) (c5 .pre .0) (c .enum-told .given .1),
-      c5 .pre .4,
+    let c6 = c .before .before .before .before .before .before in
+    let a = c6 .args in (
+      panel-replied (sessionOf (a .session)) (world (pagesOf (a .pool .now)) (tableFrom (a .table .now)) (a .state)) (c6 .pre .0) (c .enum-told .given .1),
+      c6 .pre .4,
     )
 
 enum-known-command-5 : tie.Need-enum-known-command-5
@@ -163,15 +164,15 @@ enum-known-command-5 c = search needs
 
 scan-requires-2 : tie.Need-scan-requires-2
 scan-requires-2 c κs =
-    let c9 = c .before .before .before .before .before .before .before .before .before in
-    (c9 .pre .0 .good, c9 .pre .1, omega (arith, c9 .pre .0 .limited, c9 .pre .0 .good .most), omega arith, omega arith, c9 .pre .4)
+    let c10 = c .before .before .before .before .before .before .before .before .before .before in
+    (c10 .pre .0 .good, c10 .pre .1, omega (arith, c10 .pre .0 .limited, c10 .pre .0 .good .most), omega arith, omega arith, c10 .pre .4)
 
 reply-ceiling-requires : tie.Need-reply-ceiling-requires
 reply-ceiling-requires c κs =
     let c5 = c .before .before .before .before .before in
     let c10 = c5 .before .before .before .before .before in
-    let c15 = c10 .before .before .before .before .before in
-    (c5 .scan2 .ensures .sized, omega (arith, c15 .pre .3, ap roomFor (c10 .command5 .given .1)))
+    let c16 = c10 .before .before .before .before .before .before in
+    (c5 .scan2 .ensures .sized, omega (arith, c16 .pre .3, ap roomFor (c10 .command5 .given .1)))
 
 same-length-13 : tie.Need-same-length-13
 same-length-13 c = search needs
@@ -187,9 +188,9 @@ returns-6 c =
     let c2 = c .before .before in
     let c8 = c2 .before .before .before .before .before .before in
     let c13 = c8 .before .before .before .before .before in
-    let c18 = c13 .before .before .before .before .before in
-    let a = c18 .args in (
-      ceiling-replied (a .tariff) (world (pagesOf (a .pool .now)) (tableFrom (a .table .now)) (a .state)) (c18 .pre .0) (c13 .command5 .given .1)
+    let c19 = c13 .before .before .before .before .before .before in
+    let a = c19 .args in (
+      ceiling-replied (sessionOf (a .session)) (world (pagesOf (a .pool .now)) (tableFrom (a .table .now)) (a .state)) (c19 .pre .0) (c13 .command5 .given .1)
           (c8 .scan2 .ensures) (c2 .reply-ceiling .ensures),
       c8 .scan2 .ensures .room,
     )

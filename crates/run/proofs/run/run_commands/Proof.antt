@@ -15,13 +15,13 @@ use Rattle.run.proofs.run.run_commands.Statement.{statement}
 use Rattle.run.proofs.run.run_commands.Tie as tie
 
 abbrev Inv-loop : tie.InvT-loop
-Inv-loop pool₀ table₀ batch answers₀ charges₀ tariff ids₀ here₀ at₀ pool table answers charges ids here at =
+Inv-loop pool₀ table₀ batch answers₀ charges₀ ids₀ here₀ at₀ pool table answers charges ids here at =
     (length pool ≡ length pool₀) × (length table ≡ length table₀) × (length answers ≡ length answers₀) × (length ids ≡ nodeLimit mostBlocks) ×
-    Running (length pool) (length table) tariff batch answers₀ at (world (pagesOf pool₀) (tableFrom table₀) (here₀ .state)) (pagesOf pool)
+    Running (length pool) (length table) (here₀ .session .tariff) batch answers₀ at (world (pagesOf pool₀) (tableFrom table₀) (here₀ .state)) (pagesOf pool)
     (tableFrom table) answers charges₀ charges here
 
 abbrev μ-loop : tie.MeasureT-loop
-μ-loop pool₀ table₀ batch answers₀ charges₀ tariff ids₀ here₀ at₀ pool table answers charges ids here at = length batch - at
+μ-loop pool₀ table₀ batch answers₀ charges₀ ids₀ here₀ at₀ pool table answers charges ids here at = length batch - at
 
 -- the command found
 step-is : (k : tie.After-known-told Inv-loop μ-loop) →
@@ -39,7 +39,7 @@ loop-holds c =
       refl,
       length-replicate {A = ℕ} 620 0,
       running-start _ _ (a .tariff) (a .batch .now) (a .answers .now) (a .charges .now)
-          (world (pagesOf (a .pool .now)) (tableFrom (a .table .now)) (a .state)) (c4 .pre .0) (c4 .pre .2) (c4 .pre .3),
+          (world (pagesOf (a .pool .now)) (tableFrom (a .table .now)) (a .state)) (c4 .pre .0) (c4 .pre .1) (c4 .pre .2) (c4 .pre .3),
     )
 
 command-at-requires : tie.Need-command-at-requires Inv-loop μ-loop
@@ -52,10 +52,8 @@ run-step-requires : tie.Need-run-step-requires Inv-loop μ-loop
 run-step-requires c κs =
     let c5 = c .before .before .before .before .before in
     let c9 = c5 .before .before .before .before in
-    let l = c9 .before .loop in
-    let c15 = c9 .before .before .before .before .before .before in (
+    let l = c9 .before .loop in (
       running-ready (l .inv .4) (c9 .loop-test .taken) _ _ (step-is c5) (length (l .answers)) (l .inv .2),
-      c15 .pre .1,
       running-range (l .inv .4) (c9 .loop-test .taken) _ _ (step-is c5),
       l .inv .3,
     )

@@ -11,14 +11,14 @@ run-command-requires c κs = search needs
 add-requires : tie.Need-add-requires
 add-requires c κs =
     let c8 = c .before .before .before .before .before .before .before .before in
-    let c17 = c8 .before .before .before .before .before .before .before .before .before in
-    let a = c17 .args in
+    let c18 = c8 .before .before .before .before .before .before .before .before .before .before in
+    let a = c18 .args in
     let w = worldIn (a .pool .now) (a .table .now) (a .here .state) in
-    let ready = c17 .pre .0 in
-    (ready .sixteen, ready .speaks, one-fits {w = w} ready (c17 .pre .2) (c8 .run-command .ensures .0))
+    let ready = c18 .pre .0 in
+    (ready .sixteen, ready .current, one-fits {w = w} ready (c18 .pre .1) (c8 .run-command .ensures .0))
 
-panel-after-requires : tie.Need-panel-after-requires
-panel-after-requires c κs = search needs
+session-after-requires : tie.Need-session-after-requires
+session-after-requires c κs = search needs
 
 same-length : tie.Need-same-length
 same-length c = search needs
@@ -33,12 +33,12 @@ returns : tie.Need-returns
 returns c =
     let c2 = c .before .before in
     let c11 = c2 .before .before .before .before .before .before .before .before .before in
-    let c20 = c11 .before .before .before .before .before .before .before .before .before in
-    let a = c20 .args in
+    let c21 = c11 .before .before .before .before .before .before .before .before .before .before in
+    let a = c21 .args in
     let w = worldIn (a .pool .now) (a .table .now) (a .here .state) in
     let run = c11 .run-command in (
-      on-one {w = w} (c20 .pre .0) (c20 .pre .2) (run .ensures .0) (c2 .add .last .0) (c2 .add .ensures) (c .panel-after .result)
-          (c .panel-after .ensures),
+      on-one {w = w} (c21 .pre .0) (c21 .pre .1) (run .ensures .0) (c2 .add .last .0) (c2 .add .ensures) (c .session-after .result)
+          (c .session-after .ensures),
       run .ensures .1,
     )
 
@@ -48,7 +48,7 @@ run-step-spec =
     (tie.spec
     run-command-requires
     add-requires
-    panel-after-requires
+    session-after-requires
     same-length
     same-length-2
     same-length-3
