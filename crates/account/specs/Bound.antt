@@ -10,7 +10,7 @@ use Rattle.account.specs.declared.Tariff.{Tariff}
 use Rattle.account.specs.declared.Account.{Account}
 use Rattle.account.specs.Tariff.{switchTo, limit}
 use Rattle.account.specs.Serve.{serveOf, fresh, chargesOf, accountAfter}
-use Rattle.account.specs.Fair.{serve-low, after-low}
+use Rattle.account.specs.ServeLaws.{serve-low, after-low}
 use Rattle.account.specs.Schedule.{Schedule, paid, endOf}
 use Rattle.account.specs.Potential.{potential, allowance, potential-step, potential-most, potential-fresh}
 

@@ -2,7 +2,7 @@ pub mod Tariff
 pub mod Range
 pub mod Serve
 pub mod Schedule
-pub mod Fair
+pub mod ServeLaws
 pub mod Potential
 pub mod Bound
 pub mod Events

@@ -17,7 +17,7 @@ use Rattle.account.specs.declared.Account.{Account}
 use Rattle.account.specs.Tariff.{switchTo, limit}
 use Rattle.account.specs.Range.{Ranged}
 use Rattle.account.specs.Serve.{serveOf, fresh}
-use Rattle.account.specs.Fair.{mostCharge, serve-low, serve-most}
+use Rattle.account.specs.ServeLaws.{mostCharge, serve-low, serve-most}
 use Rattle.account.specs.Schedule.{Schedule, payFor}
 use Rattle.account.specs.Potential.{potential, allowance, allowance-le, potential-step, potential-fresh}
 use Rattle.account.specs.Events.{Event, asks, makes, made, Known, accountsServed, accountsMade, chargesAll, paidAll}

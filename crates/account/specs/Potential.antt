@@ -15,7 +15,7 @@ use Rattle.account.specs.declared.Account.{Account}
 use Rattle.account.specs.declared.Served.{Served}
 use Rattle.account.specs.Tariff.{other, differ, cost, switchTo, limit, limit-both}
 use Rattle.account.specs.Serve.{scoreOf, switchedOf, stayedOf, serveOf}
-use Rattle.account.specs.Fair.{serve-switched, serve-stayed}
+use Rattle.account.specs.ServeLaws.{serve-switched, serve-stayed}
 use Rattle.account.specs.Schedule.{moveCost, payFor}
 
 -- What an account in a mode may be charged beyond three times a schedule that begins in the same mode: the switch back into it, so

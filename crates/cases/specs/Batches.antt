@@ -12,7 +12,7 @@ small n = 0 ∷ 0 ∷ 0 ∷ n ∷ []
 abbrev pub greatest : List ℕ
 greatest = replicate 4 255
 
--- Commands: panel, look up, hang, strip, next route up; the last of any four bytes.
+-- Commands: panel, get, put, delete, ceiling; the last of any four bytes.
 abbrev pub panel : ℕ → List ℕ
 panel p = 0x05 ∷ 0 ∷ 1 ∷ p ∷ []
 

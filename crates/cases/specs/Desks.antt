@@ -33,7 +33,7 @@ deskOn room lengths bytes = deskOf pool (replicate 4096 7) lengths bytes (replic
 abbrev resultBy : Outcome → Result
 resultBy o = result (o .number) (take (o .length) (o .answers)) (o .charges)
 
--- TWO QUEUES of two commands: panel 0 hangs 7 and looks it up, panel 1 looks it up and strips it.
+-- TWO QUEUES of two commands: panel 0 puts 7 and gets it, panel 1 gets it and deletes it.
 abbrev twoLengths : List ℕ
 twoLengths = small 18 ++ small 14
 
@@ -107,7 +107,7 @@ pub wrong-queues : map (λ q. resultBy (deskOn 7 (q .0) (q .1))) wrongQueues ≡
 unfolding deskComputes
 wrong-queues = refl
 
--- 4 of the joined bytes: one look up asks for 7 answer bytes.
+-- 4 of the joined bytes: one get asks for 7 answer bytes.
 pub short-room : map (λ room. resultBy (deskOn room (small 7) (get 7))) (6 ∷ 7 ∷ []) ≡
     result 4 [] none ∷ result 0 absent (3 ∷ replicate 15 0) ∷ []
 unfolding deskComputes

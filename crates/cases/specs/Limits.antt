@@ -68,19 +68,19 @@ fiveBlocks = replicate 81920 0
 abbrev one : List ℕ
 one = poolBytes (inFirst prepared)
 
--- A strip of 7; a sweep from 9 to 3 by the two bytes of its `most`; a hang; so many hangs of 7.
-abbrev strip : List ℕ
-strip = 0x03 ∷ 0 ∷ 4 ∷ 0 ∷ 0 ∷ 0 ∷ 7 ∷ []
+-- A delete of 7; a scan from 9 to 3 by the two bytes of its `most`; a put; so many puts of 7.
+abbrev delete : List ℕ
+delete = 0x03 ∷ 0 ∷ 4 ∷ 0 ∷ 0 ∷ 0 ∷ 7 ∷ []
 
-abbrev sweep : ℕ → ℕ → List ℕ
-sweep high low = 0x04 ∷ 0 ∷ 10 ∷ 0 ∷ 0 ∷ 0 ∷ 9 ∷ 0 ∷ 0 ∷ 0 ∷ 3 ∷ high ∷ low ∷ []
+abbrev scan : ℕ → ℕ → List ℕ
+scan high low = 0x04 ∷ 0 ∷ 10 ∷ 0 ∷ 0 ∷ 0 ∷ 9 ∷ 0 ∷ 0 ∷ 0 ∷ 3 ∷ high ∷ low ∷ []
 
-abbrev hang : ℕ → List ℕ
-hang k = 0x02 ∷ 0 ∷ 8 ∷ 0 ∷ 0 ∷ 0 ∷ k ∷ 0 ∷ 0 ∷ 0 ∷ 50 ∷ []
+abbrev put : ℕ → List ℕ
+put k = 0x02 ∷ 0 ∷ 8 ∷ 0 ∷ 0 ∷ 0 ∷ k ∷ 0 ∷ 0 ∷ 0 ∷ 50 ∷ []
 
-abbrev hangs : ℕ → List ℕ
-hangs zero = []
-hangs (suc n) = hang 7 ++ hangs n
+abbrev puts : ℕ → List ℕ
+puts zero = []
+puts (suc n) = put 7 ++ puts n
 
 -- A tariff of ones with another number in one of its eight places; all eight in turn, for prepare.
 abbrev at : ℕ → ℕ → ℕ → ℕ
@@ -104,30 +104,30 @@ limits =
     row (calls (lent fiveBlocks 5120 [] 0)) (number 5) ∷
     row (calls (lent fiveBlocks 5119 [] 0)) (number 2) ∷
     -- "most (two bytes, 1 to 32)" (3)
-    row (calls (lent zeros 4096 (sweep 0 0) 512)) (number 3) ∷
-    row (calls (lent zeros 4096 (sweep 0 1) 512)) (number 5) ∷
-    row (calls (lent zeros 4096 (sweep 0 32) 512)) (number 5) ∷
-    row (calls (lent zeros 4096 (sweep 0 33) 512)) (number 3) ∷
-    row (calls (lent zeros 4096 (sweep 1 1) 4096)) (number 3) ∷
+    row (calls (lent zeros 4096 (scan 0 0) 512)) (number 3) ∷
+    row (calls (lent zeros 4096 (scan 0 1) 512)) (number 5) ∷
+    row (calls (lent zeros 4096 (scan 0 32) 512)) (number 5) ∷
+    row (calls (lent zeros 4096 (scan 0 33) 512)) (number 3) ∷
+    row (calls (lent zeros 4096 (scan 1 1) 4096)) (number 3) ∷
     -- "7 bytes for each command of tags 01 to 03 and 3 + 8 × most for each sweep" (4)
     row (calls (lent zeros 4096 get 7)) (number 5) ∷
     row (calls (lent zeros 4096 get 6)) (number 4) ∷
-    row (calls (lent zeros 4096 (hang 7) 7)) (number 5) ∷
-    row (calls (lent zeros 4096 (hang 7) 6)) (number 4) ∷
-    row (calls (lent zeros 4096 strip 7)) (number 5) ∷
-    row (calls (lent zeros 4096 strip 6)) (number 4) ∷
-    row (calls (lent zeros 4096 (sweep 0 5) 43)) (number 5) ∷
-    row (calls (lent zeros 4096 (sweep 0 5) 42)) (number 4) ∷
-    row (calls (lent zeros 4096 (get ++ sweep 0 5) 50)) (number 5) ∷
-    row (calls (lent zeros 4096 (get ++ sweep 0 5) 49)) (number 4) ∷
+    row (calls (lent zeros 4096 (put 7) 7)) (number 5) ∷
+    row (calls (lent zeros 4096 (put 7) 6)) (number 4) ∷
+    row (calls (lent zeros 4096 delete 7)) (number 5) ∷
+    row (calls (lent zeros 4096 delete 6)) (number 4) ∷
+    row (calls (lent zeros 4096 (scan 0 5) 43)) (number 5) ∷
+    row (calls (lent zeros 4096 (scan 0 5) 42)) (number 4) ∷
+    row (calls (lent zeros 4096 (get ++ scan 0 5) 50)) (number 5) ∷
+    row (calls (lent zeros 4096 (get ++ scan 0 5) 49)) (number 4) ∷
     -- "Node limit: 10 × (B − 2); 65,536 bytes give 20" (7)
     row (mountsPages (inFirst (treeOf 20))) (number 0) ∷
     row (mountsPages (inFirst (treeOf 21))) (number 7) ∷
     -- "Are enough node ids unused?" (9): a new key in a full leaf needs one id. At 19 nodes there is one; at 20 there is none, and a key that is
     -- there needs none
-    row (answers (lent (poolBytes (inFirst (treeOf 19))) 4096 (hang 24) 7)) (answered 0 (0x80 ∷ 0 ∷ 0 ∷ []) 13) ∷
-    row (answers (lent (poolBytes (inFirst (treeOf 20))) 4096 (hang 24) 7)) (answered 0 (0x8F ∷ 0 ∷ 1 ∷ 9 ∷ []) 0) ∷
-    row (answers (lent (poolBytes (inFirst (treeOf 20))) 4096 (hang 23) 7)) (answered 0 (0x82 ∷ 0 ∷ 4 ∷ 0 ∷ 0 ∷ 0 ∷ 123 ∷ []) 6) ∷
+    row (answers (lent (poolBytes (inFirst (treeOf 19))) 4096 (put 24) 7)) (answered 0 (0x80 ∷ 0 ∷ 0 ∷ []) 13) ∷
+    row (answers (lent (poolBytes (inFirst (treeOf 20))) 4096 (put 24) 7)) (answered 0 (0x8F ∷ 0 ∷ 1 ∷ 9 ∷ []) 0) ∷
+    row (answers (lent (poolBytes (inFirst (treeOf 20))) 4096 (put 23) 7)) (answered 0 (0x82 ∷ 0 ∷ 4 ∷ 0 ∷ 0 ∷ 0 ∷ 123 ∷ []) 6) ∷
     -- "at most three pages a log node" (7)
     row (mountsPages (inFirst (logNode (linked ∷ []) (1 ∷ 2 ∷ [])))) (number 0) ∷
     row (mountsPages (inFirst (logNode (linked ∷ []) (1 ∷ 2 ∷ 3 ∷ [])))) (number 7) ∷
@@ -156,8 +156,8 @@ limits =
     row (scored 105) (sizes (50 ∷ 54 ∷ 1 ∷ [])) ∷
     row (scored 620) (sizes (50 ∷ 54 ∷ 54 ∷ 54 ∷ 54 ∷ 54 ∷ 54 ∷ 54 ∷ 54 ∷ 54 ∷ 54 ∷ 30 ∷ [])) ∷
     -- "Entries go to a buffer of 27, written as one page when the next group does not fit, and at closing if not empty"
-    row (logged (lent one 4096 (hangs 27) 512)) (sizes (1 ∷ 27 ∷ [])) ∷
-    row (logged (lent one 4096 (hangs 28) 512)) (sizes (1 ∷ 27 ∷ 1 ∷ [])) ∷
+    row (logged (lent one 4096 (puts 27) 512)) (sizes (1 ∷ 27 ∷ [])) ∷
+    row (logged (lent one 4096 (puts 28) 512)) (sizes (1 ∷ 27 ∷ 1 ∷ [])) ∷
     -- "is each tariff number in range?" (10): six of 0 to 1,000,000, the two switches of 1 to 1,000,000
     eachPlace 0 (0 ∷ 0 ∷ 0 ∷ 0 ∷ 0 ∷ 0 ∷ 10 ∷ 10 ∷ []) ++
     (eachPlace 1 (replicate 8 0) ++ (eachPlace 1000000 (replicate 8 0) ++ eachPlace 1000001 (replicate 8 10)))

@@ -58,7 +58,7 @@ pub no-such-panel : map (resultOf 7)
 unfolding computes
 no-such-panel = refl
 
--- A hang with 9 charges nobody: panel 5's key in a full leaf where no id is left.
+-- A put with 9 charges nobody: panel 5's key in a full leaf where no id is left.
 pub put-with-nine : (let o = batchOf (poolBytes (inFirst (treeOf 20))) (replicate 4096 7) (panel 5 ++ put 24 24) (replicate 7 7) in
     result (o .number) (take (o .length) (o .answers)) (o .charges)) ≡ result 0 (0x8F ∷ 0 ∷ 1 ∷ 9 ∷ []) none
 unfolding computes

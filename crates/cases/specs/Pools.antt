@@ -100,6 +100,6 @@ alone p = page 2 (log (linked ∷ [])) ∷ p ∷ []
 abbrev pub prepared : List Page
 prepared = alone (checkpointAt 3 tariff (score 0 0 ∷ []) 1)
 
--- A look up of 7.
+-- A get of 7.
 abbrev pub get : List ℕ
 get = 0x01 ∷ 0 ∷ 4 ∷ 0 ∷ 0 ∷ 0 ∷ 7 ∷ []

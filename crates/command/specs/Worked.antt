@@ -20,7 +20,7 @@ use Rattle.command.specs.BatchLaws.{commandsOf-long}
 use Rattle.command.specs.Spelled.{batchBytes, commandsOf-batchBytes}
 use Rattle.command.specs.Answer.{answerBytes, scanBytes, ceilingBytes}
 
--- hang 7 with 100, look up 7, strip 7, look up 7
+-- put 7 with 100, get 7, delete 7, get 7
 pub workedBatch : List ℕ
 workedBatch =
     0x02 ∷ 0 ∷ 8 ∷ 0 ∷ 0 ∷ 0 ∷ 7 ∷ 0 ∷ 0 ∷ 0 ∷ 100 ∷
@@ -29,32 +29,32 @@ workedBatch =
     0x01 ∷ 0 ∷ 4 ∷ 0 ∷ 0 ∷ 0 ∷ 7 ∷
     []
 
--- a sweep from 9 to 3 with a most
-pub sweepBatch : ℕ → List ℕ
-sweepBatch most = 0x04 ∷ 0 ∷ 10 ∷ 0 ∷ 0 ∷ 0 ∷ 9 ∷ 0 ∷ 0 ∷ 0 ∷ 3 ∷ 0 ∷ most ∷ []
+-- a scan from 9 to 3 with a most
+pub scanBatch : ℕ → List ℕ
+scanBatch most = 0x04 ∷ 0 ∷ 10 ∷ 0 ∷ 0 ∷ 0 ∷ 9 ∷ 0 ∷ 0 ∷ 0 ∷ 3 ∷ 0 ∷ most ∷ []
 
 pub worked-commands : commandsOf workedBatch ≡ some (Put 7 100 ∷ Get 7 ∷ Delete 7 ∷ Get 7 ∷ [])
 unfolding workedBatch commandsOf commandsFrom run commandAt commandOf inRange fieldAt lengthOf find rows isNodeBytes numberAt part
 worked-commands = refl
 
--- The empty batch; sweeps of 0, 1, 32 and 33; a tag that is no command's; a length off by one; a payload cut short.
+-- The empty batch; scans of 0, 1, 32 and 33; a tag that is no command's; a length off by one; a payload cut short.
 pub worked-room :
     map askedOf
     ([] ∷
     workedBatch ∷
-    sweepBatch 0 ∷
-    sweepBatch 1 ∷
-    sweepBatch 32 ∷
-    sweepBatch 33 ∷
+    scanBatch 0 ∷
+    scanBatch 1 ∷
+    scanBatch 32 ∷
+    scanBatch 33 ∷
     (0x10 ∷ 0 ∷ 4 ∷ 0 ∷ 0 ∷ 0 ∷ 7 ∷ []) ∷
     (0x01 ∷ 0 ∷ 5 ∷ 0 ∷ 0 ∷ 0 ∷ 7 ∷ 0 ∷ []) ∷
     (0x01 ∷ 0 ∷ 4 ∷ 0 ∷ 0 ∷ 0 ∷ []) ∷
     []) ≡
     Bytes 0 0 0 ∷ Bytes 28 4 0 ∷ Invalid ∷ Bytes 11 1 0 ∷ Bytes 259 1 0 ∷ Invalid ∷ Invalid ∷ Invalid ∷ Invalid ∷ []
-unfolding workedBatch sweepBatch askedOf commandsOf commandsFrom run commandAt commandOf inRange fieldAt lengthOf find rows isNodeBytes numberAt part
+unfolding workedBatch scanBatch askedOf commandsOf commandsFrom run commandAt commandOf inRange fieldAt lengthOf find rows isNodeBytes numberAt part
 worked-room = refl
 
--- Document 02, P2: panels 0, 15 and 16; a length off by one, both ways; a payload cut short; a panel behind a look up, which alone asks for room.
+-- Document 02, P2: panels 0, 15 and 16; a length off by one, both ways; a payload cut short; a panel behind a get, which alone asks for room.
 pub worked-panels :
     map askedOf
     ((0x05 ∷ 0 ∷ 1 ∷ 0 ∷ []) ∷
@@ -69,7 +69,7 @@ pub worked-panels :
 unfolding askedOf commandsOf commandsFrom run commandAt commandOf inRange fieldAt lengthOf find rows isNodeBytes numberAt part
 worked-panels = refl
 
--- Document 02, P3: a ceiling; its length off by one, both ways; its payload cut short; the tags beside it; one behind a look up.
+-- Document 02, P3: a ceiling; its length off by one, both ways; its payload cut short; the tags beside it; one behind a get.
 pub worked-ceilings :
     map askedOf
     ((0x07 ∷ 0 ∷ 4 ∷ 0 ∷ 0 ∷ 0 ∷ 7 ∷ []) ∷
@@ -88,7 +88,7 @@ pub worked-ceiling-answer : ceilingBytes (7, 100) ≡ 0x87 ∷ 0 ∷ 8 ∷ 0 ∷
 unfolding ceilingBytes field
 worked-ceiling-answer = refl
 
--- The answers of the worked output, a refusal with 9, and the sweep 9 to 3.
+-- The answers of the worked output, a refusal with 9, and the scan 9 to 3.
 pub worked-answers :
     map answerBytes (Absent ∷ Got 100 ∷ Replaced 100 ∷ Deleted 100 ∷ Refused 9 ∷ []) ≡
     (0x80 ∷ 0 ∷ 0 ∷ []) ∷
@@ -106,7 +106,7 @@ pub worked-sweeps :
 unfolding scanBytes field
 worked-sweeps = refl
 
--- "Batch: 0 to 32,768 bytes." Two hangs and 4,678 look ups have 2 × 11 + 4,678 × 7 = 32,768 bytes. They are read by the law of what is spelled, not
+-- "Batch: 0 to 32,768 bytes." Two puts and 4,678 gets have 2 × 11 + 4,678 × 7 = 32,768 bytes. They are read by the law of what is spelled, not
 -- command by command.
 pub longest : List Command
 longest = replicate 2 (Put 7 100) ++ replicate 4678 (Get 7)

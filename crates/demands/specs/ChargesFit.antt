@@ -8,7 +8,7 @@ use Rattle.layout.specs.Layout.{mostNodes}
 use Rattle.account.specs.declared.Request.the-variants.{Read, Edit, Rewrite}
 use Rattle.account.specs.declared.Tariff.{Tariff}
 use Rattle.account.specs.Range.{Ranged}
-use Rattle.account.specs.Fair.{mostCharge, serve-most}
+use Rattle.account.specs.ServeLaws.{mostCharge, serve-most}
 use Rattle.pairs.specs.Pairs.{Pair}
 use Rattle.command.specs.declared.Command.{Command}
 use Rattle.tree.specs.NodeRequest.{NodeRequest, read, edit, rewrite, create}

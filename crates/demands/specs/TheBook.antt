@@ -29,7 +29,7 @@ use Rattle.desk_order.specs.Weigh.{commandsIn as commandCount}
 use Rattle.desk_order.specs.OwnOrder.{own-order as in-order}
 use Rattle.desk_order.specs.Fair.{fair as few-others}
 use Rattle.desk_queues.specs.Queues.{queuesOf}
-use Rattle.desk_queues.specs.Joined.{allCommands, dealt, joinedBytes, bytesBy, joinedOf, joinedBy}
+use Rattle.desk_queues.specs.Joined.{allCommands, interleaved, joinedBytes, bytesBy, joinedOf, joinedBy}
 use Rattle.desk_laws.specs.QueueLaws.{cut-few, cut-bytes, cut-length}
 use Rattle.desk_laws.specs.Read.{Read, all-read, read-length, served-spelled}
 use Rattle.desk_laws.specs.JoinedLaws.{joined-short, joined-length as length-of}
@@ -439,7 +439,7 @@ module _ (lengths queues : List ℕ) (bytes : Bytes queues) (qs : List (List ℕ
   pub joined-length : length (joinedBytes css) ≡ length queues + 4 * commandCount css
   joined-length = omega (arith, length-of made few reads, cut-length lengths queues qs cut)
 
-  pub joined-commands : length (joinedBytes css) ≤ mostBatchBytes → commandsOf (joinedBytes css) ≡ some (dealt (turns css))
+  pub joined-commands : length (joinedBytes css) ≤ mostBatchBytes → commandsOf (joinedBytes css) ≡ some (interleaved (turns css))
   joined-commands = joined-short made few reads
 
   -- "Serves one command from each queue that still has any, in panel order, round and round": what panel p is served is its queue, whole and in

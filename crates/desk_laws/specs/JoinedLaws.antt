@@ -19,37 +19,37 @@ use Rattle.command.specs.Spelled.{batchBytes, commandsOf-batchBytes}
 use Rattle.desk_order.specs.Turns.{turns}
 use Rattle.desk_order.specs.Turned.{every-turns, panels-turns}
 use Rattle.desk_order.specs.Weigh.{weigh, weighAll, weighTurns, commandsIn, turns-weigh, length-turns}
-use Rattle.desk_queues.specs.Joined.{dealt, joined, joinedBytes}
+use Rattle.desk_queues.specs.Joined.{interleaved, joined, joinedBytes}
 use Rattle.desk_laws.specs.ValidBytes.{bytes-batch}
 use Rattle.desk_laws.specs.Read.{Read, bytesFor, read-length, read-valid, read-bytes}
 
 -- TURNS DEALT, each with a command 05 before it: two commands a turn, four bytes more, and no more room.
-pub length-dealt : (xs : List (ℕ × Command)) → length (dealt xs) ≡ 2 * length xs
-length-dealt [] = refl
-length-dealt (x ∷ xs) = omega (arith, length-dealt xs)
+pub length-interleaved : (xs : List (ℕ × Command)) → length (interleaved xs) ≡ 2 * length xs
+length-interleaved [] = refl
+length-interleaved (x ∷ xs) = omega (arith, length-interleaved xs)
 
-pub room-dealt : (xs : List (ℕ × Command)) → roomForAll (dealt xs) ≡ weighTurns roomFor xs
-room-dealt [] = refl
-room-dealt (x ∷ xs) = omega (arith, room-dealt xs)
+pub room-interleaved : (xs : List (ℕ × Command)) → roomForAll (interleaved xs) ≡ weighTurns roomFor xs
+room-interleaved [] = refl
+room-interleaved (x ∷ xs) = omega (arith, room-interleaved xs)
 
 pub panel-bytes : (p : ℕ) → bytesFor (Panel p) ≡ 4
 unfolding commandBytes
 panel-bytes p = length-field 5 (p ∷ [])
 
-pub bytes-dealt : (xs : List (ℕ × Command)) → length (batchBytes (dealt xs)) ≡ weighTurns bytesFor xs + 4 * length xs
-bytes-dealt [] = refl
-bytes-dealt (x ∷ xs) =
+pub bytes-interleaved : (xs : List (ℕ × Command)) → length (batchBytes (interleaved xs)) ≡ weighTurns bytesFor xs + 4 * length xs
+bytes-interleaved [] = refl
+bytes-interleaved (x ∷ xs) =
     omega (
       arith,
-      length-append (commandBytes (Panel (x .0))) (batchBytes (x .1 ∷ dealt xs)),
-      length-append (commandBytes (x .1)) (batchBytes (dealt xs)),
+      length-append (commandBytes (Panel (x .0))) (batchBytes (x .1 ∷ interleaved xs)),
+      length-append (commandBytes (x .1)) (batchBytes (interleaved xs)),
       panel-bytes (x .0),
-      bytes-dealt xs,
+      bytes-interleaved xs,
     )
 
-pub dealt-valid : {xs : List (ℕ × Command)} → Every (λ x. x .0 < panels) xs → Every (λ x. Valid (x .1)) xs → Every Valid (dealt xs)
-dealt-valid every-none every-none = every-none
-dealt-valid (both p ps) (both v vs) = both p (both v (dealt-valid ps vs))
+pub interleaved-valid : {xs : List (ℕ × Command)} → Every (λ x. x .0 < panels) xs → Every (λ x. Valid (x .1)) xs → Every Valid (interleaved xs)
+interleaved-valid every-none every-none = every-none
+interleaved-valid (both p ps) (both v vs) = both p (both v (interleaved-valid ps vs))
 
 -- What queues ask for, each for itself.
 weigh-room : (cs : List Command) → weigh roomFor cs ≡ roomForAll cs
@@ -67,18 +67,18 @@ commands-sum (cs ∷ css) = omega (arith, commands-sum css)
 -- THE JOINED COMMANDS of any queues.
 module _ (css : List (List Command)) where
   pub length-joined : length (joined css) ≡ 2 * commandsIn css
-  length-joined = omega (arith, length-dealt (turns css), length-turns css)
+  length-joined = omega (arith, length-interleaved (turns css), length-turns css)
 
   -- Question 4: the room that the queues ask for.
   pub room-joined : roomForAll (joined css) ≡ sum (map roomForAll css)
-  room-joined = room-dealt (turns css) ∙ turns-weigh roomFor css ∙ weighAll-room css
+  room-joined = room-interleaved (turns css) ∙ turns-weigh roomFor css ∙ weighAll-room css
 
   pub bytes-joined : length (joinedBytes css) ≡ weighAll bytesFor css + 4 * commandsIn css
   unfolding joinedBytes
-  bytes-joined = omega (arith, bytes-dealt (turns css), turns-weigh bytesFor css, length-turns css)
+  bytes-joined = omega (arith, bytes-interleaved (turns css), turns-weigh bytesFor css, length-turns css)
 
   pub joined-valid : length css ≤ panels → Every (Every Valid) css → Every Valid (joined css)
-  joined-valid few valid = dealt-valid (every-weaken (λ x l. below (x .0) l) (panels-turns css)) (every-turns Valid valid)
+  joined-valid few valid = interleaved-valid (every-weaken (λ x l. below (x .0) l) (panels-turns css)) (every-turns Valid valid)
     where
       below : (p : ℕ) → p < length css → p < panels
       below p l = omega arith

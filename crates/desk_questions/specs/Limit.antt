@@ -1,4 +1,4 @@
--- The longest queues there are: look ups in one queue, 7 bytes each and 11 with the command 05 before it. They are read by the law of what is
+-- The longest queues there are: gets in one queue, 7 bytes each and 11 with the command 05 before it. They are read by the law of what is
 -- spelled, not command by command. Assumes nothing.
 use mathlib.Core.Path.{_≡_, refl, ap, ap₂, _∙_}
 use mathlib.Core.Bool.{Bool, true, false}
@@ -28,76 +28,76 @@ use Rattle.desk_laws.specs.JoinedLaws.{room-joined, bytes-joined}
 use Rattle.desk_questions.specs.declared.Served.the-variants.{Rounds, Invalid}
 use Rattle.desk_questions.specs.Served.{withinLimit, servedAs, servedOf}
 
--- So many look ups: their bytes, the length of these, and what holds of the commands.
-abbrev pub looks : ℕ → List Command
-looks n = replicate n (Get 7)
+-- So many gets: their bytes, the length of these, and what holds of the commands.
+abbrev pub gets : ℕ → List Command
+gets n = replicate n (Get 7)
 
-bytes-looks : (n : ℕ) → length (batchBytes (looks n)) ≡ 7 * n
+bytes-gets : (n : ℕ) → length (batchBytes (gets n)) ≡ 7 * n
 unfolding commandBytes field
-bytes-looks zero = refl
-bytes-looks (suc n) = omega (arith, bytes-looks n)
+bytes-gets zero = refl
+bytes-gets (suc n) = omega (arith, bytes-gets n)
 
-valid-looks : (n : ℕ) → Every Valid (looks n)
-valid-looks zero = every-none
-valid-looks (suc n) = let l : 7 < 4294967296 = omega arith in both l (valid-looks n)
+valid-gets : (n : ℕ) → Every Valid (gets n)
+valid-gets zero = every-none
+valid-gets (suc n) = let l : 7 < 4294967296 = omega arith in both l (valid-gets n)
 
-named-looks : (n : ℕ) → namedIn (looks n) ≡ 0
-named-looks zero = refl
-named-looks (suc n) = omega (arith, named-looks n)
+named-gets : (n : ℕ) → namedIn (gets n) ≡ 0
+named-gets zero = refl
+named-gets (suc n) = omega (arith, named-gets n)
 
-room-looks : (n : ℕ) → roomForAll (looks n) ≡ 7 * n
-room-looks zero = refl
-room-looks (suc n) = omega (arith, room-looks n)
+room-gets : (n : ℕ) → roomForAll (gets n) ≡ 7 * n
+room-gets zero = refl
+room-gets (suc n) = omega (arith, room-gets n)
 
 module _ (n : ℕ) (h : 7 * n ≤ mostBatchBytes) where
   abbrev lengths : List ℕ
   lengths = bigEndian 4 (7 * n)
 
   abbrev queues : List ℕ
-  queues = batchBytes (looks n)
+  queues = batchBytes (gets n)
 
   -- The length is right: the one queue is the whole buffer, and its commands are these.
   said : lengthAt lengths 0 ≡ 7 * n
   unfolding numberAt
   said = ap number (part-whole lengths 4 (length-bigEndian 4 (7 * n))) ∙ number-bigEndian 4 (7 * n) (omega arith)
 
-  pub fills-looks : fills lengths queues ≡ true
+  pub fills-gets : fills lengths queues ≡ true
   unfolding fills
-  fills-looks = eq-eqb (startAt lengths 1) (length queues) (omega (arith, said, bytes-looks n))
+  fills-gets = eq-eqb (startAt lengths 1) (length queues) (omega (arith, said, bytes-gets n))
 
   whole : queueAt lengths queues 0 ≡ queues
-  whole = ap (part queues 0) said ∙ part-whole queues (7 * n) (bytes-looks n)
+  whole = ap (part queues 0) said ∙ part-whole queues (7 * n) (bytes-gets n)
 
-  own : queueCommands queues ≡ some (looks n)
+  own : queueCommands queues ≡ some (gets n)
   unfolding queueCommands
   own =
-      ap ownCommands (commandsOf-batchBytes (looks n) (valid-looks n) (omega (arith, bytes-looks n))) ∙
-      rw (eq-eqb (namedIn (looks n)) 0 (named-looks n)) refl
+      ap ownCommands (commandsOf-batchBytes (gets n) (valid-gets n) (omega (arith, bytes-gets n))) ∙
+      rw (eq-eqb (namedIn (gets n)) 0 (named-gets n)) refl
 
-  size : length (joinedBytes (looks n ∷ [])) ≡ 11 * n
-  size = omega (arith, bytes-joined (looks n ∷ []), length-batch (looks n), bytes-looks n, length-replicate n (Get 7))
+  size : length (joinedBytes (gets n ∷ [])) ≡ 11 * n
+  size = omega (arith, bytes-joined (gets n ∷ []), length-batch (gets n), bytes-gets n, length-replicate n (Get 7))
 
   -- What they ask for: 11 bytes joined for each, 7 bytes of room, and a round.
-  pub served-looks : servedOf lengths queues ≡ choose (leb (11 * n) mostBatchBytes) (Rounds (7 * n) n) Invalid
+  pub served-gets : servedOf lengths queues ≡ choose (leb (11 * n) mostBatchBytes) (Rounds (7 * n) n) Invalid
   unfolding servedOf
-  served-looks =
+  served-gets =
       ap servedAs (ap withinLimit (ap (λ (q : List ℕ). beside (queueCommands q) (some [])) whole ∙ ap (λ o. beside o (some [])) own)) ∙
-      within (leb (length (joinedBytes (looks n ∷ []))) mostBatchBytes) ∙
+      within (leb (length (joinedBytes (gets n ∷ []))) mostBatchBytes) ∙
       ap (λ (k : ℕ). choose (leb k mostBatchBytes) (Rounds (7 * n) n) Invalid) size
     where
-      room : roomForAll (joined (looks n ∷ [])) ≡ 7 * n
-      room = omega (arith, room-joined (looks n ∷ []), room-looks n)
+      room : roomForAll (joined (gets n ∷ [])) ≡ 7 * n
+      room = omega (arith, room-joined (gets n ∷ []), room-gets n)
 
-      rounds : longest (looks n ∷ []) ≡ n
+      rounds : longest (gets n ∷ []) ≡ n
       rounds = omega (arith, length-replicate n (Get 7))
 
-      within : (b : Bool) → servedAs (choose b (some (looks n ∷ [])) none) ≡ choose b (Rounds (7 * n) n) Invalid
+      within : (b : Bool) → servedAs (choose b (some (gets n ∷ [])) none) ≡ choose b (Rounds (7 * n) n) Invalid
       within true = ap₂ Rounds room rounds
       within false = refl
 
 -- "With its length limit": 2,978 take 32,758 bytes joined, 2,979 take 32,769.
-pub worked-longest : servedOf (bigEndian 4 20846) (batchBytes (looks 2978)) ≡ Rounds 20846 2978
-worked-longest = served-looks 2978 (omega arith)
+pub worked-longest : servedOf (bigEndian 4 20846) (batchBytes (gets 2978)) ≡ Rounds 20846 2978
+worked-longest = served-gets 2978 (omega arith)
 
-pub worked-too-long : servedOf (bigEndian 4 20853) (batchBytes (looks 2979)) ≡ Invalid
-worked-too-long = served-looks 2979 (omega arith)
+pub worked-too-long : servedOf (bigEndian 4 20853) (batchBytes (gets 2979)) ≡ Invalid
+worked-too-long = served-gets 2979 (omega arith)

@@ -20,23 +20,23 @@ use Rattle.desk_questions.specs.Served.{servedOf}
 abbrev Lent : Type 0
 Lent = List ℕ × List ℕ
 
--- hang 7 with 100, look up 7, strip 7
-abbrev hang : List ℕ
-hang = 0x02 ∷ 0 ∷ 8 ∷ 0 ∷ 0 ∷ 0 ∷ 7 ∷ 0 ∷ 0 ∷ 0 ∷ 100 ∷ []
+-- put 7 with 100, get 7, delete 7
+abbrev put : List ℕ
+put = 0x02 ∷ 0 ∷ 8 ∷ 0 ∷ 0 ∷ 0 ∷ 7 ∷ 0 ∷ 0 ∷ 0 ∷ 100 ∷ []
 
-abbrev look : List ℕ
-look = 0x01 ∷ 0 ∷ 4 ∷ 0 ∷ 0 ∷ 0 ∷ 7 ∷ []
+abbrev get : List ℕ
+get = 0x01 ∷ 0 ∷ 4 ∷ 0 ∷ 0 ∷ 0 ∷ 7 ∷ []
 
-abbrev strip : List ℕ
-strip = 0x03 ∷ 0 ∷ 4 ∷ 0 ∷ 0 ∷ 0 ∷ 7 ∷ []
+abbrev delete : List ℕ
+delete = 0x03 ∷ 0 ∷ 4 ∷ 0 ∷ 0 ∷ 0 ∷ 7 ∷ []
 
--- Two queues of two commands; nothing at all, and sixteen queues of nothing; three look ups, nothing, and one.
+-- Two queues of two commands; nothing at all, and sixteen queues of nothing; three gets, nothing, and one.
 abbrev right : List Lent
 right =
-    (bigEndian 4 18 ++ bigEndian 4 14, hang ++ look ++ look ++ strip) ∷
+    (bigEndian 4 18 ++ bigEndian 4 14, put ++ get ++ get ++ delete) ∷
     ([], []) ∷
     (replicate 64 0, []) ∷
-    (bigEndian 4 21 ++ bigEndian 4 0 ++ bigEndian 4 7, look ++ look ++ look ++ look) ∷
+    (bigEndian 4 21 ++ bigEndian 4 0 ++ bigEndian 4 7, get ++ get ++ get ++ get) ∷
     []
 
 pub worked-right : map (λ (x : Lent). fills (x .0) (x .1)) right ≡ true ∷ true ∷ true ∷ true ∷ []
@@ -52,21 +52,21 @@ worked-served = refl
 pub worked-11 :
     map (λ (x : Lent). fills (x .0) (x .1))
     ((replicate 68 0, []) ∷
-    (0 ∷ 0 ∷ 0 ∷ 7 ∷ 0 ∷ [], look) ∷
-    (0 ∷ 0 ∷ 0 ∷ 6 ∷ [], look) ∷
-    (0 ∷ 0 ∷ 0 ∷ 8 ∷ [], look) ∷
-    (255 ∷ 255 ∷ 255 ∷ 255 ∷ 0 ∷ 0 ∷ 0 ∷ 8 ∷ [], look) ∷
-    ([], look) ∷
+    (0 ∷ 0 ∷ 0 ∷ 7 ∷ 0 ∷ [], get) ∷
+    (0 ∷ 0 ∷ 0 ∷ 6 ∷ [], get) ∷
+    (0 ∷ 0 ∷ 0 ∷ 8 ∷ [], get) ∷
+    (255 ∷ 255 ∷ 255 ∷ 255 ∷ 0 ∷ 0 ∷ 0 ∷ 8 ∷ [], get) ∷
+    ([], get) ∷
     []) ≡
     false ∷ false ∷ false ∷ false ∷ false ∷ false ∷ []
 unfolding fills numberAt part
 worked-11 = refl
 
--- Question 3: a queue with a command 05; a look up that reaches over a border; a tag that is no command's. The lengths are right.
+-- Question 3: a queue with a command 05; a get that reaches over a border; a tag that is no command's. The lengths are right.
 abbrev wrong : List Lent
 wrong =
     (0 ∷ 0 ∷ 0 ∷ 4 ∷ [], 0x05 ∷ 0 ∷ 1 ∷ 0 ∷ []) ∷
-    (0 ∷ 0 ∷ 0 ∷ 3 ∷ 0 ∷ 0 ∷ 0 ∷ 4 ∷ [], look) ∷
+    (0 ∷ 0 ∷ 0 ∷ 3 ∷ 0 ∷ 0 ∷ 0 ∷ 4 ∷ [], get) ∷
     (0 ∷ 0 ∷ 0 ∷ 3 ∷ [], 0x80 ∷ 0 ∷ 0 ∷ []) ∷
     []
 

@@ -31,13 +31,13 @@ allCommands [] = some []
 allCommands (q ∷ qs) = beside (queueCommands q) (allCommands qs)
 
 -- "The desk writes a command 05 before every command."
-abbrev pub dealt : List (ℕ × Command) → List Command
-dealt [] = []
-dealt (x ∷ xs) = Panel (x .0) ∷ x .1 ∷ dealt xs
+abbrev pub interleaved : List (ℕ × Command) → List Command
+interleaved [] = []
+interleaved (x ∷ xs) = Panel (x .0) ∷ x .1 ∷ interleaved xs
 
 -- The joined commands, and "the joined bytes".
 abbrev pub joined : List (List Command) → List Command
-joined css = dealt (turns css)
+joined css = interleaved (turns css)
 
 unfoldable pub joinedBytes : List (List Command) → List ℕ
 joinedBytes css = batchBytes (joined css)

@@ -13,7 +13,7 @@ use Rattle.command.specs.Batch.{commandsFrom}
 use Rattle.run.specs.Valid.{listOr}
 use Rattle.desk_order.specs.Turns.{heads, tails}
 use Rattle.desk_queues.specs.Queues.{queueCount, queueAt}
-use Rattle.desk_queues.specs.Joined.{dealt}
+use Rattle.desk_queues.specs.Joined.{interleaved}
 
 -- The commands of queue p that are left, and those of all.
 unfoldable pub restAt : List ℕ → List ℕ → List ℕ → ℕ → List Command
@@ -62,6 +62,6 @@ pub heads-first : (p : ℕ) (cs : List Command) (css : List (List Command)) → 
 heads-first p [] css = refl
 heads-first p (c ∷ cs) css = refl
 
-pub dealt-append : (xs ys : List (ℕ × Command)) → dealt (xs ++ ys) ≡ dealt xs ++ dealt ys
-dealt-append [] ys = refl
-dealt-append (x ∷ xs) ys = ap (λ (cs : List Command). Panel (x .0) ∷ x .1 ∷ cs) (dealt-append xs ys)
+pub interleaved-append : (xs ys : List (ℕ × Command)) → interleaved (xs ++ ys) ≡ interleaved xs ++ interleaved ys
+interleaved-append [] ys = refl
+interleaved-append (x ∷ xs) ys = ap (λ (cs : List Command). Panel (x .0) ∷ x .1 ∷ cs) (interleaved-append xs ys)

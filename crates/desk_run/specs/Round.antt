@@ -21,10 +21,10 @@ use Rattle.run.specs.declared.Ran.{Ran}
 use Rattle.run.specs.Stretch.{Ready, RunOn, on-none, ready-front, ready-behind, on-append}
 use Rattle.desk_order.specs.Turns.{heads}
 use Rattle.desk_queues.specs.Queues.{queueCount, lengthAt, startAt, queueAt, fills}
-use Rattle.desk_queues.specs.Joined.{dealt}
+use Rattle.desk_queues.specs.Joined.{interleaved}
 use Rattle.desk_laws.specs.QueueLaws.{Filled, filled, start-le}
 use Rattle.desk_run.specs.Turn.{turnAt, placeAfter, Taken, takes}
-use Rattle.desk_run.specs.Places.{restAt, rests, Placed, RoundLeft, rest-is, below-drop, below-done, tails-below, heads-first, dealt-append}
+use Rattle.desk_run.specs.Places.{restAt, rests, Placed, RoundLeft, rest-is, below-drop, below-done, tails-below, heads-first, interleaved-append}
 
 -- The turns from a panel on.
 abbrev pub ahead : List ℕ → List ℕ → List ℕ → ℕ → List (ℕ × Command)
@@ -37,8 +37,8 @@ pub record Passing (poolLength tableLength : ℕ) (lengths queues : List ℕ) (p
   pub starts : start ≡ startAt lengths panel
   pub done : List (ℕ × Command)
   pub whole : done ++ ahead lengths queues places₀ panel ≡ heads 0 (rests lengths queues places₀)
-  pub ran : RunOn poolLength tableLength pages table empty answers none paid here there (dealt done) w
-  pub ready : Ready poolLength tableLength (length empty) paid there (dealt (ahead lengths queues places₀ panel))
+  pub ran : RunOn poolLength tableLength pages table empty answers none paid here there (interleaved done) w
+  pub ready : Ready poolLength tableLength (length empty) paid there (interleaved (ahead lengths queues places₀ panel))
   pub sixteen : length places ≡ panels
   pub passed :
       (q : ℕ) → q < panel → commandsFrom (queueAt lengths queues q) (getD places q 0) ≡ some (drop 1 (restAt lengths queues places₀ q))
@@ -47,7 +47,7 @@ pub record Passing (poolLength tableLength : ℕ) (lengths queues : List ℕ) (p
 module _ {P T : ℕ} {lengths queues : List ℕ} where
   -- A round begins at panel 0.
   pub passing-start : {panel : ℕ} → panel ≡ 0 → {w : World} {empty none places : List ℕ} {here : Ran} → w .state ≡ here .state →
-      Placed lengths queues places → Ready P T (length empty) none here (dealt (heads 0 (rests lengths queues places))) →
+      Placed lengths queues places → Ready P T (length empty) none here (interleaved (heads 0 (rests lengths queues places))) →
       Passing P T lengths queues panel 0 w (w .pages) (w .table) empty empty none none places places here here
   passing-start z {w} e p r =
       rw z
@@ -96,10 +96,10 @@ module _ {P T : ℕ} {lengths queues : List ℕ} where
           ap (heads panel) (below-drop (queueCount lengths) (restAt lengths queues places₀) panel passing-inside) ∙
           heads-first panel (restAt lengths queues places₀ panel) (drop (suc panel) (rests lengths queues places₀))
 
-      both : Ready P T (length empty) paid there (dealt turn ++ dealt (ahead lengths queues places₀ (suc panel)))
+      both : Ready P T (length empty) paid there (interleaved turn ++ interleaved (ahead lengths queues places₀ (suc panel)))
       both =
           subst (λ (cs : List Command). Ready P T (length empty) paid there cs)
-          (ap dealt ahead-is ∙ dealt-append turn (ahead lengths queues places₀ (suc panel))) (r .ready)
+          (ap interleaved ahead-is ∙ interleaved-append turn (ahead lengths queues places₀ (suc panel))) (r .ready)
 
       module _ (p : Placed lengths queues places₀) {queue : List ℕ} {at : ℕ} (is : queue ≡ queueAt lengths queues panel)
           (place : at ≡ getD places panel 0) where
@@ -108,15 +108,15 @@ module _ {P T : ℕ} {lengths queues : List ℕ} where
             takes panel queue at (restAt lengths queues places₀ panel)
             (ap₂ commandsFrom is (place ∙ r .same panel (omega arith)) ∙ p .left panel passing-inside)
 
-        turns-are : dealt turn ++ dealt (ahead lengths queues places₀ (suc panel)) ≡
-            turnAt panel queue at ++ dealt (ahead lengths queues places₀ (suc panel))
-        turns-are = ap (λ (cs : List Command). cs ++ dealt (ahead lengths queues places₀ (suc panel))) (sym (taken .turn))
+        turns-are : interleaved turn ++ interleaved (ahead lengths queues places₀ (suc panel)) ≡
+            turnAt panel queue at ++ interleaved (ahead lengths queues places₀ (suc panel))
+        turns-are = ap (λ (cs : List Command). cs ++ interleaved (ahead lengths queues places₀ (suc panel))) (sym (taken .turn))
 
-        served : Ready P T (length empty) paid there (turnAt panel queue at ++ dealt (ahead lengths queues places₀ (suc panel)))
+        served : Ready P T (length empty) paid there (turnAt panel queue at ++ interleaved (ahead lengths queues places₀ (suc panel)))
         served = subst (λ (cs : List Command). Ready P T (length empty) paid there cs) turns-are both
 
         pub passing-ready : (n : ℕ) → n ≡ length empty → Ready P T n paid there (turnAt panel queue at)
-        passing-ready n e = ready-front (turnAt panel queue at) (dealt (ahead lengths queues places₀ (suc panel))) served n e
+        passing-ready n e = ready-front (turnAt panel queue at) (interleaved (ahead lengths queues places₀ (suc panel))) served n e
 
         -- the places behind a turn
         module _ (next : ℕ) (e : next ≡ placeAfter queue at) where
@@ -160,7 +160,7 @@ module _ {P T : ℕ} {lengths queues : List ℕ} where
                     r .whole;
                 ran =
                     subst (λ (cs : List Command). RunOn P′ T′ pages′ table′ empty answers′ none paid′ here yonder cs w)
-                    (ap (λ (cs : List Command). dealt (r .done) ++ cs) (taken .turn) ∙ sym (dealt-append (r .done) turn))
+                    (ap (λ (cs : List Command). interleaved (r .done) ++ cs) (taken .turn) ∙ sym (interleaved-append (r .done) turn))
                     (on-append (r .ran) (omega (arith, r .ready .room, r .ran .behind)) x);
                 ready = ready-behind served x;
                 sixteen = length-set places panel next ∙ r .sixteen;
@@ -173,9 +173,9 @@ module _ {P T : ℕ} {lengths queues : List ℕ} where
       at-end : queueCount lengths ≤ panel
       at-end = omega (arith, fit .whole, none-left)
 
-      pub passing-all : RunOn P T pages table empty answers none paid here there (dealt (heads 0 (rests lengths queues places₀))) w
+      pub passing-all : RunOn P T pages table empty answers none paid here there (interleaved (heads 0 (rests lengths queues places₀))) w
       passing-all =
-          subst (λ (xs : List (ℕ × Command)). RunOn P T pages table empty answers none paid here there (dealt xs) w)
+          subst (λ (xs : List (ℕ × Command)). RunOn P T pages table empty answers none paid here there (interleaved xs) w)
           (sym (append-nil (r .done)) ∙
           ap (λ (css : List (List Command)). r .done ++ heads panel css)
           (sym (below-done (queueCount lengths) (restAt lengths queues places₀) panel at-end)) ∙

@@ -16,8 +16,8 @@ use Rattle.run.specs.declared.Ran.{Ran}
 use Rattle.run.specs.Run.{RunAs}
 use Rattle.run.specs.Stretch.{atStart, Ready, RunOn, on-none, ready-start, ready-front, ready-behind, on-append, on-whole}
 use Rattle.desk_order.specs.Turns.{heads, tails, rounds, longest, turns}
-use Rattle.desk_queues.specs.Joined.{dealt, joined}
-use Rattle.desk_run.specs.Places.{rests, Placed, RoundLeft, dealt-append}
+use Rattle.desk_queues.specs.Joined.{interleaved, joined}
+use Rattle.desk_run.specs.Places.{rests, Placed, RoundLeft, interleaved-append}
 use Rattle.desk_run.specs.Served.{listsIn, Serves, rests-start, placed-start}
 
 -- Before a round; so many are to be made.
@@ -26,8 +26,8 @@ pub record Circling (poolLength tableLength : ℕ) (t : Tariff) (lengths queues 
   pub within : round ≤ most
   pub done : List (ℕ × Command)
   pub whole : done ++ rounds (most - round) (rests lengths queues places) ≡ turns (listsIn lengths queues)
-  pub ran : RunOn poolLength tableLength pages table empty answers none paid (atStart (w .state) t) there (dealt done) w
-  pub ready : Ready poolLength tableLength (length empty) paid there (dealt (rounds (most - round) (rests lengths queues places)))
+  pub ran : RunOn poolLength tableLength pages table empty answers none paid (atStart (w .state) t) there (interleaved done) w
+  pub ready : Ready poolLength tableLength (length empty) paid there (interleaved (rounds (most - round) (rests lengths queues places)))
   pub placed : Placed lengths queues places
 
 module _ {P T : ℕ} {t : Tariff} {lengths queues : List ℕ} {most : ℕ} where
@@ -44,7 +44,7 @@ module _ {P T : ℕ} {t : Tariff} {lengths queues : List ℕ} {most : ℕ} where
         done = [];
         whole = sym all;
         ran = on-none w refl r;
-        ready = subst (λ (xs : List (ℕ × Command)). Ready P T (length empty) none (atStart (w .state) t) (dealt xs)) all r;
+        ready = subst (λ (xs : List (ℕ × Command)). Ready P T (length empty) none (atStart (w .state) t) (interleaved xs)) all r;
         placed = placed-start lengths queues (s .valid);
       }
 
@@ -61,14 +61,14 @@ module _ {P T : ℕ} {t : Tariff} {lengths queues : List ℕ} {most : ℕ} where
       parts : rounds (most - round) (rests lengths queues places) ≡ first ++ rest
       parts = ap (λ (n : ℕ). rounds n (rests lengths queues places)) {x = most - round} {y = suc (most - (round + 1))} (omega arith)
 
-      both : Ready P T (length empty) paid there (dealt first ++ dealt rest)
-      both = subst (λ (cs : List Command). Ready P T (length empty) paid there cs) (ap dealt parts ∙ dealt-append first rest) (c .ready)
+      both : Ready P T (length empty) paid there (interleaved first ++ interleaved rest)
+      both = subst (λ (cs : List Command). Ready P T (length empty) paid there cs) (ap interleaved parts ∙ interleaved-append first rest) (c .ready)
 
-      pub circling-ready : (n : ℕ) → n ≡ length empty → Ready P T n paid there (dealt (heads 0 (rests lengths queues places)))
-      circling-ready n e = ready-front (dealt first) (dealt rest) both n e
+      pub circling-ready : (n : ℕ) → n ≡ length empty → Ready P T n paid there (interleaved (heads 0 (rests lengths queues places)))
+      circling-ready n e = ready-front (interleaved first) (interleaved rest) both n e
 
       pub circling-next : {P′ T′ : ℕ} {pages′ : List (List ℕ)} {table′ : Worktable} {answers′ paid′ places′ : List ℕ} {yonder : Ran} →
-          RunOn P′ T′ pages′ table′ answers answers′ paid paid′ there yonder (dealt (heads 0 (rests lengths queues places)))
+          RunOn P′ T′ pages′ table′ answers answers′ paid paid′ there yonder (interleaved (heads 0 (rests lengths queues places)))
           (world pages table (there .state)) → RoundLeft lengths queues places places′ →
           Circling P′ T′ t lengths queues most (round + 1) w pages′ table′ empty answers′ none paid′ places′ yonder
       circling-next {P′} {T′} {pages′} {table′} {answers′} {paid′} {places′} {yonder} x l =
@@ -83,8 +83,8 @@ module _ {P T : ℕ} {t : Tariff} {lengths queues : List ℕ} {most : ℕ} where
                 c .whole;
             ran =
                 subst (λ (cs : List Command). RunOn P′ T′ pages′ table′ empty answers′ none paid′ (atStart (w .state) t) yonder cs w)
-                (sym (dealt-append (c .done) first)) (on-append (c .ran) (omega arith) x);
-            ready = subst (λ (xs : List (ℕ × Command)). Ready P′ T′ (length empty) paid′ yonder (dealt xs)) left (ready-behind both x);
+                (sym (interleaved-append (c .done) first)) (on-append (c .ran) (omega arith) x);
+            ready = subst (λ (xs : List (ℕ × Command)). Ready P′ T′ (length empty) paid′ yonder (interleaved xs)) left (ready-behind both x);
             placed = l .placed;
           }
 
@@ -96,4 +96,4 @@ module _ {P T : ℕ} {t : Tariff} {lengths queues : List ℕ} {most : ℕ} where
         let all : c .done ≡ turns (listsIn lengths queues) =
         sym (append-nil (c .done)) ∙ ap (λ (xs : List (ℕ × Command)). c .done ++ xs) (sym nothing) ∙ c .whole in
         on-whole e
-        (subst (λ (xs : List (ℕ × Command)). RunOn P T pages table empty answers none paid (atStart (w .state) t) there (dealt xs) w) all (c .ran))
+        (subst (λ (xs : List (ℕ × Command)). RunOn P T pages table empty answers none paid (atStart (w .state) t) there (interleaved xs) w) all (c .ran))

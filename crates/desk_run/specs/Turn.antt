@@ -18,7 +18,7 @@ use Rattle.command.specs.CommandLaws.{commandAt-onward, commandAt-past}
 use Rattle.command.specs.Batch.{before, commandsFrom}
 use Rattle.command.specs.BatchLaws.{commandsFrom-end, commandsFrom-next, commandsFrom-invalid}
 use Rattle.desk_order.specs.Turns.{heads}
-use Rattle.desk_queues.specs.Joined.{dealt}
+use Rattle.desk_queues.specs.Joined.{interleaved}
 
 -- The command at a place, behind a command 05; nothing at the end of the queue.
 abbrev pub turnBy : ℕ → Step → List Command
@@ -50,7 +50,7 @@ found-range queue at c next e = subst (Onward queue at) e (commandAt-onward queu
 
 -- Of a valid queue: the first command that is left, as the order of service has it; and the rest is left behind it.
 pub record Taken (panel : ℕ) (queue : List ℕ) (at : ℕ) (cs : List Command) : Type 0 where
-  pub turn : turnAt panel queue at ≡ dealt (heads panel (cs ∷ []))
+  pub turn : turnAt panel queue at ≡ interleaved (heads panel (cs ∷ []))
   pub rest : commandsFrom queue (placeAfter queue at) ≡ some (drop 1 cs)
 
 pub takes : (panel : ℕ) (queue : List ℕ) (at : ℕ) (cs : List Command) → commandsFrom queue at ≡ some cs → Taken panel queue at cs

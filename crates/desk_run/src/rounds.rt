@@ -12,7 +12,7 @@ ghost use Rattle.run.specs.Run.{RunAs};
 ghost use Rattle.run.specs.Stretch.{Ready, RunOn};
 ghost use Rattle.desk_order.specs.Turns.{heads};
 ghost use Rattle.desk_queues.specs.Queues.{fills};
-ghost use Rattle.desk_queues.specs.Joined.{dealt, joined};
+ghost use Rattle.desk_queues.specs.Joined.{interleaved, joined};
 ghost use Rattle.desk_run.specs.Places.{rests, Placed, RoundLeft};
 ghost use Rattle.desk_run.specs.Served.{listsIn, Serves};
 use super::turn::keep;
@@ -40,12 +40,12 @@ fn run_round(
     here: Ran,
 ) -> Ran
     requires { ⌜ (Ready (length (now pool)) (length (now table)) (length (now answers)) (now charges) here
-        (dealt (heads 0 (rests (now lengths) (now queues) (now places)))))
+        (interleaved (heads 0 (rests (now lengths) (now queues) (now places)))))
         × (fills (now lengths) (now queues) ≡ true) × (Placed (now lengths) (now queues) (now places))
         × (length (now ids) ≡ nodeLimit mostBlocks) ⌝ }
     ensures { λ r. ⌜ (InBytes RunOn (now (pool .exit)) (now (table .exit)) (now (answers .entry)) (now (answers .exit))
         (now (charges .entry)) (now (charges .exit)) here r
-        (dealt (heads 0 (rests (now (lengths .entry)) (now (queues .entry)) (now (places .entry)))))
+        (interleaved (heads 0 (rests (now (lengths .entry)) (now (queues .entry)) (now (places .entry)))))
         (worldIn (now (pool .entry)) (now (table .entry)) (here .state)))
         × (RoundLeft (now (lengths .entry)) (now (queues .entry)) (now (places .entry)) (now (places .exit)))
         × (length (now (ids .exit)) ≡ nodeLimit mostBlocks) ⌝ }

@@ -51,13 +51,13 @@ sizesBy (some b) = sizesBelow (b .count) b
 abbrev pub sizesOf : List ℕ → List ℕ
 sizesOf pool = sizesBy (bookIn pool)
 
--- The first n keys hung, each with 100 more as its word; a sweep from 9 to 3.
+-- The first n keys put, each with 100 more as its value; a scan from 9 to 3.
 abbrev pub puts : ℕ → List ℕ
 puts zero = []
 puts (suc n) = puts n ++ (0x02 ∷ 0 ∷ 8 ∷ 0 ∷ 0 ∷ 0 ∷ n ∷ 0 ∷ 0 ∷ 0 ∷ (100 + n) ∷ [])
 
-abbrev pub sweep9to3 : List ℕ
-sweep9to3 = 0x04 ∷ 0 ∷ 10 ∷ 0 ∷ 0 ∷ 0 ∷ 9 ∷ 0 ∷ 0 ∷ 0 ∷ 3 ∷ 0 ∷ 5 ∷ []
+abbrev pub scan9to3 : List ℕ
+scan9to3 = 0x04 ∷ 0 ∷ 10 ∷ 0 ∷ 0 ∷ 0 ∷ 9 ∷ 0 ∷ 0 ∷ 0 ∷ 3 ∷ 0 ∷ 5 ∷ []
 
 -- So many answers "80, length 0".
 abbrev pub newly : ℕ → List ℕ
@@ -102,12 +102,12 @@ cases =
     row (requests Disk 0 (Edit ∷ Edit ∷ [])) (served 5 (line 4 Disk 3 ∷ line 3 Log 0 ∷ []) 7) ∷
     -- "edit at score 0, log: score 0"
     row (requests Log 0 (Edit ∷ [])) (served 5 (line 1 Log 0 ∷ []) 1) ∷
-    -- "25 keys: 12 and 13", below a root of one key: 24 hangs at 3 + 1, the last at 3 + 2
+    -- "25 keys: 12 and 13", below a root of one key: 24 puts at 3 + 1, the last at 3 + 2
     row (batch (puts 25)) (left 0 (newly 25) 101 (1 ∷ 12 ∷ 13 ∷ [])) ∷
     -- "24 keys: no split"
     row (batch (puts 24)) (left 0 (newly 24) 96 (24 ∷ [])) ∷
     -- "sweep 9 to 3: 840000"
-    row (batch sweep9to3) (left 0 (0x84 ∷ 0 ∷ 0 ∷ []) 0 (0 ∷ [])) ∷
+    row (batch scan9to3) (left 0 (0x84 ∷ 0 ∷ 0 ∷ []) 0 (0 ∷ [])) ∷
     -- "empty batch: charge 0"
     row (batch []) (left 0 [] 0 (0 ∷ [])) ∷
     []

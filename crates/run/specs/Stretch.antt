@@ -10,7 +10,7 @@ use Rattle.laws.specs.Update.{only, only-le}
 use Rattle.layout.specs.Layout.{panels}
 use Rattle.account.specs.declared.Tariff.{Tariff}
 use Rattle.account.specs.Range.{Ranged}
-use Rattle.account.specs.Fair.{mostCharge}
+use Rattle.account.specs.ServeLaws.{mostCharge}
 use Rattle.command.specs.declared.Command.{Command}
 use Rattle.command.specs.Command.{InRange, roomFor}
 use Rattle.command.specs.Batch.{roomForAll}

@@ -7,7 +7,7 @@ use native.Mathlib.Nat.{sub-zero, zero-add}
 use native.Mathlib.Omega.{arith}
 use Rattle.layout.specs.Layout.{nodeLimit, mostBlocks}
 use Rattle.account.specs.declared.Tariff.{Tariff}
-use Rattle.account.specs.Fair.{mostCharge}
+use Rattle.account.specs.ServeLaws.{mostCharge}
 use Rattle.pairs.specs.Pairs.{Pair}
 use Rattle.node.specs.declared.Shape.the-variants.{Leaf, Branch}
 use Rattle.node.specs.declared.NodeValue.{NodeValue}

@@ -8,7 +8,7 @@ use native.Mathlib.Omega.{arith}
 use lib.ListN.{length, getD, take, drop, drop-of-length-le}
 use lib.Seq.{drop-cons, length-take-le}
 use Rattle.account.specs.declared.Tariff.{Tariff}
-use Rattle.account.specs.Fair.{mostCharge}
+use Rattle.account.specs.ServeLaws.{mostCharge}
 use Rattle.flash_rows.specs.Worktable.{Worktable}
 use Rattle.store.specs.Serve.{read}
 use Rattle.flash_allocate.specs.World.{World, world, Good}

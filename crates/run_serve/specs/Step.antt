@@ -5,7 +5,7 @@ use mathlib.Core.List.{List}
 use Prim.Native.Nat.{ℕ, _+_, _*_, _≤_}
 use native.Mathlib.Omega.{arith}
 use lib.ListN.{length}
-use Rattle.account.specs.Fair.{mostCharge}
+use Rattle.account.specs.ServeLaws.{mostCharge}
 use Rattle.command.specs.declared.Answer.{Answer}
 use Rattle.flash_blocks.specs.Pages.{pagesOf}
 use Rattle.flash_rows.specs.Worktable.{Worktable, tableFrom}
