@@ -20,7 +20,7 @@ use Rattle.account.specs.Serve.{scoreOf, switchedOf, stayedOf, serveOf, 
 abbrev pub mostCharge : ℕ
 mostCharge = 2 * mostCost
 
-pub record ServedAs (t : Tariff) (a : Account) (q : Request) (r : Served) : Type 0 where
+pub record Accounted (t : Tariff) (a : Account) (q : Request) (r : Served) : Type 0 where
   pub is : r ≡ serveOf t a q
   pub low : r .account .score < limit t
   pub most : r .charge ≤ mostCharge
@@ -52,8 +52,8 @@ module _ (t : Tariff) (a : Account) (q : Request) where
           rw (serve-switched h) (omega (arith, costOf-le b q))
       go (inr h) = rw (serve-stayed h) (omega (arith, costOf-le (costs-bounded r (a .mode)) q))
 
-  pub serve-as : {r : Served} → Ranged t → r ≡ serveOf t a q → ServedAs t a q r
-  serve-as g e = record { is = e; low = rw e (serve-low (limit-some g)); most = rw e (serve-most g) }
+  pub serve-accounted : {r : Served} → Ranged t → r ≡ serveOf t a q → Accounted t a q r
+  serve-accounted g e = record { is = e; low = rw e (serve-low (limit-some g)); most = rw e (serve-most g) }
 
 -- The same of a list of requests: the score after it, and the sum of its charges.
 pub after-low : (t : Tariff) (qs : List Request) (a : Account) → a .score < limit t → accountAfter t qs a .score < limit t

@@ -4,7 +4,7 @@ ghost use Prim.Native.Nat.{_-_};
 ghost use Rattle.account.specs.Tariff as tariffs;
 ghost use Rattle.account.specs.Range.{Ranged, withinRange, costsInRange, inRange};
 ghost use Rattle.account.specs.Serve.{scoreOf, switchedOf, stayedOf};
-ghost use Rattle.account.specs.ServeLaws.{ServedAs};
+ghost use Rattle.account.specs.ServeLaws.{Accounted};
 
 // Where a node lives: as entries on log pages, or whole on a page of its own (document 01: disk mode).
 pub enum Mode {
@@ -206,7 +206,7 @@ impl Account {
     // A request served: the account and the charge after it.
     pub fn serve(self, tariff: Tariff, request: Request) -> Served
         requires { ⌜ Ranged tariff ⌝ }
-        ensures { λ r. ⌜ ServedAs tariff self request r ⌝ }
+        ensures { λ r. ⌜ Accounted tariff self request r ⌝ }
     {
         let score = self.scored(tariff, request);
         if tariff.limit() <= score {

@@ -12,7 +12,7 @@ small n = 0 ∷ 0 ∷ 0 ∷ n ∷ []
 abbrev pub greatest : List ℕ
 greatest = replicate 4 255
 
--- Commands: panel, get, put, delete, ceiling; the last of any four bytes.
+-- Commands: panel, get, put, delete, scan, ceiling; the last of any four bytes.
 abbrev pub panel : ℕ → List ℕ
 panel p = 0x05 ∷ 0 ∷ 1 ∷ p ∷ []
 
@@ -25,13 +25,16 @@ put k v = 0x02 ∷ 0 ∷ 8 ∷ small k ++ small v
 abbrev pub delete : ℕ → List ℕ
 delete k = 0x03 ∷ 0 ∷ 4 ∷ small k
 
+abbrev pub scan : ℕ → ℕ → ℕ → List ℕ
+scan low high most = 0x04 ∷ 0 ∷ 10 ∷ small low ++ small high ++ (0 ∷ most ∷ [])
+
 abbrev pub ceilingAt : List ℕ → List ℕ
 ceilingAt key = 0x07 ∷ 0 ∷ 4 ∷ key
 
 abbrev pub ceiling : ℕ → List ℕ
 ceiling k = ceilingAt (small k)
 
--- Answers: none; the value read; the value removed; the pair found.
+-- Answers: none; the value read; the value removed; the one pair listed; the pair found.
 abbrev pub absent : List ℕ
 absent = 0x80 ∷ 0 ∷ 0 ∷ []
 
@@ -40,6 +43,9 @@ got v = 0x81 ∷ 0 ∷ 4 ∷ small v
 
 abbrev pub deleted : ℕ → List ℕ
 deleted v = 0x83 ∷ 0 ∷ 4 ∷ small v
+
+abbrev pub listed : ℕ → ℕ → List ℕ
+listed k v = 0x84 ∷ 0 ∷ 8 ∷ small k ++ small v
 
 abbrev pub foundAt : List ℕ → ℕ → List ℕ
 foundAt key v = 0x87 ∷ 0 ∷ 8 ∷ key ++ small v

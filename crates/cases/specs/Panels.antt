@@ -9,7 +9,8 @@ use Rattle.model.specs.Worked.{tariff, batchOn}
 use Rattle.model.specs.Computes.{computes}
 use Rattle.cases.specs.Traces.{workedPool}
 use Rattle.cases.specs.Pools.{poolBytes, inFirst, treeOf}
-use Rattle.cases.specs.Batches.{panel, get, put, delete, absent, got, deleted, result, resultOf, none, first}
+use Rattle.cases.specs.Batches.{panel, get, put, delete, scan, ceiling, absent, got, deleted, listed, found}
+use Rattle.cases.specs.Batches.{result, resultOf, none, first}
 
 -- Three panels share the worked batch of document 01; the same without them.
 abbrev shared : List ℕ
@@ -39,6 +40,22 @@ no-panel = refl
 pub by-turns : resultOf 35 byTurns ≡ result 0 (absent ++ absent ++ got 1 ++ got 2 ++ got 1) (0 ∷ 11 ∷ 7 ∷ replicate 13 0)
 unfolding computes
 by-turns = refl
+
+-- A command of each kind under a panel of its own, and a get behind it: whatever the command, the panel stays current until the next is named. The
+-- third read, panel 2's, moves the node to disk.
+abbrev eachKind : List ℕ
+eachKind =
+    panel 1 ++ get 7 ++ get 7 ++
+    panel 2 ++ put 7 100 ++ get 7 ++
+    panel 3 ++ scan 0 9 1 ++ get 7 ++
+    panel 4 ++ ceiling 5 ++ get 7 ++
+    panel 5 ++ delete 7 ++ get 7
+
+pub panel-stays : resultOf 78 eachKind ≡
+    result 0 (absent ++ absent ++ absent ++ got 100 ++ listed 7 100 ++ got 100 ++ found 7 100 ++ got 100 ++ deleted 100 ++ absent)
+    (0 ∷ 6 ∷ 9 ∷ 2 ∷ 2 ∷ 6 ∷ replicate 10 0)
+unfolding computes
+panel-stays = refl
 
 -- A panel asks for no room, and its being named last charges nobody.
 pub short-room : map (λ room. resultOf room (panel 2 ++ get 7 ++ panel 9)) (6 ∷ 7 ∷ []) ≡

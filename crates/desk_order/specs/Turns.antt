@@ -1,11 +1,11 @@
--- The order of service (document 02, P5): the desk "serves one command from each queue that still has any, in panel order, round and round". Queue p
--- is panel p's; what a command is does not matter here. Assumes nothing.
+-- The order of service (document 02, P5), round robin: the desk "serves one command from each queue that still has any, in panel order, round and round".
+-- Queue p is panel p's; what a command is does not matter here. Assumes nothing.
 use mathlib.Core.Path.{_≡_, refl}
 use mathlib.Core.Bool.{Bool}
 use mathlib.Core.List.{List, [], _∷_, _++_, map}
 use Prim.Native.Nat.{ℕ, zero, suc, _+_, _*_, max}
 use lib.Dec.{eqb}
-use lib.ListN.{length}
+use lib.ListN.{length, replicate}
 use Rattle.laws.specs.Counts.{count, consIf}
 use Rattle.laws.specs.Tests.{choose}
 
@@ -56,3 +56,14 @@ module _ {C : Type 0} where
 pub worked-turns : map (λ x. 100 * x .0 + x .1) (turns ((1 ∷ 2 ∷ 3 ∷ []) ∷ [] ∷ (9 ∷ []) ∷ [])) ≡ 1 ∷ 209 ∷ 2 ∷ 3 ∷ []
 unfolding turns
 worked-turns = refl
+
+-- In every round the panels rise: five queues, the last the longest, in three rounds; and sixteen of one command each.
+pub worked-rounds :
+    map (λ x. 100 * x .0 + x .1) (turns ((1 ∷ 2 ∷ []) ∷ (3 ∷ []) ∷ (4 ∷ 5 ∷ []) ∷ [] ∷ (6 ∷ 7 ∷ 8 ∷ []) ∷ [])) ≡
+    1 ∷ 103 ∷ 204 ∷ 406 ∷ 2 ∷ 205 ∷ 407 ∷ 408 ∷ []
+unfolding turns
+worked-rounds = refl
+
+pub worked-sixteen : map (λ x. x .0) (turns {C = ℕ} (replicate 16 (9 ∷ []))) ≡ 0 ∷ 1 ∷ 2 ∷ 3 ∷ 4 ∷ 5 ∷ 6 ∷ 7 ∷ 8 ∷ 9 ∷ 10 ∷ 11 ∷ 12 ∷ 13 ∷ 14 ∷ 15 ∷ []
+unfolding turns
+worked-sixteen = refl

@@ -12,7 +12,7 @@ use Rattle.account.specs.declared.Tariff.{Tariff}
 use Rattle.account.specs.declared.Account.{Account}
 use Rattle.account.specs.declared.Served.{Served}
 use Rattle.account.specs.Serve.{serveOf}
-use Rattle.account.specs.ServeLaws.{ServedAs}
+use Rattle.account.specs.ServeLaws.{Accounted}
 use Rattle.node.specs.declared.NodeValue.{NodeValue}
 use Rattle.node.specs.Node.{Node}
 use Rattle.node.specs.Value.{Becomes}
@@ -54,7 +54,7 @@ module _ {P T : ℕ} (from to : Mode) (n : ℕ) (x : Node) (w : World) where
 
 -- The row loaded, its account served, the switch, and the score in the row that the switch leaves.
 module _ {P T T′ : ℕ} (t : Tariff) (q : Request) (n : ℕ) (x : Node) (w w₁ : World) (row : Row) (account : Account) (served : Served)
-    (table₂ : Worktable) (r : row ≡ getD (w .table .rows) n noRow) (a : account ≡ accountIn row) (f : ServedAs t account q served)
+    (table₂ : Worktable) (r : row ≡ getD (w .table .rows) n noRow) (a : account ≡ accountIn row) (f : Accounted t account q served)
     (k : Kept P T (w .state) w₁ (switch (row .mode) (served .account .mode) n x w))
     (e : table₂ ≡ rescored n (served .account .score) (w₁ .table)) (l : T′ ≡ T) (result : Settled)
     (g : result ≡ settledBy (w₁ .state) served) where

@@ -1,7 +1,9 @@
 // wall: prepares 65,536 bytes with the tariff 3 1 2, 1 4 4, 3 2 and runs standard input as one batch. Prints each answer as lower-case
 // hexadecimal on a line, then `charge` and the sum of the panels' charges; or only `refused` and the number.
 ghost use mathlib.Core.Path.{_≡_};
+ghost use Prim.Native.Nat.{_<_, _^_};
 ghost use lib.ListN.{length};
+ghost use Rattle.laws.specs.Update.{sum};
 ghost use Rattle.layout.specs.Layout.{panels};
 use layout::PANELS;
 use wall_book::wall_book_batch;
@@ -46,14 +48,15 @@ fn print_number(word: &[u8], number: u64) {
     io::write_all(1, b"\n");
 }
 
-// What all panels are charged together: below 2^44 (`demands` TheBook `charges-fit`), so nothing wraps.
-fn sum(charges: &[u64; PANELS]) -> u64
-    requires { ⌜ length (now charges) ≡ panels ⌝ }
+// What all panels are charged together.
+fn total(charges: &[u64; PANELS]) -> u64
+    requires { ⌜ (length (now charges) ≡ panels) × (sum (now charges) < 2 ^ 44) ⌝ }
+    ensures { λ r. ⌜ r ≡ sum (now (charges .entry)) ⌝ }
 {
     let mut total: u64 = 0;
     let mut panel: usize = 0;
     while panel < PANELS {
-        total = std::num::wrapping_add_u64(total, charges[panel]);
+        total += charges[panel];
         panel += 1;
     }
     total
@@ -68,10 +71,11 @@ fn run(pool: &mut [u8], table: &mut [u8], commands: &[u8], answers: &mut [u8]) {
         print_number(b"refused ", refused as u64);
         return;
     }
+    let charge = total(&charges);
     if length <= answers.len() {
         print_answers(&answers[0..length]);
     }
-    print_number(b"charge ", sum(&charges));
+    print_number(b"charge ", charge);
 }
 
 fn main() {

@@ -1,7 +1,7 @@
 -- `Account::serve` meets its contract. The score is compared with T as the definition compares it; one below T fits 32 bits. Assumes nothing.
 use mathlib.Core.Path.{sym, _∙_}
 use borrow.Author.Needs.{needs}
-use Rattle.account.specs.ServeLaws.{serve-switched, serve-stayed, serve-as}
+use Rattle.account.specs.ServeLaws.{serve-switched, serve-stayed, serve-accounted}
 use Rattle.account.proofs.Account.serve.Statement.{statement}
 use Rattle.account.proofs.Account.serve.Tie as tie
 
@@ -29,7 +29,7 @@ returns c =
     let start = c4 in
     let over =
     rw (c2 .limit .ensures, c3 .scored .ensures) at (c1 .if1 .taken) in
-    serve-as _ _ _ (start .pre)
+    serve-accounted _ _ _ (start .pre)
     (c .switched .ensures ∙
     sym (serve-switched (start .args .tariff) (start .args .self) (start .args .request) over))
 
@@ -42,7 +42,7 @@ returns-2 c =
     let start = c4 in
     let score = c3 .scored .ensures in
     let below = rw (c2 .limit .ensures, score) at (c1 .if1 .left) in
-    serve-as _ _ _ (start .pre)
+    serve-accounted _ _ _ (start .pre)
     (c .stayed .ensures ∙
     rw score (sym (serve-stayed (start .args .tariff) (start .args .self) (start .args .request) below)))
 

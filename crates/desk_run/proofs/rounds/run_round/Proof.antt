@@ -15,13 +15,13 @@ use Rattle.desk_run.proofs.rounds.run_round.Statement.{statement}
 use Rattle.desk_run.proofs.rounds.run_round.Tie as tie
 
 abbrev Inv-loop : tie.InvT-loop
-Inv-loop pool₀ table₀ lengths queues answers₀ ids₀ charges₀ places₀ there₀ panel₀ start₀ pool table answers ids charges places there panel start =
-    (length pool ≡ length pool₀) × (length table ≡ length table₀) × (length answers ≡ length answers₀) × (length ids ≡ nodeLimit mostBlocks) ×
+Inv-loop pool₀ table₀ lengths queues said₀ ids₀ paid₀ places₀ there₀ panel₀ start₀ pool table said ids paid places there panel start =
+    (length pool ≡ length pool₀) × (length table ≡ length table₀) × (length said ≡ length said₀) × (length ids ≡ nodeLimit mostBlocks) ×
     Passing (length pool) (length table) lengths queues panel start (world (pagesOf pool₀) (tableFrom table₀) (there₀ .state)) (pagesOf pool)
-    (tableFrom table) answers₀ answers charges₀ charges places₀ places there₀ there
+    (tableFrom table) said₀ said paid₀ paid places₀ places there₀ there
 
 abbrev μ-loop : tie.MeasureT-loop
-μ-loop pool₀ table₀ lengths queues answers₀ ids₀ charges₀ places₀ there₀ panel₀ start₀ pool table answers ids charges places there panel start =
+μ-loop pool₀ table₀ lengths queues said₀ ids₀ paid₀ places₀ there₀ panel₀ start₀ pool table said ids paid places there panel start =
     length lengths - lengthBytes * panel
 
 loop-holds : tie.Need-loop-holds Inv-loop μ-loop

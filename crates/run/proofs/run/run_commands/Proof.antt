@@ -17,8 +17,8 @@ use Rattle.run.proofs.run.run_commands.Tie as tie
 abbrev Inv-loop : tie.InvT-loop
 Inv-loop pool₀ table₀ batch answers₀ charges₀ ids₀ here₀ at₀ pool table answers charges ids here at =
     (length pool ≡ length pool₀) × (length table ≡ length table₀) × (length answers ≡ length answers₀) × (length ids ≡ nodeLimit mostBlocks) ×
-    Running (length pool) (length table) (here₀ .session .tariff) batch answers₀ at (world (pagesOf pool₀) (tableFrom table₀) (here₀ .state)) (pagesOf pool)
-    (tableFrom table) answers charges₀ charges here
+    Running (length pool) (length table) (here₀ .session .tariff) batch answers₀ at
+    (world (pagesOf pool₀) (tableFrom table₀) (here₀ .state)) (pagesOf pool) (tableFrom table) answers charges₀ charges here
 
 abbrev μ-loop : tie.MeasureT-loop
 μ-loop pool₀ table₀ batch answers₀ charges₀ ids₀ here₀ at₀ pool table answers charges ids here at = length batch - at
