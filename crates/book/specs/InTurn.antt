@@ -28,6 +28,14 @@ module _ {B : Type 0} (reply : Session → Command → B → Reply) (done : Sess
   repliesTo [] n b = []
   repliesTo (c ∷ cs) n b = reply n c b ∷ repliesTo cs (sessionAfter c (reply n c b) n) (done n c b)
 
+  -- The session that they leave; and what others behind them are answered, in it and on the book that they leave.
+  abbrev pub sessionAfterAll : List Command → Session → B → Session
+  sessionAfterAll [] n b = n
+  sessionAfterAll (c ∷ cs) n b = sessionAfterAll cs (sessionAfter c (reply n c b) n) (done n c b)
+
+  abbrev pub repliesBehind : List Command → List Command → Session → B → List Reply
+  repliesBehind before cs n b = repliesTo cs (sessionAfterAll before n b) (afterAll before n b)
+
   -- What each gives, all in a row.
   abbrev pub inRow : {A : Type 0} → (Session → Command → B → List A) → List Command → Session → B → List A
   inRow give [] n b = []

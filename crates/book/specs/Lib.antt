@@ -4,7 +4,9 @@ pub mod Command
 pub mod SessionAfter
 pub mod Naming
 pub mod InTurn
+pub mod InTurnLaws
 pub mod Batch
+pub mod Billed
 pub mod EachPanel
 pub mod OrderedMap
 pub mod Schedule

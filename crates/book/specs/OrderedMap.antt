@@ -11,7 +11,7 @@ use Rattle.book.specs.Book.{Book}
 use Rattle.book.specs.Command.{Reply, listed, silent, getReply, putReply, deleteReply, ceilingReply, refuses}
 use Rattle.book.specs.Command.{Task, looks, puts, deletes, names, taskOf}
 use Rattle.book.specs.Session.{Session}
-use Rattle.book.specs.InTurn.{afterAll, repliesTo}
+use Rattle.book.specs.InTurn.{afterAll, repliesTo, repliesBehind}
 use Rattle.book.specs.Batch.{doneBook}
 
 -- What each command is answered in a session.
@@ -43,6 +43,10 @@ module _ (limit : ℕ) where
 
   abbrev pub mapAnswers : List Command → Session → Book → List Pair → List Reply
   mapAnswers cs n b ps = repliesTo reply done cs n (b, ps)
+
+  -- What commands are answered where they stand behind others.
+  abbrev pub mapAnswersBehind : List Command → List Command → Session → Book → List Pair → List Reply
+  mapAnswersBehind before cs n b ps = repliesBehind reply done before cs n (b, ps)
 
   abbrev pub mapRun : List Command → Session → Book → List Pair → List Pair
   mapRun cs n b ps = afterAll reply done cs n (b, ps) .1

@@ -15,7 +15,7 @@ use Rattle.laws.specs.Every.{Every, both}
 use Rattle.laws.specs.Every as Every
 use Rattle.laws.specs.Order.{le-or}
 use Rattle.laws.specs.Tests.{choose}
-use Rattle.layout.specs.Layout.{tableBytes}
+use Rattle.layout.specs.Layout.{tableBytes, nodeLimit}
 use Rattle.wire.specs.Field.{fieldAt}
 use Rattle.account.specs.declared.Tariff.{Tariff}
 use Rattle.pairs.specs.Pairs.{Pair}
@@ -28,16 +28,21 @@ use Rattle.desk_laws.specs.QueueLaws.{cut-few, cut-bytes}
 use Rattle.desk_laws.specs.Read.{all-read}
 use Rattle.desk_laws.specs.JoinedLaws.{joined-bytes}
 use Rattle.store.specs.Run.{Moment}
+use Rattle.book.specs.Book.{Book}
+use Rattle.book.specs.Session.{atFirst}
+use Rattle.book.specs.Batch.{chargesBook}
+use Rattle.book.specs.OrderedMap.{mapAnswers}
 use Rattle.model.specs.State.{State}
 use Rattle.model.specs.Call.{Outcome, refuse, blocksOf, poolLength, mountOf, batchAsked, batchOf}
-use Rattle.model.specs.Calls.{outcome, outcomes, accepted, workBy, workOf, statesBy, momentsBy, allStates, allMoments, Fed, fed}
+use Rattle.model.specs.Calls.{outcome, outcomes, answered, laidOver, accepted, workBy, workOf, statesBy, momentsBy, allStates, allMoments}
+use Rattle.model.specs.Calls.{Fed, fed, commandsIn}
 use Rattle.model.specs.Questions.{firstNo, ofBuffers, ofDesk, ofPool}
 use Rattle.model.specs.Desk.{deskJoined, deskQueues, deskOf}
 use Rattle.model.specs.AnyCalls.{Call, batch, desk, callOutcome, callOutcomes, joinedOr, asBatch, callAsked}
 use Rattle.model.specs.AnyCalls.{callFed, callsFed, callWork, callsStates, callsMoments}
 use Rattle.demands.specs.FirstNo.{batch-first, buffers-right}
 use Rattle.demands.specs.Desk.{desk-first, desk-right}
-use Rattle.demands.specs.OneCall.{fedOf}
+use Rattle.demands.specs.OneCall.{OpenPool, fedOf, called}
 use Rattle.demands.specs.Obeys.{Obeys}
 use Rattle.demands.specs.AllCalls.{OfBytes, Spelled}
 
@@ -191,3 +196,18 @@ calls-spelled t pool (c ∷ cs) (ps ∷ pss) h =
       subst (λ (next : List ℕ). Obeys next t ps) same (h .0),
       subst (λ (next : List ℕ). Spelled t (callOutcomes next cs) pss) same (calls-spelled t (outcome pool (asBatch c) .pool) cs pss (h .1)),
     )
+
+-- ONE CALL on a pool that stands: what it answers and what it charges.
+module _ {t : Tariff} {pool : List ℕ} {b : Book} {ps : List Pair} (o : OpenPool t pool b ps) (c : Call) (bytes : CallBytes c) where
+  pub call-answers : answered (callOutcome pool c) ≡
+      laidOver (asBatch c .buffer) (mapAnswers (nodeLimit (blocksOf pool)) (commandsIn (callFed pool c)) (atFirst t) b ps)
+  call-answers =
+      ap₂ (λ (x : List ℕ) (n : ℕ). (x, n)) (as-batch pool c .answers) (as-batch pool c .length) ∙
+      called o (asBatch c) (batch-bytes c bytes) .answers ∙
+      ap (λ (f : Fed). laidOver (asBatch c .buffer) (mapAnswers (nodeLimit (blocksOf pool)) (commandsIn f) (atFirst t) b ps)) (sym (fed-same pool c))
+
+  pub call-charges : callOutcome pool c .charges ≡ chargesBook (nodeLimit (blocksOf pool)) (commandsIn (callFed pool c)) (atFirst t) b
+  call-charges =
+      as-batch pool c .charges ∙
+      called o (asBatch c) (batch-bytes c bytes) .charges ∙
+      ap (λ (f : Fed). chargesBook (nodeLimit (blocksOf pool)) (commandsIn f) (atFirst t) b) (sym (fed-same pool c))

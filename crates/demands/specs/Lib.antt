@@ -30,6 +30,8 @@ pub mod Obeys
 pub mod Reordered
 pub mod AllCalls
 pub mod AnyCall
+pub mod InCall
+pub mod DeskServes
 pub mod AgainstSchedules
 pub mod PreparedPool
 pub mod TheBook

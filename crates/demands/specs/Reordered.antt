@@ -3,7 +3,7 @@
 use mathlib.Core.Path.{_≡_, refl, sym, ap, ap₂, _∙_, subst, fun-ext}
 use mathlib.Core.Bool.{Bool, true, false, _&&_}
 use mathlib.Core.Logic.{_⊎_, inl, inr}
-use mathlib.Core.List.{List, [], _∷_, _++_}
+use mathlib.Core.List.{List, [], _∷_}
 use mathlib.Core.Option.{Option, some}
 use Prim.Native.Nat.{ℕ, zero, suc, _+_, _/_, _≤_, _<_}
 use native.Mathlib.Omega.{arith}
@@ -37,10 +37,9 @@ use Rattle.book.specs.Book.{Book}
 use Rattle.model.specs.State.{bookOf}
 use Rattle.model.specs.Mount.{stateOf, threePages, scoresBelow, treeSound, numbersLeft}
 use Rattle.model.specs.Bytes.{cellsOf}
-use Rattle.model.specs.Call.{blocksOf, poolLength, batchOf}
-use Rattle.model.specs.Questions.{Question, firstNo, asked, ofBuffers, ofPages, ofPool}
+use Rattle.model.specs.Call.{blocksOf, poolLength}
+use Rattle.model.specs.Questions.{asked, ofPages, ofPool}
 use Rattle.demands.specs.Mount.{Sealed, Ready, sealed-ready}
-use Rattle.demands.specs.FirstNo.{batch-first}
 use Rattle.demands.specs.OneCall.{OpenPool, sized}
 
 -- TWO POOLS THAT DIFFER IN THE ORDER OF SCORES ALONE, both made of bytes and of one length.
@@ -143,17 +142,6 @@ module _ {pool pool′ : List ℕ} (r : ReorderedPool pool pool′) where
   same-size : poolLength pool ≡ poolLength pool′
   unfolding poolLength
   same-size = rw (r .length) refl
-
-  buffers-asked : (table batch buffer : List ℕ) → ofBuffers pool table batch buffer ≡ ofBuffers pool′ table batch buffer
-  unfolding ofBuffers poolLength
-  buffers-asked table batch buffer = rw (r .length) refl
-
-  -- EVERY CALL RETURNS THE SAME NUMBER on both.
-  pub same-number : (table batch buffer : List ℕ) → batchOf pool table batch buffer .number ≡ batchOf pool′ table batch buffer .number
-  same-number table batch buffer =
-      batch-first pool table batch buffer ∙
-      ap firstNo (ap₂ {B = List Question} _++_ (buffers-asked table batch buffer) pool-asked) ∙
-      sym (batch-first pool′ table batch buffer)
 
   -- ---- what stands
 

@@ -4,15 +4,16 @@
 use mathlib.Core.Path.{_≡_, refl, sym, ap, ap₂, _∙_, subst}
 use mathlib.Core.Bool.{true}
 use mathlib.Core.List.{List, [], _∷_, _++_, map}
-use mathlib.Core.Option.{Option, none, some}
+use mathlib.Core.Option.{none, some}
 use Prim.Native.Nat.{ℕ, _+_, _*_, _^_, _≤_, _<_}
 use native.Mathlib.Omega.{arith}
+use borrow.Author.Tests.{le-leb}
 use lib.Dec.{eqb}
 use lib.ListN.{length, getD, drop}
 use Rattle.laws.specs.Every.{Every}
 use Rattle.laws.specs.BigEndian.{Bytes}
 use Rattle.laws.specs.Update.{sum}
-use Rattle.layout.specs.Layout.{nodeLimit, panels, mostBatchBytes, lastSequence, lastKey, bound32}
+use Rattle.layout.specs.Layout.{nodeLimit, tableBytes, panels, mostBatchBytes, lastSequence, lastKey, bound32}
 use Rattle.account.specs.declared.Mode.the-variants.{Log}
 use Rattle.account.specs.declared.Tariff.{Tariff}
 use Rattle.account.specs.Tariff.{switchTo}
@@ -32,10 +33,9 @@ use Rattle.desk_queues.specs.Queues.{queuesOf}
 use Rattle.desk_queues.specs.Joined.{allCommands, interleaved, joinedBytes, bytesBy, joinedOf, joinedBy}
 use Rattle.desk_laws.specs.QueueLaws.{cut-few, cut-bytes, cut-length}
 use Rattle.desk_laws.specs.Read.{Read, all-read, read-length, served-spelled}
-use Rattle.desk_laws.specs.JoinedLaws.{joined-short, joined-length as length-of}
+use Rattle.desk_laws.specs.JoinedLaws.{joined-short, joined-long, joined-length as length-of}
 use Rattle.tree.specs.NodeRequest.{NodeRequest}
 use Rattle.tree.specs.Spells.{mapOf}
-use Rattle.tree_laws.specs.GetLaws.{pairs-within}
 use Rattle.store.specs.Reopen.{newest}
 use Rattle.book.specs.Book.{Book, charges}
 use Rattle.book.specs.Command.{ceilingReply}
@@ -43,8 +43,10 @@ use Rattle.book.specs.Command.{requests as requestsFor}
 use Rattle.book.specs.Session.{Session, atFirst}
 use Rattle.book.specs.InTurn.{noCharges}
 use Rattle.book.specs.EachPanel.{sum-each}
+use Rattle.book.specs.InTurnLaws.{repliesTo-among}
 use Rattle.book.specs.Batch.{chargesBook, requestsBook}
-use Rattle.book.specs.OrderedMap.{mapAnswer, mapAnswers}
+use Rattle.book.specs.Billed.{billCommands, billTotal, billed}
+use Rattle.book.specs.OrderedMap.{mapAnswer, mapAnswers, mapAnswersBehind, mapRun}
 use Rattle.book.specs.Schedule.{paid}
 use Rattle.model.specs.State.{State, bookOf}
 use Rattle.model.specs.Mount.{opened}
@@ -54,9 +56,10 @@ use Rattle.model.specs.Desk.{deskOf}
 use Rattle.model.specs.Questions.{Question, firstNo, ofBuffers, ofDesk, ofPool, ofPrepare}
 use Rattle.model.specs.Calls.{Lent, outcome, answered, laidOver, laid, bookIn, Fed, fed, commandsBy, commandsIn}
 use Rattle.model.specs.Calls.{booksAfter, lastBook, allBooks, allCharges, allRequests, mapReplies, mapsAfter}
-use Rattle.model.specs.AnyCalls.{Call, callOutcome, callOutcomes, asBatch, callAsked, callFed, callsFed, callsStates, callsMoments}
+use Rattle.model.specs.AnyCalls.{DeskLent, Call, desk, callOutcome, callOutcomes, asBatch, callAsked, callFed, callsFed, callsStates, callsMoments}
 use Rattle.demands.specs.Ends.{Ends, asFound, tableCleared, done, batch-ends, tableAfter, refused-found, ends-table, ends-panels}
 use Rattle.demands.specs.Ends.{prepare-ends, prepare-found}
+use Rattle.demands.specs.Commands.{ValidAll}
 use Rattle.demands.specs.Panels.{unnamed, SameBut, unnamed-leaves}
 use Rattle.demands.specs.Ceilings.{ScansFor, SameReads, scans-same}
 use Rattle.demands.specs.CommandBytes.{commandsOf-batch}
@@ -65,12 +68,15 @@ use Rattle.demands.specs.FirstNo.{numberOf, mount-first, batch-first, pr
 use Rattle.demands.specs.Desk.{DeskRefused, desk-first, DeskEnds, asJoined, asRefused, desk-ends-as}
 use Rattle.demands.specs.Desk.{desk-is-batch as joined-batch, desk-ends as refused-before}
 use Rattle.demands.specs.ScoreOrder.{newestCheckpoint, InNodeOrder, one-order}
-use Rattle.demands.specs.OneCall.{Thin, OpenPool, bookIn-is, fedOf, Called, called}
+use Rattle.demands.specs.OneCall.{Thin, OpenPool, bookIn-is, sized, called}
 use Rattle.demands.specs.Obeys.{Obeys, obeys-opens, obeys-spelled, obeys-stands, stands-obeys, opens-obeys}
-use Rattle.demands.specs.Reordered.{ReorderedPool, same-blocks, pool-asked, same-number, reordered-stands}
+use Rattle.demands.specs.Reordered.{ReorderedPool, same-blocks, pool-asked, reordered-stands}
 use Rattle.demands.specs.AllCalls.{ThinPool, Spelled, all-called}
 use Rattle.demands.specs.AnyCall.{CallBytes, batch-bytes, as-batch, done-batch, refused-batch, call-first, call-asked, call-right}
 use Rattle.demands.specs.AnyCall.{fed-same, calls-bytes, calls-fed, calls-states, calls-moments, calls-map, calls-every, calls-spelled}
+use Rattle.demands.specs.AnyCall.{call-answers, call-charges}
+use Rattle.demands.specs.InCall.{before-valid, run-within}
+use Rattle.demands.specs.DeskServes.{desk-reads, billed-own, billed-none, desk-charge}
 use Rattle.demands.specs.AgainstSchedules.{bound}
 use Rattle.demands.specs.PreparedPool.{prepare-stands, prepare-ordered}
 
@@ -300,36 +306,23 @@ any-order-stands r s = open-stands (reordered-stands r (stands-open s))
 
 module _ {t : Tariff} {pool pool′ : List ℕ} {b : Book} {ps : List Pair} (r : ReorderedPool pool pool′) (s : Stands t pool b ps)
     (c : Call) (bytes : CallBytes c) where
-  abbrev lent : Lent
-  lent = asBatch c
+  open-other : OpenPool t pool′ b ps
+  open-other = reordered-stands r (stands-open s)
 
-  one : Called t pool lent b ps
-  one = called (stands-open s) lent (batch-bytes c bytes)
-
-  other : Called t pool′ lent b ps
-  other = called (reordered-stands r (stands-open s)) lent (batch-bytes c bytes)
-
-  same-commands : commandsIn (fedOf pool lent) ≡ commandsIn (fedOf pool′ lent)
-  same-commands = ap (λ (n : ℕ). commandsBy (eqb n 0) (commandsOf (lent .batch))) (same-number r (lent .table) (lent .batch) (lent .buffer))
-
-  answered-as : (before : List ℕ) → answered (callOutcome before c) ≡ answered (outcome before lent)
-  answered-as before = ap₂ (λ (x : List ℕ) (n : ℕ). (x, n)) (as-batch before c .answers) (as-batch before c .length)
+  same-commands : commandsIn (callFed pool c) ≡ commandsIn (callFed pool′ c)
+  same-commands = ap (λ (n : ℕ). commandsBy (eqb n 0) (commandsOf (asBatch c .batch))) (any-order-opens r c)
 
   pub any-order-answers : answered (callOutcome pool c) ≡ answered (callOutcome pool′ c)
   any-order-answers =
-      answered-as pool ∙
-      one .answers ∙
-      ap₂ (λ (k : ℕ) (cs : List Command). laidOver (lent .buffer) (mapAnswers (nodeLimit k) cs (atFirst t) b ps)) (sym (same-blocks r)) same-commands ∙
-      sym (other .answers) ∙
-      sym (answered-as pool′)
+      call-answers (stands-open s) c bytes ∙
+      ap₂ (λ (k : ℕ) (cs : List Command). laidOver (asBatch c .buffer) (mapAnswers (nodeLimit k) cs (atFirst t) b ps)) (sym (same-blocks r)) same-commands ∙
+      sym (call-answers open-other c bytes)
 
   pub any-order-charges : callOutcome pool c .charges ≡ callOutcome pool′ c .charges
   any-order-charges =
-      as-batch pool c .charges ∙
-      one .charges ∙
+      call-charges (stands-open s) c bytes ∙
       ap₂ (λ (k : ℕ) (cs : List Command). chargesBook (nodeLimit k) cs (atFirst t) b) (sym (same-blocks r)) same-commands ∙
-      sym (other .charges) ∙
-      sym (as-batch pool′ c .charges)
+      sym (call-charges open-other c bytes)
 
 -- DOCUMENT 02, P2. "The batch returns 16 charges in place of one, each that of the panel's own commands, all 0 when refused. The three-times bound is
 -- about their sum, the old charge." That each is the reference model's is demand 3's `charges`, and `prepared-bound` is about the sums.
@@ -371,26 +364,42 @@ panels-invisible pool table buffer batch batch′ cs bytes e f =
 -- DOCUMENT 02, P3. "A setter types a number and wants that route or the nearest above. Command 07 .. answers 87 with route and word .., or 80 if none is
 -- at or above."
 
--- 07 answers the next key up of the map that the pool spells; where it stands among other commands, demand 2's `answers` says the same.
-pub ceiling-answers : {t : Tariff} {pool : List ℕ} {b : Book} {ps : List Pair} → Stands t pool b ps → (l : Lent) → Bytes (l .batch) → (k : ℕ) →
-    commandsOf (l .batch) ≡ some (Ceiling k ∷ []) → outcome pool l .number ≡ 0 →
-    answered (outcome pool l) ≡ laidOver (l .buffer) (ceilingReply (ceiling k ps) ∷ [])
-unfolding mapAnswer
-ceiling-answers {t} {pool} {b} {ps} s l bytes k e z =
-    called (stands-open s) l bytes .answers ∙
-    ap (λ (cs : List Command). laidOver (l .buffer) (mapAnswers (nodeLimit (blocksOf pool)) cs (atFirst t) b ps))
-    (ap₂ (λ (n : ℕ) (o : Option (List Command)). commandsBy (eqb n 0) o) z e)
+module _ {t : Tariff} {pool : List ℕ} {b : Book} {ps : List Pair} (s : Stands t pool b ps) where
+  -- The map at a moment of a call, behind its first commands; behind none it is the map that the pool spells.
+  abbrev pub mapThen : List Command → List Pair
+  mapThen before = mapRun (nodeLimit (blocksOf pool)) before (atFirst t) b ps
 
--- What that is: a pair of the map, at or above the key, with nothing of the map between; 80 exactly where nothing of the map is at or above.
-module _ {t : Tariff} {pool : List ℕ} {b : Book} {ps : List Pair} (s : Stands t pool b ps) (k : ℕ) where
-  ascending : Within 0 bound32 ps
-  ascending = pairs-within (b .table) (b .count) ps (stands-open s .ready .holds .spells)
+  -- 07 answers the next key up of the map at that moment, wherever it stands in a batch or among the turns of a desk: before its answer are those of
+  -- the commands before it, and behind it those of the commands behind it.
+  pub ceiling-answers : (c : Call) → CallBytes c → (before : List Command) (k : ℕ) (after : List Command) →
+      commandsIn (callFed pool c) ≡ before ++ (Ceiling k ∷ after) →
+      answered (callOutcome pool c) ≡
+      laidOver (asBatch c .buffer)
+      (mapAnswers (nodeLimit (blocksOf pool)) before (atFirst t) b ps ++
+      (ceilingReply (ceiling k (mapThen before)) ∷
+      mapAnswersBehind (nodeLimit (blocksOf pool)) (before ++ (Ceiling k ∷ [])) after (atFirst t) b ps))
+  unfolding mapAnswer
+  ceiling-answers c bytes before k after e =
+      call-answers (stands-open s) c bytes ∙
+      ap (λ (cs : List Command). laidOver (asBatch c .buffer) (mapAnswers (nodeLimit (blocksOf pool)) cs (atFirst t) b ps)) e ∙
+      ap (laidOver (asBatch c .buffer)) (repliesTo-among _ _ before (Ceiling k) after (atFirst t) (b, ps))
 
-  pub ceiling-is : CeilingIs lookup k ps (ceiling k ps)
-  ceiling-is = nearest-is k 0 bound32 ps ascending
+  -- What that is: a pair of the map, at or above the key, with nothing of the map between; 80 exactly where nothing of the map is at or above.
+  module _ (before : List Command) (valid : ValidAll before) (k : ℕ) where
+    ascending : Within 0 bound32 (mapThen before)
+    ascending =
+        let o = stands-open s in
+        run-within (nodeLimit (blocksOf pool)) (omega (arith, sized pool (o .size) .most)) before (atFirst t) b ps valid (o .ready .holds)
 
-  pub ceiling-none : ((j : ℕ) → k ≤ j → lookup j ps ≡ none) → ceiling k ps ≡ none
-  ceiling-none = none-above k 0 bound32 ps ascending
+    pub ceiling-is : CeilingIs lookup k (mapThen before) (ceiling k (mapThen before))
+    ceiling-is = nearest-is k 0 bound32 (mapThen before) ascending
+
+    pub ceiling-none : ((j : ℕ) → k ≤ j → lookup j (mapThen before) ≡ none) → ceiling k (mapThen before) ≡ none
+    ceiling-none = none-above k 0 bound32 (mapThen before) ascending
+
+  -- The commands before any place of a call are valid, so that this holds there.
+  pub commands-valid : (c : Call) → CallBytes c → (before cs : List Command) → commandsIn (callFed pool c) ≡ before ++ cs → ValidAll before
+  commands-valid = before-valid pool
 
 -- "It reads as a sweep of that route to FFFFFFFF with a most of 1 does": by definition ..
 pub ceiling-reads : (limit : ℕ) (n : Session) (k : ℕ) (b : Book) → requestsFor limit n (Ceiling k) b ≡ requestsFor limit n (Scan k lastKey 1) b
@@ -418,6 +427,49 @@ pub desk-ends : (pool table lengths queues buffer : List ℕ) → joinedBy (queu
     DeskRefused pool table lengths queues buffer (deskOf pool table lengths queues buffer)
 desk-ends = refused-before
 
+-- The bill of panel p where queues of these commands are served on a pool with this tariff and this book: its own commands, each with what it costs
+-- when its turn comes.
+abbrev pub bill : Tariff → List ℕ → Book → List (List Command) → ℕ → List (Command × ℕ)
+bill t pool b commands p = billed (nodeLimit (blocksOf pool)) p (turns commands) (atFirst t) b
+
+-- WHAT AN ACCEPTED DESK CALL DOES, on a pool that stands:
+pub record DeskServes (t : Tariff) (pool : List ℕ) (b : Book) (ps : List Pair) (d : DeskLent) : Type 0 where
+  -- "up to 16 queues, each a batch, in one lent buffer, with their four-byte lengths in another": they are cut, and each is read, queue p for panel p
+  pub queues : List (List ℕ)
+  pub cut : queuesOf (d .lengths) (d .queues) ≡ some queues
+  pub commands : List (List Command)
+  pub read : allCommands queues ≡ some commands
+  -- it "serves one command from each queue that still has any, in panel order, round and round", with "a command 05 before every command"
+  pub served : commandsIn (callFed pool (desk d)) ≡ interleaved (turns commands)
+  -- they are answered in that order, as a plain ordered map does
+  pub answers : answered (callOutcome pool (desk d)) ≡
+      laidOver (d .buffer) (mapAnswers (nodeLimit (blocksOf pool)) (interleaved (turns commands)) (atFirst t) b ps)
+  -- a panel is billed for the commands of its own queue, all of them and in their order,
+  pub own : (p : ℕ) → billCommands (bill t pool b commands p) ≡ getD commands p []
+  -- its charge is "that of the panel's own commands",
+  pub charge : (p : ℕ) → getD (callOutcome pool (desk d) .charges) p 0 ≡ billTotal (bill t pool b commands p)
+  -- and 0 without a queue, or with one that is empty
+  pub without : (p : ℕ) → getD commands p [] ≡ [] → getD (callOutcome pool (desk d) .charges) p 0 ≡ 0
+
+pub desk-serves : {t : Tariff} {pool : List ℕ} {b : Book} {ps : List Pair} → Stands t pool b ps → (d : DeskLent) → CallBytes (desk d) →
+    callOutcome pool (desk d) .number ≡ 0 → DeskServes t pool b ps d
+desk-serves {t} {pool} {b} {ps} s d bytes e =
+    let r = desk-reads pool d bytes e in
+    let limit = nodeLimit (blocksOf pool) in
+    record {
+      queues = r .queues;
+      cut = r .cut;
+      commands = r .commands;
+      read = r .read;
+      served = r .served;
+      answers =
+          call-answers (stands-open s) (desk d) bytes ∙
+          ap (λ (cs : List Command). laidOver (d .buffer) (mapAnswers limit cs (atFirst t) b ps)) (r .served);
+      own = billed-own limit (r .commands) (atFirst t) b;
+      charge = desk-charge (stands-open s) d bytes r;
+      without = λ p none. desk-charge (stands-open s) d bytes r p ∙ billed-none limit (r .commands) (atFirst t) b p none;
+    }
+
 -- Of the queues of a desk, and the commands of each:
 module _ (lengths queues : List ℕ) (bytes : Bytes queues) (qs : List (List ℕ)) (css : List (List Command))
     (cut : queuesOf lengths queues ≡ some qs) (read : allCommands qs ≡ some css) where
@@ -441,6 +493,13 @@ module _ (lengths queues : List ℕ) (bytes : Bytes queues) (qs : List (List ℕ
 
   pub joined-commands : length (joinedBytes css) ≤ mostBatchBytes → commandsOf (joinedBytes css) ≡ some (interleaved (turns css))
   joined-commands = joined-short made few reads
+
+  -- "With its length limit": joined bytes over 32,768 are 3, where 1 and 2 are passed.
+  pub desk-too-long : (pool table buffer : List ℕ) → poolLength pool ≡ true → tableBytes (blocksOf pool) ≤ length table →
+      mostBatchBytes < length queues + 4 * commandCount css → deskOf pool table lengths queues buffer .number ≡ 3
+  unfolding deskOf
+  desk-too-long pool table buffer p u l =
+      rw (p, le-leb (tableBytes (blocksOf pool)) (length table) u, cut, joined-are, joined-long css (omega (arith, joined-length))) refl
 
   -- "Serves one command from each queue that still has any, in panel order, round and round": what panel p is served is its queue, whole and in
   -- order, in commands and in bytes, to the letter; a panel without a queue is served nothing.
