@@ -34,4 +34,5 @@ pub mod InCall
 pub mod DeskServes
 pub mod AgainstSchedules
 pub mod PreparedPool
+pub mod Tags
 pub mod TheBook

@@ -11,9 +11,11 @@ use borrow.Author.Tests.{le-leb}
 use lib.Dec.{eqb}
 use lib.ListN.{length, getD, drop}
 use Rattle.laws.specs.Every.{Every}
+use Rattle.laws.specs.Counts.{count}
 use Rattle.laws.specs.BigEndian.{Bytes}
 use Rattle.laws.specs.Update.{sum}
 use Rattle.layout.specs.Layout.{nodeLimit, tableBytes, panels, mostBatchBytes, lastSequence, lastKey, bound32}
+use Rattle.wire.specs.Tag.{Row, rows}
 use Rattle.account.specs.declared.Mode.the-variants.{Log}
 use Rattle.account.specs.declared.Tariff.{Tariff}
 use Rattle.account.specs.Tariff.{switchTo}
@@ -34,6 +36,7 @@ use Rattle.desk_queues.specs.Joined.{allCommands, interleaved, joinedBytes, byt
 use Rattle.desk_laws.specs.QueueLaws.{cut-few, cut-bytes, cut-length}
 use Rattle.desk_laws.specs.Read.{Read, all-read, read-length, served-spelled}
 use Rattle.desk_laws.specs.JoinedLaws.{joined-short, joined-long, joined-length as length-of}
+use Rattle.page.specs.Page.{Content, Page, contentOf}
 use Rattle.tree.specs.NodeRequest.{NodeRequest}
 use Rattle.tree.specs.Spells.{mapOf}
 use Rattle.store.specs.Reopen.{newest}
@@ -77,6 +80,7 @@ use Rattle.demands.specs.AnyCall.{fed-same, calls-bytes, calls-fed, call
 use Rattle.demands.specs.AnyCall.{call-answers, call-charges}
 use Rattle.demands.specs.InCall.{before-valid, run-within}
 use Rattle.demands.specs.DeskServes.{desk-reads, billed-own, billed-none, desk-charge}
+use Rattle.demands.specs.Tags.{commandKinds, pageKinds, tagOf, kindOf, every-command, every-page, tagsInUse, rows-in-use}
 use Rattle.demands.specs.AgainstSchedules.{bound}
 use Rattle.demands.specs.PreparedPool.{prepare-stands, prepare-ordered}
 
@@ -411,6 +415,20 @@ ceiling-reads limit n k b = refl
 pub ceilings-read : (pool table buffer batch batch′ : List ℕ) (cs ds : List Command) → ScansFor cs ds → commandsOf batch ≡ some cs →
     commandsOf batch′ ≡ some ds → SameReads (batchOf pool table batch buffer) (batchOf pool table batch′ buffer)
 ceilings-read pool table buffer batch batch′ cs ds r = scans-same pool table buffer cs ds r batch batch′
+
+-- DOCUMENT 02, P4. "It keeps one entry for each command and page field in use, none besides, and is indexed by the tag byte no more. Every answer and
+-- every promise is unchanged." The entries of the table are the rows, one for one, by the contract of `wire::tag::find`.
+
+-- The rows have the tags that stand in the bytes of commands and of page fields, each once, in ascending order, and no other. What is in use is read
+-- off the bytes of one command and one page of each kind; there is no further kind.
+pub no-other-tags : map (λ (r : Row). r .tag) rows ≡ tagsInUse
+no-other-tags = rows-in-use
+
+pub all-commands : (c : Command) → count (λ (k : Command). eqb (tagOf k) (tagOf c)) commandKinds ≡ 1
+all-commands = every-command
+
+pub all-pages : (c : Content) → count (λ (p : Page). eqb (kindOf (contentOf p)) (kindOf c)) pageKinds ≡ 1
+all-pages = every-page
 
 -- DOCUMENT 02, P5. "A second entry point takes up to 16 queues, each a batch, in one lent buffer, with their four-byte lengths in another." Demand 1
 -- of it is `demand-one-desk`; demands 2 and 3 are about lists in which desks stand beside batches.
