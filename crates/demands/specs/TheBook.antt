@@ -368,42 +368,41 @@ panels-invisible pool table buffer batch batch′ cs bytes e f =
 -- DOCUMENT 02, P3. "A setter types a number and wants that route or the nearest above. Command 07 .. answers 87 with route and word .., or 80 if none is
 -- at or above."
 
-module _ {t : Tariff} {pool : List ℕ} {b : Book} {ps : List Pair} (s : Stands t pool b ps) where
-  -- The map at a moment of a call, behind its first commands; behind none it is the map that the pool spells.
-  abbrev pub mapThen : List Command → List Pair
-  mapThen before = mapRun (nodeLimit (blocksOf pool)) before (atFirst t) b ps
+-- The map at a moment of a call, behind its first commands; behind none it is the map that the pool spells.
+abbrev pub mapThen : Tariff → List ℕ → Book → List Pair → List Command → List Pair
+mapThen t pool b ps before = mapRun (nodeLimit (blocksOf pool)) before (atFirst t) b ps
 
-  -- 07 answers the next key up of the map at that moment, wherever it stands in a batch or among the turns of a desk: before its answer are those of
-  -- the commands before it, and behind it those of the commands behind it.
-  pub ceiling-answers : (c : Call) → CallBytes c → (before : List Command) (k : ℕ) (after : List Command) →
-      commandsIn (callFed pool c) ≡ before ++ (Ceiling k ∷ after) →
-      answered (callOutcome pool c) ≡
-      laidOver (asBatch c .buffer)
-      (mapAnswers (nodeLimit (blocksOf pool)) before (atFirst t) b ps ++
-      (ceilingReply (ceiling k (mapThen before)) ∷
-      mapAnswersBehind (nodeLimit (blocksOf pool)) (before ++ (Ceiling k ∷ [])) after (atFirst t) b ps))
-  unfolding mapAnswer
-  ceiling-answers c bytes before k after e =
-      call-answers (stands-open s) c bytes ∙
-      ap (λ (cs : List Command). laidOver (asBatch c .buffer) (mapAnswers (nodeLimit (blocksOf pool)) cs (atFirst t) b ps)) e ∙
-      ap (laidOver (asBatch c .buffer)) (repliesTo-among _ _ before (Ceiling k) after (atFirst t) (b, ps))
+-- 07 answers the next key up of the map at that moment, wherever it stands in a batch or among the turns of a desk: before its answer are those of the
+-- commands before it, and behind it those of the commands behind it.
+pub ceiling-answers : {t : Tariff} {pool : List ℕ} {b : Book} {ps : List Pair} → Stands t pool b ps → (c : Call) → CallBytes c →
+    (before : List Command) (k : ℕ) (after : List Command) → commandsIn (callFed pool c) ≡ before ++ (Ceiling k ∷ after) →
+    answered (callOutcome pool c) ≡
+    laidOver (asBatch c .buffer)
+    (mapAnswers (nodeLimit (blocksOf pool)) before (atFirst t) b ps ++
+    (ceilingReply (ceiling k (mapThen t pool b ps before)) ∷
+    mapAnswersBehind (nodeLimit (blocksOf pool)) (before ++ (Ceiling k ∷ [])) after (atFirst t) b ps))
+unfolding mapAnswer
+ceiling-answers {t} {pool} {b} {ps} s c bytes before k after e =
+    call-answers (stands-open s) c bytes ∙
+    ap (λ (cs : List Command). laidOver (asBatch c .buffer) (mapAnswers (nodeLimit (blocksOf pool)) cs (atFirst t) b ps)) e ∙
+    ap (laidOver (asBatch c .buffer)) (repliesTo-among _ _ before (Ceiling k) after (atFirst t) (b, ps))
 
-  -- What that is: a pair of the map, at or above the key, with nothing of the map between; 80 exactly where nothing of the map is at or above.
-  module _ (before : List Command) (valid : ValidAll before) (k : ℕ) where
-    ascending : Within 0 bound32 (mapThen before)
-    ascending =
-        let o = stands-open s in
-        run-within (nodeLimit (blocksOf pool)) (omega (arith, sized pool (o .size) .most)) before (atFirst t) b ps valid (o .ready .holds)
+-- What that is: a pair of the map, at or above the key, with nothing of the map between; 80 exactly where nothing of the map is at or above.
+module _ {t : Tariff} {pool : List ℕ} {b : Book} {ps : List Pair} (s : Stands t pool b ps) (before : List Command) (valid : ValidAll before) (k : ℕ) where
+  ascending : Within 0 bound32 (mapThen t pool b ps before)
+  ascending =
+      let o = stands-open s in
+      run-within (nodeLimit (blocksOf pool)) (omega (arith, sized pool (o .size) .most)) before (atFirst t) b ps valid (o .ready .holds)
 
-    pub ceiling-is : CeilingIs lookup k (mapThen before) (ceiling k (mapThen before))
-    ceiling-is = nearest-is k 0 bound32 (mapThen before) ascending
+  pub ceiling-is : CeilingIs lookup k (mapThen t pool b ps before) (ceiling k (mapThen t pool b ps before))
+  ceiling-is = nearest-is k 0 bound32 (mapThen t pool b ps before) ascending
 
-    pub ceiling-none : ((j : ℕ) → k ≤ j → lookup j (mapThen before) ≡ none) → ceiling k (mapThen before) ≡ none
-    ceiling-none = none-above k 0 bound32 (mapThen before) ascending
+  pub ceiling-none : ((j : ℕ) → k ≤ j → lookup j (mapThen t pool b ps before) ≡ none) → ceiling k (mapThen t pool b ps before) ≡ none
+  ceiling-none = none-above k 0 bound32 (mapThen t pool b ps before) ascending
 
-  -- The commands before any place of a call are valid, so that this holds there.
-  pub commands-valid : (c : Call) → CallBytes c → (before cs : List Command) → commandsIn (callFed pool c) ≡ before ++ cs → ValidAll before
-  commands-valid = before-valid pool
+-- The commands before any place of a call are valid, so that this holds there.
+pub commands-valid : (pool : List ℕ) (c : Call) → CallBytes c → (before cs : List Command) → commandsIn (callFed pool c) ≡ before ++ cs → ValidAll before
+commands-valid = before-valid
 
 -- "It reads as a sweep of that route to FFFFFFFF with a most of 1 does": by definition ..
 pub ceiling-reads : (limit : ℕ) (n : Session) (k : ℕ) (b : Book) → requestsFor limit n (Ceiling k) b ≡ requestsFor limit n (Scan k lastKey 1) b
