@@ -20,8 +20,9 @@ billTotal [] = 0
 billTotal (x ∷ xs) = x .1 + billTotal xs
 
 module _ (limit : ℕ) where
-  -- A turn is a panel and its command. Each is served with its panel current, on the book that the turns before it left. The bill of panel p: its own
-  -- commands in their order, each with what all its node requests are charged then.
+  -- "Each that of the panel's own commands" (P2), where the desk "serves one command from each queue" in turn (P5). A turn is a panel and its command;
+  -- it is served with its panel current, on the book that the turns before it left. The bill of panel p: its own commands in their order, each with what
+  -- all its node requests are charged then.
   abbrev pub billed : ℕ → List (ℕ × Command) → Session → Book → List (Command × ℕ)
   billed p [] n b = []
   billed p (x ∷ xs) n b =

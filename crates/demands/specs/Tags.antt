@@ -60,7 +60,7 @@ every-page (log es) = refl
 every-page (whole id n) = refl
 every-page (checkpoint t ss c) = refl
 
--- THE TAGS IN USE, of the 256 that a byte may be.
+-- THE TAGS IN USE, of the 256 that a byte may be: "each command and page field in use".
 abbrev pageTags : List Page → List ℕ
 pageTags [] = []
 pageTags (p ∷ ps) = tagsIn (image p) ++ pageTags ps
@@ -68,7 +68,7 @@ pageTags (p ∷ ps) = tagsIn (image p) ++ pageTags ps
 abbrev pub tagsInUse : List ℕ
 tagsInUse = filter (λ tag. ltb 0 (count (eqb tag) (tagsIn (batchBytes commandKinds) ++ pageTags pageKinds))) (listBelow 256 (λ tag. tag))
 
--- THE TABLE has a row for each, and none besides.
+-- THE TABLE has a row for each, "none besides".
 pub rows-in-use : map (λ (r : Row). r .tag) rows ≡ tagsInUse
 unfolding rows commandBytes field numberAt part entryBytes pairsBytes wholeBytes tariffBytes scoreBytes fields contentBytes numbered sumsField sealed image
 rows-in-use = refl
