@@ -1,16 +1,19 @@
--- Worked charges by panel, of a book on which every command costs as much as its answer has room, and nothing is kept: the current panel pays, panel 0
--- at first, and no other, whatever is answered. Assumes nothing.
+-- The commands of a batch in turn, worked, since the reference model and the run share what is said of it: who is charged, and what each command finds.
+-- Assumes nothing.
 use mathlib.Core.Path.{_≡_, refl}
-use mathlib.Core.List.{List, [], _∷_}
-use Prim.Native.Nat.{ℕ}
+use mathlib.Core.List.{List, [], _∷_, _++_}
+use Prim.Native.Nat.{ℕ, _+_, _*_}
+use lib.ListN.{length}
 use Rattle.account.specs.declared.Tariff.{Tariff}
 use Rattle.command.specs.declared.Command.{Command}
 use Rattle.command.specs.declared.Command.the-variants.{Get, Put, Delete, Scan, Panel, Ceiling}
 use Rattle.command.specs.Command.{roomFor}
-use Rattle.book.specs.Command.{Reply}
+use Rattle.book.specs.Command.{Reply, listed}
 use Rattle.book.specs.Session.{Session, atFirst}
-use Rattle.book.specs.InTurn.{eachPanel, chargeOn}
+use Rattle.book.specs.InTurn.{eachPanel, afterAll, repliesTo, inRow, total, chargeOn}
 
+-- CHARGES BY PANEL, of a book on which every command costs as much as its answer has room, and nothing is kept: the current panel pays, panel 0 at first,
+-- and no other, whatever is answered.
 abbrev Replies : Type 0
 Replies = Session → Command → Unit {0} → Reply
 
@@ -39,3 +42,30 @@ pub worked-keeps : (t : Tariff) (reply : Replies) →
     7 ∷ 14 ∷ 14 ∷ 14 ∷ 26 ∷ 18 ∷ 7 ∷ 0 ∷ 0 ∷ 0 ∷ 0 ∷ 0 ∷ 0 ∷ 0 ∷ 0 ∷ 0 ∷ []
 unfolding eachPanel
 worked-keeps t reply = refl
+
+-- WHAT EACH FINDS, of a book that writes down who came: a command leaves its panel in the hundreds and its room. Each finds the session and the book that
+-- those before it left, in the order of the batch.
+abbrev four : List Command
+four = Get 2 ∷ Panel 3 ∷ Put 100 1 ∷ Scan 0 9 2 ∷ []
+
+abbrev noted : Session → Command → List ℕ → List ℕ
+noted n c b = b ++ ((100 * n .panel + roomFor c) ∷ [])
+
+abbrev found : Session → Command → List ℕ → List ℕ
+found n c b = n .panel ∷ length b ∷ []
+
+abbrev told : Session → Command → List ℕ → Reply
+told n c b = listed ((n .panel, length b) ∷ [])
+
+pub worked-after : (t : Tariff) → afterAll told noted four (atFirst t) [] ≡ 7 ∷ 0 ∷ 307 ∷ 319 ∷ []
+worked-after t = refl
+
+pub worked-replies : (t : Tariff) → repliesTo told noted four (atFirst t) [] ≡
+    listed ((0, 0) ∷ []) ∷ listed ((0, 1) ∷ []) ∷ listed ((3, 2) ∷ []) ∷ listed ((3, 3) ∷ []) ∷ []
+worked-replies t = refl
+
+pub worked-row : (t : Tariff) → inRow told noted found four (atFirst t) [] ≡ 0 ∷ 0 ∷ 0 ∷ 1 ∷ 3 ∷ 2 ∷ 3 ∷ 3 ∷ []
+worked-row t = refl
+
+pub worked-total : (t : Tariff) → total told noted (λ n c b. 10 * n .panel + length b) four (atFirst t) [] ≡ 66
+worked-total t = refl
