@@ -220,6 +220,40 @@ fn answers_come_in_the_order_of_service() {
     assert_eq!(fixture.lines(), ["800000".to_string()].into_iter().chain(values).collect::<Vec<_>>());
 }
 
+/// Serves puts of key 1, a queue a panel, and gives what each answered, then what the key has.
+fn replaced(queues: &[&[u32]]) -> Vec<String> {
+    let queues: Vec<Vec<Command>> = queues.iter().map(|values| values.iter().map(|&to| put(1, to)).collect()).collect();
+    let mut fixture = Fixture::prepared(MIN_BLOCKS, FREE);
+    fixture.desk(&queues);
+    let mut lines = fixture.lines();
+    fixture.batch(&[get(1)]);
+    lines.extend(fixture.lines());
+    lines
+}
+
+#[test]
+fn panels_rise_in_every_round() {
+    // Each answer has what the one served before has put: panels 0, 1; 0, 1.
+    let two = ["800000", "820004000000a0", "820004000000b0", "820004000000a1", "810004000000b1"];
+    assert_eq!(replaced(&[&[0xA0, 0xA1], &[0xB0, 0xB1]]), two);
+    // Panels 0, 1, 2; 0, 2; 2.
+    let three = [
+        "800000",
+        "820004000000a0",
+        "820004000000b0",
+        "820004000000c0",
+        "820004000000a1",
+        "820004000000c1",
+        "810004000000c2",
+    ];
+    assert_eq!(replaced(&[&[0xA0, 0xA1], &[0xB0], &[0xC0, 0xC1, 0xC2]]), three);
+    // Panels 1, 2; 1: panel 0 has nothing to ask.
+    assert_eq!(
+        replaced(&[&[], &[0xB0, 0xB1], &[0xC0]]),
+        ["800000", "820004000000b0", "820004000000c0", "810004000000b1"]
+    );
+}
+
 #[test]
 fn a_put_with_9_at_a_desk_charges_nobody() {
     let mut fixture = prepared();

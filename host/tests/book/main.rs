@@ -19,4 +19,5 @@ mod sums;
 mod tags;
 mod tool;
 mod traces;
+mod wall;
 mod worked;
