@@ -7,6 +7,7 @@ mod desk;
 mod foreign;
 mod format;
 mod fuzz;
+mod header;
 mod library;
 mod limits;
 mod page_limits;

@@ -3,6 +3,7 @@
 use std::io::Write;
 use std::path::{Path, PathBuf};
 use std::process::{Command as Process, Stdio};
+use std::sync::Once;
 
 use crate::common::{bytes, ceiling, charges, delete, get, panel, put, scan, Fixture, WORKED};
 use yokehour_host::book::{Book, Outcome, SecondBook};
@@ -14,16 +15,19 @@ use yokehour_host::wire::to_hex;
 /// The room that the program has for answers.
 const ROOM: usize = 65_536;
 
-/// The program, where it is built; elsewhere a line on standard error says that it is not tested.
+/// The program, where it is built; elsewhere a line on standard error says once that it is not tested.
 fn program() -> Option<PathBuf> {
+    static NOTICE: Once = Once::new();
     let path = Path::new(env!("CARGO_MANIFEST_DIR")).join("../target/bin/wall");
     if path.exists() {
         return Some(path);
     }
     let missing = "there is no target/bin/wall; make it with `rt check wall`";
     assert!(!is_required(), "{missing}");
-    // Past the test harness, which keeps what `eprintln` writes to itself.
-    let _ = writeln!(std::io::stderr(), "program wall is not tested: {missing}");
+    NOTICE.call_once(|| {
+        // Past the test harness, which keeps what `eprintln` writes to itself.
+        let _ = writeln!(std::io::stderr(), "program wall is not tested: {missing}");
+    });
     None
 }
 
