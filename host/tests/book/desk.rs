@@ -151,7 +151,7 @@ fn no_queue_names_a_panel() {
 #[test]
 fn the_joined_bytes_are_32768_at_most() {
     let pool = Fixture::prepared(MIN_BLOCKS, FREE).pool;
-    let dealt = |panels: usize, commands: &[Command]| {
+    let served = |panels: usize, commands: &[Command]| {
         let queue = |panel: usize| commands.iter().skip(panel).step_by(panels).copied().collect();
         let queues: Vec<Vec<Command>> = (0..panels).map(queue).collect();
         let outcome = make(&mut Call::desk(pool.clone(), &queues));
@@ -161,13 +161,13 @@ fn the_joined_bytes_are_32768_at_most() {
     let full = [vec![put(1, 1); 8], vec![get(7); 2_968]].concat();
     assert_eq!(encode(&in_turns(std::slice::from_ref(&full))).len(), 32_768);
     for panels in [1, 2, 15, 16] {
-        assert_eq!(dealt(panels, &vec![get(7); 2_978]), (0, 3 * 2_978), "{panels} panels");
-        assert_eq!(dealt(panels, &full), (0, 3 * 2_969 + 7 * 7), "{panels} panels");
-        assert_eq!(dealt(panels, &vec![get(7); 2_979]), (3, 0), "{panels} panels");
+        assert_eq!(served(panels, &vec![get(7); 2_978]), (0, 3 * 2_978), "{panels} panels");
+        assert_eq!(served(panels, &full), (0, 3 * 2_969 + 7 * 7), "{panels} panels");
+        assert_eq!(served(panels, &vec![get(7); 2_979]), (3, 0), "{panels} panels");
     }
     // As long as a batch may be, but not with panels in it.
-    assert_eq!(dealt(1, &vec![get(7); 4_681]), (3, 0));
-    assert_eq!(dealt(1, &vec![get(7); 4_682]), (3, 0));
+    assert_eq!(served(1, &vec![get(7); 4_681]), (3, 0));
+    assert_eq!(served(1, &vec![get(7); 4_682]), (3, 0));
 }
 
 #[test]
@@ -299,8 +299,8 @@ fn check_service(queues: &[Vec<Command>]) {
     }
 }
 
-/// Commands dealt to some panels at random, one of them mostly.
-fn dealt(random: &mut Random, commands: &[Command]) -> Vec<Vec<Command>> {
+/// Commands distributed to some panels at random, to one of them mostly.
+fn distributed(random: &mut Random, commands: &[Command]) -> Vec<Vec<Command>> {
     let mut queues = vec![Vec::new(); random.between(1, PANELS)];
     let busy = random.below(queues.len());
     for command in commands.iter().filter(|command| command.is_answered()) {
@@ -318,7 +318,7 @@ fn random_queues_are_served_fairly_and_as_their_joined_bytes() {
         let Script { mut pool, batches } = Script::random(&mut random, 4).expect("a script");
         for mut commands in batches {
             commands.truncate(1_900);
-            let queues = dealt(&mut random, &commands);
+            let queues = distributed(&mut random, &commands);
             check_service(&queues);
             let (outcome, after) = check_joined(&pool, &queues);
             accepted += usize::from(outcome.number == 0);

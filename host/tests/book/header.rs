@@ -3,6 +3,7 @@
 use std::fs;
 use std::path::Path;
 
+use crate::stack::CORTEX_STACK_BYTES;
 use yokehour_host::layout::{BLOCK_BYTES, MAX_BATCH_BYTES, PANELS, TABLE_BYTES_PER_BLOCK};
 use yokehour_host::refusal::words;
 use yokehour_host::tree::IDS_USED_UP;
@@ -128,6 +129,7 @@ fn the_macros_have_their_names_and_values() {
         format!("WALL_BOOK_BLOCK_BYTES {BLOCK_BYTES}"),
         format!("WALL_BOOK_MOST_COMMAND_BYTES {MAX_BATCH_BYTES}"),
         format!("WALL_BOOK_PANELS {PANELS}"),
+        format!("WALL_BOOK_STACK_BYTES {CORTEX_STACK_BYTES}"),
         format!("WALL_BOOK_TABLE_BYTES(pool_bytes) ((pool_bytes) / {})", BLOCK_BYTES / TABLE_BYTES_PER_BLOCK),
     ];
     assert_eq!(defined, expected);
