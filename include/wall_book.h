@@ -35,8 +35,9 @@
  * Nothing is kept between calls and the library has no data of its own: pools may be used by turns, and several at once
  * from several threads, each with buffers of its own.
  *
- * A batch or a desk takes at most 12,288 bytes of stack on x86-64, whatever the pool holds, and prepare 2,048; nothing
- * calls itself.
+ * A batch or a desk takes at most 12,288 bytes of stack on x86-64 and 16,384 (WALL_BOOK_STACK_BYTES) on a Cortex-M4,
+ * M3 or M0+, whatever the pool holds, and prepare 2,048 and 3,072; nothing calls itself. What memcpy and the like take
+ * is in it, what an interrupt takes is not.
  *
  * All calls answer 0, or the number of the first question that failed; a refusal leaves pool and answers as they were.
  */
@@ -53,6 +54,7 @@ extern "C" {
 #define WALL_BOOK_BLOCK_BYTES 16384
 #define WALL_BOOK_MOST_COMMAND_BYTES 32768
 #define WALL_BOOK_PANELS 16
+#define WALL_BOOK_STACK_BYTES 16384
 #define WALL_BOOK_TABLE_BYTES(pool_bytes) ((pool_bytes) / 16)
 
 /* Why a call is refused; batch asks 1 to 8 in this order, desk too with 11 between 2 and 3, prepare 1 and then 10. */
@@ -87,11 +89,11 @@ uint32_t wall_book_batch(uint8_t *pool, size_t pool_bytes, uint8_t *table, size_
                          const uint8_t *commands, size_t commands_bytes, uint8_t *answers, size_t answers_bytes,
                          size_t *length, uint64_t charges[WALL_BOOK_PANELS]);
 
-/* Serves the queues of up to 16 panels. It goes round them from panel 0 up and takes the next command of each that has
- * one left, until none has: so nobody waits for more than 15 commands of others. It puts an 05 with the panel, 4 bytes,
- * before every command, and runs what comes of it as a batch: within 32,768 bytes, answers in the order of service, the
- * rest as above. A queue is wholly of commands, none of them an 05. Panels without a command have a length of 0 or,
- * behind the last that has one, no length at all. */
+/* Serves the queues of up to 16 panels round robin: from panel 0 up it takes the next command of each that has one
+ * left, and begins again until none has. So nobody waits for more than 15 commands of others. It puts an 05 with the
+ * panel, 4 bytes, before every command, and runs what comes of it as a batch: within 32,768 bytes, answers in the order
+ * of service, the rest as above. A queue is wholly of commands, none of them an 05. Panels without a command have a
+ * length of 0 or, behind the last that has one, no length at all. */
 uint32_t wall_book_desk(uint8_t *pool, size_t pool_bytes, uint8_t *table, size_t table_bytes,
                         const uint8_t *lengths, size_t lengths_bytes, const uint8_t *queues, size_t queues_bytes,
                         uint8_t *answers, size_t answers_bytes,

@@ -259,6 +259,18 @@ static void run_empty(void)
         printf("  length %u\n", (unsigned)length);
 }
 
+/* A desk at which nobody hands in: neither lengths nor queues are there. */
+static void serve_empty(void)
+{
+    size_t length;
+    uint64_t charges[WALL_BOOK_PANELS];
+
+    printf("an empty desk\n");
+    if (!print_refused(wall_book_desk(pool, sizeof pool, table, sizeof table, NULL, 0, NULL, 0, NULL, 0,
+                                      &length, charges)))
+        printf("  length %u\n", (unsigned)length);
+}
+
 /* Puts keys from 1 up, one a batch, until the book has no node ids for the next. */
 static void fill(void)
 {
@@ -282,9 +294,10 @@ static void meet_refusals(void)
     size_t length;
     uint64_t charges[WALL_BOOK_PANELS];
 
-    printf("no pool, no table, a switch that costs nothing\n");
+    printf("no pool, no table, nothing at all, a switch that costs nothing\n");
     print_refused(wall_book_prepare(NULL, 0, 3, 1, 2, 1, 4, 4, 3, 2));
     print_refused(wall_book_batch(pool, sizeof pool, NULL, 0, NULL, 0, NULL, 0, &length, charges));
+    print_refused(wall_book_desk(NULL, 0, NULL, 0, NULL, 0, NULL, 0, NULL, 0, &length, charges));
     print_refused(wall_book_prepare(pool, sizeof pool, 3, 1, 2, 1, 4, 4, 0, 2));
     lay_scan(1, 9, 33);
     run("a scan for 33 pairs", sizeof answers);
@@ -351,6 +364,7 @@ static int go_on(const char *name)
     run("ceilings of 1 and 9", sizeof answers);
     serve_three();
     run_empty();
+    serve_empty();
     meet_refusals();
     fill();
     return save(name);

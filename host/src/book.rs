@@ -158,14 +158,14 @@ fn asked(
 /// Does commands on an open store, puts their answers behind `answers` and gives each panel's charge.
 pub fn serve(store: &mut Store<'_>, limit: usize, commands: &[Command], answers: &mut Vec<u8>) -> [u64; PANELS] {
     let mut charges = [0; PANELS];
-    let mut speaks = 0;
+    let mut current = 0;
     let mut steps = Vec::new();
     for command in commands {
         if let Command::Panel { panel } = *command {
-            speaks = panel;
+            current = panel;
         }
         let answer = tree::plan(store.nodes(), limit, command, &mut steps);
-        charges[speaks] += steps.drain(..).map(|step| store.run(step)).sum::<u64>();
+        charges[current] += steps.drain(..).map(|step| store.run(step)).sum::<u64>();
         if let Some(answer) = answer {
             answer.encode(answers);
         }

@@ -8,8 +8,13 @@ use crate::book::{Book, SecondBook};
 /// The books that a tool can be asked for by name.
 pub const BOOK_NAMES: &str = "second, proved";
 
-/// The variable that makes a missing proved book an error where both books are compared.
-pub const REQUIRED: &str = "WALL_BOOK_REQUIRED";
+/// The variable that makes it an error where something proved is missing: the book, a program, what C is compiled with.
+const REQUIRED: &str = "WALL_BOOK_REQUIRED";
+
+/// Says whether a test that lacks something proved should fail, and not be left out.
+pub fn is_required() -> bool {
+    std::env::var_os(REQUIRED).is_some_and(|value| value == "1")
+}
 
 /// Why there is no proved book in a build without it.
 #[cfg(not(proved_book))]
@@ -39,14 +44,14 @@ pub fn proved_code() -> Result<usize, String> {
 
 /// The proved book, to be compared with the second one.
 ///
-/// A build without it is an error where [`REQUIRED`] is 1; elsewhere a line on standard error says it once.
+/// A build without it is an error where it is required; elsewhere a line on standard error says it once.
 pub fn proved_to_compare() -> Result<Option<Box<dyn Book>>, String> {
     static NOTICE: Once = Once::new();
     let missing = match by_name("proved") {
         Ok(proved) => return Ok(Some(proved)),
         Err(missing) => missing,
     };
-    if std::env::var_os(REQUIRED).is_some_and(|value| value == "1") {
+    if is_required() {
         return Err(format!("{REQUIRED} is 1, but {missing}"));
     }
     NOTICE.call_once(|| {

@@ -15,8 +15,8 @@ const TAG_PAIRS: u8 = 0x84;
 const TAG_CEILING_PAIR: u8 = 0x87;
 const TAG_REFUSED: u8 = 0x8F;
 
-/// A command: look up, hang, strip and sweep of document 01; and of document 02 the naming of the panel that speaks
-/// from there on, which is charged for the commands behind it, and the next route up: the key or the nearest above it.
+/// A command: look up, hang, strip and sweep of document 01; and of document 02 the naming of the current panel,
+/// which is charged for the commands behind it, and the next route up: the key or the nearest above it.
 #[derive(Clone, Copy, PartialEq, Eq, Debug)]
 pub enum Command {
     Get { key: u32 },

@@ -11,7 +11,7 @@ mod call;
 mod charges;
 mod checked_pool;
 mod commands;
-mod deal;
+mod queues;
 mod script;
 mod style;
 mod tally;

@@ -88,12 +88,12 @@ impl Ledger {
     }
 }
 
-/// Each command with the panel that speaks, which is 0 at first.
+/// Each command with the current panel, which is 0 at first.
 pub fn by_panel(commands: &[Command]) -> impl Iterator<Item = (usize, &Command)> {
-    commands.iter().scan(0, |speaks, command| {
+    commands.iter().scan(0, |current, command| {
         if let Command::Panel { panel } = command {
-            *speaks = *panel;
+            *current = *panel;
         }
-        Some((*speaks, command))
+        Some((*current, command))
     })
 }

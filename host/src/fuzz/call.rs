@@ -1,6 +1,6 @@
 //! Random calls, and calls that must be refused.
 
-use super::deal::{batch_or_desk, wrong_lengths, wrong_queues};
+use super::queues::{batch_or_desk, wrong_lengths, wrong_queues};
 use super::Tally;
 use crate::both::{self, Call};
 use crate::command::{answer_room, encode, parse, Command};

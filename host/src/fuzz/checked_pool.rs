@@ -5,7 +5,7 @@ use std::collections::BTreeMap;
 use super::call::{random_call, refused, refused_call, refused_prepares};
 use super::charges::{self, NodeCharges};
 use super::commands::{Chooser, MAX_PUTS};
-use super::deal::{batch_or_desk, deal};
+use super::queues::{batch_or_desk, distribute};
 use super::style::CommandStyle;
 use super::{random_blocks, Tally};
 use crate::account::{Account, Tariff};
@@ -111,7 +111,7 @@ impl CheckedPool {
             return refused(call, Refusal::SequenceNumbers.number(), tally);
         }
         if random.once_in(3) {
-            let queues = deal(random, &commands);
+            let queues = distribute(random, &commands);
             return self.desk(random, tally, &queues);
         }
         self.batch(random, tally, &commands)

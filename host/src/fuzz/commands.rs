@@ -94,7 +94,7 @@ impl Chooser<'_> {
     }
 }
 
-/// Any panel, but mostly the first or the last, so that it often speaks already.
+/// Any panel, but mostly the first or the last, so that it is often the current one already.
 fn panel(random: &mut Random) -> Command {
     let any = random.below(PANELS);
     Command::Panel { panel: random.pick(&[0, PANELS - 1, any]) }

@@ -125,7 +125,7 @@ fn a_ceiling_sees_what_the_commands_before_it_did() {
 }
 
 #[test]
-fn the_panel_that_speaks_is_charged_for_a_ceiling() {
+fn the_current_panel_is_charged_for_a_ceiling() {
     let commands = [panel(3), ceiling(7), panel(15), ceiling(7), panel(3), ceiling(7), panel(0), ceiling(7)];
     // The third read moves the leaf to disk, where one costs 1.
     assert_eq!(prepared().batch(&commands).charges, charges([(3, 3 + 1 + 3), (15, 3), (0, 1)]));

@@ -151,7 +151,7 @@ fn no_queue_names_a_panel() {
 #[test]
 fn the_joined_bytes_are_32768_at_most() {
     let pool = Fixture::prepared(MIN_BLOCKS, FREE).pool;
-    let dealt = |panels: usize, commands: &[Command]| {
+    let served = |panels: usize, commands: &[Command]| {
         let queue = |panel: usize| commands.iter().skip(panel).step_by(panels).copied().collect();
         let queues: Vec<Vec<Command>> = (0..panels).map(queue).collect();
         let outcome = make(&mut Call::desk(pool.clone(), &queues));
@@ -161,13 +161,13 @@ fn the_joined_bytes_are_32768_at_most() {
     let full = [vec![put(1, 1); 8], vec![get(7); 2_968]].concat();
     assert_eq!(encode(&in_turns(std::slice::from_ref(&full))).len(), 32_768);
     for panels in [1, 2, 15, 16] {
-        assert_eq!(dealt(panels, &vec![get(7); 2_978]), (0, 3 * 2_978), "{panels} panels");
-        assert_eq!(dealt(panels, &full), (0, 3 * 2_969 + 7 * 7), "{panels} panels");
-        assert_eq!(dealt(panels, &vec![get(7); 2_979]), (3, 0), "{panels} panels");
+        assert_eq!(served(panels, &vec![get(7); 2_978]), (0, 3 * 2_978), "{panels} panels");
+        assert_eq!(served(panels, &full), (0, 3 * 2_969 + 7 * 7), "{panels} panels");
+        assert_eq!(served(panels, &vec![get(7); 2_979]), (3, 0), "{panels} panels");
     }
     // As long as a batch may be, but not with panels in it.
-    assert_eq!(dealt(1, &vec![get(7); 4_681]), (3, 0));
-    assert_eq!(dealt(1, &vec![get(7); 4_682]), (3, 0));
+    assert_eq!(served(1, &vec![get(7); 4_681]), (3, 0));
+    assert_eq!(served(1, &vec![get(7); 4_682]), (3, 0));
 }
 
 #[test]
@@ -220,6 +220,40 @@ fn answers_come_in_the_order_of_service() {
     assert_eq!(fixture.lines(), ["800000".to_string()].into_iter().chain(values).collect::<Vec<_>>());
 }
 
+/// Serves puts of key 1, a queue a panel, and gives what each answered, then what the key has.
+fn replaced(queues: &[&[u32]]) -> Vec<String> {
+    let queues: Vec<Vec<Command>> = queues.iter().map(|values| values.iter().map(|&to| put(1, to)).collect()).collect();
+    let mut fixture = Fixture::prepared(MIN_BLOCKS, FREE);
+    fixture.desk(&queues);
+    let mut lines = fixture.lines();
+    fixture.batch(&[get(1)]);
+    lines.extend(fixture.lines());
+    lines
+}
+
+#[test]
+fn panels_rise_in_every_round() {
+    // Each answer has what the one served before has put: panels 0, 1; 0, 1.
+    let two = ["800000", "820004000000a0", "820004000000b0", "820004000000a1", "810004000000b1"];
+    assert_eq!(replaced(&[&[0xA0, 0xA1], &[0xB0, 0xB1]]), two);
+    // Panels 0, 1, 2; 0, 2; 2.
+    let three = [
+        "800000",
+        "820004000000a0",
+        "820004000000b0",
+        "820004000000c0",
+        "820004000000a1",
+        "820004000000c1",
+        "810004000000c2",
+    ];
+    assert_eq!(replaced(&[&[0xA0, 0xA1], &[0xB0], &[0xC0, 0xC1, 0xC2]]), three);
+    // Panels 1, 2; 1: panel 0 has nothing to ask.
+    assert_eq!(
+        replaced(&[&[], &[0xB0, 0xB1], &[0xC0]]),
+        ["800000", "820004000000b0", "820004000000c0", "810004000000b1"]
+    );
+}
+
 #[test]
 fn a_put_with_9_at_a_desk_charges_nobody() {
     let mut fixture = prepared();
@@ -265,8 +299,8 @@ fn check_service(queues: &[Vec<Command>]) {
     }
 }
 
-/// Commands dealt to some panels at random, one of them mostly.
-fn dealt(random: &mut Random, commands: &[Command]) -> Vec<Vec<Command>> {
+/// Commands distributed to some panels at random, to one of them mostly.
+fn distributed(random: &mut Random, commands: &[Command]) -> Vec<Vec<Command>> {
     let mut queues = vec![Vec::new(); random.between(1, PANELS)];
     let busy = random.below(queues.len());
     for command in commands.iter().filter(|command| command.is_answered()) {
@@ -284,7 +318,7 @@ fn random_queues_are_served_fairly_and_as_their_joined_bytes() {
         let Script { mut pool, batches } = Script::random(&mut random, 4).expect("a script");
         for mut commands in batches {
             commands.truncate(1_900);
-            let queues = dealt(&mut random, &commands);
+            let queues = distributed(&mut random, &commands);
             check_service(&queues);
             let (outcome, after) = check_joined(&pool, &queues);
             accepted += usize::from(outcome.number == 0);

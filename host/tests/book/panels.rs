@@ -1,6 +1,7 @@
-//! A charge for each panel (document 02, P2): worked cases byte for byte, limits, and batches without their panels.
+//! A charge for each panel (document 02, P2): worked cases byte for byte, limits, how long a panel stays current, and
+//! batches without their panels.
 
-use crate::common::{charges, get, panel, plain, prepared, put, scan, Fixture, NONE, PREPARED};
+use crate::common::{ceiling, charges, delete, get, panel, plain, prepared, put, scan, Fixture, NONE, PREPARED};
 use yokehour_host::book::Outcome;
 use yokehour_host::command::Command;
 use yokehour_host::fuzz::Script;
@@ -90,6 +91,53 @@ fn each_of_sixteen_panels_has_a_charge_of_its_own() {
     let outcome = fixture.batch(&(0..PANELS).rev().flat_map(turn).collect::<Vec<_>>());
     assert_eq!(outcome.charges, std::array::from_fn(|at| at as u64 + 1));
     assert_eq!((outcome.length, outcome.charge()), (3 * 136, 136));
+}
+
+/// A read costs 10 and an edit 1 in both modes, so that no node ever moves.
+const STEADY: [u32; 8] = [10, 1, 2, 10, 1, 2, 1_000_000, 1_000_000];
+
+/// What commands cost on a leaf that holds 7 with 100 and 8 with 200, where moves do not blur it.
+fn steady(commands: &[Command]) -> [u64; PANELS] {
+    let mut fixture = Fixture::prepared(MIN_BLOCKS, STEADY);
+    fixture.batch(&[put(7, 100), put(8, 200)]);
+    fixture.batch(commands).charges
+}
+
+#[test]
+fn a_panel_stays_current_behind_every_kind_of_command() {
+    let kinds = [get(7), put(7, 1), delete(8), scan(0, 9, 4), ceiling(5)];
+    // A row a first command, a column a second one. What is deleted twice is only read for the second time.
+    let table =
+        [[20, 21, 21, 20, 20], [21, 22, 22, 21, 21], [21, 22, 21, 21, 21], [20, 21, 21, 20, 20], [20, 21, 21, 20, 20]];
+    for (first, row) in kinds.into_iter().zip(table) {
+        for (second, cost) in kinds.into_iter().zip(row) {
+            assert_eq!(steady(&[panel(6), first, second]), charges([(6, cost)]), "{first:?}, {second:?}");
+        }
+    }
+}
+
+#[test]
+fn a_panel_stays_current_to_the_next_05() {
+    let kinds = [get(7), put(7, 1), delete(8), scan(0, 9, 4), ceiling(5)];
+    // Five kinds twenty times; the delete finds its key once.
+    assert_eq!(steady(&[vec![panel(3)], kinds.repeat(20)].concat()), charges([(3, 1_021)]));
+    let shared = [&[get(7), panel(11)], &kinds[..], &[panel(4)], &kinds[..], &[panel(11)], &kinds[..]].concat();
+    assert_eq!(steady(&shared), charges([(0, 10), (11, 52 + 51), (4, 51)]));
+    // A scan of nothing and a put that is refused cost nothing, and the panel is still the current one.
+    assert_eq!(steady(&[panel(5), scan(9, 0, 1), get(7)]), charges([(5, 10)]));
+    let mut fixture = Fixture::prepared(MIN_BLOCKS, STEADY);
+    fixture.batch(&(0..240).map(|key| put(key, 0)).collect::<Vec<_>>());
+    assert_eq!(fixture.batch(&[panel(5), put(240, 0), get(7)]).charges, charges([(5, 20)]), "root and leaf are read");
+}
+
+#[test]
+fn a_panel_stays_current_while_its_commands_move_a_node() {
+    // Document 01's batch is charged 14; then a scan brings the score to the limit: 3 for the move and 1 for the read.
+    let moved = [panel(9), put(7, 100), get(7), delete(7), get(7), scan(0, 9, 3)];
+    assert_eq!(prepared().batch(&moved).charges, charges([(9, 14 + 4)]));
+    // On disk a read costs 1 and an edit 4.
+    let on_disk = [&moved[..], &[ceiling(0), put(7, 1), delete(7)]].concat();
+    assert_eq!(prepared().batch(&on_disk).charges, charges([(9, 14 + 4 + 1 + 5 + 5)]));
 }
 
 /// Runs commands with and without their panels on copies of a pool, which must differ in who is charged alone.

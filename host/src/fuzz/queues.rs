@@ -1,4 +1,4 @@
-//! Commands dealt to the queues of a desk, and queues that it refuses.
+//! Commands distributed to the queues of a desk, and queues that it refuses.
 
 use super::call::random_nonsense;
 use crate::command::{encode, Command};
@@ -8,16 +8,16 @@ use crate::layout::{MAX_BATCH_BYTES, PANELS};
 use crate::random::Random;
 use crate::wire::NUMBER_BYTES;
 
-/// Commands as a batch, or dealt to queues.
+/// Commands as a batch, or distributed to queues.
 pub(super) fn batch_or_desk(random: &mut Random, commands: &[Command]) -> Input {
     match random.once_in(2) {
         true => Input::batch(commands),
-        false => Input::desk(&deal(random, commands)),
+        false => Input::desk(&distribute(random, commands)),
     }
 }
 
-/// Deals commands to 1 to 16 queues, as many as a desk can join; a panel is left out.
-pub(super) fn deal(random: &mut Random, commands: &[Command]) -> Vec<Vec<Command>> {
+/// Distributes commands to 1 to 16 queues, as many as a desk can join; a panel is left out.
+pub(super) fn distribute(random: &mut Random, commands: &[Command]) -> Vec<Vec<Command>> {
     let commands = joinable(commands);
     let any = random.between(1, PANELS);
     let mut queues = vec![Vec::new(); random.pick(&[1, 2, any, any, PANELS])];
@@ -50,7 +50,7 @@ fn joinable(commands: &[Command]) -> Vec<Command> {
 /// Queues that are valid, a command in the first of them at least.
 fn good_queues(random: &mut Random) -> Vec<Vec<u8>> {
     let commands = [Command::Get { key: 1 }, Command::Put { key: 2, value: 3 }, Command::Get { key: 4 }];
-    let mut queues: Vec<Vec<u8>> = deal(random, &commands).iter().map(|queue| encode(queue)).collect();
+    let mut queues: Vec<Vec<u8>> = distribute(random, &commands).iter().map(|queue| encode(queue)).collect();
     if queues[0].is_empty() {
         queues[0] = encode(&commands);
     }
@@ -80,7 +80,7 @@ pub(super) fn wrong_queues(random: &mut Random) -> Queues {
 /// Queues that a desk could join but for one of their commands.
 fn one_command_too_many(random: &mut Random) -> Vec<Vec<u8>> {
     let get = Command::Get { key: random.next_u32() };
-    let mut queues = deal(random, &[get; MAX_BATCH_BYTES / 7]);
+    let mut queues = distribute(random, &[get; MAX_BATCH_BYTES / 7]);
     let at = random.below(queues.len());
     queues[at].push(get);
     queues.iter().map(|queue| encode(queue)).collect()
