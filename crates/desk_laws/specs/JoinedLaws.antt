@@ -23,7 +23,7 @@ use Rattle.desk_queues.specs.Joined.{interleaved, joined, joinedBytes}
 use Rattle.desk_laws.specs.ValidBytes.{bytes-batch}
 use Rattle.desk_laws.specs.Read.{Read, bytesFor, read-length, read-valid, read-bytes}
 
--- TURNS DEALT, each with a command 05 before it: two commands a turn, four bytes more, and no more room.
+-- TURNS INTERLEAVED, each with a command 05 before it: two commands a turn, four bytes more, and no more room.
 pub length-interleaved : (xs : List (ℕ × Command)) → length (interleaved xs) ≡ 2 * length xs
 length-interleaved [] = refl
 length-interleaved (x ∷ xs) = omega (arith, length-interleaved xs)
