@@ -13,7 +13,7 @@ mod desk;
 mod diff;
 mod doubts;
 mod export;
-mod file;
+pub(crate) mod file;
 mod get;
 mod help;
 mod import;
@@ -88,6 +88,12 @@ impl Stop {
     /// The request is not understood, or a file cannot be used.
     fn wrong(why: impl Into<String>) -> Stop {
         Stop { status: 2, why: why.into() }
+    }
+}
+
+impl std::fmt::Display for Stop {
+    fn fmt(&self, out: &mut std::fmt::Formatter<'_>) -> std::fmt::Result {
+        out.write_str(&self.why)
     }
 }
 
@@ -173,7 +179,7 @@ mod tests {
                 said(&[verb, &name, &random.below(8).to_string()]);
             }
             assert!(said(&["diff", &name, &other]).status < 2);
-            assert_eq!(said(&["picture", &name, &out]).status, 0);
+            assert_eq!(said(&["picture", &name, &out, "--force"]).status, 0);
         }
     }
 

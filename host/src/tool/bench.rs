@@ -32,7 +32,7 @@ pub(super) const VERB: Verb = Verb {
 fn run(words: &mut Words<'_>, options: &Options) -> Result<Said, Stop> {
     let name = words.word("a file")?;
     words.end()?;
-    let mut pool = Pool::open(name, options)?;
+    let mut pool = Pool::look(name, options)?;
     let pairs = scanned(&mut pool, 0, u32::MAX, usize::MAX)?.pairs;
     let mut progress = Progress::new("batches timed");
     let mut shortest = |commands: &[Command]| shortest(&mut pool, commands, &mut progress);

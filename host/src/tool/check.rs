@@ -22,7 +22,7 @@ pub(super) const VERB: Verb = Verb {
 fn run(words: &mut Words<'_>, options: &Options) -> Result<Said, Stop> {
     let name = words.word("a file")?;
     words.end()?;
-    let pool = Pool::open(name, options)?;
+    let pool = Pool::look(name, options)?;
     let faults = examine(&pool.bytes).faults;
     let mut text: String = faults.iter().map(|fault| format!("{fault}\n")).collect();
     text.push_str(&match faults.first() {

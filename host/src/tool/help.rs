@@ -12,7 +12,7 @@ pub(super) fn all() -> String {
         out.push_str(&format!("  {:<8} {:<23} {}\n", verb.name, verb.words, verb.about));
     }
     out.push_str("  help     [VERB]                  this, or all of one verb\n\n");
-    out.push_str("Exit status: 0 done; 1 refused, absent, faulty or different; 2 not understood, or no such file.\n");
+    out.push_str("Exit status: 0 done; 1 refused, absent, faulty or different; 2 not understood, or a file that cannot be used.\n");
     out
 }
 

@@ -25,9 +25,10 @@ const BATCH_PUTS: usize = MAX_BATCH_BYTES / (FIELD_HEAD + PAIR_BYTES);
 fn run(words: &mut Words<'_>, options: &Options) -> Result<Said, Stop> {
     let (file, source) = (words.word("a file")?, words.word("a file of key,value lines")?);
     words.end()?;
-    let mut pool = Pool::open(file, options)?;
     let wrong = |error| Stop::wrong(format!("{source}: {error}"));
+    // Before the pool is locked: standard input may come from somebody who types.
     let pairs = csv::parse(&file::read_text(source)?).map_err(wrong)?;
+    let mut pool = Pool::open(file, options)?;
     let mut new = 0;
     let mut progress = Progress::new("lines put");
     for (turn, chunk) in pairs.chunks(BATCH_PUTS).enumerate() {

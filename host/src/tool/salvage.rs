@@ -12,8 +12,9 @@ pub(super) const VERB: Verb = Verb {
         "Prints key,value lines that import takes; a doubtful pair is a remark behind #, with the reason. A page that\n\
            one byte spoils is read with that byte mended, and its pairs are doubtful. A page that does not check is\n\
            taken to be as new as its sequence number says: a node that is older may have been changed on it.\n\
-           The pool is not written. Exit status 0 if nothing is doubtful, 1 if something is.",
-    options: &["--all"],
+           The pool is not written, and a CSV that is there already is kept, unless --force is given.\n\
+           Exit status 0 if nothing is doubtful, 1 if something is.",
+    options: &["--all", "--force"],
     run,
 };
 
@@ -27,7 +28,7 @@ fn run(words: &mut Words<'_>, options: &Options) -> Result<Said, Stop> {
     match target {
         None => Ok(Said { text: lines, note, status }),
         Some(target) => {
-            file::write(target, lines.as_bytes())?;
+            file::write(target, lines.as_bytes(), &[name], options.force)?;
             Ok(Said { note, status, ..Said::default() })
         }
     }
@@ -78,7 +79,7 @@ mod tests {
         assert_eq!(salvaged.status, 1);
         assert!(salvaged.text.contains("# 40,80 on page "), "{}", salvaged.text);
         assert!(salvaged.note.contains(&format!("page {page} does not check")), "{}", salvaged.note);
-        assert_eq!(said(&["salvage", &pool, &csv, "--all"]).status, 1);
+        assert_eq!(said(&["salvage", &pool, &csv, "--all", "--force"]).status, 1);
         let fresh = folder.prepared("fresh");
         text(&["import", &fresh, &csv]);
         assert_eq!(text(&["export", &fresh]), pairs);

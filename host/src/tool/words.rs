@@ -10,6 +10,7 @@ use crate::wire::from_hex;
 pub(super) struct Options {
     /// The book's name, if one was named.
     book: Option<String>,
+    pub charge: bool,
     pub dry: bool,
     pub force: bool,
     pub all: bool,
@@ -19,8 +20,9 @@ pub(super) struct Options {
 /// What each option does, for the help.
 pub(super) const OPTIONS: &[(&str, &str)] = &[
     ("--book", "NAME  the book that does the work: proved (where not given) or second"),
+    ("--charge", "   let the book count these reads, by which it chooses how a node is stored; the file then changes"),
     ("--dry", "      leave the file as it is, whatever the call does"),
-    ("--force", "    even where the file is there already"),
+    ("--force", "    write the file anew where it is there already; what it holds is lost"),
     ("--all", "      doubtful pairs as lines too"),
 ];
 
@@ -33,6 +35,7 @@ impl Options {
         while let Some(word) = line.next() {
             match word {
                 "--help" | "-h" => options.help = true,
+                "--charge" => options.charge = true,
                 "--dry" => options.dry = true,
                 "--force" => options.force = true,
                 "--all" => options.all = true,
@@ -49,8 +52,13 @@ impl Options {
 
     /// Refuses the options that a verb does not know.
     pub fn only(&self, known: &[&str]) -> Result<(), Stop> {
-        let given =
-            [("--book", self.book.is_some()), ("--dry", self.dry), ("--force", self.force), ("--all", self.all)];
+        let given = [
+            ("--book", self.book.is_some()),
+            ("--charge", self.charge),
+            ("--dry", self.dry),
+            ("--force", self.force),
+            ("--all", self.all),
+        ];
         match given.iter().find(|(name, given)| *given && !known.contains(name)) {
             Some((name, _)) => Err(Stop::wrong(format!("{name} means nothing here"))),
             None => Ok(()),
