@@ -25,9 +25,14 @@ pub const LINES: &str = "  prepare B t0 .. t7     prepares B blocks of 16,384 by
                          (at first, and for -: 1,024 x B and 700,000): lengths TABLE ANSWERS
   spell                  a line for each node, or: refused N
   dump PAGE              the used bytes of a page; pages count through the pool from 0
+  help                   these lines
+  quit                   ends, as the end of the lines does
 H is FNV-1a-64 of the pool in 16 hexadecimal digits; - stands for no bytes at all.
 A line that is none of these answers error .. and changes nothing; blank lines and lines from # answer nothing.
 prepare lends the pool at hand if it has B blocks already, or else a new one of FF.";
+
+/// The line that ends the shell.
+pub const QUIT: &str = "quit";
 
 /// Bytes of the answer buffer at first: room for the longest batch.
 const ANSWER_BYTES: usize = 700_000;
@@ -71,7 +76,8 @@ impl Shell {
             "lengths" => self.lengths(words).map(one),
             "spell" => ended(words).map(|()| self.spell()),
             "dump" => self.dump(words).map(one),
-            _ => Err(format!("no line begins with {verb:?}")),
+            "help" => ended(words).map(|()| LINES.lines().map(str::to_string).collect()),
+            _ => Err(format!("no line begins with {verb:?}; help lists them")),
         }
     }
 

@@ -35,6 +35,7 @@ mod stats;
 mod trial;
 mod words;
 
+use crate::program::{version, Stop};
 use words::{Options, Words};
 
 /// A verb: how it is asked for, what it does, and its code.
@@ -72,31 +73,6 @@ impl Said {
     }
 }
 
-/// Why a verb said nothing.
-#[derive(Clone, PartialEq, Eq, Debug)]
-pub struct Stop {
-    status: u8,
-    why: String,
-}
-
-impl Stop {
-    /// The answer is no.
-    fn no(why: impl Into<String>) -> Stop {
-        Stop { status: 1, why: why.into() }
-    }
-
-    /// The request is not understood, or a file cannot be used.
-    fn wrong(why: impl Into<String>) -> Stop {
-        Stop { status: 2, why: why.into() }
-    }
-}
-
-impl std::fmt::Display for Stop {
-    fn fmt(&self, out: &mut std::fmt::Formatter<'_>) -> std::fmt::Result {
-        out.write_str(&self.why)
-    }
-}
-
 /// Does what the words of a command line ask.
 pub fn run(line: &[String]) -> Said {
     answer(line).unwrap_or_else(|stop| Said {
@@ -108,6 +84,9 @@ pub fn run(line: &[String]) -> Said {
 
 fn answer(line: &[String]) -> Result<Said, Stop> {
     let (words, options) = Options::of(line)?;
+    if options.version {
+        return Ok(Said::text(version("wallbook")));
+    }
     let (name, rest) = match words.split_first() {
         Some((&name, rest)) => (name, rest),
         None if options.help => return Ok(Said::text(help::all())),

@@ -2,6 +2,7 @@
 
 use super::words::OPTIONS;
 use super::{named, Said, Stop, Verb, VERBS};
+use crate::program::STATUS;
 
 /// All verbs, a line each.
 pub(super) fn all() -> String {
@@ -12,7 +13,7 @@ pub(super) fn all() -> String {
         out.push_str(&format!("  {:<8} {:<23} {}\n", verb.name, verb.words, verb.about));
     }
     out.push_str("  help     [VERB]                  this, or all of one verb\n\n");
-    out.push_str("Exit status: 0 done; 1 refused, absent, faulty or different; 2 not understood, or a file that cannot be used.\n");
+    out.push_str(STATUS);
     out
 }
 

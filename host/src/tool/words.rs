@@ -3,6 +3,7 @@
 use super::Stop;
 use crate::book::Book;
 use crate::books::{by_name, BOOK_NAMES};
+use crate::output::note;
 use crate::wire::from_hex;
 
 /// The options that were given.
@@ -15,11 +16,12 @@ pub(super) struct Options {
     pub force: bool,
     pub all: bool,
     pub help: bool,
+    pub version: bool,
 }
 
 /// What each option does, for the help.
 pub(super) const OPTIONS: &[(&str, &str)] = &[
-    ("--book", "NAME  the book that does the work: proved (where not given) or second"),
+    ("--book", "NAME  the book that does the work: proved or second; where not given, proved if the build has it"),
     ("--charge", "   let the book count these reads, by which it chooses how a node is stored; the file then changes"),
     ("--dry", "      leave the file as it is, whatever the call does"),
     ("--force", "    write the file anew where it is there already; what it holds is lost"),
@@ -35,6 +37,7 @@ impl Options {
         while let Some(word) = line.next() {
             match word {
                 "--help" | "-h" => options.help = true,
+                "--version" => options.version = true,
                 "--charge" => options.charge = true,
                 "--dry" => options.dry = true,
                 "--force" => options.force = true,
@@ -65,10 +68,15 @@ impl Options {
         }
     }
 
-    /// The book that was asked for.
+    /// The book that was asked for; the best that there is, where none was.
     pub fn book(&self) -> Result<Box<dyn Book>, Stop> {
-        let name = self.book.as_deref().unwrap_or("proved");
-        by_name(name).map_err(|missing| Stop::wrong(format!("{missing}; or take --book second")))
+        match &self.book {
+            Some(name) => by_name(name).map_err(|missing| Stop::wrong(format!("{missing}; or take --book second"))),
+            None => by_name("proved").or_else(|missing| {
+                note(&format!("wallbook: the second book does the work: {missing}\n"));
+                by_name("second").map_err(Stop::wrong)
+            }),
+        }
     }
 }
 

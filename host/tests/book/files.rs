@@ -188,6 +188,7 @@ fn a_pool_that_was_replaced_while_one_waited_is_read_anew() {
     let mut child = folder.command("put p 8 1 --book second").stderr(Stdio::piped()).spawn().expect("runs");
     let mut said = String::new();
     BufReader::new(child.stderr.take().expect("is piped")).read_line(&mut said).expect("is read");
+    assert!(said.starts_with("waiting for p"), "{said}");
     // What another process would do under its lock: key 9 in a copy, and the copy in the pool's place.
     fs::copy(folder.path("p"), folder.path("q")).expect("is copied");
     assert_eq!(folder.status("put q 9 1 --book second"), Some(0));

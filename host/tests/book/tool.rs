@@ -50,14 +50,16 @@ fn a_ceiling_is_told_in_words() {
 #[test]
 fn the_proved_book_does_the_work_where_it_is_here() {
     let folder = Folder::new("proved");
-    let prepared = folder.wallbook("prepare p 4");
+    let (status, said) = folder.notes("prepare p 4");
+    assert_eq!(status, Some(0));
     if by_name("proved").is_err() {
-        assert_eq!(prepared.status.code(), Some(2));
-        let why = String::from_utf8(prepared.stderr).expect("is text");
-        assert!(why.contains("no proved book") && why.contains("--book second"), "{why}");
+        assert!(said.starts_with("wallbook: the second book does the work: this build has no proved book"), "{said}");
+        assert_eq!((said.lines().count(), folder.status("get p 7")), (1, Some(1)));
+        let (status, said) = folder.notes("get p 7 --book proved");
+        assert!(status == Some(2) && said.contains("no proved book") && said.contains("--book second"), "{said}");
         return;
     }
-    assert_eq!(prepared.status.code(), Some(0));
+    assert_eq!(said, "");
     folder.status("prepare q 4 --book second");
     let csv: String = (0..200).map(|key| format!("{},{key}\n", key * 7919 % 1000)).collect();
     std::fs::write(folder.path("csv"), csv).expect("is written");
