@@ -1,5 +1,6 @@
 //! What the tool says of itself.
 
+use super::lines::HOW;
 use super::words::OPTIONS;
 use super::{named, Said, Stop, Verb, VERBS};
 use crate::program::STATUS;
@@ -22,6 +23,9 @@ pub(super) fn one(verb: &Verb) -> String {
     let mut out = format!("usage: wallbook {} {}\n\n{}: {}.\n", verb.name, verb.words, verb.name, verb.about);
     if !verb.more.is_empty() {
         out.push_str(&format!("\n{}\n", verb.more));
+    }
+    if verb.options.contains(&"--from") {
+        out.push_str(&format!("\n{HOW}\n"));
     }
     let known = OPTIONS.iter().filter(|(name, _)| verb.options.contains(name));
     let lines: String = known.map(|(name, what)| format!("  {name} {what}\n")).collect();

@@ -9,12 +9,22 @@ use crate::bench::timed;
 use crate::book::Book;
 use crate::command::{answer_room, encode, parse_answers, Answer, Command};
 use crate::input::Input;
-use crate::layout::{table_bytes, BLANK, BLOCK_BYTES, MAX_BLOCKS, PANELS};
+use crate::layout::{table_bytes, BLANK, BLOCK_BYTES, MAX_BLOCKS, MIN_BLOCKS, PANELS};
+use crate::markdown::grouped;
 use crate::mount::mount;
 use crate::refusal::{words, Fault};
 
+/// The length that was met, where it is none of a pool, and the nearest that would do.
+pub(super) fn length_words(bytes: usize) -> String {
+    let blocks = ((bytes + BLOCK_BYTES / 2) / BLOCK_BYTES).clamp(MIN_BLOCKS, MAX_BLOCKS);
+    let [bytes, nearest] = [bytes, blocks * BLOCK_BYTES].map(|length| grouped(length as u128));
+    format!("{bytes} bytes, where {nearest} ({blocks} blocks) are the nearest")
+}
+
 /// The options of a verb whose calls change the pool.
 pub(super) const CALL_OPTIONS: &[&str] = &["--book", "--dry"];
+/// The options of a verb that takes commands too.
+pub(super) const CALL_OPTIONS_FROM: &[&str] = &["--book", "--from", "--dry"];
 /// The options of a verb whose calls only look.
 pub(super) const LOOK_OPTIONS: &[&str] = &["--book", "--charge", "--dry"];
 
@@ -61,7 +71,7 @@ impl<'a> Pool<'a> {
         let mut pool = Pool { name, book: options.book()?, bytes, charges: [0; PANELS], held: None };
         match pool.book.prepare(&mut pool.bytes, tariff) {
             0 => Ok(pool),
-            number => Err(pool.refused(number)),
+            number => Err(Stop::no(format!("{name}: refused with {number}: {}", words(number)))),
         }
     }
 
@@ -121,6 +131,7 @@ impl<'a> Pool<'a> {
             5..=8 => mount(&self.bytes)
                 .err()
                 .map(|Fault { at, why, .. }| format!(" ({at}: {why}; wallbook check tells all)")),
+            1 => Some(format!(" ({})", length_words(self.bytes.len()))),
             _ => None,
         };
         Stop::no(format!("{}: refused with {number}: {}{}", self.name, words(number), place.unwrap_or_default()))

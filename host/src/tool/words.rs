@@ -4,17 +4,19 @@ use super::Stop;
 use crate::book::Book;
 use crate::books::{by_name, BOOK_NAMES};
 use crate::output::note;
-use crate::wire::from_hex;
 
 /// The options that were given.
 #[derive(Default)]
 pub(super) struct Options {
     /// The book's name, if one was named.
     book: Option<String>,
+    /// Where commands are read from.
+    pub from: Option<String>,
     pub charge: bool,
     pub dry: bool,
     pub force: bool,
     pub all: bool,
+    pub json: bool,
     pub help: bool,
     pub version: bool,
 }
@@ -22,10 +24,12 @@ pub(super) struct Options {
 /// What each option does, for the help.
 pub(super) const OPTIONS: &[(&str, &str)] = &[
     ("--book", "NAME  the book that does the work: proved or second; where not given, proved if the build has it"),
+    ("--from", "FILE  read the commands from a file, or from standard input for -"),
     ("--charge", "   let the book count these reads, by which it chooses how a node is stored; the file then changes"),
     ("--dry", "      leave the file as it is, whatever the call does"),
     ("--force", "    write the file anew where it is there already; what it holds is lost"),
     ("--all", "      doubtful pairs as lines too"),
+    ("--json", "     as one line of JSON"),
 ];
 
 impl Options {
@@ -42,10 +46,9 @@ impl Options {
                 "--dry" => options.dry = true,
                 "--force" => options.force = true,
                 "--all" => options.all = true,
-                "--book" => {
-                    let name = line.next().ok_or_else(|| Stop::wrong(format!("--book needs one of: {BOOK_NAMES}")))?;
-                    options.book = Some(name.to_string());
-                }
+                "--json" => options.json = true,
+                "--book" => options.book = Some(value(word, line.next(), &format!("one of: {BOOK_NAMES}"))?),
+                "--from" => options.from = Some(value(word, line.next(), "a file, or - for standard input")?),
                 _ if word.starts_with("--") => return Err(Stop::wrong(format!("no option is called {word}"))),
                 _ => words.push(word),
             }
@@ -57,10 +60,12 @@ impl Options {
     pub fn only(&self, known: &[&str]) -> Result<(), Stop> {
         let given = [
             ("--book", self.book.is_some()),
+            ("--from", self.from.is_some()),
             ("--charge", self.charge),
             ("--dry", self.dry),
             ("--force", self.force),
             ("--all", self.all),
+            ("--json", self.json),
         ];
         match given.iter().find(|(name, given)| *given && !known.contains(name)) {
             Some((name, _)) => Err(Stop::wrong(format!("{name} means nothing here"))),
@@ -78,6 +83,11 @@ impl Options {
             }),
         }
     }
+}
+
+/// The word behind an option.
+fn value(option: &str, word: Option<&str>, what: &str) -> Result<String, Stop> {
+    word.map(str::to_string).ok_or_else(|| Stop::wrong(format!("{option} needs {what}")))
 }
 
 /// The words behind a verb.
@@ -106,12 +116,9 @@ impl<'a> Words<'a> {
         number(word).ok_or_else(|| Stop::wrong(format!("{what} expected, a number below 2^32, not {word:?}")))
     }
 
-    /// The next word, bytes in hexadecimal; `-` is none.
-    pub fn bytes(&mut self, what: &str) -> Result<Vec<u8>, Stop> {
-        let word = self.word(what)?;
-        let digits = if word == "-" { "" } else { word };
-        from_hex(digits)
-            .ok_or_else(|| Stop::wrong(format!("{what} is pairs of hexadecimal digits, and {}", odd(digits))))
+    /// All words that are left.
+    pub fn rest(&mut self) -> Vec<&'a str> {
+        self.rest.by_ref().copied().collect()
     }
 
     /// Says whether a word is left.
@@ -145,14 +152,6 @@ pub(super) fn number(word: &str) -> Option<u32> {
     // The library would also take a sign.
     let plain = digits.chars().all(|digit| digit.is_digit(base));
     u32::from_str_radix(digits, base).ok().filter(|_| plain)
-}
-
-/// Why digits are not pairs of hexadecimal ones.
-fn odd(digits: &str) -> String {
-    match digits.chars().position(|digit| !digit.is_ascii_hexdigit()) {
-        Some(at) => format!("character {} is none", at + 1),
-        None => format!("{} digits are half a byte too many", digits.len()),
-    }
 }
 
 /// So many of a thing.

@@ -8,6 +8,7 @@ mod files;
 mod foreign;
 mod format;
 mod fuzz;
+mod json;
 mod library;
 mod limits;
 mod page_limits;
