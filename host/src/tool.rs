@@ -12,6 +12,7 @@ mod delete;
 mod desk;
 mod diff;
 mod doubts;
+mod dump;
 mod export;
 mod fault_runs;
 pub(crate) mod file;

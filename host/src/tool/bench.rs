@@ -25,7 +25,7 @@ pub(super) const VERB: Verb = Verb {
            A get, a put of the value that is there, a scan for 32 pairs and a ceiling of the next number are a batch\n\
            of 1,000 at keys taken at random, less an empty batch, divided. The program `bench` times both books on\n\
            pools of its own.",
-    options: &["--book"],
+    options: &["--book", "--spare", "--offset", "--swap"],
     run,
 };
 

@@ -20,7 +20,7 @@ pub(super) const VERB: Verb = Verb {
            --json has the keys file, bytes, number (0, or the least of the faults), book (the number that the book\n\
            says), keys and nodes (null where there is a fault), and faults: a list of number, why and block, node,\n\
            page and byte (null where it has none).",
-    options: &["--book", "--json"],
+    options: &["--book", "--json", "--spare", "--offset", "--swap"],
     run,
 };
 

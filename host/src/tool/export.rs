@@ -11,7 +11,7 @@ pub(super) const VERB: Verb = Verb {
     more:
         "The pool is left as it was. A CSV that is there already is kept, unless --force is given; a device or a pipe\n\
            is written through.",
-    options: &["--book", "--force"],
+    options: &["--book", "--force", "--spare", "--offset", "--swap"],
     run,
 };
 

@@ -17,12 +17,18 @@ use super::Stop;
 use beside::Beside;
 pub(crate) use held::Held;
 
+/// Longest file that is read as a pool, so that a device without an end does not take the memory.
+const MOST_BYTES: u64 = 1 << 28;
+
 /// The bytes of a file, which is left alone; somebody who is changing it is waited for.
 pub(crate) fn read(name: &str) -> Result<Vec<u8>, Stop> {
     let mut bytes = Vec::new();
-    let mut file = held::to_look_at(name)?;
-    file.read_to_end(&mut bytes).map_err(|error| trouble(name, error))?;
-    Ok(bytes)
+    let file = held::to_look_at(name)?;
+    file.take(MOST_BYTES + 1).read_to_end(&mut bytes).map_err(|error| trouble(name, error))?;
+    match bytes.len() as u64 > MOST_BYTES {
+        true => Err(Stop::wrong(format!("{name} is longer than any pool or dump of one"))),
+        false => Ok(bytes),
+    }
 }
 
 /// The text of a file, or of standard input for `-`.
@@ -35,8 +41,13 @@ pub(super) fn read_text(name: &str) -> Result<String, Stop> {
     read.map(|()| text).map_err(|error| trouble(name, error))
 }
 
-/// Writes a file that a verb makes out of its inputs; one that is there already is replaced with `force` alone.
+/// Writes a file that a verb makes out of its inputs, or standard output for `-`; one that is there already is
+/// replaced with `force` alone.
 pub(crate) fn write(name: &str, bytes: &[u8], inputs: &[&str], force: bool) -> Result<(), Stop> {
+    if name == "-" {
+        let out = io::stdout().as_fd().try_clone_to_owned();
+        return through(name, &mut out.map_err(|error| trouble(name, error))?.into(), bytes);
+    }
     let Some(old) = found(name)? else {
         return Beside::create(name, bytes);
     };

@@ -1,8 +1,8 @@
 //! What the tool says of itself.
 
 use super::lines::HOW;
-use super::words::OPTIONS;
-use super::{named, Said, Stop, Verb, VERBS};
+use super::words::{Told, OPTIONS};
+use super::{dump, named, Said, Stop, Verb, VERBS};
 use crate::program::STATUS;
 
 /// All verbs, a line each.
@@ -27,8 +27,12 @@ pub(super) fn one(verb: &Verb) -> String {
     if verb.options.contains(&"--from") {
         out.push_str(&format!("\n{HOW}\n"));
     }
-    let known = OPTIONS.iter().filter(|(name, _)| verb.options.contains(name));
-    let lines: String = known.map(|(name, what)| format!("  {name} {what}\n")).collect();
+    if verb.options.contains(&"--spare") {
+        out.push_str(&format!("\n{}\n", dump::HOW));
+    }
+    let known = OPTIONS.iter().filter(|(name, ..)| verb.options.contains(name));
+    let line = |(name, word, what): &Told| format!("  {:<12} {what}\n", format!("{name} {word}"));
+    let lines: String = known.map(line).collect();
     if !lines.is_empty() {
         out.push_str(&format!("\n{lines}"));
     }

@@ -3,7 +3,7 @@
 use std::path::Path;
 
 use super::words::{Options, Words};
-use super::{file, Said, Stop, Verb};
+use super::{dump, file, Said, Stop, Verb};
 use crate::layout::BLOCK_PAGES;
 use crate::marks::{counts, marks, Kind, Mark};
 use crate::mount::examine;
@@ -17,14 +17,14 @@ pub(super) const VERB: Verb = Verb {
         "The colour tells what a page is, the shade its sequence number: the newest is the darkest. Live pages have\n\
            an outline, dead ones a stroke. A pool that is refused is drawn too. A picture\n\
            that is there already is kept, unless --force is given.",
-    options: &["--force"],
+    options: &["--force", "--spare", "--offset", "--swap"],
     run,
 };
 
 fn run(words: &mut Words<'_>, options: &Options) -> Result<Said, Stop> {
     let (name, target) = (words.word("a file")?, words.word("a file for the picture")?);
     words.end()?;
-    let bytes = file::read(name)?;
+    let bytes = dump::read(name, options)?;
     let short = Path::new(name).file_name().unwrap_or_default().to_string_lossy();
     let title = match examine(&bytes).faults.first() {
         None => format!("{short} opens"),

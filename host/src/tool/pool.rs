@@ -4,7 +4,7 @@ use std::time::Duration;
 
 use super::file::Held;
 use super::words::Options;
-use super::{file, Stop};
+use super::{dump, Stop};
 use crate::bench::timed;
 use crate::book::Book;
 use crate::command::{answer_room, encode, parse_answers, Answer, Command};
@@ -26,7 +26,7 @@ pub(super) const CALL_OPTIONS: &[&str] = &["--book", "--dry"];
 /// The options of a verb that takes commands too.
 pub(super) const CALL_OPTIONS_FROM: &[&str] = &["--book", "--from", "--dry"];
 /// The options of a verb whose calls only look.
-pub(super) const LOOK_OPTIONS: &[&str] = &["--book", "--charge", "--dry"];
+pub(super) const LOOK_OPTIONS: &[&str] = &["--book", "--charge", "--dry", "--spare", "--offset", "--swap"];
 
 /// A pool in memory: the file changes with `save` alone, and only where it is held.
 pub(super) struct Pool<'a> {
@@ -53,14 +53,15 @@ impl<'a> Pool<'a> {
     /// The pool of a file that is left as it is, whatever calls make of it in memory.
     pub fn look(name: &'a str, options: &Options) -> Result<Pool<'a>, Stop> {
         let book = options.book()?;
-        Ok(Pool { name, book, bytes: file::read(name)?, charges: [0; PANELS], held: None })
+        Ok(Pool { name, book, bytes: dump::read(name, options)?, charges: [0; PANELS], held: None })
     }
 
     /// The pool of a file for calls that only look: they are charged where that is asked for.
     pub fn look_or_charge(name: &'a str, options: &Options) -> Result<Pool<'a>, Stop> {
-        match options.charge {
-            true => Pool::open(name, options),
-            false => Pool::look(name, options),
+        match (options.charge, options.form) {
+            (true, Some(_)) => Err(Stop::wrong("--charge writes a pool, and a dump is only read")),
+            (true, None) => Pool::open(name, options),
+            (false, _) => Pool::look(name, options),
         }
     }
 

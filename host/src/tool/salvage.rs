@@ -2,7 +2,7 @@
 
 use super::remains::{remains, Found, Remains};
 use super::words::{Options, Words};
-use super::{file, Said, Stop, Verb};
+use super::{dump, file, Said, Stop, Verb};
 
 pub(super) const VERB: Verb = Verb {
     name: "salvage",
@@ -14,14 +14,14 @@ pub(super) const VERB: Verb = Verb {
            taken to be as new as its sequence number says: a node that is older may have been changed on it.\n\
            The pool is not written, and a CSV that is there already is kept, unless --force is given.\n\
            Exit status 0 if nothing is doubtful, 1 if something is.",
-    options: &["--all", "--force"],
+    options: &["--all", "--force", "--spare", "--offset", "--swap"],
     run,
 };
 
 fn run(words: &mut Words<'_>, options: &Options) -> Result<Said, Stop> {
     let (name, target) = (words.word("a file")?, words.next());
     words.end()?;
-    let remains = remains(&file::read(name)?);
+    let remains = remains(&dump::read(name, options)?);
     let lines = lines(&remains, options.all);
     let (note, doubtful) = note(name, &remains);
     let status = u8::from(doubtful || !remains.notes.is_empty());

@@ -5,7 +5,7 @@ mod as_json;
 use super::node::spelled;
 use super::room::{levels, room, Room};
 use super::words::{Options, Words};
-use super::{file, Said, Stop, Verb};
+use super::{dump, Said, Stop, Verb};
 use crate::account::Mode;
 use crate::layout::{block_count, node_limit, BLOCK_PAGES, MAX_KEYS, MAX_SEQUENCE};
 use crate::markdown::grouped;
@@ -28,14 +28,14 @@ pub(super) const VERB: Verb = Verb {
            log, disk, depth; leaves: keys, least, most; room: least, most; pages: live, dead, blank;\n\
            pages_to_compaction; sequence: last, left; scores_in_node_order; and blocks, a list of live, dead, blank\n\
            and newest (null of a blank block).",
-    options: &["--json"],
+    options: &["--json", "--spare", "--offset", "--swap"],
     run,
 };
 
 fn run(words: &mut Words<'_>, options: &Options) -> Result<Said, Stop> {
     let name = words.word("a file")?;
     words.end()?;
-    let bytes = file::read(name)?;
+    let bytes = dump::read(name, options)?;
     let mounted = spelled(name, &bytes)?;
     let marks = marks(&bytes);
     let blocks = block_count(bytes.len()).unwrap_or_default();

@@ -1,5 +1,6 @@
 //! The words of a command line: options apart, the others one by one.
 
+use super::dump::Form;
 use super::Stop;
 use crate::book::Book;
 use crate::books::{by_name, BOOK_NAMES};
@@ -17,19 +18,27 @@ pub(super) struct Options {
     pub force: bool,
     pub all: bool,
     pub json: bool,
+    /// How a dump lies, if that is told.
+    pub form: Option<Form>,
     pub help: bool,
     pub version: bool,
 }
 
+/// An option for the help: its name, the word behind it, and what it does.
+pub(super) type Told = (&'static str, &'static str, &'static str);
+
 /// What each option does, for the help.
-pub(super) const OPTIONS: &[(&str, &str)] = &[
-    ("--book", "NAME  the book that does the work: proved or second; where not given, proved if the build has it"),
-    ("--from", "FILE  read the commands from a file, or from standard input for -"),
-    ("--charge", "   let the book count these reads, by which it chooses how a node is stored; the file then changes"),
-    ("--dry", "      leave the file as it is, whatever the call does"),
-    ("--force", "    write the file anew where it is there already; what it holds is lost"),
-    ("--all", "      doubtful pairs as lines too"),
-    ("--json", "     as one line of JSON"),
+pub(super) const OPTIONS: &[Told] = &[
+    ("--book", "NAME", "the book that does the work: proved or second; where not given, proved if the build has it"),
+    ("--from", "FILE", "read the commands from a file, or from standard input for -"),
+    ("--charge", "", "let the book count these reads, by which it chooses how a node is stored; the file then changes"),
+    ("--dry", "", "leave the file as it is, whatever the call does"),
+    ("--force", "", "write the file anew where it is there already; what it holds is lost"),
+    ("--all", "", "doubtful pairs as lines too"),
+    ("--json", "", "as one line of JSON"),
+    ("--spare", "N", "so many bytes behind each page of a dump are left out"),
+    ("--offset", "N", "so many bytes before the pool are left out"),
+    ("--swap", "", "the two bytes of each 16-bit word are swapped"),
 ];
 
 impl Options {
@@ -48,6 +57,9 @@ impl Options {
                 "--all" => options.all = true,
                 "--json" => options.json = true,
                 "--book" => options.book = Some(value(word, line.next(), &format!("one of: {BOOK_NAMES}"))?),
+                "--offset" => options.form().offset = bytes(word, line.next())?,
+                "--spare" => options.form().spare = bytes(word, line.next())?,
+                "--swap" => options.form().swap = true,
                 "--from" => options.from = Some(value(word, line.next(), "a file, or - for standard input")?),
                 _ if word.starts_with("--") => return Err(Stop::wrong(format!("no option is called {word}"))),
                 _ => words.push(word),
@@ -66,11 +78,17 @@ impl Options {
             ("--force", self.force),
             ("--all", self.all),
             ("--json", self.json),
+            ("--spare", self.form.is_some()),
         ];
         match given.iter().find(|(name, given)| *given && !known.contains(name)) {
             Some((name, _)) => Err(Stop::wrong(format!("{name} means nothing here"))),
             None => Ok(()),
         }
+    }
+
+    /// How a dump lies, to be told more of.
+    fn form(&mut self) -> &mut Form {
+        self.form.get_or_insert_default()
     }
 
     /// The book that was asked for; the best that there is, where none was.
@@ -88,6 +106,13 @@ impl Options {
 /// The word behind an option.
 fn value(option: &str, word: Option<&str>, what: &str) -> Result<String, Stop> {
     word.map(str::to_string).ok_or_else(|| Stop::wrong(format!("{option} needs {what}")))
+}
+
+/// The count of bytes behind an option.
+fn bytes(option: &str, word: Option<&str>) -> Result<usize, Stop> {
+    let word = value(option, word, "a count of bytes")?;
+    let wrong = || Stop::wrong(format!("{option} needs a count of bytes, a number below 2^32, not {word:?}"));
+    number(&word).map(|bytes| bytes as usize).ok_or_else(wrong)
 }
 
 /// The words behind a verb.

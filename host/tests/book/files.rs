@@ -74,6 +74,9 @@ fn a_device_is_written_through() {
     must("mknod", &["null", "c", "1", "3"], &folder.path(""));
     must("mknod", &["full", "c", "1", "7"], &folder.path(""));
     assert_eq!(folder.status("picture p null"), Some(0));
+    must("mknod", &["zero", "c", "1", "5"], &folder.path(""));
+    let (status, why) = folder.notes("check zero --book second");
+    assert!(status == Some(2) && why.contains("zero is longer than any pool"), "{why}");
     let (status, why) = folder.notes("export p full --book second");
     assert!(status == Some(2) && why.contains("full: No space left"), "{why}");
     for name in ["null", "full"] {
@@ -86,7 +89,10 @@ fn a_device_is_written_through() {
 fn standard_output_by_its_name_is_written_where_it_stands() {
     let folder = Folder::with_pool("stdout");
     symlink("/proc/self/fd/1", folder.path("out")).expect("a link");
-    assert_eq!(folder.says("export p out --book second"), (Some(0), "7,100\n".to_string()));
+    for out in ["out", "-"] {
+        let line = format!("export p {out} --book second");
+        assert_eq!(folder.says(&line), (Some(0), "7,100\n".to_string()), "{line}");
+    }
     let mut file = File::create(folder.path("lines")).expect("is made");
     std::io::Write::write_all(&mut file, b"# before\n").expect("is written");
     let status = folder.command("export p out --book second").stdout(file).status().expect("runs");

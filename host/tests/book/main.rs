@@ -4,6 +4,7 @@ mod blocks;
 mod ceiling;
 mod common;
 mod desk;
+mod dumps;
 mod files;
 mod foreign;
 mod format;

@@ -119,7 +119,8 @@ fn clear(target: &Path) {
     for entry in entries.flatten() {
         let other = entry.file_name();
         let process = other.to_str().and_then(|other| other.strip_prefix(&start)?.strip_suffix(END)?.parse().ok());
-        if process.is_some_and(|process| is_gone(process, &entry.path())) {
+        let is_file = entry.file_type().is_ok_and(|kind| kind.is_file());
+        if is_file && process.is_some_and(|process| is_gone(process, &entry.path())) {
             let _ = fs::remove_file(entry.path());
         }
     }
