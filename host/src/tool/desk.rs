@@ -13,10 +13,10 @@ pub(super) const VERB: Verb = Verb {
     name: "desk",
     words: "FILE QUEUE ..",
     about: "serves up to 16 queues of commands, a command of each in turn",
-    more: "Such as: wallbook desk FILE 'put 7 100, get 7' - 'get 7'. The first QUEUE is panel 0's, the next panel 1's;\n\
-           - is an empty one. With --from, panel N says whose the commands behind it are. Each answer is told with its\n\
-           panel, in the order of service; then the charge, and a line for each panel that has a part of it. A queue\n\
-           may not name a panel itself (05). Exit status 1 if the call is refused.",
+    more: "Such as: wallbook desk FILE 'put 7 100, get 7' - 'get 7'. The first QUEUE is panel 0's, the next panel\n\
+           1's; - is an empty one. With --from, panel N says whose the commands behind it are. Each answer is told\n\
+           with its panel, in the order of service; then the charge, and a line for each panel that has a part of\n\
+           it. A queue may not name a panel itself (05). Exit status 1 if the call is refused.",
     options: CALL_OPTIONS_FROM,
     run,
 };

@@ -10,8 +10,9 @@ use crate::layout::PAGE_BYTES;
 use crate::output::note;
 
 /// What a verb that only reads a pool says of dumps.
-pub(super) const HOW: &str = "FILE may be a dump, also as text of xxd, hexdump -C or plain hexadecimal. Where --spare, --offset and --swap are\n\
-     not given and it is no pool as it stands, how its pages lie is found out if it can be, and said.";
+pub(super) const HOW: &str =
+    "FILE may be a dump, also as text of xxd, hexdump -C or plain hexadecimal. Where --spare, --offset and --swap\n\
+     are not given and it is no pool as it stands, how its pages lie is found out if it can be, and said.";
 
 /// The options that say how a dump lies.
 pub(super) const OPTIONS: [&str; 3] = ["--spare", "--offset", "--swap"];

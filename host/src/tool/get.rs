@@ -9,8 +9,8 @@ pub(super) const VERB: Verb = Verb {
     name: "get",
     words: "FILE KEY",
     about: "the value of a key",
-    more:
-        "The file is left as it is, and the charge is what the book would count. Exit status 1 if the key is not there.",
+    more: "The file is left as it is, and the charge is what the book would count.\n\
+           Exit status 1 if the key is not there.",
     options: LOOK_OPTIONS,
     run,
 };

@@ -12,9 +12,8 @@ pub(super) const VERB: Verb = Verb {
     name: "scan",
     words: "FILE LOW HIGH [MOST]",
     about: "the pairs with keys from LOW to HIGH, the first MOST of them",
-    more:
-        "Prints key,value lines. A scan command gives 32 pairs at most, so a longer list takes one for each 32; all are\n\
-           one batch. The file is left as it is, and the charge is what the book would count.",
+    more: "Prints key,value lines. A scan command gives 32 pairs at most, so a longer list takes one for each 32;\n\
+           all are one batch. The file is left as it is, and the charge is what the book would count.",
     options: LOOK_OPTIONS,
     run,
 };

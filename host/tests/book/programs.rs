@@ -1,5 +1,6 @@
 //! What the tests that run the programs share: a folder of their own, and `wallbook` in it.
 
+use std::fs::File;
 use std::os::unix::fs::{chown, MetadataExt, PermissionsExt};
 use std::os::unix::process::CommandExt;
 use std::path::{Path, PathBuf};
@@ -77,6 +78,18 @@ impl Folder {
             program.uid(SOMEBODY).gid(SOMEBODY);
         }
         program.output().expect("runs")
+    }
+
+    /// Says whether somebody who is not root can run the program where it was built.
+    pub fn is_open_to_somebody(&self) -> bool {
+        let mut program = self.command("--version");
+        !self.of_root() || program.uid(SOMEBODY).gid(SOMEBODY).output().is_ok()
+    }
+
+    /// Makes a device node that can be used, if that is allowed here.
+    pub fn makes_node(&self, words: &[&str]) -> bool {
+        let made = Command::new("mknod").args(words).current_dir(&self.0).stderr(Stdio::null()).status();
+        made.is_ok_and(|status| status.success()) && File::open(self.path(words[0])).is_ok()
     }
 
     pub fn wallbook(&self, line: &str) -> Output {

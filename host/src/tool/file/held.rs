@@ -12,7 +12,7 @@ use std::thread::sleep;
 use std::time::{Duration, Instant};
 
 use super::beside::Beside;
-use super::{same, through, trouble};
+use super::{own_output, same, through, trouble};
 use crate::output::note;
 use crate::tool::Stop;
 
@@ -35,7 +35,9 @@ impl Held {
         let wrong = |error| trouble(name, error);
         loop {
             let place = fs::canonicalize(name).map_err(wrong)?;
-            changeable(name, &fs::metadata(&place).map_err(wrong)?)?;
+            let about = fs::metadata(&place).map_err(wrong)?;
+            changeable(name, &about)?;
+            not_told_to(name, &about)?;
             let file = OpenOptions::new().read(true).write(true).open(&place).map_err(wrong)?;
             locked(name, &file, File::try_lock, File::lock).map_err(wrong)?;
             if leads_to(name, &file).map_err(wrong)? {
@@ -70,14 +72,24 @@ pub(super) fn to_look_at(name: &str) -> Result<File, Stop> {
     let wrong = |error| trouble(name, error);
     loop {
         let file = File::open(name).map_err(wrong)?;
-        // The lock goes with the file: a pipe has nobody to be kept away.
-        if !is_kept(&file.metadata().map_err(wrong)?) {
+        let about = file.metadata().map_err(wrong)?;
+        // A pipe or a terminal has nobody to be kept away.
+        if !is_kept(&about) {
             return Ok(file);
         }
+        not_told_to(name, &about)?;
         locked(name, &file, File::try_lock_shared, File::lock_shared).map_err(wrong)?;
         if leads_to(name, &file).map_err(wrong)? {
             return Ok(file);
         }
+    }
+}
+
+/// Refuses a file that standard output or standard error leads to: what is said would land on it.
+fn not_told_to(name: &str, about: &Metadata) -> Result<(), Stop> {
+    match own_output(about) {
+        None => Ok(()),
+        Some(_) => Err(Stop::wrong(format!("{name} is the file that is read, and what is said would go to it too"))),
     }
 }
 

@@ -3,14 +3,15 @@
 use super::super::json::Json;
 use super::{newest_sequence, pages_left, Room};
 use crate::account::Mode;
-use crate::layout::{BLOCK_PAGES, MAX_SEQUENCE};
+use crate::layout::{node_limit, BLOCK_PAGES, MAX_SEQUENCE};
 use crate::marks::{counts, Mark};
 use crate::mount::Mounted;
 use crate::score_order;
 use crate::tool::room::{levels, room};
 
 /// All figures of a pool that opens, or has its sequence numbers used up.
-pub(super) fn figures(name: &str, bytes: &[u8], mounted: &Mounted, marks: &[Mark], limit: usize) -> Json {
+pub(super) fn figures(name: &str, bytes: &[u8], mounted: &Mounted, marks: &[Mark]) -> Json {
+    let limit = node_limit(marks.len() / BLOCK_PAGES);
     let Room { least, most } = room(&mounted.nodes, limit);
     let left = MAX_SEQUENCE.saturating_sub(mounted.last_sequence);
     Json::Object(vec![
