@@ -22,8 +22,12 @@ const MOST_BYTES: u64 = 1 << 28;
 
 /// The bytes of a file, which is left alone; somebody who is changing it is waited for.
 pub(crate) fn read(name: &str) -> Result<Vec<u8>, Stop> {
+    all(name, &held::to_look_at(name)?)
+}
+
+/// The bytes of an open file from where it stands.
+fn all(name: &str, file: &File) -> Result<Vec<u8>, Stop> {
     let mut bytes = Vec::new();
-    let file = held::to_look_at(name)?;
     file.take(MOST_BYTES + 1).read_to_end(&mut bytes).map_err(|error| trouble(name, error))?;
     match bytes.len() as u64 > MOST_BYTES {
         true => Err(Stop::wrong(format!("{name} is longer than any pool or dump of one"))),

@@ -85,4 +85,17 @@ mod tests {
         assert_eq!(text(&["export", &fresh]), pairs);
         assert_eq!(std::fs::read(&pool).expect("is there"), bytes, "the pool is not written");
     }
+
+    #[test]
+    fn bad_pages_in_a_row_are_one_line() {
+        let folder = Folder::new("salvage-rows");
+        let pool = folder.prepared("p");
+        let mut bytes = std::fs::read(&pool).expect("is there");
+        bytes[20 * 512..30 * 512].fill(0);
+        bytes[40 * 512..41 * 512].fill(0);
+        std::fs::write(&pool, &bytes).expect("is written");
+        let note = said(&["salvage", &pool]).note;
+        let why = "(byte 0: no sequence number first): no one byte mends it";
+        assert!(note.contains(&format!("pages 20 to 29 do not check {why}\npage 40 does not check {why}\n")), "{note}");
+    }
 }

@@ -114,7 +114,7 @@ fn tool(folder: &Folder, name: &str, words: &[&str]) -> (Option<i32>, String, St
 #[test]
 fn the_tools_help() {
     let folder = Folder::new("tools");
-    for name in ["guards", "firmware"] {
+    for name in ["guards", "firmware", "firmware-trial"] {
         let (status, text, said) = tool(&folder, name, &["--help"]);
         assert_eq!((status, said.as_str()), (Some(0), ""), "{name}");
         assert!(text.contains(&format!("  tools/{name}")) && text.contains("Exit status: 0 "), "{text}");

@@ -5,14 +5,14 @@
 //! again whether the name still leads to the file that is locked, and begins anew where it does not.
 
 use std::fs::{self, File, Metadata, OpenOptions, TryLockError};
-use std::io::{self, ErrorKind, Read, Seek};
+use std::io::{self, ErrorKind, Seek};
 use std::os::unix::fs::{FileTypeExt, MetadataExt};
 use std::path::PathBuf;
 use std::thread::sleep;
 use std::time::{Duration, Instant};
 
 use super::beside::Beside;
-use super::{own_output, same, through, trouble};
+use super::{all, own_output, same, through, trouble};
 use crate::output::note;
 use crate::tool::Stop;
 
@@ -48,12 +48,12 @@ impl Held {
 
     /// The bytes of the file.
     pub fn read(&mut self) -> Result<Vec<u8>, Stop> {
-        let mut bytes = Vec::new();
-        let read = self.file.rewind().and_then(|()| self.file.read_to_end(&mut bytes));
-        read.map(|_| bytes).map_err(|error| trouble(&self.name, error))
+        self.file.rewind().map_err(|error| trouble(&self.name, error))?;
+        all(&self.name, &self.file)
     }
 
-    /// Gives the file other bytes, whole or not at all; the lock stays on what the name leads to.
+    /// Gives the file other bytes, whole or not at all; the lock stays on what the name leads to. A block device has
+    /// no other that could take its place, and is written where it stands.
     pub fn replace(&mut self, bytes: &[u8]) -> Result<(), Stop> {
         let wrong = |error| trouble(&self.name, error);
         let old = self.file.metadata().map_err(wrong)?;
