@@ -6,6 +6,7 @@ use std::io::{BufRead, BufReader, Read};
 use std::os::unix::fs::{symlink, FileTypeExt, MetadataExt};
 use std::process::{Command, Stdio};
 use std::thread;
+use std::time::Duration;
 
 use crate::programs::{must, noted, Folder, SOMEBODY};
 
@@ -263,13 +264,37 @@ fn leftovers_of_the_dead_are_cleared_and_those_of_the_living_stay() {
     for (name, process) in [("p", dead), ("p", living), ("out", dead), ("other", dead)] {
         fs::write(folder.path(&format!(".{name}.{process}.new")), "half").expect("is written");
     }
+    // Killed, and nobody has asked for it yet.
+    let mut killed = Command::new("sleep").arg("60").spawn().expect("runs");
+    killed.kill().expect("is killed");
+    let stat = format!("/proc/{}/stat", killed.id());
+    while fs::read_to_string(&stat).is_ok_and(|stat| !stat.contains(") Z ")) {
+        thread::yield_now();
+    }
+    fs::write(folder.path(&format!(".p.{}.new", killed.id())), "half").expect("is written");
     fs::write(folder.path(".p.notes.new"), "a letter").expect("is written");
     assert_eq!(folder.status("get p 7 --book second"), Some(0));
-    assert_eq!(folder.names().len(), 6, "looking clears nothing");
+    assert_eq!(folder.names().len(), 7, "looking clears nothing");
     assert_eq!(folder.status("put p 8 1 --book second"), Some(0));
     assert_eq!(folder.status("export p out --book second"), Some(0));
     let left = [format!(".other.{dead}.new"), format!(".p.{living}.new")];
     assert_eq!(folder.names(), [&left[0], &left[1], ".p.notes.new", "out", "p"]);
+    killed.wait().expect("ends");
+}
+
+#[test]
+fn a_process_that_is_killed_leaves_a_pool_that_opens() {
+    let folder = Folder::with_pool("killed");
+    for round in 0..60 {
+        let mut child = folder.command(&format!("put p {round} 1 --book second"));
+        let mut child = child.stdout(Stdio::null()).spawn().expect("runs");
+        thread::sleep(Duration::from_micros(400 * round));
+        child.kill().expect("is killed, or has ended");
+        child.wait().expect("ends");
+        assert_eq!(folder.status("check p --book second"), Some(0), "round {round}");
+    }
+    assert_eq!(folder.status("put p 99 1 --book second"), Some(0));
+    assert_eq!(folder.names(), ["p"], "what was left is cleared");
 }
 
 #[test]

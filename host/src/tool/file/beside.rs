@@ -129,6 +129,13 @@ fn clear(target: &Path) {
 /// Says whether the process is gone that was writing a file. Its number may be taken again, by this one too, and a
 /// folder may be shared with a machine that counts otherwise: so nobody may have the file locked either.
 fn is_gone(process: u32, path: &Path) -> bool {
-    let known = process != std::process::id() && Path::new("/proc").join(process.to_string()).exists();
-    !known && File::open(path).is_ok_and(|file| file.try_lock().is_ok())
+    let lives = process != std::process::id() && lives(process);
+    !lives && File::open(path).is_ok_and(|file| file.try_lock().is_ok())
+}
+
+/// Says whether a process runs: one that was killed is listed until its parent has asked for it, and runs no more.
+fn lives(process: u32) -> bool {
+    let listed = fs::read_to_string(format!("/proc/{process}/stat")).unwrap_or_default();
+    // Its name comes first, in brackets, and may hold anything; then its state.
+    listed.rsplit_once(") ").is_some_and(|(_, state)| !state.starts_with(['Z', 'X']))
 }
