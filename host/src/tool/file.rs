@@ -45,10 +45,11 @@ pub(super) fn read_text(name: &str) -> Result<String, Stop> {
     read.map(|()| text).map_err(|error| trouble(name, error))
 }
 
-/// Writes a file that a verb makes out of its inputs, or standard output for `-`; one that is there already is
-/// replaced with `force` alone.
+/// Writes a file that a verb makes out of its inputs, or text to standard output for `-`; a file that is there
+/// already is replaced with `force` alone.
 pub(crate) fn write(name: &str, bytes: &[u8], inputs: &[&str], force: bool) -> Result<(), Stop> {
-    if name == "-" {
+    // A pool is no text, and what a verb says of it would land behind it there.
+    if name == "-" && std::str::from_utf8(bytes).is_ok() {
         let out = io::stdout().as_fd().try_clone_to_owned();
         return through(name, &mut out.map_err(|error| trouble(name, error))?.into(), bytes);
     }

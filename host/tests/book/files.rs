@@ -104,6 +104,8 @@ fn standard_output_by_its_name_is_written_where_it_stands() {
         let line = format!("export p {out} --book second");
         assert_eq!(folder.says(&line), (Some(0), "7,100\n".to_string()), "{line}");
     }
+    assert_eq!(folder.status("prepare - 4 --book second"), Some(0));
+    assert_eq!(folder.bytes("-").len(), 65_536, "a pool goes to a file all the same");
     let mut file = File::create(folder.path("lines")).expect("is made");
     std::io::Write::write_all(&mut file, b"# before\n").expect("is written");
     let status = folder.command("export p out --book second").stdout(file).status().expect("runs");
