@@ -59,8 +59,13 @@ pub(crate) fn write(name: &str, bytes: &[u8], inputs: &[&str], force: bool) -> R
     if let Some(input) = inputs.iter().find(|input| fs::metadata(input).is_ok_and(|input| same(&input, &old))) {
         return Err(Stop::wrong(format!("{name} is the file that is read ({input}); it is not written over")));
     }
+    write_over(name, &old, bytes, force)
+}
+
+/// Writes where something is already.
+fn write_over(name: &str, old: &Metadata, bytes: &[u8], force: bool) -> Result<(), Stop> {
     // Opened anew, a file that standard output leads to would be written from its beginning.
-    if let Some(mut out) = own_output(&old) {
+    if let Some(mut out) = own_output(old) {
         return through(name, &mut out, bytes);
     }
     if !old.is_file() {
