@@ -31,6 +31,7 @@ pub mod observe;
 pub mod optimum;
 pub mod output;
 pub mod page;
+pub mod program;
 #[cfg(proved_book)]
 pub mod proved;
 pub mod random;

@@ -19,3 +19,8 @@ pub fn say(text: &str) -> Result<Reader, String> {
         Err(error) => Err(format!("standard output: {error}")),
     }
 }
+
+/// Writes text to standard error; where that cannot be done there is nobody left to tell.
+pub fn note(text: &str) {
+    let _ = io::stderr().lock().write_all(text.as_bytes());
+}

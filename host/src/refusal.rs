@@ -61,6 +61,25 @@ pub enum Place {
     Node(usize, Option<Byte>),
 }
 
+impl Place {
+    /// The page where it shows, if it shows on one.
+    pub fn page(&self) -> Option<usize> {
+        match self {
+            Place::Page(page) | Place::Byte(Byte { page, .. }) => Some(*page),
+            Place::Node(_, byte) => byte.map(|byte| byte.page),
+            Place::Pool | Place::Block(_) => None,
+        }
+    }
+
+    /// The byte of its page, where it is known.
+    pub fn byte(&self) -> Option<usize> {
+        match self {
+            Place::Byte(byte) | Place::Node(_, Some(byte)) => Some(byte.byte),
+            _ => None,
+        }
+    }
+}
+
 /// A byte of a page.
 #[derive(Clone, Copy, PartialEq, Eq, Debug)]
 pub struct Byte {

@@ -1,6 +1,7 @@
 //! The line tool: a line in, lines out.
 
-use std::fs;
+use std::collections::BTreeMap;
+use std::path::PathBuf;
 use std::str::SplitWhitespace;
 
 use crate::book::Book;
@@ -10,6 +11,7 @@ use crate::layout::{page_at, table_bytes, BLANK, BLOCK_BYTES};
 use crate::mount::mount;
 use crate::page::used;
 use crate::spell::spell;
+use crate::tool::file::{self, Held};
 use crate::wire::{fnv1a64, from_hex, to_hex};
 
 /// The lines that the shell knows, for help and for errors.
@@ -17,14 +19,20 @@ pub const LINES: &str = "  prepare B t0 .. t7     prepares B blocks of 16,384 by
   batch HEX              runs a batch: number N answers HEX charges C0,..,C15 pool H, a charge for each panel
   desk LENGTHS QUEUES    serves queues, both in HEX, four bytes a length; it answers as a batch does
   load FILE              sets the pool from a file: loaded LENGTH
-  save FILE              writes the pool to a file: saved LENGTH
+  save [--force] FILE    writes the pool to a file: saved LENGTH; one that is there already must be as it was last
+                         loaded or saved here, unless --force is given
   lengths TABLE ANSWERS  sets the lengths of table and answer buffer for calls after it
                          (at first, and for -: 1,024 x B and 700,000): lengths TABLE ANSWERS
   spell                  a line for each node, or: refused N
   dump PAGE              the used bytes of a page; pages count through the pool from 0
+  help                   these lines
+  quit                   ends, as the end of the lines does
 H is FNV-1a-64 of the pool in 16 hexadecimal digits; - stands for no bytes at all.
 A line that is none of these answers error .. and changes nothing; blank lines and lines from # answer nothing.
 prepare lends the pool at hand if it has B blocks already, or else a new one of FF.";
+
+/// The line that ends the shell.
+pub const QUIT: &str = "quit";
 
 /// Bytes of the answer buffer at first: room for the longest batch.
 const ANSWER_BYTES: usize = 700_000;
@@ -39,11 +47,13 @@ pub struct Shell {
     pool: Vec<u8>,
     table_bytes: Option<usize>,
     answer_bytes: Option<usize>,
+    /// The hash of what each file held when it was last loaded or saved here.
+    seen: BTreeMap<PathBuf, u64>,
 }
 
 impl Shell {
     pub fn new(book: Box<dyn Book>) -> Shell {
-        Shell { book, pool: Vec::new(), table_bytes: None, answer_bytes: None }
+        Shell { book, pool: Vec::new(), table_bytes: None, answer_bytes: None, seen: BTreeMap::new() }
     }
 
     /// Answers one line.
@@ -66,7 +76,8 @@ impl Shell {
             "lengths" => self.lengths(words).map(one),
             "spell" => ended(words).map(|()| self.spell()),
             "dump" => self.dump(words).map(one),
-            _ => Err(format!("no line begins with {verb:?}")),
+            "help" => ended(words).map(|()| LINES.lines().map(str::to_string).collect()),
+            _ => Err(format!("no line begins with {verb:?}; help lists them")),
         }
     }
 
@@ -112,13 +123,39 @@ impl Shell {
     }
 
     fn load(&mut self, name: &str) -> Result<String, String> {
-        self.pool = fs::read(name).map_err(|error| format!("{name}: {error}"))?;
+        self.pool = file::read(name).map_err(|stop| stop.to_string())?;
+        self.see(name);
         Ok(format!("loaded {}", self.pool.len()))
     }
 
-    fn save(&self, name: &str) -> Result<String, String> {
-        fs::write(name, &self.pool).map_err(|error| format!("{name}: {error}"))?;
+    fn save(&mut self, words: &str) -> Result<String, String> {
+        let (name, force) = match words.strip_prefix("--force ") {
+            Some(name) => (name.trim_start(), true),
+            None => (words, false),
+        };
+        self.write(name, force)?;
+        self.see(name);
         Ok(format!("saved {}", self.pool.len()))
+    }
+
+    /// Writes the pool to a file. One that is there and was seen here is locked and looked at again, so that what
+    /// somebody else put into it meanwhile is not lost.
+    fn write(&self, name: &str, force: bool) -> Result<(), String> {
+        let seen = place(name).and_then(|place| self.seen.get(&place)).filter(|_| !force);
+        let Some(seen) = seen else {
+            return file::write(name, &self.pool, &[], force).map_err(|stop| stop.to_string());
+        };
+        let mut held = Held::open(name).map_err(|stop| stop.to_string())?;
+        if fnv1a64(&held.read().map_err(|stop| stop.to_string())?) != *seen {
+            return Err(format!("{name} was changed since it was last loaded or saved here; save --force writes it"));
+        }
+        held.replace(&self.pool).map_err(|stop| stop.to_string())
+    }
+
+    /// Notes that a file holds the pool.
+    fn see(&mut self, name: &str) {
+        let kept = place(name).filter(|place| place.is_file());
+        self.seen.extend(kept.map(|place| (place, fnv1a64(&self.pool))));
     }
 
     fn lengths(&mut self, mut words: SplitWhitespace<'_>) -> Result<String, String> {
@@ -154,6 +191,11 @@ impl Shell {
     fn hash(&self) -> String {
         format!("{:016x}", fnv1a64(&self.pool))
     }
+}
+
+/// Where a name leads, if something is there.
+fn place(name: &str) -> Option<PathBuf> {
+    std::fs::canonicalize(name).ok()
 }
 
 fn one(line: String) -> Vec<String> {
@@ -322,6 +364,30 @@ mod tests {
         let mut other = Shell::new(Box::new(SecondBook));
         assert_eq!(other.answer(&format!("load {name}")), ["loaded 65536"]);
         assert_eq!(other.hash(), shell.hash());
+        std::fs::remove_file(name).expect("was written");
+    }
+
+    #[test]
+    fn a_file_that_is_there_is_saved_to_as_it_was_seen_alone() {
+        let name = std::env::temp_dir().join(format!("yokehour-seen-{}.pool", std::process::id()));
+        let name = name.to_str().expect("a plain path");
+        std::fs::write(name, "a letter").expect("is written");
+        let mut shell = shell();
+        shell.answer("prepare 4 3 1 2 1 4 4 3 2");
+        let there = shell.answer(&format!("save {name}"));
+        assert!(there[0].starts_with("error ") && there[0].contains("is there already"), "{there:?}");
+        assert_eq!(std::fs::read(name).expect("is there"), b"a letter");
+        assert_eq!(shell.answer(&format!("save --force {name}")), ["saved 65536"]);
+        shell.answer("batch 0200080000000700000064");
+        assert_eq!(shell.answer(&format!("save {name}")), ["saved 65536"], "as it was saved last");
+        let mut other = Shell::new(Box::new(SecondBook));
+        other.answer(&format!("load {name}"));
+        other.answer("batch 0200080000000800000064");
+        assert_eq!(other.answer(&format!("save {name}")), ["saved 65536"], "as it was loaded");
+        let lost = shell.answer(&format!("save {name}"));
+        assert!(lost[0].starts_with("error ") && lost[0].contains("was changed since"), "{lost:?}");
+        assert_eq!(shell.answer(&format!("load {name}")), ["loaded 65536"]);
+        assert_eq!(shell.hash(), other.hash());
         std::fs::remove_file(name).expect("was written");
     }
 }

@@ -12,11 +12,15 @@ mod delete;
 mod desk;
 mod diff;
 mod doubts;
+mod dump;
 mod export;
-mod file;
+mod fault_runs;
+pub(crate) mod file;
 mod get;
 mod help;
 mod import;
+mod json;
+mod lines;
 mod node;
 mod page;
 mod picture;
@@ -35,6 +39,7 @@ mod stats;
 mod trial;
 mod words;
 
+use crate::program::{version, Stop};
 use words::{Options, Words};
 
 /// A verb: how it is asked for, what it does, and its code.
@@ -72,25 +77,6 @@ impl Said {
     }
 }
 
-/// Why a verb said nothing.
-#[derive(Clone, PartialEq, Eq, Debug)]
-pub struct Stop {
-    status: u8,
-    why: String,
-}
-
-impl Stop {
-    /// The answer is no.
-    fn no(why: impl Into<String>) -> Stop {
-        Stop { status: 1, why: why.into() }
-    }
-
-    /// The request is not understood, or a file cannot be used.
-    fn wrong(why: impl Into<String>) -> Stop {
-        Stop { status: 2, why: why.into() }
-    }
-}
-
 /// Does what the words of a command line ask.
 pub fn run(line: &[String]) -> Said {
     answer(line).unwrap_or_else(|stop| Said {
@@ -102,6 +88,9 @@ pub fn run(line: &[String]) -> Said {
 
 fn answer(line: &[String]) -> Result<Said, Stop> {
     let (words, options) = Options::of(line)?;
+    if options.version {
+        return Ok(Said::text(version("wallbook")));
+    }
     let (name, rest) = match words.split_first() {
         Some((&name, rest)) => (name, rest),
         None if options.help => return Ok(Said::text(help::all())),
@@ -173,7 +162,7 @@ mod tests {
                 said(&[verb, &name, &random.below(8).to_string()]);
             }
             assert!(said(&["diff", &name, &other]).status < 2);
-            assert_eq!(said(&["picture", &name, &out]).status, 0);
+            assert_eq!(said(&["picture", &name, &out, "--force"]).status, 0);
         }
     }
 

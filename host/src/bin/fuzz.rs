@@ -5,52 +5,36 @@ use std::time::{Duration, Instant};
 
 use yokehour_host::books::proved_to_compare;
 use yokehour_host::fuzz::{case, Tally};
-use yokehour_host::output::say;
+use yokehour_host::output::note;
+use yokehour_host::program::{self, tell, Stop};
 use yokehour_host::random::Random;
 
 const USAGE: &str = "\
 usage: fuzz SECONDS SEED   random cases for so long, with progress; then what was exercised
        fuzz --case SEED    the one case that a failure named
 
-Exit code 1: a case failed. Exit code 2: wrong arguments.
+A case that fails is told with the seed that replays it; exit status 1.
 Counts of zero are marked: what was never exercised is a hole.";
 
 fn main() -> ExitCode {
-    let words: Vec<String> = std::env::args().skip(1).collect();
-    let words: Vec<&str> = words.iter().map(String::as_str).collect();
-    match words[..] {
-        ["--help" | "-h"] => finish(say(&format!("{USAGE}\n")).map(drop)),
-        ["--case", seed] => match seed.parse() {
-            Ok(seed) => finish(run_case(seed, &mut Tally::default())),
-            Err(_) => wrong("a seed expected"),
-        },
-        [seconds, seed] => match (seconds.parse(), seed.parse()) {
-            (Ok(seconds), Ok(seed)) => finish(run(Duration::from_secs(seconds), seed)),
-            _ => wrong("two numbers expected"),
-        },
-        _ => wrong("two numbers expected"),
-    }
-}
-
-fn wrong(why: &str) -> ExitCode {
-    eprintln!("fuzz: {why}\n{USAGE}");
-    ExitCode::from(2)
-}
-
-fn finish(result: Result<(), String>) -> ExitCode {
-    match result {
-        Ok(()) => ExitCode::SUCCESS,
-        Err(why) => {
-            eprintln!("fuzz: {why}");
-            ExitCode::FAILURE
+    program::run("fuzz", USAGE, |words| {
+        let words: Vec<&str> = words.iter().map(String::as_str).collect();
+        match words[..] {
+            ["--case", seed] => run_case(number(seed)?, &mut Tally::default()),
+            [seconds, seed] => run(Duration::from_secs(number(seconds)?), number(seed)?),
+            _ => Err(Stop::wrong("seconds and a seed expected (fuzz --help)")),
         }
-    }
+    })
+}
+
+fn number(word: &str) -> Result<u64, Stop> {
+    word.parse().map_err(|_| Stop::wrong(format!("a number expected, not {word:?} (fuzz --help)")))
 }
 
 /// Runs cases until the time is over.
-fn run(time: Duration, seed: u64) -> Result<(), String> {
+fn run(time: Duration, seed: u64) -> Result<(), Stop> {
     // Said once before the first case, should the proved book be missing.
-    proved_to_compare()?;
+    proved_to_compare().map_err(Stop::wrong)?;
     let start = Instant::now();
     let mut told = start;
     let mut seeds = Random::new(seed);
@@ -59,17 +43,12 @@ fn run(time: Duration, seed: u64) -> Result<(), String> {
         run_case(seeds.next_u64(), &mut tally)?;
         if told.elapsed() >= Duration::from_secs(5) {
             told = Instant::now();
-            eprintln!(
-                "{:>4} s: {} cases, {} batches, {} desks, {} states",
-                start.elapsed().as_secs(),
-                tally.cases,
-                tally.batches,
-                tally.desks.accepted,
-                tally.seen.states
-            );
+            let (seconds, desks) = (start.elapsed().as_secs(), tally.desks.accepted);
+            let (cases, batches, states) = (tally.cases, tally.batches, tally.seen.states);
+            note(&format!("{seconds:>4} s: {cases} cases, {batches} batches, {desks} desks, {states} states\n"));
         }
     }
-    say(&summary(&tally)).map(drop)
+    tell(&summary(&tally)).map(drop)
 }
 
 /// What was exercised, and that nothing failed.
@@ -85,11 +64,11 @@ fn summary(tally: &Tally) -> String {
 }
 
 /// Runs one case; a panic is a failure too.
-fn run_case(seed: u64, tally: &mut Tally) -> Result<(), String> {
+fn run_case(seed: u64, tally: &mut Tally) -> Result<(), Stop> {
     let replay = format!("replay with: fuzz --case {seed}");
     let result = std::panic::catch_unwind(std::panic::AssertUnwindSafe(|| case(seed, tally)));
     match result {
-        Ok(result) => result.map_err(|why| format!("{why}\n{replay}")),
-        Err(_) => Err(format!("a panic\n{replay}")),
+        Ok(result) => result.map_err(|why| Stop::no(format!("{why}\n{replay}"))),
+        Err(_) => Err(Stop::no(format!("a panic\n{replay}"))),
     }
 }

@@ -36,12 +36,20 @@ fn has_value(pair: &Pair) -> String {
     format!("key {} has value {}", pair.key, pair.pointer)
 }
 
-/// Runs one command as a batch of its own, and says its answer and its charge.
-pub(super) fn one(file: &str, options: &Options, command: Command) -> Result<Said, Stop> {
-    let mut pool = Pool::open(file, options)?;
+/// Runs one command that changes the pool as a batch of its own, and says its answer and its charge.
+pub(super) fn change(file: &str, options: &Options, command: Command) -> Result<Said, Stop> {
+    one(Pool::open(file, options)?, command)
+}
+
+/// Runs one command that only looks, and says its answer and its charge.
+pub(super) fn look(file: &str, options: &Options, command: Command) -> Result<Said, Stop> {
+    one(Pool::look_or_charge(file, options)?, command)
+}
+
+fn one(mut pool: Pool<'_>, command: Command) -> Result<Said, Stop> {
     let answers = pool.batch(&[command])?;
     let [answer] = &answers[..] else {
-        return Err(Stop::no(format!("{file}: {} answers to one command", answers.len())));
+        return Err(Stop::no(format!("{} answers to one command", answers.len())));
     };
     pool.save()?;
     let (text, no) = spoken(&command, answer);

@@ -25,14 +25,14 @@ pub(super) const VERB: Verb = Verb {
            A get, a put of the value that is there, a scan for 32 pairs and a ceiling of the next number are a batch\n\
            of 1,000 at keys taken at random, less an empty batch, divided. The program `bench` times both books on\n\
            pools of its own.",
-    options: &["--book"],
+    options: &["--book", "--spare", "--offset", "--swap"],
     run,
 };
 
 fn run(words: &mut Words<'_>, options: &Options) -> Result<Said, Stop> {
     let name = words.word("a file")?;
     words.end()?;
-    let mut pool = Pool::open(name, options)?;
+    let mut pool = Pool::look(name, options)?;
     let pairs = scanned(&mut pool, 0, u32::MAX, usize::MAX)?.pairs;
     let mut progress = Progress::new("batches timed");
     let mut shortest = |commands: &[Command]| shortest(&mut pool, commands, &mut progress);

@@ -1,11 +1,13 @@
 //! `check`: every fault of a pool that can be told.
 
+use super::fault_runs::runs;
+use super::json::Json;
 use super::node::spelled;
 use super::pool::Pool;
 use super::words::{counted, Options, Words};
 use super::{Said, Stop, Verb};
 use crate::mount::examine;
-use crate::refusal::{words as refusal_words, Fault, Refusal};
+use crate::refusal::{words as refusal_words, Fault, Place, Refusal};
 use crate::tree;
 
 pub(super) const VERB: Verb = Verb {
@@ -14,32 +16,92 @@ pub(super) const VERB: Verb = Verb {
     about: "every fault that can be told, with its page and byte",
     more: "A line for each fault begins with the number that it is refused with; the least number is the book's.\n\
            Faults from 6 on are told of the pages that check: where others do not, they may follow from those.\n\
-           The book is asked too, by an empty batch on a copy. Exit status 0 if there is no fault, 1 if there is.",
-    options: &["--book"],
+           The book is asked too, by an empty batch on a copy. Exit status 0 if there is no fault, 1 if there is.\n\n\
+           --json has the keys file, bytes, number (0, or the least of the faults), book (the number that the book\n\
+           says), keys and nodes (null where there is a fault), and faults: a list of number, why and block, node,\n\
+           page and byte (null where it has none).",
+    options: &["--book", "--json", "--spare", "--offset", "--swap"],
     run,
 };
 
 fn run(words: &mut Words<'_>, options: &Options) -> Result<Said, Stop> {
     let name = words.word("a file")?;
     words.end()?;
-    let pool = Pool::open(name, options)?;
-    let faults = examine(&pool.bytes).faults;
-    let mut text: String = faults.iter().map(|fault| format!("{fault}\n")).collect();
-    text.push_str(&match faults.first() {
-        None => fine(name, &pool.bytes)?,
-        Some(fault) => format!("{name}: {}, {}\n", counted(faults.len(), "fault"), refused(fault)),
-    });
-    let (own, book) = (faults.first().map_or(0, |fault| fault.refusal.number()), pool.number());
-    if own != book {
-        text.push_str(&format!("{name}: the book says {book}, where the faults say {own}: one of the two is wrong\n"));
-    }
-    Ok(Said { text, status: u8::from(own != 0 || book != 0), ..Said::default() })
+    let pool = Pool::look(name, options)?;
+    let bytes = pool.bytes.clone();
+    let found = Found { name, bytes: &bytes, faults: examine(&bytes).faults, book: pool.number() };
+    let text = if options.json { format!("{}\n", found.json()?) } else { found.text()? };
+    let status = u8::from(found.number() != 0 || found.book != 0);
+    Ok(Said { text, status, ..Said::default() })
 }
 
-fn fine(name: &str, bytes: &[u8]) -> Result<String, Stop> {
-    let mounted = spelled(name, bytes)?;
-    let (keys, nodes) = (tree::pairs(&mounted.nodes).len(), mounted.nodes.len());
-    Ok(format!("{name}: no fault; {} in {}\n", counted(keys, "key"), counted(nodes, "node")))
+/// What was found of a pool.
+struct Found<'a> {
+    name: &'a str,
+    bytes: &'a [u8],
+    faults: Vec<Fault>,
+    /// The number that the book says.
+    book: u8,
+}
+
+impl Found<'_> {
+    /// The number that the faults say.
+    fn number(&self) -> u8 {
+        self.faults.first().map_or(0, |fault| fault.refusal.number())
+    }
+
+    fn text(&self) -> Result<String, Stop> {
+        let (name, own, book) = (self.name, self.number(), self.book);
+        let mut text: String = runs(&self.faults).iter().map(|run| run.line(self.bytes.len())).collect();
+        text.push_str(&match self.faults.first() {
+            None => {
+                let (keys, nodes) = self.counts()?;
+                format!("{name}: no fault; {} in {}\n", counted(keys, "key"), counted(nodes, "node"))
+            }
+            Some(fault) => format!("{name}: {}, {}\n", counted(self.faults.len(), "fault"), refused(fault)),
+        });
+        if own != book {
+            let differ = format!("the book says {book}, where the faults say {own}: one of the two is wrong");
+            text.push_str(&format!("{name}: {differ}\n"));
+        }
+        Ok(text)
+    }
+
+    fn json(&self) -> Result<Json, Stop> {
+        let counts = if self.faults.is_empty() { Some(self.counts()?) } else { None };
+        Ok(Json::Object(vec![
+            ("file", self.name.into()),
+            ("bytes", self.bytes.len().into()),
+            ("number", u32::from(self.number()).into()),
+            ("book", u32::from(self.book).into()),
+            ("keys", counts.map(|(keys, _)| keys).into()),
+            ("nodes", counts.map(|(_, nodes)| nodes).into()),
+            ("faults", Json::List(self.faults.iter().map(fault_json).collect())),
+        ]))
+    }
+
+    /// The keys and the nodes of a pool without a fault.
+    fn counts(&self) -> Result<(usize, usize), Stop> {
+        let mounted = spelled(self.name, self.bytes)?;
+        Ok((tree::pairs(&mounted.nodes).len(), mounted.nodes.len()))
+    }
+}
+
+fn fault_json(fault: &Fault) -> Json {
+    let (mut block, mut node) = (None, None);
+    match fault.at {
+        Place::Block(number) => block = Some(number),
+        Place::Node(id, _) => node = Some(id),
+        _ => {}
+    }
+    Json::Object(vec![
+        ("number", u32::from(fault.refusal.number()).into()),
+        ("why", fault.why.into()),
+        ("block", block.into()),
+        ("node", node.into()),
+        ("page", fault.at.page().into()),
+        ("byte", fault.at.byte().into()),
+    ])
 }
 
 fn refused(fault: &Fault) -> String {
@@ -55,6 +117,7 @@ mod tests {
     use crate::mount::examine;
     use crate::random::Random;
     use crate::refusal::{Byte, Place, Refusal};
+    use crate::tool::fault_runs::runs;
     use crate::tool::trial::{said, text, Folder};
     use crate::tool::Said;
 
@@ -168,7 +231,7 @@ mod tests {
                 let found = faults.iter().any(|fault| found(fault.refusal.number(), fault.why));
                 assert!(found, "{}: {faults:?}", flaw.name);
                 let said = checked(&folder, &pool);
-                assert_eq!((said.status, said.text.lines().count()), (1, faults.len() + 1), "{}", said.text);
+                assert_eq!((said.status, said.text.lines().count()), (1, runs(&faults).len() + 1), "{}", said.text);
             }
         }
     }
@@ -236,7 +299,45 @@ mod tests {
         let last = format!("{pool}: 3 faults, refused with 5: a page, or the pages together, break the layout\n");
         let said = said(&["check", &pool]);
         assert_eq!((said.status, said.text), (1, format!("{faults}{last}")));
-        let said = checked(&folder, &[0; 100]);
-        assert!(said.status == 1 && said.text.starts_with("1: the pool: no length of a pool\n"), "{}", said.text);
+    }
+
+    #[test]
+    fn a_wrong_length_is_told_with_the_nearest_that_would_do() {
+        let folder = Folder::new("length");
+        for (bytes, nearest) in [
+            (100, "100 bytes, where 65,536 (4 blocks) are the nearest"),
+            (65_535, "65,535 bytes, where 65,536 (4 blocks) are the nearest"),
+            (5 * 16_384 + 1, "81,921 bytes, where 81,920 (5 blocks) are the nearest"),
+            (65 * 16_384, "1,064,960 bytes, where 1,048,576 (64 blocks) are the nearest"),
+        ] {
+            let said = checked(&folder, &vec![BLANK; bytes]);
+            let line = format!("1: the pool: no length of a pool: {nearest}\n");
+            assert!(said.status == 1 && said.text.starts_with(&line), "{}", said.text);
+            let refused = crate::tool::trial::said(&["get", &folder.file("p"), "7"]);
+            assert!(refused.status == 1 && refused.note.contains(&format!("({nearest})")), "{}", refused.note);
+        }
+    }
+
+    #[test]
+    fn a_run_of_bad_pages_is_one_line() {
+        let folder = Folder::new("runs");
+        let pool = folder.prepared("p");
+        (0..20).for_each(|_| drop(text(&["run", &pool, "-"])));
+        let mut bytes = std::fs::read(&pool).expect("is there");
+        (12..20).for_each(|page| bytes[page * PAGE_BYTES] = 0);
+        let name = folder.file("p");
+        let last =
+            |count: usize| format!("{name}: {count} faults, refused with 5: a page, or the pages together, break");
+        let lines = |pages: &str| {
+            format!("5: pages {pages}, byte 0: no sequence number first\n5: pages {pages}, byte 59: the sum differs\n")
+        };
+        let told = checked(&folder, &bytes).text;
+        assert!(told.starts_with(&(lines("12 to 19") + &last(16))), "{told}");
+        bytes[15 * PAGE_BYTES] = 0x10;
+        let told = checked(&folder, &bytes).text;
+        assert!(told.starts_with(&(lines("12 to 14") + &lines("16 to 19") + &last(14))), "{told}");
+        bytes[13 * PAGE_BYTES] = 0x10;
+        let told = checked(&folder, &bytes).text;
+        assert!(told.starts_with("5: page 12, byte 0: no sequence number first\n5: page 12, byte 59: "), "{told}");
     }
 }

@@ -17,5 +17,5 @@ pub(super) const VERB: Verb = Verb {
 fn run(words: &mut Words<'_>, options: &Options) -> Result<Said, Stop> {
     let (file, key) = (words.word("a file")?, words.number("a key")?);
     words.end()?;
-    answer::one(file, options, Command::Delete { key })
+    answer::change(file, options, Command::Delete { key })
 }

@@ -1,9 +1,9 @@
-//! `desk`: queues given as bytes, served a command of each in turn.
+//! `desk`: queues, in words or as bytes, served a command of each in turn.
 
-use super::pool::{Pool, CALL_OPTIONS};
+use super::pool::{Pool, CALL_OPTIONS_FROM};
 use super::run::by_panel;
 use super::words::{Options, Words};
-use super::{answer, Said, Stop, Verb};
+use super::{answer, file, lines, Said, Stop, Verb};
 use crate::command::{answer_room, parse};
 use crate::desk::{join, Queues};
 use crate::input::Input;
@@ -12,21 +12,18 @@ use crate::reference;
 pub(super) const VERB: Verb = Verb {
     name: "desk",
     words: "FILE QUEUE ..",
-    about: "serves up to 16 queues in hexadecimal, a command of each in turn",
-    more: "The first QUEUE is panel 0's, the next panel 1's; - is an empty one. Each answer is told with its panel,\n\
-           in the order of service; then the charge, and a line for each panel that has a part of it. A queue may\n\
-           not name a panel itself (05). Exit status 1 if the call is refused.",
-    options: CALL_OPTIONS,
+    about: "serves up to 16 queues of commands, a command of each in turn",
+    more: "Such as: wallbook desk FILE 'put 7 100, get 7' - 'get 7'. The first QUEUE is panel 0's, the next panel\n\
+           1's; - is an empty one. With --from, panel N says whose the commands behind it are. Each answer is told\n\
+           with its panel, in the order of service; then the charge, and a line for each panel that has a part of\n\
+           it. A queue may not name a panel itself (05). Exit status 1 if the call is refused.",
+    options: CALL_OPTIONS_FROM,
     run,
 };
 
 fn run(words: &mut Words<'_>, options: &Options) -> Result<Said, Stop> {
     let file = words.word("a file")?;
-    let mut queues = vec![words.bytes("a queue")?];
-    while words.any_left() {
-        queues.push(words.bytes("a queue")?);
-    }
-    let queues = Queues::of(&queues);
+    let queues = Queues::of(&given(words, options)?);
     let mut pool = Pool::open(file, options)?;
     // Queues that cannot be joined go to the book all the same: the refusal is its own.
     let joined = join(&queues.lengths, &queues.bytes).ok().and_then(|batch| parse(&batch)).unwrap_or_default();
@@ -39,6 +36,19 @@ fn run(words: &mut Words<'_>, options: &Options) -> Result<Said, Stop> {
         .collect();
     text.push_str(&format!("charge {}\n{}", pool.charge(), by_panel(&pool.charges)));
     Ok(Said::text(text))
+}
+
+/// The queues of a line, or of the file that it names.
+fn given(words: &mut Words<'_>, options: &Options) -> Result<Vec<Vec<u8>>, Stop> {
+    if let Some(source) = &options.from {
+        words.end()?;
+        let wrong = |why| Stop::wrong(format!("{source}: {why}"));
+        return lines::queues(&file::read_text(source)?).map_err(wrong);
+    }
+    if !words.any_left() {
+        return Err(Stop::wrong("a queue expected, or - for an empty one"));
+    }
+    words.rest().into_iter().map(|queue| lines::batch(queue).map_err(Stop::wrong)).collect()
 }
 
 #[cfg(test)]
@@ -58,6 +68,10 @@ mod tests {
                      panel 0: key 7 has value 100\npanel 1: key 7 is deleted, its value was 100\n\
                      charge 18\npanel 0: charge 7\npanel 1: charge 11\n";
         assert_eq!(text(&["desk", &pool, queues[0], queues[1], "--dry"]), words);
+        assert_eq!(text(&["desk", &pool, "put 7 100, get 7", "get 7; delete 7", "--dry"]), words);
+        let file = folder.file("queues");
+        std::fs::write(&file, "put 7 100\nget 7\npanel 1 # the other\nget 7\ndelete 7\n").expect("is written");
+        assert_eq!(text(&["desk", &pool, "--from", &file, "--dry"]), words);
         assert_eq!(text(&["desk", &pool, queues[0], queues[1], "-", "-"]), words);
     }
 
@@ -92,7 +106,7 @@ mod tests {
         }
         assert_eq!(std::fs::read(&pool).expect("is there"), before);
         assert_eq!(text(&of_seventeen[..18]).lines().count(), 16 + 1 + 16, "one queue fewer is served");
-        for (words, why) in [(&[][..], "a queue expected"), (&[GET, "0x"], "a queue is pairs"), (&["0"], "1 digits")] {
+        for (words, why) in [(&[][..], "a queue expected"), (&[GET, "0x"], "bytes are pairs"), (&["0"], "1 digits")] {
             let wrong = said(&[&["desk", &pool], words].concat());
             assert!(wrong.status == 2 && wrong.note.contains(why), "{wrong:?}");
         }

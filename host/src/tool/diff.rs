@@ -3,7 +3,7 @@
 use std::collections::BTreeMap;
 
 use super::words::{Options, Words};
-use super::{file, Said, Stop, Verb};
+use super::{dump, Said, Stop, Verb};
 use crate::layout::{BLOCK_PAGES, PAGE_BYTES};
 use crate::mount::read;
 use crate::page::is_blank;
@@ -17,14 +17,14 @@ pub(super) const VERB: Verb = Verb {
         "Pages and blocks are told by their bytes: a page that is the same in both counts as not written, though its\n\
            block may have been erased in between. Keys are told where both pools spell a tree.\n\
            Exit status 0 if no byte differs, 1 if one does.",
-    options: &[],
+    options: &dump::OPTIONS,
     run,
 };
 
-fn run(words: &mut Words<'_>, _: &Options) -> Result<Said, Stop> {
+fn run(words: &mut Words<'_>, options: &Options) -> Result<Said, Stop> {
     let (one, other) = (words.word("a file")?, words.word("a second file")?);
     words.end()?;
-    let (a, b) = (file::read(one)?, file::read(other)?);
+    let (a, b) = (dump::read(one, options)?, dump::read(other, options)?);
     if a == b {
         return Ok(Said::text("no byte differs\n"));
     }

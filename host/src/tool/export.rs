@@ -8,22 +8,24 @@ pub(super) const VERB: Verb = Verb {
     name: "export",
     words: "FILE [CSV]",
     about: "all pairs as key,value lines, to a file or to standard output",
-    more: "The book reads a copy of the pool, which is left as it was.",
-    options: &["--book"],
+    more:
+        "The pool is left as it was. A CSV that is there already is kept, unless --force is given; a device or a pipe\n\
+           is written through.",
+    options: &["--book", "--force", "--spare", "--offset", "--swap"],
     run,
 };
 
 fn run(words: &mut Words<'_>, options: &Options) -> Result<Said, Stop> {
     let (name, target) = (words.word("a file")?, words.next());
     words.end()?;
-    let mut pool = Pool::open(name, options)?;
+    let mut pool = Pool::look(name, options)?;
     let pairs = scan::scanned(&mut pool, 0, u32::MAX, usize::MAX)?.pairs;
     let lines = csv::lines(&pairs);
     let note = format!("{}\n", counted(pairs.len(), "pair"));
     match target {
         None => Ok(Said { text: lines, note, status: 0 }),
         Some(target) => {
-            file::write(target, lines.as_bytes())?;
+            file::write(target, lines.as_bytes(), &[name], options.force)?;
             Ok(Said { note, ..Said::default() })
         }
     }

@@ -1,7 +1,9 @@
 //! What the tool says of itself.
 
-use super::words::OPTIONS;
-use super::{named, Said, Stop, Verb, VERBS};
+use super::lines::HOW;
+use super::words::{Told, OPTIONS};
+use super::{dump, named, Said, Stop, Verb, VERBS};
+use crate::program::STATUS;
 
 /// All verbs, a line each.
 pub(super) fn all() -> String {
@@ -12,7 +14,7 @@ pub(super) fn all() -> String {
         out.push_str(&format!("  {:<8} {:<23} {}\n", verb.name, verb.words, verb.about));
     }
     out.push_str("  help     [VERB]                  this, or all of one verb\n\n");
-    out.push_str("Exit status: 0 done; 1 refused, absent, faulty or different; 2 not understood, or no such file.\n");
+    out.push_str(STATUS);
     out
 }
 
@@ -22,8 +24,15 @@ pub(super) fn one(verb: &Verb) -> String {
     if !verb.more.is_empty() {
         out.push_str(&format!("\n{}\n", verb.more));
     }
-    let known = OPTIONS.iter().filter(|(name, _)| verb.options.contains(name));
-    let lines: String = known.map(|(name, what)| format!("  {name} {what}\n")).collect();
+    if verb.options.contains(&"--from") {
+        out.push_str(&format!("\n{HOW}\n"));
+    }
+    if verb.options.contains(&"--spare") {
+        out.push_str(&format!("\n{}\n", dump::HOW));
+    }
+    let known = OPTIONS.iter().filter(|(name, ..)| verb.options.contains(name));
+    let line = |(name, word, what): &Told| format!("  {:<12} {what}\n", format!("{name} {word}"));
+    let lines: String = known.map(line).collect();
     if !lines.is_empty() {
         out.push_str(&format!("\n{lines}"));
     }

@@ -14,7 +14,8 @@ pub(super) const VERB: Verb = Verb {
     words: "FILE CSV",
     about: "puts the key,value lines of a file, or of standard input for -",
     more: "All or nothing: where a line is wrong, or a put is refused, the pool is left as it was, and the line is\n\
-           named. What stands behind # on a line is a remark.",
+           named. Between key and value stands a comma, a semicolon or a tab; either may be in quotes. What stands\n\
+           behind # on a line is a remark, and a first line of two words is a heading, which is said.",
     options: CALL_OPTIONS,
     run,
 };
@@ -25,9 +26,10 @@ const BATCH_PUTS: usize = MAX_BATCH_BYTES / (FIELD_HEAD + PAIR_BYTES);
 fn run(words: &mut Words<'_>, options: &Options) -> Result<Said, Stop> {
     let (file, source) = (words.word("a file")?, words.word("a file of key,value lines")?);
     words.end()?;
-    let mut pool = Pool::open(file, options)?;
     let wrong = |error| Stop::wrong(format!("{source}: {error}"));
-    let pairs = csv::parse(&file::read_text(source)?).map_err(wrong)?;
+    // Before the pool is locked: standard input may come from somebody who types.
+    let csv::Table { pairs, heading } = csv::parse(&file::read_text(source)?).map_err(wrong)?;
+    let mut pool = Pool::open(file, options)?;
     let mut new = 0;
     let mut progress = Progress::new("lines put");
     for (turn, chunk) in pairs.chunks(BATCH_PUTS).enumerate() {
@@ -36,7 +38,8 @@ fn run(words: &mut Words<'_>, options: &Options) -> Result<Said, Stop> {
     }
     pool.save()?;
     let counts = format!("{} put: {new} new, {} replaced", counted(pairs.len(), "pair"), pairs.len() - new);
-    Ok(Said::text(format!("{counts}\ncharge {}\n", pool.charge())))
+    let note = heading.map(|line| format!("{source}: line {line} is taken for a heading\n")).unwrap_or_default();
+    Ok(Said { text: format!("{counts}\ncharge {}\n", pool.charge()), note, status: 0 })
 }
 
 /// Puts lines as one batch, and gives how many keys were new.
@@ -85,15 +88,25 @@ mod tests {
         let folder = Folder::new("no-import");
         let (pool, csv) = (folder.prepared("p"), folder.file("csv"));
         let before = std::fs::read(&pool).expect("is there");
-        std::fs::write(&csv, "1,2\n3;4\n").expect("is written");
+        std::fs::write(&csv, "1,2\n3:4\n").expect("is written");
         let wrong = said(&["import", &pool, &csv]);
         assert_eq!(wrong.status, 2);
-        assert!(wrong.note.contains("csv: line 2, column 4: a comma expected"), "{}", wrong.note);
+        assert!(wrong.note.contains("csv: line 2, column 4: a comma or a semicolon expected"), "{}", wrong.note);
         let many: String = (0..300).map(|key| format!("{key},0\n")).collect();
         std::fs::write(&csv, many).expect("is written");
         let refused = said(&["import", &pool, &csv]);
         assert_eq!(refused.status, 1);
         assert!(refused.note.contains("csv: line 241: key 240 is not put: refused with 9"), "{}", refused.note);
         assert_eq!(std::fs::read(&pool).expect("is there"), before);
+    }
+
+    #[test]
+    fn a_heading_is_told() {
+        let folder = Folder::new("heading");
+        let (pool, csv) = (folder.prepared("p"), folder.file("csv"));
+        std::fs::write(&csv, "\u{feff}\"route\";\"card\"\r\n\"7\";\"100\"\r\n").expect("is written");
+        let imported = said(&["import", &pool, &csv]);
+        assert!(imported.text.starts_with("1 pair put: 1 new, 0 replaced\n"), "{imported:?}");
+        assert_eq!(imported.note, format!("{csv}: line 1 is taken for a heading\n"));
     }
 }

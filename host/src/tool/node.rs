@@ -1,7 +1,7 @@
 //! `node`: one node in full, or a line for each.
 
 use super::words::{Options, Words};
-use super::{file, Said, Stop, Verb};
+use super::{dump, Said, Stop, Verb};
 use crate::mount::{read, Mounted};
 use crate::spell;
 
@@ -11,15 +11,15 @@ pub(super) const VERB: Verb = Verb {
     about: "one node in full, or a line for each",
     more: "Where it lies, its mode and score, and its keys: a leaf's with their values, a branch's with the nodes\n\
            below. A pool that spells no tree is refused.",
-    options: &[],
+    options: &dump::OPTIONS,
     run,
 };
 
-fn run(words: &mut Words<'_>, _: &Options) -> Result<Said, Stop> {
+fn run(words: &mut Words<'_>, options: &Options) -> Result<Said, Stop> {
     let name = words.word("a file")?;
     let id = words.number_if_any("a node id")?;
     words.end()?;
-    let mounted = spelled(name, &file::read(name)?)?;
+    let mounted = spelled(name, &dump::read(name, options)?)?;
     let Some(id) = id else {
         return Ok(Said::text(spell::spell(&mounted).join("\n") + "\n"));
     };

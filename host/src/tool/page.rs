@@ -1,7 +1,7 @@
 //! `page`: one page, field by field.
 
 use super::words::{Options, Words};
-use super::{file, Said, Stop, Verb};
+use super::{dump, Said, Stop, Verb};
 use crate::layout::{page_at, BLOCK_PAGES, PAGE_BYTES};
 use crate::mount::{self, Row};
 use crate::page::{examine, is_blank, Reading};
@@ -16,14 +16,14 @@ pub(super) const VERB: Verb = Verb {
     more: "Each line has the byte where it begins, the bytes and what they say. Live is what belongs to a node's\n\
            greatest version; where the pool spells no tree that is not known.\n\
            Exit status 1 if the page does not check.",
-    options: &[],
+    options: &dump::OPTIONS,
     run,
 };
 
-fn run(words: &mut Words<'_>, _: &Options) -> Result<Said, Stop> {
+fn run(words: &mut Words<'_>, options: &Options) -> Result<Said, Stop> {
     let (name, page) = (words.word("a file")?, words.number("a page")? as usize);
     words.end()?;
-    let pool = file::read(name)?;
+    let pool = dump::read(name, options)?;
     let bytes = page_at(&pool, page).ok_or_else(|| Stop::wrong(format!("{name}: {}", no_page(&pool, page))))?;
     let mut text = format!("page {page}: block {}, place {}\n", page / BLOCK_PAGES, page % BLOCK_PAGES);
     if is_blank(bytes) {

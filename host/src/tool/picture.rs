@@ -3,7 +3,7 @@
 use std::path::Path;
 
 use super::words::{Options, Words};
-use super::{file, Said, Stop, Verb};
+use super::{dump, file, Said, Stop, Verb};
 use crate::layout::BLOCK_PAGES;
 use crate::marks::{counts, marks, Kind, Mark};
 use crate::mount::examine;
@@ -15,21 +15,22 @@ pub(super) const VERB: Verb = Verb {
     about: "the pool as a picture: a cell a page, a row a block",
     more:
         "The colour tells what a page is, the shade its sequence number: the newest is the darkest. Live pages have\n\
-           an outline, dead ones a stroke. A pool that is refused is drawn too.",
-    options: &[],
+           an outline, dead ones a stroke. A pool that is refused is drawn too. A picture\n\
+           that is there already is kept, unless --force is given.",
+    options: &["--force", "--spare", "--offset", "--swap"],
     run,
 };
 
-fn run(words: &mut Words<'_>, _: &Options) -> Result<Said, Stop> {
+fn run(words: &mut Words<'_>, options: &Options) -> Result<Said, Stop> {
     let (name, target) = (words.word("a file")?, words.word("a file for the picture")?);
     words.end()?;
-    let bytes = file::read(name)?;
+    let bytes = dump::read(name, options)?;
     let short = Path::new(name).file_name().unwrap_or_default().to_string_lossy();
     let title = match examine(&bytes).faults.first() {
         None => format!("{short} opens"),
         Some(fault) => format!("{short} is refused with {fault}"),
     };
-    file::write(target, drawn(&title, &marks(&bytes)).as_bytes())?;
+    file::write(target, drawn(&title, &marks(&bytes)).as_bytes(), &[name], options.force)?;
     Ok(Said::default())
 }
 
@@ -161,7 +162,7 @@ mod tests {
         let mut bytes = std::fs::read(&pool).expect("is there");
         bytes[PAGE_BYTES + 10] ^= 1;
         std::fs::write(&pool, &bytes[..bytes.len() - 1]).expect("is written");
-        text(&["picture", &pool, &picture]);
+        text(&["picture", &pool, &picture, "--force"]);
         let drawn = std::fs::read_to_string(&picture).expect("is there");
         assert!(drawn.contains("<title>page 1: does not check, sequence number 3</title>"));
         assert!(drawn.contains("is refused with 1: the pool: no length of a pool"));

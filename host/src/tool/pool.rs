@@ -2,44 +2,77 @@
 
 use std::time::Duration;
 
+use super::file::Held;
 use super::words::Options;
-use super::{file, Stop};
+use super::{dump, Stop};
 use crate::bench::timed;
 use crate::book::Book;
 use crate::command::{answer_room, encode, parse_answers, Answer, Command};
 use crate::input::Input;
-use crate::layout::{table_bytes, BLANK, BLOCK_BYTES, MAX_BLOCKS, PANELS};
+use crate::layout::{table_bytes, BLANK, BLOCK_BYTES, MAX_BLOCKS, MIN_BLOCKS, PANELS};
+use crate::markdown::grouped;
 use crate::mount::mount;
 use crate::refusal::{words, Fault};
 
-/// The options of a verb that makes calls.
-pub(super) const CALL_OPTIONS: &[&str] = &["--book", "--dry"];
+/// The length that was met, where it is none of a pool, and the nearest that would do.
+pub(super) fn length_words(bytes: usize) -> String {
+    let blocks = ((bytes + BLOCK_BYTES / 2) / BLOCK_BYTES).clamp(MIN_BLOCKS, MAX_BLOCKS);
+    let [bytes, nearest] = [bytes, blocks * BLOCK_BYTES].map(|length| grouped(length as u128));
+    format!("{bytes} bytes, where {nearest} ({blocks} blocks) are the nearest")
+}
 
-/// A pool in memory: the file changes with `save` alone.
+/// The options of a verb whose calls change the pool.
+pub(super) const CALL_OPTIONS: &[&str] = &["--book", "--dry"];
+/// The options of a verb that takes commands too.
+pub(super) const CALL_OPTIONS_FROM: &[&str] = &["--book", "--from", "--dry"];
+/// The options of a verb whose calls only look.
+pub(super) const LOOK_OPTIONS: &[&str] = &["--book", "--charge", "--dry", "--spare", "--offset", "--swap"];
+
+/// A pool in memory: the file changes with `save` alone, and only where it is held.
 pub(super) struct Pool<'a> {
     name: &'a str,
     book: Box<dyn Book>,
     pub bytes: Vec<u8>,
     /// What each panel was charged by the calls so far.
     pub charges: [u64; PANELS],
-    dry: bool,
+    /// The file, locked from the first byte read to the last one written; none where it is left as it is.
+    held: Option<Held>,
 }
 
 impl<'a> Pool<'a> {
-    /// The pool of a file, for calls on the book of the options.
+    /// The pool of a file that calls shall change, unless they are dry ones.
     pub fn open(name: &'a str, options: &Options) -> Result<Pool<'a>, Stop> {
+        if options.dry {
+            return Pool::look(name, options);
+        }
         let book = options.book()?;
-        Ok(Pool { name, book, bytes: file::read(name)?, charges: [0; PANELS], dry: options.dry })
+        let mut held = Held::open(name)?;
+        Ok(Pool { name, book, bytes: held.read()?, charges: [0; PANELS], held: Some(held) })
+    }
+
+    /// The pool of a file that is left as it is, whatever calls make of it in memory.
+    pub fn look(name: &'a str, options: &Options) -> Result<Pool<'a>, Stop> {
+        let book = options.book()?;
+        Ok(Pool { name, book, bytes: dump::read(name, options)?, charges: [0; PANELS], held: None })
+    }
+
+    /// The pool of a file for calls that only look: they are charged where that is asked for.
+    pub fn look_or_charge(name: &'a str, options: &Options) -> Result<Pool<'a>, Stop> {
+        match (options.charge, options.form) {
+            (true, Some(_)) => Err(Stop::wrong("--charge writes a pool, and a dump is only read")),
+            (true, None) => Pool::open(name, options),
+            (false, _) => Pool::look(name, options),
+        }
     }
 
     /// A new pool, prepared; more blocks than any book takes are cut to one too many.
     pub fn prepared(name: &'a str, blocks: u32, tariff: [u32; 8], options: &Options) -> Result<Pool<'a>, Stop> {
         let blocks = (blocks as usize).min(MAX_BLOCKS + 1);
         let bytes = vec![BLANK; blocks * BLOCK_BYTES];
-        let mut pool = Pool { name, book: options.book()?, bytes, charges: [0; PANELS], dry: options.dry };
+        let mut pool = Pool { name, book: options.book()?, bytes, charges: [0; PANELS], held: None };
         match pool.book.prepare(&mut pool.bytes, tariff) {
             0 => Ok(pool),
-            number => Err(pool.refused(number)),
+            number => Err(Stop::no(format!("{name}: refused with {number}: {}", words(number)))),
         }
     }
 
@@ -99,16 +132,17 @@ impl<'a> Pool<'a> {
             5..=8 => mount(&self.bytes)
                 .err()
                 .map(|Fault { at, why, .. }| format!(" ({at}: {why}; wallbook check tells all)")),
+            1 => Some(format!(" ({})", length_words(self.bytes.len()))),
             _ => None,
         };
         Stop::no(format!("{}: refused with {number}: {}{}", self.name, words(number), place.unwrap_or_default()))
     }
 
-    /// Writes the file, unless the call was a dry one.
-    pub fn save(&self) -> Result<(), Stop> {
-        match self.dry {
-            true => Ok(()),
-            false => file::write(self.name, &self.bytes),
+    /// Writes the file, where it is not left as it is.
+    pub fn save(&mut self) -> Result<(), Stop> {
+        match &mut self.held {
+            None => Ok(()),
+            Some(held) => held.replace(&self.bytes),
         }
     }
 }

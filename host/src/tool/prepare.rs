@@ -2,7 +2,7 @@
 
 use super::pool::Pool;
 use super::words::{Options, Words};
-use super::{Said, Stop, Verb};
+use super::{file, Said, Stop, Verb};
 use crate::layout::node_limit;
 use crate::markdown::grouped;
 
@@ -21,19 +21,20 @@ pub(super) const VERB: Verb = Verb {
 const WORKED: [u32; 8] = [3, 1, 2, 1, 4, 4, 3, 2];
 
 fn run(words: &mut Words<'_>, options: &Options) -> Result<Said, Stop> {
-    let (file, blocks) = (words.word("a file")?, words.number("a count of blocks")?);
+    let (name, blocks) = (words.word("a file")?, words.number("a count of blocks")?);
     let tariff = match words.number_if_any("a tariff number")? {
         None => WORKED,
         Some(first) => tariff(first, words)?,
     };
     words.end()?;
-    if !options.force && std::fs::exists(file).unwrap_or(true) {
-        return Err(Stop::wrong(format!("{file} is there already; --force makes it anew, and what it holds is lost")));
+    // A device too: nothing is written through that nobody asked to be made anew.
+    if !options.force && std::fs::exists(name).unwrap_or(true) {
+        return Err(Stop::wrong(format!("{name} is there already; --force makes it anew, and what it holds is lost")));
     }
-    let pool = Pool::prepared(file, blocks, tariff, options)?;
-    pool.save()?;
+    let pool = Pool::prepared(name, blocks, tariff, options)?;
+    file::write(name, &pool.bytes, &[], options.force)?;
     let (bytes, nodes) = (grouped(pool.bytes.len() as u128), node_limit(blocks as usize));
-    Ok(Said::text(format!("{file}: {blocks} blocks, {bytes} bytes, an empty map of at most {nodes} nodes\n")))
+    Ok(Said::text(format!("{name}: {blocks} blocks, {bytes} bytes, an empty map of at most {nodes} nodes\n")))
 }
 
 fn tariff(first: u32, words: &mut Words<'_>) -> Result<[u32; 8], Stop> {

@@ -2,6 +2,8 @@
 
 use std::time::{Duration, Instant};
 
+use crate::output::note;
+
 const PATIENCE: Duration = Duration::from_secs(1);
 
 /// How far a long job is, told once a second.
@@ -18,7 +20,7 @@ impl Progress {
     /// Notes that so many are done.
     pub fn tell(&mut self, done: usize) {
         if self.last.elapsed() >= PATIENCE {
-            eprintln!("wallbook: {done} {}", self.what);
+            note(&format!("wallbook: {done} {}\n", self.what));
             self.last = Instant::now();
         }
     }

@@ -17,7 +17,7 @@ pub(super) const VERB: Verb = Verb {
 fn run(words: &mut Words<'_>, options: &Options) -> Result<Said, Stop> {
     let (file, key, value) = (words.word("a file")?, words.number("a key")?, words.number("a value")?);
     words.end()?;
-    answer::one(file, options, Command::Put { key, value })
+    answer::change(file, options, Command::Put { key, value })
 }
 
 #[cfg(test)]

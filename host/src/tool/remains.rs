@@ -57,7 +57,7 @@ impl Remains {
 
     /// Changes the byte of each page that one byte spoils, in this copy of the pool.
     fn repair_pages(&mut self, pool: &mut [u8]) -> BTreeMap<usize, Repair> {
-        let mut repairs = BTreeMap::new();
+        let (mut repairs, mut notes) = (BTreeMap::new(), Vec::new());
         let mut progress = Progress::new("pages read");
         for (page, bytes) in pool.as_chunks_mut::<PAGE_BYTES>().0.iter_mut().enumerate() {
             progress.tell(page);
@@ -68,12 +68,13 @@ impl Remains {
                 Some(Repair { byte, value }) => format!("with {value:02x} at byte {byte} it would, and is read so"),
                 None => "no one byte mends it".to_string(),
             };
-            self.notes.push(format!("page {page} does not check ({first}): {how}"));
+            notes.push((page, format!("({first}): {how}")));
             if let Some(found) = found {
                 *bytes = found.of(bytes);
                 repairs.insert(page, found);
             }
         }
+        self.notes.extend(in_runs(&notes));
         repairs
     }
 
@@ -152,6 +153,17 @@ fn ids(survey: &Survey) -> usize {
 fn versions_of_broken(left: &[Left]) -> Vec<(usize, u32)> {
     let broken = left.iter().enumerate().filter(|(_, left)| left.version > 0 && left.node.is_err());
     broken.map(|(id, left)| (id, left.version)).collect()
+}
+
+/// What is wrong with pages, a line each; where it is the same with pages in a row, a line for all of them.
+fn in_runs(notes: &[(usize, String)]) -> Vec<String> {
+    let runs = notes.chunk_by(|(page, why), (next, other)| page + 1 == *next && why == other);
+    let line = |run: &[(usize, String)]| match run {
+        [(page, why)] => format!("page {page} does not check {why}"),
+        [(page, why), .., (last, _)] => format!("pages {page} to {last} do not check {why}"),
+        [] => String::new(),
+    };
+    runs.map(line).collect()
 }
 
 #[cfg(test)]

@@ -2,7 +2,7 @@
 
 use super::remains::{remains, Found, Remains};
 use super::words::{Options, Words};
-use super::{file, Said, Stop, Verb};
+use super::{dump, file, Said, Stop, Verb};
 
 pub(super) const VERB: Verb = Verb {
     name: "salvage",
@@ -12,22 +12,23 @@ pub(super) const VERB: Verb = Verb {
         "Prints key,value lines that import takes; a doubtful pair is a remark behind #, with the reason. A page that\n\
            one byte spoils is read with that byte mended, and its pairs are doubtful. A page that does not check is\n\
            taken to be as new as its sequence number says: a node that is older may have been changed on it.\n\
-           The pool is not written. Exit status 0 if nothing is doubtful, 1 if something is.",
-    options: &["--all"],
+           The pool is not written, and a CSV that is there already is kept, unless --force is given.\n\
+           Exit status 0 if nothing is doubtful, 1 if something is.",
+    options: &["--all", "--force", "--spare", "--offset", "--swap"],
     run,
 };
 
 fn run(words: &mut Words<'_>, options: &Options) -> Result<Said, Stop> {
     let (name, target) = (words.word("a file")?, words.next());
     words.end()?;
-    let remains = remains(&file::read(name)?);
+    let remains = remains(&dump::read(name, options)?);
     let lines = lines(&remains, options.all);
     let (note, doubtful) = note(name, &remains);
     let status = u8::from(doubtful || !remains.notes.is_empty());
     match target {
         None => Ok(Said { text: lines, note, status }),
         Some(target) => {
-            file::write(target, lines.as_bytes())?;
+            file::write(target, lines.as_bytes(), &[name], options.force)?;
             Ok(Said { note, status, ..Said::default() })
         }
     }
@@ -78,10 +79,23 @@ mod tests {
         assert_eq!(salvaged.status, 1);
         assert!(salvaged.text.contains("# 40,80 on page "), "{}", salvaged.text);
         assert!(salvaged.note.contains(&format!("page {page} does not check")), "{}", salvaged.note);
-        assert_eq!(said(&["salvage", &pool, &csv, "--all"]).status, 1);
+        assert_eq!(said(&["salvage", &pool, &csv, "--all", "--force"]).status, 1);
         let fresh = folder.prepared("fresh");
         text(&["import", &fresh, &csv]);
         assert_eq!(text(&["export", &fresh]), pairs);
         assert_eq!(std::fs::read(&pool).expect("is there"), bytes, "the pool is not written");
+    }
+
+    #[test]
+    fn bad_pages_in_a_row_are_one_line() {
+        let folder = Folder::new("salvage-rows");
+        let pool = folder.prepared("p");
+        let mut bytes = std::fs::read(&pool).expect("is there");
+        bytes[20 * 512..30 * 512].fill(0);
+        bytes[40 * 512..41 * 512].fill(0);
+        std::fs::write(&pool, &bytes).expect("is written");
+        let note = said(&["salvage", &pool]).note;
+        let why = "(byte 0: no sequence number first): no one byte mends it";
+        assert!(note.contains(&format!("pages 20 to 29 do not check {why}\npage 40 does not check {why}\n")), "{note}");
     }
 }

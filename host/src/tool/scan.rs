@@ -1,6 +1,6 @@
 //! `scan`: the pairs of a range of keys.
 
-use super::pool::{Pool, CALL_OPTIONS};
+use super::pool::{Pool, LOOK_OPTIONS};
 use super::progress::Progress;
 use super::words::{counted, Options, Words};
 use super::{csv, Said, Stop, Verb};
@@ -12,10 +12,9 @@ pub(super) const VERB: Verb = Verb {
     name: "scan",
     words: "FILE LOW HIGH [MOST]",
     about: "the pairs with keys from LOW to HIGH, the first MOST of them",
-    more:
-        "Prints key,value lines. A scan command gives 32 pairs at most, so a longer list takes a batch for each 32;\n\
-           the file is written once, at the end. The book counts these reads: --dry leaves the file as it is.",
-    options: CALL_OPTIONS,
+    more: "Prints key,value lines. A scan command gives 32 pairs at most, so a longer list takes one for each 32;\n\
+           all are one batch. The file is left as it is, and the charge is what the book would count.",
+    options: LOOK_OPTIONS,
     run,
 };
 
@@ -24,7 +23,7 @@ fn run(words: &mut Words<'_>, options: &Options) -> Result<Said, Stop> {
     let (low, high) = (words.number("a lowest key")?, words.number("a highest key")?);
     let most = words.number_if_any("how many pairs at most")?.map_or(usize::MAX, |most| most as usize);
     words.end()?;
-    let mut pool = Pool::open(file, options)?;
+    let mut pool = Pool::look_or_charge(file, options)?;
     let Scanned { pairs, commands } = scanned(&mut pool, low, high, most)?;
     if !commands.is_empty() {
         pool.batch(&commands)?;
@@ -85,8 +84,12 @@ mod tests {
             assert_eq!(text(&["scan", &pool, low, high, most]), "");
         }
         let before = std::fs::read(&pool).expect("is there");
-        let said = said(&["scan", &pool, "0", "31"]);
+        let looked = said(&["scan", &pool, "0", "31"]);
+        assert_eq!(std::fs::read(&pool).expect("is there"), before);
+        assert!(looked.note.starts_with("32 pairs, charge "), "{}", looked.note);
+        assert_eq!(said(&["scan", &pool, "0", "31", "--charge", "--dry"]), looked);
+        assert_eq!(std::fs::read(&pool).expect("is there"), before);
+        assert_eq!(said(&["scan", &pool, "0", "31", "--charge"]), looked);
         assert_ne!(std::fs::read(&pool).expect("is there"), before, "the reads are counted");
-        assert!(said.note.starts_with("32 pairs, charge "), "{}", said.note);
     }
 }

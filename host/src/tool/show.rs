@@ -1,7 +1,7 @@
 //! `show`: blocks and pages, a letter a page.
 
 use super::words::{Options, Words};
-use super::{file, Said, Stop, Verb};
+use super::{dump, Said, Stop, Verb};
 use crate::layout::BLOCK_PAGES;
 use crate::marks::{counts, marks, Kind, Mark};
 use crate::mount::examine;
@@ -12,14 +12,14 @@ pub(super) const VERB: Verb = Verb {
     about: "blocks and pages, a letter a page",
     more: "L log page, N node page, C checkpoint page: live; l n c: dead; . blank; ! does not check.\n\
            A pool that is refused is shown too; where it spells no tree, no page is known to be live.",
-    options: &[],
+    options: &dump::OPTIONS,
     run,
 };
 
-fn run(words: &mut Words<'_>, _: &Options) -> Result<Said, Stop> {
+fn run(words: &mut Words<'_>, options: &Options) -> Result<Said, Stop> {
     let name = words.word("a file")?;
     words.end()?;
-    let bytes = file::read(name)?;
+    let bytes = dump::read(name, options)?;
     let head = match examine(&bytes).faults.first() {
         None => format!("{name} opens"),
         Some(fault) => format!("{name} is refused with {fault}"),

@@ -1,11 +1,13 @@
 //! `stats`: figures of a pool.
 
+mod as_json;
+
 use super::node::spelled;
 use super::room::{levels, room, Room};
 use super::words::{Options, Words};
-use super::{file, Said, Stop, Verb};
+use super::{dump, Said, Stop, Verb};
 use crate::account::Mode;
-use crate::layout::{block_count, node_limit, BLOCK_PAGES, MAX_KEYS, MAX_SEQUENCE};
+use crate::layout::{node_limit, BLOCK_PAGES, MAX_KEYS, MAX_SEQUENCE};
 use crate::markdown::grouped;
 use crate::marks::{counts, marks, Mark};
 use crate::mount::Mounted;
@@ -21,28 +23,39 @@ pub(super) const VERB: Verb = Verb {
            Wear cannot be told: a pool keeps no count of how often its blocks were erased. What can be told: a block\n\
            was not erased since the newest page in it was written, and that page's sequence number is given; of a\n\
            blank block nothing is known. wallbook diff, with two copies of a pool that were taken at different times,\n\
-           names the blocks that were erased between them, but not how often.",
-    options: &[],
+           names the blocks that were erased between them, but not how often.\n\n\
+           --json has the keys file, bytes, tariff (eight numbers), score_limit; nodes: count, limit, leaves,\n\
+           branches, log, disk, depth; leaves: keys, least, most; room: least, most; pages: live, dead, blank;\n\
+           pages_to_compaction; sequence: last, left; scores_in_node_order; and blocks, a list of live, dead, blank\n\
+           and newest (null of a blank block).",
+    options: &["--json", "--spare", "--offset", "--swap"],
     run,
 };
 
-fn run(words: &mut Words<'_>, _: &Options) -> Result<Said, Stop> {
+fn run(words: &mut Words<'_>, options: &Options) -> Result<Said, Stop> {
     let name = words.word("a file")?;
     words.end()?;
-    let bytes = file::read(name)?;
+    let bytes = dump::read(name, options)?;
     let mounted = spelled(name, &bytes)?;
     let marks = marks(&bytes);
-    let mut text = format!("{name}: {} bytes in {} blocks\n", grouped(bytes.len() as u128), marks.len() / BLOCK_PAGES);
-    let blocks = block_count(bytes.len()).unwrap_or_default();
+    Ok(Said::text(match options.json {
+        true => format!("{}\n", as_json::figures(name, &bytes, &mounted, &marks)),
+        false => in_words(name, &bytes, &mounted, &marks),
+    }))
+}
+
+fn in_words(name: &str, bytes: &[u8], mounted: &Mounted, marks: &[Mark]) -> String {
+    let blocks = marks.len() / BLOCK_PAGES;
+    let mut text = format!("{name}: {} bytes in {blocks} blocks\n", grouped(bytes.len() as u128));
     for (what, figure) in [
-        ("tariff", tariff(&mounted)),
-        ("nodes", nodes(&mounted, node_limit(blocks))),
-        ("leaves", leaves(&mounted)),
-        ("room", room_line(&mounted, node_limit(blocks))),
-        ("pages", pages(&marks)),
-        ("compaction", compaction(&mounted)),
-        ("sequence", sequence(&mounted)),
-        ("scores", scores(&bytes)),
+        ("tariff", tariff(mounted)),
+        ("nodes", nodes(mounted, node_limit(blocks))),
+        ("leaves", leaves(mounted)),
+        ("room", room_line(mounted, node_limit(blocks))),
+        ("pages", pages(marks)),
+        ("compaction", compaction(mounted)),
+        ("sequence", sequence(mounted)),
+        ("scores", scores(bytes)),
         ("wear", "not known: a pool keeps no count of how often its blocks were erased".to_string()),
     ] {
         text.push_str(&format!("{what:<11} {figure}\n"));
@@ -50,7 +63,7 @@ fn run(words: &mut Words<'_>, _: &Options) -> Result<Said, Stop> {
     for (block, marks) in marks.chunks(BLOCK_PAGES).enumerate() {
         text.push_str(&format!("{:<11} {}{}\n", format!("block {block}"), pages(marks), newest(marks)));
     }
-    Ok(Said::text(text))
+    text
 }
 
 fn tariff(mounted: &Mounted) -> String {
@@ -92,16 +105,21 @@ fn pages(marks: &[Mark]) -> String {
 
 /// The greatest sequence number of a block that is not blank.
 fn newest(marks: &[Mark]) -> String {
-    match marks.iter().map(|mark| mark.sequence).max() {
-        None | Some(0) => String::new(),
-        Some(sequence) => format!("; newest {}", grouped(sequence.into())),
-    }
+    newest_sequence(marks).map(|sequence| format!("; newest {}", grouped(sequence.into()))).unwrap_or_default()
+}
+
+fn newest_sequence(marks: &[Mark]) -> Option<u32> {
+    marks.iter().map(|mark| mark.sequence).max().filter(|&sequence| sequence > 0)
 }
 
 fn compaction(mounted: &Mounted) -> String {
+    format!("due when {} more pages are written and one more is needed", pages_left(mounted))
+}
+
+/// The pages that can be written before one more takes a compaction.
+fn pages_left(mounted: &Mounted) -> usize {
     let blank = mounted.written.iter().filter(|&&written| written == 0).count();
-    let pages = BLOCK_PAGES - mounted.written[mounted.current] + BLOCK_PAGES * (blank - 1);
-    format!("due when {pages} more pages are written and one more is needed")
+    BLOCK_PAGES - mounted.written[mounted.current] + BLOCK_PAGES * (blank - 1)
 }
 
 fn sequence(mounted: &Mounted) -> String {

@@ -1,27 +1,44 @@
 //! The words of a command line: options apart, the others one by one.
 
+use super::dump::Form;
 use super::Stop;
 use crate::book::Book;
 use crate::books::{by_name, BOOK_NAMES};
-use crate::wire::from_hex;
+use crate::output::note;
 
 /// The options that were given.
 #[derive(Default)]
 pub(super) struct Options {
     /// The book's name, if one was named.
     book: Option<String>,
+    /// Where commands are read from.
+    pub from: Option<String>,
+    pub charge: bool,
     pub dry: bool,
     pub force: bool,
     pub all: bool,
+    pub json: bool,
+    /// How a dump lies, if that is told.
+    pub form: Option<Form>,
     pub help: bool,
+    pub version: bool,
 }
 
+/// An option for the help: its name, the word behind it, and what it does.
+pub(super) type Told = (&'static str, &'static str, &'static str);
+
 /// What each option does, for the help.
-pub(super) const OPTIONS: &[(&str, &str)] = &[
-    ("--book", "NAME  the book that does the work: proved (where not given) or second"),
-    ("--dry", "      leave the file as it is, whatever the call does"),
-    ("--force", "    even where the file is there already"),
-    ("--all", "      doubtful pairs as lines too"),
+pub(super) const OPTIONS: &[Told] = &[
+    ("--book", "NAME", "the book that does the work: proved or second; where not given, proved if the build has it"),
+    ("--from", "FILE", "read the commands from a file, or from standard input for -"),
+    ("--charge", "", "let the book count these reads, by which it chooses how a node is stored; the file then changes"),
+    ("--dry", "", "leave the file as it is, whatever the call does"),
+    ("--force", "", "write the file anew where it is there already; what it holds is lost"),
+    ("--all", "", "doubtful pairs as lines too"),
+    ("--json", "", "as one line of JSON"),
+    ("--spare", "N", "so many bytes behind each page of a dump are left out"),
+    ("--offset", "N", "so many bytes before the pool are left out"),
+    ("--swap", "", "the two bytes of each 16-bit word are swapped"),
 ];
 
 impl Options {
@@ -33,13 +50,17 @@ impl Options {
         while let Some(word) = line.next() {
             match word {
                 "--help" | "-h" => options.help = true,
+                "--version" => options.version = true,
+                "--charge" => options.charge = true,
                 "--dry" => options.dry = true,
                 "--force" => options.force = true,
                 "--all" => options.all = true,
-                "--book" => {
-                    let name = line.next().ok_or_else(|| Stop::wrong(format!("--book needs one of: {BOOK_NAMES}")))?;
-                    options.book = Some(name.to_string());
-                }
+                "--json" => options.json = true,
+                "--book" => options.book = Some(value(word, line.next(), &format!("one of: {BOOK_NAMES}"))?),
+                "--offset" => options.form().offset = bytes(word, line.next())?,
+                "--spare" => options.form().spare = bytes(word, line.next())?,
+                "--swap" => options.form().swap = true,
+                "--from" => options.from = Some(value(word, line.next(), "a file, or - for standard input")?),
                 _ if word.starts_with("--") => return Err(Stop::wrong(format!("no option is called {word}"))),
                 _ => words.push(word),
             }
@@ -49,19 +70,49 @@ impl Options {
 
     /// Refuses the options that a verb does not know.
     pub fn only(&self, known: &[&str]) -> Result<(), Stop> {
-        let given =
-            [("--book", self.book.is_some()), ("--dry", self.dry), ("--force", self.force), ("--all", self.all)];
+        let given = [
+            ("--book", self.book.is_some()),
+            ("--from", self.from.is_some()),
+            ("--charge", self.charge),
+            ("--dry", self.dry),
+            ("--force", self.force),
+            ("--all", self.all),
+            ("--json", self.json),
+            ("--spare", self.form.is_some()),
+        ];
         match given.iter().find(|(name, given)| *given && !known.contains(name)) {
             Some((name, _)) => Err(Stop::wrong(format!("{name} means nothing here"))),
             None => Ok(()),
         }
     }
 
-    /// The book that was asked for.
-    pub fn book(&self) -> Result<Box<dyn Book>, Stop> {
-        let name = self.book.as_deref().unwrap_or("proved");
-        by_name(name).map_err(|missing| Stop::wrong(format!("{missing}; or take --book second")))
+    /// How a dump lies, to be told more of.
+    fn form(&mut self) -> &mut Form {
+        self.form.get_or_insert_default()
     }
+
+    /// The book that was asked for; the best that there is, where none was.
+    pub fn book(&self) -> Result<Box<dyn Book>, Stop> {
+        match &self.book {
+            Some(name) => by_name(name).map_err(|missing| Stop::wrong(format!("{missing}; or take --book second"))),
+            None => by_name("proved").or_else(|missing| {
+                note(&format!("wallbook: the second book does the work: {missing}\n"));
+                by_name("second").map_err(Stop::wrong)
+            }),
+        }
+    }
+}
+
+/// The word behind an option.
+fn value(option: &str, word: Option<&str>, what: &str) -> Result<String, Stop> {
+    word.map(str::to_string).ok_or_else(|| Stop::wrong(format!("{option} needs {what}")))
+}
+
+/// The count of bytes behind an option.
+fn bytes(option: &str, word: Option<&str>) -> Result<usize, Stop> {
+    let word = value(option, word, "a count of bytes")?;
+    let wrong = || Stop::wrong(format!("{option} needs a count of bytes, a number below 2^32, not {word:?}"));
+    number(&word).map(|bytes| bytes as usize).ok_or_else(wrong)
 }
 
 /// The words behind a verb.
@@ -90,12 +141,9 @@ impl<'a> Words<'a> {
         number(word).ok_or_else(|| Stop::wrong(format!("{what} expected, a number below 2^32, not {word:?}")))
     }
 
-    /// The next word, bytes in hexadecimal; `-` is none.
-    pub fn bytes(&mut self, what: &str) -> Result<Vec<u8>, Stop> {
-        let word = self.word(what)?;
-        let digits = if word == "-" { "" } else { word };
-        from_hex(digits)
-            .ok_or_else(|| Stop::wrong(format!("{what} is pairs of hexadecimal digits, and {}", odd(digits))))
+    /// All words that are left.
+    pub fn rest(&mut self) -> Vec<&'a str> {
+        self.rest.by_ref().copied().collect()
     }
 
     /// Says whether a word is left.
@@ -129,14 +177,6 @@ pub(super) fn number(word: &str) -> Option<u32> {
     // The library would also take a sign.
     let plain = digits.chars().all(|digit| digit.is_digit(base));
     u32::from_str_radix(digits, base).ok().filter(|_| plain)
-}
-
-/// Why digits are not pairs of hexadecimal ones.
-fn odd(digits: &str) -> String {
-    match digits.chars().position(|digit| !digit.is_ascii_hexdigit()) {
-        Some(at) => format!("character {} is none", at + 1),
-        None => format!("{} digits are half a byte too many", digits.len()),
-    }
 }
 
 /// So many of a thing.

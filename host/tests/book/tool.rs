@@ -1,42 +1,11 @@
 //! The programs as a shell calls them: what `wallbook` prints, and its exit status; readers that leave early.
 
 use std::io::Write;
-use std::path::PathBuf;
-use std::process::{Command, Output, Stdio};
+use std::process::{Command, Stdio};
 
 use yokehour_host::books::by_name;
 
-/// A folder of the test's own, with the program run in it.
-struct Folder(PathBuf);
-
-impl Folder {
-    fn new(test: &str) -> Folder {
-        let path = PathBuf::from(env!("CARGO_TARGET_TMPDIR")).join(format!("{test}-{}", std::process::id()));
-        std::fs::create_dir_all(&path).expect("a folder for tests");
-        Folder(path)
-    }
-
-    fn wallbook(&self, line: &str) -> Output {
-        let mut program = Command::new(env!("CARGO_BIN_EXE_wallbook"));
-        program.args(line.split_whitespace()).current_dir(&self.0).output().expect("runs")
-    }
-
-    /// The exit status of a line, and what it prints on standard output.
-    fn says(&self, line: &str) -> (Option<i32>, String) {
-        let output = self.wallbook(line);
-        (output.status.code(), String::from_utf8(output.stdout).expect("is text"))
-    }
-
-    fn status(&self, line: &str) -> Option<i32> {
-        self.wallbook(line).status.code()
-    }
-}
-
-impl Drop for Folder {
-    fn drop(&mut self) {
-        let _ = std::fs::remove_dir_all(&self.0);
-    }
-}
+use crate::programs::Folder;
 
 #[test]
 fn exit_statuses_tell_scripts_how_it_went() {
@@ -54,11 +23,11 @@ fn exit_statuses_tell_scripts_how_it_went() {
     assert_eq!(folder.status("get q 7 --book second"), Some(2), "no such file");
     assert_eq!(folder.status("help"), Some(0));
     assert_eq!(folder.status("nonsense"), Some(2));
-    std::fs::copy(folder.0.join("p"), folder.0.join("q")).expect("is copied");
+    std::fs::copy(folder.path("p"), folder.path("q")).expect("is copied");
     assert_eq!((folder.status("check q --book second"), folder.status("diff p q")), (Some(0), Some(0)));
-    let mut bytes = std::fs::read(folder.0.join("q")).expect("is there");
+    let mut bytes = std::fs::read(folder.path("q")).expect("is there");
     bytes[100] = 0;
-    std::fs::write(folder.0.join("q"), bytes).expect("is written");
+    std::fs::write(folder.path("q"), bytes).expect("is written");
     assert_eq!((folder.status("check q --book second"), folder.status("diff p q")), (Some(1), Some(1)));
     assert_eq!((folder.status("salvage p"), folder.status("salvage q")), (Some(0), Some(1)));
     assert_eq!(folder.status("check r --book second"), Some(2), "no such file");
@@ -81,17 +50,19 @@ fn a_ceiling_is_told_in_words() {
 #[test]
 fn the_proved_book_does_the_work_where_it_is_here() {
     let folder = Folder::new("proved");
-    let prepared = folder.wallbook("prepare p 4");
+    let (status, said) = folder.notes("prepare p 4");
+    assert_eq!(status, Some(0));
     if by_name("proved").is_err() {
-        assert_eq!(prepared.status.code(), Some(2));
-        let why = String::from_utf8(prepared.stderr).expect("is text");
-        assert!(why.contains("no proved book") && why.contains("--book second"), "{why}");
+        assert!(said.starts_with("wallbook: the second book does the work: this build has no proved book"), "{said}");
+        assert_eq!((said.lines().count(), folder.status("get p 7")), (1, Some(1)));
+        let (status, said) = folder.notes("get p 7 --book proved");
+        assert!(status == Some(2) && said.contains("no proved book") && said.contains("--book second"), "{said}");
         return;
     }
-    assert_eq!(prepared.status.code(), Some(0));
+    assert_eq!(said, "");
     folder.status("prepare q 4 --book second");
     let csv: String = (0..200).map(|key| format!("{},{key}\n", key * 7919 % 1000)).collect();
-    std::fs::write(folder.0.join("csv"), csv).expect("is written");
+    std::fs::write(folder.path("csv"), csv).expect("is written");
     let by_panels = "run FILE 05000103010004000000070500010f03000400000007";
     let queues = "desk FILE 0100040000000703000400000007 - 0200080000000700000064";
     let (first, none) = ("ceiling FILE 0", "ceiling FILE 1000");
@@ -110,10 +81,10 @@ fn a_reader_that_leaves_early_is_no_error() {
     let folder = Folder::new("pipe");
     folder.status("prepare p 64 --book second");
     let csv: String = (0..6000).map(|key| format!("{key},{key}\n")).collect();
-    std::fs::write(folder.0.join("csv"), csv).expect("is written");
+    std::fs::write(folder.path("csv"), csv).expect("is written");
     assert_eq!(folder.status("import p csv --book second"), Some(0));
     let mut program = Command::new(env!("CARGO_BIN_EXE_wallbook"));
-    let program = program.args(["salvage", "p"]).current_dir(&folder.0).stdout(Stdio::piped());
+    let program = program.args(["salvage", "p"]).current_dir(folder.path("")).stdout(Stdio::piped());
     let mut child = program.spawn().expect("runs");
     drop(child.stdout.take());
     assert_eq!(child.wait().expect("ends").code(), Some(0));

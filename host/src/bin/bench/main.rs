@@ -5,7 +5,8 @@ mod copies;
 use std::process::ExitCode;
 
 use yokehour_host::bench::{Section, Setup, SECTIONS};
-use yokehour_host::output::say;
+use yokehour_host::output::note;
+use yokehour_host::program::{self, tell, Stop};
 
 /// Rounds where none are asked for: about 20 seconds on one core.
 const ROUNDS: usize = 100;
@@ -24,28 +25,10 @@ fn usage() -> String {
 }
 
 fn main() -> ExitCode {
-    let words: Vec<String> = std::env::args().skip(1).collect();
-    if words.iter().any(|word| word == "--help" || word == "-h") {
-        return finish(say(&format!("{}\n", usage())).map(drop));
-    }
-    let (rounds, sections) = match parse(&words) {
-        Ok(asked) => asked,
-        Err(why) => {
-            eprintln!("bench: {why}\n{}", usage());
-            return ExitCode::from(2);
-        }
-    };
-    finish(run(rounds, &sections))
-}
-
-fn finish(result: Result<(), String>) -> ExitCode {
-    match result {
-        Ok(()) => ExitCode::SUCCESS,
-        Err(why) => {
-            eprintln!("bench: {why}");
-            ExitCode::FAILURE
-        }
-    }
+    program::run("bench", &usage(), |words| {
+        let (rounds, sections) = parse(words).map_err(|why| Stop::wrong(format!("{why} (bench --help)")))?;
+        run(rounds, &sections)
+    })
 }
 
 /// The rounds and the measurements that are asked for.
@@ -66,12 +49,12 @@ fn parse(words: &[String]) -> Result<(usize, Vec<&'static Section>), String> {
     Ok((rounds, if named.is_empty() { all() } else { named }))
 }
 
-fn run(rounds: usize, sections: &[&Section]) -> Result<(), String> {
-    let setup = Setup { rounds, count_copies: copies::count, say: |line| eprintln!("bench: {line}") };
-    say(&format!("{}\n\n", setup.preface()?))?;
+fn run(rounds: usize, sections: &[&Section]) -> Result<(), Stop> {
+    let setup = Setup { rounds, count_copies: copies::count, say: |line| note(&format!("bench: {line}\n")) };
+    tell(&format!("{}\n\n", setup.preface().map_err(Stop::wrong)?))?;
     for section in sections {
-        let text = section.text(&setup).map_err(|why| format!("{}: {why}", section.name))?;
-        say(&format!("{text}\n"))?;
+        let text = section.text(&setup).map_err(|why| Stop::no(format!("{}: {why}", section.name)))?;
+        tell(&format!("{text}\n"))?;
     }
     Ok(())
 }
