@@ -20,6 +20,7 @@ mod get;
 mod help;
 mod import;
 mod json;
+mod ledger;
 mod lines;
 mod node;
 mod page;
@@ -60,7 +61,7 @@ pub struct Verb {
 pub const VERBS: &[Verb] = &[
     prepare::VERB, get::VERB, put::VERB, delete::VERB, scan::VERB, ceiling::VERB, import::VERB, export::VERB,
     run::VERB, desk::VERB, check::VERB, stats::VERB, show::VERB, page::VERB, node::VERB, diff::VERB, salvage::VERB,
-    picture::VERB, bench::VERB,
+    picture::VERB, ledger::VERB, bench::VERB,
 ];
 
 /// What a verb says: on standard output, then on standard error; and its exit status.

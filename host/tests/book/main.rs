@@ -10,6 +10,7 @@ mod foreign;
 mod format;
 mod fuzz;
 mod json;
+mod ledger;
 mod library;
 mod limits;
 mod page_limits;
