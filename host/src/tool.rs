@@ -29,6 +29,7 @@ mod pool;
 mod prepare;
 mod progress;
 mod put;
+mod refused;
 mod remains;
 mod room;
 mod run;
@@ -36,6 +37,7 @@ mod salvage;
 mod scan;
 mod show;
 mod stats;
+mod tariff;
 #[cfg(test)]
 mod trial;
 mod words;

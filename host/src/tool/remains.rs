@@ -44,6 +44,12 @@ pub(super) fn remains(pool: &[u8]) -> Remains {
 }
 
 impl Remains {
+    /// How many keys have a value for sure, and how many values are doubtful.
+    pub fn counts(&self) -> (usize, usize) {
+        let sure = self.found.values().filter(|found| found.iter().any(|found| found.doubt.is_none())).count();
+        (sure, self.found.values().flatten().filter(|found| found.doubt.is_some()).count())
+    }
+
     /// Notes a pair; a value that is found again has the lesser doubt.
     fn note(&mut self, pair: Pair, doubt: Option<String>) {
         let found = self.found.entry(pair.key).or_default();
@@ -80,7 +86,7 @@ impl Remains {
 
     /// Reads the leaves by their greatest versions; and, where that makes no node, by older ones.
     fn read_tree(&mut self, survey: &Survey, doubts: &Doubts) {
-        let count = survey.count().unwrap_or_else(|| ids(survey));
+        let count = survey.count().unwrap_or_else(|| survey.ids());
         let mut ceilings = vec![u32::MAX; count];
         let newest: Vec<Left> = survey.gather_up_to(&ceilings).into_iter().map(Left::of).collect();
         let nodes: Vec<Option<&Node>> = newest.iter().map(|left| left.node.as_ref().ok()).collect();
@@ -142,12 +148,6 @@ impl Remains {
 
 fn is_branch_link(change: Change) -> bool {
     matches!(change, Change::Link(Shape::Branch, _))
-}
-
-/// One more than the greatest id on a page that checks.
-fn ids(survey: &Survey) -> usize {
-    let ids = survey.pages.iter().flat_map(|(_, page)| page.versions()).map(|(id, _)| usize::from(id) + 1);
-    ids.max().unwrap_or(0)
 }
 
 fn versions_of_broken(left: &[Left]) -> Vec<(usize, u32)> {
