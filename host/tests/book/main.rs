@@ -15,6 +15,7 @@ mod library;
 mod limits;
 mod page_limits;
 mod panels;
+mod pictures;
 mod programs;
 mod readme;
 mod refusals;
