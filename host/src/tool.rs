@@ -18,6 +18,7 @@ mod fault_runs;
 pub(crate) mod file;
 mod get;
 mod help;
+mod html;
 mod import;
 mod json;
 mod ledger;
@@ -63,7 +64,7 @@ pub struct Verb {
 pub const VERBS: &[Verb] = &[
     prepare::VERB, get::VERB, put::VERB, delete::VERB, scan::VERB, ceiling::VERB, import::VERB, export::VERB,
     run::VERB, desk::VERB, check::VERB, stats::VERB, show::VERB, page::VERB, node::VERB, diff::VERB, salvage::VERB,
-    picture::VERB, ledger::VERB, bench::VERB,
+    picture::VERB, html::VERB, ledger::VERB, bench::VERB,
 ];
 
 /// What a verb says: on standard output, then on standard error; and its exit status.

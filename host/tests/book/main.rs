@@ -1,6 +1,7 @@
 //! The tests of the whole book, in one program so that it is linked once.
 
 mod blocks;
+mod browser;
 mod ceiling;
 mod common;
 mod desk;
