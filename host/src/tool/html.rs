@@ -18,11 +18,12 @@ use crate::svg::escaped;
 pub(super) const VERB: Verb = Verb {
     name: "html",
     words: "FILE OUT.html",
-    about: "the pool as one page to look at: blocks, tree, fill; a typed key lights its path",
+    about: "the pool as one page to look at, where a typed key lights its path",
     more: "The page is one file that needs no network. It has the blocks and pages (dead ones pale), the tree, how\n\
            full nodes and blocks are, and with --ledger the charges by panel and by day. A key that is typed, or that\n\
            stands behind the name as #key=70, lights the nodes on its path and the pages that they live on. A pool\n\
-           that is refused is shown too, with its faults. A page that is there already is kept, unless --force is given.",
+           that is refused is shown too, with its faults. A page that is there already is kept, unless --force is\n\
+           given.",
     options: &["--ledger", "--force"],
     run,
 };

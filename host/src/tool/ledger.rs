@@ -19,8 +19,8 @@ pub(super) const VERB: Verb = Verb {
     about: "what each panel was charged, by day, from the lines that run and desk note",
     more: "A pool keeps no charges. run and desk with --ledger FILE note each accepted call there: a line with the\n\
            time in UTC, the pool's name, the call and a charge for each of sixteen panels, as comma-separated values\n\
-           under a heading. OUT.svg is a bar for each day, stacked by panel; one that is there already is kept, unless\n\
-           --force is given. A line that cannot be read is told and left out; exit status 1 if there is one.",
+           under a heading. OUT.svg is a bar for each day, stacked by panel; one that is there already is kept,\n\
+           unless --force is given. A line that cannot be read is told and left out; exit status 1 if there is one.",
     options: &["--force"],
     run,
 };
@@ -152,7 +152,7 @@ mod tests {
         let wrong = said(&["run", &pool, BATCH, "--ledger", &pool]);
         assert!(wrong.status == 2 && wrong.note.contains("no ledger"), "{wrong:?}");
         assert_eq!(said(&["run", &pool, BATCH, "--ledger", "/nowhere/at/all"]).status, 2);
-        assert_eq!(std::fs::read(&pool).expect("is there"), before, "the call was not made");
+        assert!(std::fs::read(&pool).expect("is there") == before, "the call was not made");
         assert_eq!(said(&["run", &pool, "-", "--ledger"]).status, 2);
     }
 

@@ -36,7 +36,7 @@ pub(super) const OPTIONS: &[Told] = &[
     ("--charge", "", "let the book count these reads, by which it chooses how a node is stored; the file then changes"),
     ("--dry", "", "leave the file as it is, whatever the call does"),
     ("--force", "", "write the file anew where it is there already; what it holds is lost"),
-    ("--all", "", "doubtful pairs as lines too"),
+    ("--all", "", "doubtful pairs too, the likeliest of each key"),
     ("--json", "", "as one line of JSON"),
     ("--spare", "N", "so many bytes behind each page of a dump are left out"),
     ("--offset", "N", "so many bytes before the pool are left out"),
