@@ -7,6 +7,7 @@ mod tree;
 
 use std::path::Path;
 
+use super::fault_runs::runs;
 use super::ledger::Sums;
 use super::words::{counted, Options, Words};
 use super::{file, stats, Said, Stop, Verb};
@@ -54,7 +55,7 @@ fn page(name: &str, bytes: &[u8], ledger: Option<&(String, Sums)>) -> String {
     out.push_str(&header(name, bytes, &faults));
     out.push_str(&seek(mounted.is_some()));
     out.push_str("<main>\n");
-    out.push_str(&fault_list(&faults));
+    out.push_str(&fault_list(&faults, bytes.len()));
     out.push_str(&blocks::section(bytes, &marks, mounted.is_some()));
     if let Some(mounted) = &mounted {
         out.push_str(&tree::section(mounted, faults.is_empty()));
@@ -107,21 +108,23 @@ fn seek(has_tree: bool) -> String {
     )
 }
 
-/// Faults that are told here; `check` tells all.
+/// Lines of faults that are told here; `check` tells all.
 const MOST_FAULTS: usize = 100;
 
-fn fault_list(faults: &[Fault]) -> String {
+/// The faults as `check` tells them, each with its number in front.
+fn fault_list(faults: &[Fault], bytes: usize) -> String {
     if faults.is_empty() {
         return String::new();
     }
     let mut out = format!("<section><h2>{}</h2>\n<ul class=\"faults\">", counted(faults.len(), "fault"));
-    for fault in faults.iter().take(MOST_FAULTS) {
-        let words = format!("{}: {}", fault.at, fault.why);
-        out.push_str(&format!("<li><b>{}</b>{}</li>\n", fault.refusal.number(), escaped(&words)));
+    let lines: Vec<String> = runs(faults).iter().map(|run| run.line(bytes)).collect();
+    for line in lines.iter().take(MOST_FAULTS) {
+        let (number, words) = line.trim_end().split_once(": ").unwrap_or(("", line));
+        out.push_str(&format!("<li><b>{number}</b>{}</li>\n", escaped(words)));
     }
     out.push_str("</ul>\n");
-    if let Some(more) = faults.len().checked_sub(MOST_FAULTS).filter(|&more| more > 0) {
-        out.push_str(&format!("<p>and {more} more, which <code>wallbook check</code> tells.</p>\n"));
+    if lines.len() > MOST_FAULTS {
+        out.push_str(&format!("<p>and {} more: wallbook check tells all.</p>\n", lines.len() - MOST_FAULTS));
     }
     out.push_str(
         "<p class=\"sub\">The number is that of the refusal. From 6 on the pages that check are spoken of.</p>",

@@ -81,7 +81,8 @@ fn a_key_lights_its_path() {
     let mounted = mount(&folder.bytes("p")).expect("opens");
     for (behind, key, words) in [
         ("#key=70", 70, "Key 70 has value 7: "),
-        ("#key=0xbb8", 3000, "Key 3000 has value 300: "),
+        // A key that stands in a branch too: it belongs to the leaf on its right.
+        ("#key=0x82", 130, "Key 130 has value 13: "),
         ("#key=4294967295", u32::MAX, "Key 4294967295 is not there; "),
     ] {
         let dom = dom(&browser, &folder, "p.html", behind);
@@ -93,6 +94,43 @@ fn a_key_lights_its_path() {
     }
     let wrong = dom(&browser, &folder, "p.html", "#key=4294967296");
     assert!(lit(&wrong).is_empty() && wrong.contains("A key is a number below 4,294,967,296"));
+}
+
+/// A page with keys that are pressed one after the other, each where the one before has led.
+fn pressed(folder: &Folder, name: &str, first: &str, keys: &[&str]) {
+    let mut page = String::from_utf8(folder.bytes("p.html")).expect("is text");
+    page.push_str(&format!("<script>document.getElementById(\"{first}\").focus();\n"));
+    for key in keys {
+        let event = format!("new KeyboardEvent(\"keydown\", {{ key: \"{key}\", bubbles: true }})");
+        page.push_str(&format!("document.activeElement.dispatchEvent({event});\n"));
+    }
+    page.push_str("</script>");
+    std::fs::write(folder.path(name), page).expect("is written");
+}
+
+#[test]
+fn keys_move_among_pages_and_nodes() {
+    let Some(browser) = browser() else { return };
+    let folder = Folder::new("browser-keys");
+    folder.status("prepare p 4 --book second");
+    let csv: String = (1..=60).map(|key| format!("{key},0\n")).collect();
+    std::fs::write(folder.path("csv"), csv).expect("is written");
+    folder.status("import p csv --book second");
+    assert_eq!(folder.status("html p p.html"), Some(0));
+    let mounted = mount(&folder.bytes("p")).expect("opens");
+    let pages = |id: usize| mounted.rows[id].pages.iter().map(|page| format!("p{page}"));
+    pressed(&folder, "pages.html", "p0", &["ArrowRight", "ArrowDown", "ArrowLeft", "ArrowRight"]);
+    assert_eq!(lit(&dom(&browser, &folder, "pages.html", "")), BTreeSet::from(["p33".to_string()]));
+    // From the root down to its first leaf, and to the next.
+    let leaf = mounted.nodes[0].child(1) as usize;
+    pressed(&folder, "nodes.html", "n0", &["ArrowDown", "ArrowRight"]);
+    let expected: BTreeSet<String> = pages(leaf).chain([format!("n{leaf}")]).collect();
+    assert_eq!(lit(&dom(&browser, &folder, "nodes.html", "")), expected);
+    pressed(&folder, "up.html", "n0", &["ArrowDown", "ArrowUp"]);
+    let expected: BTreeSet<String> = pages(0).chain(["n0".to_string()]).collect();
+    assert_eq!(lit(&dom(&browser, &folder, "up.html", "")), expected);
+    pressed(&folder, "escape.html", "n0", &["ArrowDown", "Escape"]);
+    assert!(lit(&dom(&browser, &folder, "escape.html", "#key=7")).is_empty());
 }
 
 #[test]

@@ -19,7 +19,7 @@
   const link = (word, id) => {
     const made = element("button", word + " " + id.slice(1));
     made.type = "button";
-    made.addEventListener("click", () => byId(id).scrollIntoView({ block: "center", behavior: "smooth" }));
+    made.addEventListener("click", () => byId(id).scrollIntoView({ block: "center" }));
     return made;
   };
 
@@ -107,6 +107,8 @@
     };
     cells.forEach((cell, place) => {
       cell.tabIndex = place === 0 ? 0 : -1;
+      cell.setAttribute("role", "button");
+      cell.setAttribute("aria-label", cell.title);
       cell.addEventListener("focus", () => choose(numberOf(cell)));
       cell.addEventListener("click", () => go(cell));
       cell.addEventListener("keydown", (event) => {
