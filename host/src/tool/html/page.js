@@ -67,7 +67,8 @@
     const path = route(key);
     const leaf = path[path.length - 1];
     const place = nodes[leaf][1].indexOf(key);
-    const found = place < 0 ? " is not there; it would be in the last of " : " has value " + nodes[leaf][2][place] + ": ";
+    const value = nodes[leaf][2][place];
+    const found = place < 0 ? " is not there; it would be in the last of " : " has value " + value + ": ";
     const words = path.flatMap((id, step) => {
       const pages = nodes[id][4].flatMap((page) => [", ", link("page", "p" + page)]);
       return [step ? "; " : "", link("node", "n" + id), ...pages];
