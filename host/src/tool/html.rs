@@ -10,7 +10,7 @@ use std::path::Path;
 use super::fault_runs::runs;
 use super::ledger::Sums;
 use super::words::{counted, Options, Words};
-use super::{file, stats, Said, Stop, Verb};
+use super::{dump, file, stats, Said, Stop, Verb};
 use crate::marks::marks;
 use crate::mount::{examine, Examined};
 use crate::refusal::{words as refusal_words, Fault};
@@ -25,14 +25,14 @@ pub(super) const VERB: Verb = Verb {
            stands behind the name as #key=70, lights the nodes on its path and the pages that they live on. A pool\n\
            that is refused is shown too, with its faults. A page that is there already is kept, unless --force is\n\
            given.",
-    options: &["--ledger", "--force"],
+    options: &["--ledger", "--force", "--spare", "--offset", "--swap"],
     run,
 };
 
 fn run(words: &mut Words<'_>, options: &Options) -> Result<Said, Stop> {
     let (name, target) = (words.word("a file")?, words.word("a file for the page")?);
     words.end()?;
-    let bytes = file::read(name)?;
+    let bytes = dump::read(name, options)?;
     let ledger = match &options.ledger {
         None => None,
         Some(ledger) => Some((short(ledger), Sums::of(&file::read_text(ledger)?))),

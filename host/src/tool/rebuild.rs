@@ -6,7 +6,7 @@ use super::pool::Pool;
 use super::remains::{remains, Remains};
 use super::tariff::{self, Kept};
 use super::words::{counted, Options, Words};
-use super::{file, stats, Said, Stop, Verb};
+use super::{dump, file, stats, Said, Stop, Verb};
 use crate::command::{Answer, Command};
 use crate::mount::{mount, read};
 use crate::node::Pair;
@@ -24,14 +24,14 @@ pub(super) const VERB: Verb = Verb {
            them, is OLD's where not given, or document 01's worked one where OLD has none that can be read.\n\
            OLD is not written. NEW, where it is there already, is kept, unless --force is given. Exit status 1 if\n\
            something was doubtful or lost, or if NEW was not made.",
-    options: &["--book", "--all", "--force"],
+    options: &["--book", "--all", "--force", "--spare", "--offset", "--swap"],
     run,
 };
 
 fn run(words: &mut Words<'_>, options: &Options) -> Result<Said, Stop> {
     let (old, new) = (words.word("an old pool")?, words.word("a name for the new one")?);
     let (blocks, given) = numbers(words)?;
-    let bytes = file::read(old)?;
+    let bytes = dump::read(old, options)?;
     let remains = remains(&bytes);
     let pairs = chosen(&remains, options.all);
     let opens = read(&bytes).is_ok();
@@ -299,6 +299,22 @@ mod tests {
         std::fs::write(&old, pool).expect("is written");
         let told = said(&["rebuild", &old, &new, "--all", "--force"]).text;
         assert!(told.contains("document 01's worked one: the old pool has none that can be read"), "{told}");
+    }
+
+    #[test]
+    fn a_dump_becomes_a_pool() {
+        let folder = Folder::new("rebuild-dump");
+        let (old, csv) = ascending(&folder, 100);
+        let (dump, new) = (folder.file("dump"), folder.file("new"));
+        let bytes = std::fs::read(&old).expect("is there");
+        let spared = bytes.chunks(PAGE_BYTES).flat_map(|page| page.iter().copied().chain([0x5A; 16]));
+        std::fs::write(&dump, spared.collect::<Vec<u8>>()).expect("is written");
+        for told in [&["--spare", "16"][..], &[]] {
+            let line: Vec<&str> = ["rebuild", &dump, &new, "--force"].into_iter().chain(told.iter().copied()).collect();
+            text(&line);
+            assert_eq!(text(&["export", &new]), csv, "{told:?}");
+        }
+        assert_eq!(said(&["rebuild", &dump, &dump, "--force"]).status, 2, "a dump is not written over");
     }
 
     #[test]
