@@ -11,7 +11,7 @@ use super::fault_runs::runs;
 use super::ledger::Sums;
 use super::words::{counted, Options, Words};
 use super::{dump, file, stats, Said, Stop, Verb};
-use crate::marks::marks;
+use crate::marks::{marks, Kind};
 use crate::mount::{examine, Examined};
 use crate::refusal::{words as refusal_words, Fault};
 use crate::svg::escaped;
@@ -58,7 +58,8 @@ fn page(name: &str, bytes: &[u8], ledger: Option<&(String, Sums)>) -> String {
     out.push_str(&fault_list(&faults, bytes.len()));
     out.push_str(&blocks::section(bytes, &marks, mounted.is_some()));
     if let Some(mounted) = &mounted {
-        out.push_str(&tree::section(mounted, faults.is_empty()));
+        let all_check = marks.iter().all(|mark| mark.kind != Kind::Broken);
+        out.push_str(&tree::section(mounted, all_check));
         out.push_str(&tree::fill(mounted));
     }
     if let Some((name, sums)) = ledger {

@@ -12,9 +12,9 @@ use crate::tree::ROOT;
 const BAR_HEIGHT: usize = 45;
 
 /// The section of the tree.
-pub(super) fn section(mounted: &Mounted, opens: bool) -> String {
+pub(super) fn section(mounted: &Mounted, all_check: bool) -> String {
     let mut out = String::from("<section><h2>Tree</h2>\n");
-    if !opens {
+    if !all_check {
         out.push_str(
             "<p class=\"bad\">The pages that check spell this tree; the others may have held something newer.</p>\n",
         );
