@@ -77,11 +77,7 @@ impl Remains {
             let flaws = page::examine(bytes).flaws;
             let Some(first) = flaws.first() else { continue };
             let found = repair(bytes, &flaws);
-            let how = match found {
-                Some(Repair { byte, value }) => format!("with {value:02x} at byte {byte} it would, and is read so"),
-                None => "no one byte mends it".to_string(),
-            };
-            let why = format!("({first}): {how}");
+            let why = format!("({first}): {}", mending(&found));
             notes.push((page, why.clone()));
             match found {
                 None => lost.push((page, why)),
@@ -176,6 +172,14 @@ fn is_branch_link(change: Change) -> bool {
 fn versions_of_broken(left: &[Left]) -> Vec<(usize, u32)> {
     let broken = left.iter().enumerate().filter(|(_, left)| left.version > 0 && left.node.is_err());
     broken.map(|(id, left)| (id, left.version)).collect()
+}
+
+/// How a page is mended, if it is.
+fn mending(found: &Option<Repair>) -> String {
+    match found {
+        Some(Repair { byte, value }) => format!("with {value:02x} at byte {byte} it would, and is read so"),
+        None => "no one byte mends it".to_string(),
+    }
 }
 
 /// What is wrong with pages, a line each; where it is the same with pages in a row, a line for all of them.
