@@ -32,8 +32,13 @@ fn run(words: &mut Words<'_>, options: &Options) -> Result<Said, Stop> {
     if let Some(target) = target {
         file::write(target, drawn(name, &sums).as_bytes(), &[name], options.force)?;
     }
-    let note: String = sums.wrong.iter().map(|wrong| format!("{name}: {wrong}\n")).collect();
-    Ok(Said { text: told(name, &sums), note, status: u8::from(!sums.wrong.is_empty()) })
+    let wrong: String = sums.wrong.iter().map(|wrong| format!("{name}: {wrong}\n")).collect();
+    // Behind a picture on standard output no words may stand.
+    let (text, note) = match target {
+        Some("-") => (String::new(), told(name, &sums) + &wrong),
+        _ => (told(name, &sums), wrong),
+    };
+    Ok(Said { text, note, status: u8::from(!sums.wrong.is_empty()) })
 }
 
 /// The sums in words: by panel, by day, and by pool where there are several.

@@ -1,8 +1,8 @@
-//! A ledger that two processes write at once.
+//! A ledger that two processes write at once, and its picture on standard output.
 
 use std::thread;
 
-use crate::programs::Folder;
+use crate::programs::{noted, Folder};
 
 #[test]
 fn lines_of_two_processes_do_not_mix() {
@@ -23,5 +23,7 @@ fn lines_of_two_processes_do_not_mix() {
     let (status, text) = folder.says("ledger l.csv");
     assert_eq!(status, Some(0), "{text}");
     assert!(text.starts_with(&format!("l.csv: {} calls ", 2 * CALLS)), "{text}");
+    let (drawn, spoken) = (folder.says("ledger l.csv -").1, noted(folder.wallbook("ledger l.csv -")).1);
+    assert!(drawn.starts_with("<svg ") && drawn.ends_with("</svg>\n") && spoken == text, "a picture alone: {spoken}");
     assert!(text.contains(&format!("\np {:>9}", CALLS)) && text.contains(&format!("\nq {:>9}", CALLS)), "{text}");
 }
