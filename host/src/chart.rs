@@ -1,5 +1,7 @@
 //! Charts of bars in SVG.
 
+pub mod stacked;
+
 use crate::markdown::grouped;
 use crate::svg::{Anchor, Area, Svg, GREY, INK};
 

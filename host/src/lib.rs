@@ -12,6 +12,7 @@ pub mod bench;
 pub mod book;
 pub mod books;
 pub mod both;
+pub mod calendar;
 pub mod chart;
 pub mod command;
 pub mod damage;

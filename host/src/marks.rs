@@ -8,8 +8,8 @@ use crate::page::{examine, Content, Reading};
 #[derive(Clone, Copy, PartialEq, Eq, Debug)]
 pub struct Mark {
     pub kind: Kind,
-    /// Whether some node's greatest version or the newest checkpoint lies on it.
-    pub live: bool,
+    /// Whether some node's greatest version or the newest checkpoint lies on it; not known without a tree.
+    pub live: Option<bool>,
     /// 0 if it is blank or its number cannot be read.
     pub sequence: u32,
 }
@@ -40,6 +40,17 @@ impl Kind {
 }
 
 impl Mark {
+    /// The page in a line.
+    pub fn words(&self, page: usize) -> String {
+        let state = match (self.kind, self.live) {
+            (Kind::Blank | Kind::Broken, _) | (_, None) => "",
+            (_, Some(true)) => ", live",
+            (_, Some(false)) => ", dead",
+        };
+        let sequence = if self.sequence > 0 { format!(", sequence number {}", self.sequence) } else { String::new() };
+        format!("page {page}: {}{state}{sequence}", self.kind.name())
+    }
+
     /// The page as one letter: a capital is live.
     pub fn letter(&self) -> char {
         let letter = match self.kind {
@@ -49,7 +60,7 @@ impl Mark {
             Kind::Node => 'n',
             Kind::Checkpoint => 'c',
         };
-        if self.live {
+        if self.live == Some(true) {
             letter.to_ascii_uppercase()
         } else {
             letter
@@ -59,9 +70,10 @@ impl Mark {
 
 /// The mark of every page; where the pool spells no tree nothing is known to be live.
 pub fn marks(pool: &[u8]) -> Vec<Mark> {
-    let mut live = vec![false; pool.len() / PAGE_BYTES];
+    let mut live = vec![None; pool.len() / PAGE_BYTES];
     if let Some(mounted) = mount::examine(pool).mounted {
-        live_pages(&mounted).for_each(|page| live[page] = true);
+        live.fill(Some(false));
+        live_pages(&mounted).for_each(|page| live[page] = Some(true));
     }
     pool.chunks_exact(PAGE_BYTES).zip(live).map(|(bytes, live)| mark(bytes, live)).collect()
 }
@@ -71,7 +83,7 @@ fn live_pages(mounted: &Mounted) -> impl Iterator<Item = usize> + '_ {
     of_nodes.chain(&mounted.checkpoint_pages).copied()
 }
 
-fn mark(bytes: &[u8], live: bool) -> Mark {
+fn mark(bytes: &[u8], live: Option<bool>) -> Mark {
     let Reading { page, flaws } = examine(bytes);
     let sequence = page.as_ref().map_or(0, |page| page.sequence);
     let kind = match page.map(|page| page.content) {
@@ -86,6 +98,6 @@ fn mark(bytes: &[u8], live: bool) -> Mark {
 
 /// How many pages are live, and how many are written.
 pub fn counts(marks: &[Mark]) -> (usize, usize) {
-    let live = marks.iter().filter(|mark| mark.live).count();
+    let live = marks.iter().filter(|mark| mark.live == Some(true)).count();
     (live, marks.iter().filter(|mark| mark.kind != Kind::Blank).count())
 }

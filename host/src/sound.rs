@@ -1,5 +1,7 @@
 //! Soundness of a tree: what document 01 asks of nodes once their contents are known.
 
+use std::fmt;
+
 use crate::layout::NO_LINK;
 use crate::node::{Node, Pair, Shape};
 use crate::tree::ROOT;
@@ -62,6 +64,15 @@ pub struct Bounds {
 impl Bounds {
     pub fn contain(&self, key: u32) -> bool {
         (self.low..self.end).contains(&u64::from(key))
+    }
+}
+
+impl fmt::Display for Bounds {
+    fn fmt(&self, out: &mut fmt::Formatter<'_>) -> fmt::Result {
+        match self.end.checked_sub(1).filter(|&last| last >= self.low) {
+            Some(last) => write!(out, "keys {} to {last}", self.low),
+            None => write!(out, "no keys"),
+        }
     }
 }
 

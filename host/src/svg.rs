@@ -95,8 +95,8 @@ impl Svg {
     }
 }
 
-/// A text without the characters that mean something in SVG.
-fn escaped(text: &str) -> String {
+/// A text without the characters that mean something in SVG and HTML.
+pub fn escaped(text: &str) -> String {
     text.replace('&', "&amp;").replace('<', "&lt;").replace('>', "&gt;").replace('"', "&quot;")
 }
 

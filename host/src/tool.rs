@@ -18,16 +18,22 @@ mod fault_runs;
 pub(crate) mod file;
 mod get;
 mod help;
+mod html;
 mod import;
 mod json;
+mod ledger;
 mod lines;
 mod node;
+mod packing;
 mod page;
 mod picture;
+mod plan;
 mod pool;
 mod prepare;
 mod progress;
 mod put;
+mod rebuild;
+mod refused;
 mod remains;
 mod room;
 mod run;
@@ -35,6 +41,7 @@ mod salvage;
 mod scan;
 mod show;
 mod stats;
+mod tariff;
 #[cfg(test)]
 mod trial;
 mod words;
@@ -60,7 +67,7 @@ pub struct Verb {
 pub const VERBS: &[Verb] = &[
     prepare::VERB, get::VERB, put::VERB, delete::VERB, scan::VERB, ceiling::VERB, import::VERB, export::VERB,
     run::VERB, desk::VERB, check::VERB, stats::VERB, show::VERB, page::VERB, node::VERB, diff::VERB, salvage::VERB,
-    picture::VERB, bench::VERB,
+    rebuild::VERB, picture::VERB, html::VERB, ledger::VERB, bench::VERB,
 ];
 
 /// What a verb says: on standard output, then on standard error; and its exit status.
@@ -162,7 +169,12 @@ mod tests {
                 said(&[verb, &name, &random.below(8).to_string()]);
             }
             assert!(said(&["diff", &name, &other]).status < 2);
-            assert_eq!(said(&["picture", &name, &out, "--force"]).status, 0);
+            for verb in ["picture", "html"] {
+                assert_eq!(said(&[verb, &name, &out, "--force"]).status, 0, "{verb}");
+            }
+            for all in ["--force", "--all"] {
+                assert!(said(&["rebuild", &name, &out, all, "--force"]).status < 2, "{all}");
+            }
         }
     }
 

@@ -45,6 +45,12 @@ impl Survey {
         survey
     }
 
+    /// One more than the greatest node id on a page that checks.
+    pub fn ids(&self) -> usize {
+        let ids = self.pages.iter().flat_map(|(_, page)| page.versions()).map(|(id, _)| usize::from(id) + 1);
+        ids.max().unwrap_or(0)
+    }
+
     /// The newest page that checks and its sequence number.
     pub(super) fn newest(&self) -> Option<(usize, u32)> {
         self.pages.last().map(|(page, decoded)| (*page, decoded.sequence))

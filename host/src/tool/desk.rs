@@ -1,5 +1,6 @@
 //! `desk`: queues, in words or as bytes, served a command of each in turn.
 
+use super::ledger::Ledger;
 use super::pool::{Pool, CALL_OPTIONS_FROM};
 use super::run::by_panel;
 use super::words::{Options, Words};
@@ -25,10 +26,12 @@ fn run(words: &mut Words<'_>, options: &Options) -> Result<Said, Stop> {
     let file = words.word("a file")?;
     let queues = Queues::of(&given(words, options)?);
     let mut pool = Pool::open(file, options)?;
+    let ledger = Ledger::of(options)?;
     // Queues that cannot be joined go to the book all the same: the refusal is its own.
     let joined = join(&queues.lengths, &queues.bytes).ok().and_then(|batch| parse(&batch)).unwrap_or_default();
     let answers = pool.call(&Input::Desk(queues), answer_room(&joined))?;
     pool.save()?;
+    ledger.note(file, "desk", &pool.charges)?;
     let served = reference::by_panel(&joined).filter(|(_, command)| command.is_answered());
     let mut text: String = served
         .zip(&answers)

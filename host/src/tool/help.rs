@@ -11,9 +11,9 @@ pub(super) fn all() -> String {
         "usage: wallbook VERB FILE ..\n\nFILE is a pool; keys and values are decimal, or hexadecimal behind 0x.\n\n"
             .to_string();
     for verb in VERBS {
-        out.push_str(&format!("  {:<8} {:<23} {}\n", verb.name, verb.words, verb.about));
+        out.push_str(&format!("  {:<8} {:<28} {}\n", verb.name, verb.words, verb.about));
     }
-    out.push_str("  help     [VERB]                  this, or all of one verb\n\n");
+    out.push_str("  help     [VERB]                       this, or all of one verb\n\n");
     out.push_str(STATUS);
     out
 }

@@ -21,7 +21,7 @@ pub(super) const VERB: Verb = Verb {
 };
 
 /// Puts of one batch: as many as its bytes hold.
-const BATCH_PUTS: usize = MAX_BATCH_BYTES / (FIELD_HEAD + PAIR_BYTES);
+pub(super) const BATCH_PUTS: usize = MAX_BATCH_BYTES / (FIELD_HEAD + PAIR_BYTES);
 
 fn run(words: &mut Words<'_>, options: &Options) -> Result<Said, Stop> {
     let (file, source) = (words.word("a file")?, words.word("a file of key,value lines")?);

@@ -13,10 +13,9 @@ pub(super) const VERB: Verb = Verb {
     name: "picture",
     words: "FILE OUT.svg",
     about: "the pool as a picture: a cell a page, a row a block",
-    more:
-        "The colour tells what a page is, the shade its sequence number: the newest is the darkest. Live pages have\n\
-           an outline, dead ones a stroke. A pool that is refused is drawn too. A picture\n\
-           that is there already is kept, unless --force is given.",
+    more: "The colour tells what a page is, the shade of a live page its sequence number: the newest is the darkest.\n\
+           Live pages have an outline, dead ones are pale. A pool that is refused is drawn too. A picture that is\n\
+           there already is kept, unless --force is given.",
     options: &["--force", "--spare", "--offset", "--swap"],
     run,
 };
@@ -40,6 +39,8 @@ const LEFT: f64 = 70.0;
 const TOP: f64 = 66.0;
 const RIGHT: f64 = 130.0;
 const LEGEND: f64 = 84.0;
+/// How light a dead page is: lighter than any live one.
+const PALE: u32 = 92;
 
 fn drawn(title: &str, marks: &[Mark]) -> String {
     let rows = marks.len().div_ceil(BLOCK_PAGES);
@@ -58,44 +59,33 @@ fn drawn(title: &str, marks: &[Mark]) -> String {
         svg.text((right + 12.0, y + 13.0), Anchor::Start, &format!("{live} live of {written}"));
         for (place, mark) in row.iter().enumerate() {
             let page = block * BLOCK_PAGES + place;
-            cell(&mut svg, (LEFT + CELL * place as f64, y), mark, ranks.of_mark(mark), &words(page, mark));
+            cell(&mut svg, (LEFT + CELL * place as f64, y), mark, ranks.of_mark(mark), &mark.words(page));
         }
     }
     legend(&mut svg, bottom + 20.0);
     svg.finish()
 }
 
-fn words(page: usize, mark: &Mark) -> String {
-    let state = match (mark.kind, mark.live) {
-        (Kind::Blank | Kind::Broken, _) => "",
-        (_, true) => ", live",
-        (_, false) => ", dead",
-    };
-    let sequence = if mark.sequence > 0 { format!(", sequence number {}", mark.sequence) } else { String::new() };
-    format!("page {page}: {}{state}{sequence}", mark.kind.name())
-}
-
-/// One page: outlined if it is live, stroked through if it is dead.
+/// One page: outlined if it is live.
 fn cell(svg: &mut Svg, (x, y): (f64, f64), mark: &Mark, rank: f64, title: &str) {
     let inner = Area { x: x + 1.5, y: y + 1.5, width: CELL - 3.0, height: CELL - 3.0 };
-    let outline = if mark.live { INK } else { GREY };
-    svg.area(inner, &colour(mark.kind, rank), outline, title);
-    let is_dead = !mark.live && !matches!(mark.kind, Kind::Blank | Kind::Broken);
-    if is_dead {
-        svg.line((x + 3.0, y + CELL - 3.0), (x + CELL - 3.0, y + 3.0), "#ffffff");
-    }
+    let outline = if mark.live == Some(true) { INK } else { GREY };
+    svg.area(inner, &colour(mark, rank), outline, title);
 }
 
-/// A colour for the kind, its lightness for the age: 0 is the oldest, 1 the newest.
-fn colour(kind: Kind, rank: f64) -> String {
-    let hue = match kind {
+/// A colour for the kind; pale for a dead page, and for another its age, 0 the oldest and 1 the newest.
+fn colour(mark: &Mark, rank: f64) -> String {
+    let hue = match mark.kind {
         Kind::Blank => return "#ffffff".to_string(),
         Kind::Broken => return "#d00000".to_string(),
         Kind::Log => 210,
         Kind::Node => 130,
         Kind::Checkpoint => 35,
     };
-    format!("hsl({hue},70%,{:.0}%)", 82.0 - 47.0 * rank)
+    match mark.live {
+        Some(false) => format!("hsl({hue},50%,{PALE}%)"),
+        _ => format!("hsl({hue},70%,{:.0}%)", 76.0 - 41.0 * rank),
+    }
 }
 
 /// The written pages by age.
@@ -116,7 +106,7 @@ impl Ranks {
 }
 
 fn legend(svg: &mut Svg, y: f64) {
-    let sample = |kind, live| Mark { kind, live, sequence: 0 };
+    let sample = |kind, live| Mark { kind, live: Some(live), sequence: 0 };
     let mut x = LEFT;
     for kind in Kind::ALL {
         let live = !matches!(kind, Kind::Blank | Kind::Broken);
@@ -159,6 +149,8 @@ mod tests {
         ] {
             assert!(drawn.contains(&format!("<title>{words}</title>")), "{words}");
         }
+        let pale = "fill=\"hsl(35,50%,92%)\" stroke=\"#bbbbbb\"><title>page 1: checkpoint page, dead";
+        assert!(drawn.contains(pale) && !drawn.contains("92%)\" stroke=\"#222222\""), "dead pages alone are pale");
         let mut bytes = std::fs::read(&pool).expect("is there");
         bytes[PAGE_BYTES + 10] ^= 1;
         std::fs::write(&pool, &bytes[..bytes.len() - 1]).expect("is written");

@@ -23,8 +23,8 @@ pub(super) fn length_words(bytes: usize) -> String {
 
 /// The options of a verb whose calls change the pool.
 pub(super) const CALL_OPTIONS: &[&str] = &["--book", "--dry"];
-/// The options of a verb that takes commands too.
-pub(super) const CALL_OPTIONS_FROM: &[&str] = &["--book", "--from", "--dry"];
+/// The options of a verb that takes commands too, and notes what they cost.
+pub(super) const CALL_OPTIONS_FROM: &[&str] = &["--book", "--from", "--dry", "--ledger"];
 /// The options of a verb whose calls only look.
 pub(super) const LOOK_OPTIONS: &[&str] = &["--book", "--charge", "--dry", "--spare", "--offset", "--swap"];
 

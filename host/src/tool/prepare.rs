@@ -2,7 +2,7 @@
 
 use super::pool::Pool;
 use super::words::{Options, Words};
-use super::{file, Said, Stop, Verb};
+use super::{file, tariff, Said, Stop, Verb};
 use crate::layout::node_limit;
 use crate::markdown::grouped;
 
@@ -17,14 +17,11 @@ pub(super) const VERB: Verb = Verb {
     run,
 };
 
-/// The tariff of document 01's worked cases.
-const WORKED: [u32; 8] = [3, 1, 2, 1, 4, 4, 3, 2];
-
 fn run(words: &mut Words<'_>, options: &Options) -> Result<Said, Stop> {
     let (name, blocks) = (words.word("a file")?, words.number("a count of blocks")?);
     let tariff = match words.number_if_any("a tariff number")? {
-        None => WORKED,
-        Some(first) => tariff(first, words)?,
+        None => tariff::WORKED,
+        Some(first) => tariff::rest(first, words)?,
     };
     words.end()?;
     // A device too: nothing is written through that nobody asked to be made anew.
@@ -35,14 +32,6 @@ fn run(words: &mut Words<'_>, options: &Options) -> Result<Said, Stop> {
     file::write(name, &pool.bytes, &[], options.force)?;
     let (bytes, nodes) = (grouped(pool.bytes.len() as u128), node_limit(blocks as usize));
     Ok(Said::text(format!("{name}: {blocks} blocks, {bytes} bytes, an empty map of at most {nodes} nodes\n")))
-}
-
-fn tariff(first: u32, words: &mut Words<'_>) -> Result<[u32; 8], Stop> {
-    let mut numbers = [first; 8];
-    for place in &mut numbers[1..] {
-        *place = words.number("eight tariff numbers")?;
-    }
-    Ok(numbers)
 }
 
 #[cfg(test)]

@@ -9,7 +9,7 @@ use crate::mount::Survey;
 use crate::node::{Change, Node, Pair, Shape};
 use crate::page::{self, Content};
 use crate::repair::{repair, Repair};
-use crate::sound::{self, Part, Walk};
+use crate::sound::{self, Bounds, Part, Walk};
 
 /// A value that was found for a key, and why it may be wrong.
 #[derive(Clone, PartialEq, Eq, Debug)]
@@ -25,6 +25,8 @@ pub(super) struct Remains {
     pub found: BTreeMap<u32, Vec<Found>>,
     /// What is to be known of the pool as a whole.
     pub notes: Vec<String>,
+    /// Nodes and pages of which nothing can be read as it was.
+    pub lost: Vec<String>,
 }
 
 /// How many older versions of a node are tried: a page can be made that has one in every entry.
@@ -44,6 +46,17 @@ pub(super) fn remains(pool: &[u8]) -> Remains {
 }
 
 impl Remains {
+    /// How many keys have a value for sure, and how many values are doubtful.
+    pub fn counts(&self) -> (usize, usize) {
+        let sure = self.found.values().filter(|found| found.iter().any(|found| found.doubt.is_none())).count();
+        (sure, self.found.values().flatten().filter(|found| found.doubt.is_some()).count())
+    }
+
+    /// Says whether nothing is doubtful and nothing is lost.
+    pub fn is_whole(&self) -> bool {
+        self.lost.is_empty() && self.counts().1 == 0
+    }
+
     /// Notes a pair; a value that is found again has the lesser doubt.
     fn note(&mut self, pair: Pair, doubt: Option<String>) {
         let found = self.found.entry(pair.key).or_default();
@@ -57,36 +70,39 @@ impl Remains {
 
     /// Changes the byte of each page that one byte spoils, in this copy of the pool.
     fn repair_pages(&mut self, pool: &mut [u8]) -> BTreeMap<usize, Repair> {
-        let (mut repairs, mut notes) = (BTreeMap::new(), Vec::new());
+        let (mut repairs, mut notes, mut lost) = (BTreeMap::new(), Vec::new(), Vec::new());
         let mut progress = Progress::new("pages read");
         for (page, bytes) in pool.as_chunks_mut::<PAGE_BYTES>().0.iter_mut().enumerate() {
             progress.tell(page);
             let flaws = page::examine(bytes).flaws;
             let Some(first) = flaws.first() else { continue };
             let found = repair(bytes, &flaws);
-            let how = match found {
-                Some(Repair { byte, value }) => format!("with {value:02x} at byte {byte} it would, and is read so"),
-                None => "no one byte mends it".to_string(),
-            };
-            notes.push((page, format!("({first}): {how}")));
-            if let Some(found) = found {
-                *bytes = found.of(bytes);
-                repairs.insert(page, found);
+            let why = format!("({first}): {}", mending(&found));
+            notes.push((page, why.clone()));
+            match found {
+                None => lost.push((page, why)),
+                Some(found) => {
+                    *bytes = found.of(bytes);
+                    repairs.insert(page, found);
+                }
             }
         }
         self.notes.extend(in_runs(&notes));
+        self.lost.extend(in_runs(&lost));
         repairs
     }
 
     /// Reads the leaves by their greatest versions; and, where that makes no node, by older ones.
     fn read_tree(&mut self, survey: &Survey, doubts: &Doubts) {
-        let count = survey.count().unwrap_or_else(|| ids(survey));
+        let counted = survey.count();
+        let count = counted.unwrap_or_else(|| survey.ids());
         let mut ceilings = vec![u32::MAX; count];
         let newest: Vec<Left> = survey.gather_up_to(&ceilings).into_iter().map(Left::of).collect();
         let nodes: Vec<Option<&Node>> = newest.iter().map(|left| left.node.as_ref().ok()).collect();
         let walk = sound::walk(&nodes);
         for (id, left) in newest.iter().enumerate() {
             self.read_leaf(id, left, &walk, doubts);
+            self.note_lost(id, left, walk.reached[id], counted.is_some());
         }
         let mut broken: Vec<(usize, u32)> = versions_of_broken(&newest);
         for _ in 0..MOST_OLDER {
@@ -99,6 +115,15 @@ impl Remains {
             let before = broken;
             broken = versions_of_broken(&older);
             broken.retain(|(id, _)| before.iter().any(|(of, _)| of == id));
+        }
+    }
+
+    /// Notes a node that cannot be read; without a whole checkpoint only one that a page or a branch names.
+    fn note_lost(&mut self, id: usize, left: &Left, bounds: Option<Bounds>, is_counted: bool) {
+        let is_named = is_counted || bounds.is_some() || left.version > 0;
+        if let Some(why) = left.node.as_ref().err().filter(|_| is_named) {
+            let keys = bounds.map(|bounds| format!(", {bounds}")).unwrap_or_default();
+            self.lost.push(format!("node {id}{keys}: {why}"));
         }
     }
 
@@ -144,15 +169,17 @@ fn is_branch_link(change: Change) -> bool {
     matches!(change, Change::Link(Shape::Branch, _))
 }
 
-/// One more than the greatest id on a page that checks.
-fn ids(survey: &Survey) -> usize {
-    let ids = survey.pages.iter().flat_map(|(_, page)| page.versions()).map(|(id, _)| usize::from(id) + 1);
-    ids.max().unwrap_or(0)
-}
-
 fn versions_of_broken(left: &[Left]) -> Vec<(usize, u32)> {
     let broken = left.iter().enumerate().filter(|(_, left)| left.version > 0 && left.node.is_err());
     broken.map(|(id, left)| (id, left.version)).collect()
+}
+
+/// How a page is mended, if it is.
+fn mending(found: &Option<Repair>) -> String {
+    match found {
+        Some(Repair { byte, value }) => format!("with {value:02x} at byte {byte} it would, and is read so"),
+        None => "no one byte mends it".to_string(),
+    }
 }
 
 /// What is wrong with pages, a line each; where it is the same with pages in a row, a line for all of them.

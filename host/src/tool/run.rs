@@ -1,5 +1,6 @@
 //! `run`: a batch, in words or as bytes.
 
+use super::ledger::Ledger;
 use super::pool::{Pool, CALL_OPTIONS_FROM};
 use super::words::{Options, Words};
 use super::{answer, file, lines, Said, Stop, Verb};
@@ -30,10 +31,12 @@ fn run(words: &mut Words<'_>, options: &Options) -> Result<Said, Stop> {
         None => lines::batch(&words.rest().join(" ")).map_err(Stop::wrong)?,
     };
     let mut pool = Pool::open(file, options)?;
+    let ledger = Ledger::of(options)?;
     // A batch that cannot be read goes to the book all the same: the refusal is its own.
     let commands = parse(&batch).unwrap_or_default();
     let answers = pool.call(&Input::Batch(batch), answer_room(&commands))?;
     pool.save()?;
+    ledger.note(file, "batch", &pool.charges)?;
     let answered = commands.iter().filter(|command| command.is_answered());
     let mut text: String =
         answered.zip(&answers).map(|(command, said)| answer::spoken(command, said).0 + "\n").collect();

@@ -51,8 +51,7 @@ fn lines(remains: &Remains, all: bool) -> String {
 
 fn note(name: &str, remains: &Remains) -> (String, bool) {
     let mut note: String = remains.notes.iter().map(|note| format!("{note}\n")).collect();
-    let sure = remains.found.values().filter(|found| found.iter().any(|found| found.doubt.is_none())).count();
-    let doubtful = remains.found.values().flatten().filter(|found| found.doubt.is_some()).count();
+    let (sure, doubtful) = remains.counts();
     note.push_str(&format!("{name}: {sure} pairs for sure, {doubtful} doubtful\n"));
     (note, doubtful > 0)
 }

@@ -5,19 +5,21 @@ mod as_json;
 use super::node::spelled;
 use super::room::{levels, room, Room};
 use super::words::{Options, Words};
-use super::{dump, Said, Stop, Verb};
+use super::{dump, refused, tariff, Said, Stop, Verb};
 use crate::account::Mode;
-use crate::layout::{node_limit, BLOCK_PAGES, MAX_KEYS, MAX_SEQUENCE};
+use crate::layout::{node_limit, BLOCK_BYTES, BLOCK_PAGES, MAX_KEYS, MAX_SEQUENCE};
 use crate::markdown::grouped;
 use crate::marks::{counts, marks, Mark};
-use crate::mount::Mounted;
+use crate::mount::{read, Mounted};
+use crate::refusal::Fault;
 use crate::score_order;
 
 pub(super) const VERB: Verb = Verb {
     name: "stats",
     words: "FILE",
     about: "depth, fill, modes, room, and live and dead pages",
-    more: "Room is for new keys, nothing being deleted: any keys at least, and no keys more than at most, before a\n\
+    more: "Of a pool that is refused: what can still be read, the tariff first, but not as JSON; exit status 1.\n\n\
+           Room is for new keys, nothing being deleted: any keys at least, and no keys more than at most, before a\n\
            put is refused with 9. A compaction is due when a page is needed, the block at hand is full and one block\n\
            alone is blank.\n\n\
            Wear cannot be told: a pool keeps no count of how often its blocks were erased. What can be told: a block\n\
@@ -36,44 +38,53 @@ fn run(words: &mut Words<'_>, options: &Options) -> Result<Said, Stop> {
     let name = words.word("a file")?;
     words.end()?;
     let bytes = dump::read(name, options)?;
-    let mounted = spelled(name, &bytes)?;
-    let marks = marks(&bytes);
-    Ok(Said::text(match options.json {
-        true => format!("{}\n", as_json::figures(name, &bytes, &mounted, &marks)),
-        false => in_words(name, &bytes, &mounted, &marks),
-    }))
+    match options.json {
+        true => {
+            let figures = as_json::figures(name, &bytes, &spelled(name, &bytes)?, &marks(&bytes));
+            Ok(Said::text(format!("{figures}\n")))
+        }
+        false => Ok(in_words(name, &bytes)),
+    }
 }
 
-fn in_words(name: &str, bytes: &[u8], mounted: &Mounted, marks: &[Mark]) -> String {
-    let blocks = marks.len() / BLOCK_PAGES;
-    let mut text = format!("{name}: {} bytes in {blocks} blocks\n", grouped(bytes.len() as u128));
-    for (what, figure) in [
-        ("tariff", tariff(mounted)),
-        ("nodes", nodes(mounted, node_limit(blocks))),
-        ("leaves", leaves(mounted)),
-        ("room", room_line(mounted, node_limit(blocks))),
-        ("pages", pages(marks)),
-        ("compaction", compaction(mounted)),
-        ("sequence", sequence(mounted)),
-        ("scores", scores(bytes)),
-        ("wear", "not known: a pool keeps no count of how often its blocks were erased".to_string()),
-    ] {
+/// The figures in words, a line each.
+fn in_words(name: &str, bytes: &[u8]) -> Said {
+    let refused = read(bytes).err();
+    let mut text = format!("{name}: {}\n", size(bytes));
+    for (what, figure) in figures(bytes) {
         text.push_str(&format!("{what:<11} {figure}\n"));
     }
+    let marks = marks(bytes);
+    let pages = if refused.is_none() { pages } else { refused::pages };
     for (block, marks) in marks.chunks(BLOCK_PAGES).enumerate() {
         text.push_str(&format!("{:<11} {}{}\n", format!("block {block}"), pages(marks), newest(marks)));
     }
-    text
+    let note = |fault: &Fault| format!("{name}: refused with {fault} (wallbook check {name} tells all)\n");
+    let note = refused.as_ref().map(note).unwrap_or_default();
+    Said { text, note, status: u8::from(refused.is_some()) }
 }
 
-fn tariff(mounted: &Mounted) -> String {
-    let numbers = mounted.tariff.numbers().map(|number| number.to_string());
-    let [log, disk] = [&numbers[..3], &numbers[3..6]].map(|costs| costs.join(" "));
-    format!(
-        "{log} in log mode, {disk} in disk mode, switches {}; limit {}",
-        numbers[6..].join(" "),
-        mounted.tariff.limit()
-    )
+/// How large a pool is.
+pub(super) fn size(bytes: &[u8]) -> String {
+    format!("{} bytes in {} blocks", grouped(bytes.len() as u128), bytes.len() / BLOCK_BYTES)
+}
+
+/// The figures of a pool; of one that is refused, what can still be read.
+pub(super) fn figures(bytes: &[u8]) -> Vec<(&'static str, String)> {
+    let (marks, mounted) = (marks(bytes), read(bytes));
+    let Ok(mounted) = mounted else { return refused::figures(bytes, &marks) };
+    let limit = node_limit(marks.len() / BLOCK_PAGES);
+    vec![
+        ("tariff", tariff::words(&mounted.tariff)),
+        ("nodes", nodes(&mounted, limit)),
+        ("leaves", leaves(&mounted)),
+        ("room", room_line(&mounted, limit)),
+        ("pages", pages(&marks)),
+        ("compaction", compaction(&mounted)),
+        ("sequence", sequence(&mounted)),
+        ("scores", scores(bytes)),
+        ("wear", "not known: a pool keeps no count of how often its blocks were erased".to_string()),
+    ]
 }
 
 fn nodes(mounted: &Mounted, limit: usize) -> String {
@@ -240,11 +251,24 @@ mod tests {
     }
 
     #[test]
-    fn a_refused_pool_has_no_figures() {
-        let folder = Folder::new("no-stats");
+    fn a_refused_pool_tells_what_can_still_be_read_the_tariff_first() {
+        let folder = Folder::new("refused-stats");
         let short = folder.file("short");
         std::fs::write(&short, [0; 100]).expect("is written");
         let refused = said(&["stats", &short]);
         assert!(refused.status == 1 && refused.note.contains("refused with 1: "), "{refused:?}");
+        assert!(refused.text.contains("\ntariff      on no page that can be read\n"), "{refused:?}");
+        let pool = three_nodes(&folder);
+        let mut bytes = std::fs::read(&pool).expect("is there");
+        bytes[PAGE_BYTES * 2 + 20] ^= 1;
+        std::fs::write(&pool, &bytes).expect("is written");
+        let refused = said(&["stats", &pool]);
+        assert!(refused.status == 1 && refused.note.contains("refused with 5: page 2, byte "), "{refused:?}");
+        let lines: Vec<&str> = refused.text.lines().collect();
+        let tariff = "tariff      3 1 2 in log mode, 1 4 4 in disk mode, switches 3 2; limit 5; on page ";
+        assert!(lines[1].starts_with(tariff) && lines[1].ends_with(", the newest that has one"), "{}", lines[1]);
+        assert!(lines[2].starts_with("pages ") && lines[2].contains(", 1 that do not, "), "{}", lines[2]);
+        assert_eq!(lines[3], "checkpoint  the newest is whole and counts 3 nodes");
+        assert!(lines[5].starts_with("pairs ") && lines[5].contains(" doubtful: salvage tells each"), "{}", lines[5]);
     }
 }

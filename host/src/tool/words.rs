@@ -13,6 +13,8 @@ pub(super) struct Options {
     book: Option<String>,
     /// Where commands are read from.
     pub from: Option<String>,
+    /// The ledger's name, if one was named.
+    pub ledger: Option<String>,
     pub charge: bool,
     pub dry: bool,
     pub force: bool,
@@ -34,11 +36,12 @@ pub(super) const OPTIONS: &[Told] = &[
     ("--charge", "", "let the book count these reads, by which it chooses how a node is stored; the file then changes"),
     ("--dry", "", "leave the file as it is, whatever the call does"),
     ("--force", "", "write the file anew where it is there already; what it holds is lost"),
-    ("--all", "", "doubtful pairs as lines too"),
+    ("--all", "", "doubtful pairs too, the likeliest of each key"),
     ("--json", "", "as one line of JSON"),
     ("--spare", "N", "so many bytes behind each page of a dump are left out"),
     ("--offset", "N", "so many bytes before the pool are left out"),
     ("--swap", "", "the two bytes of each 16-bit word are swapped"),
+    ("--ledger", "FILE", "a ledger of charges: run and desk note each accepted call there, html shows it"),
 ];
 
 impl Options {
@@ -61,6 +64,7 @@ impl Options {
                 "--spare" => options.form().spare = bytes(word, line.next())?,
                 "--swap" => options.form().swap = true,
                 "--from" => options.from = Some(value(word, line.next(), "a file, or - for standard input")?),
+                "--ledger" => options.ledger = Some(value(word, line.next(), "a file")?),
                 _ if word.starts_with("--") => return Err(Stop::wrong(format!("no option is called {word}"))),
                 _ => words.push(word),
             }
@@ -79,6 +83,7 @@ impl Options {
             ("--all", self.all),
             ("--json", self.json),
             ("--spare", self.form.is_some()),
+            ("--ledger", self.ledger.is_some()),
         ];
         match given.iter().find(|(name, given)| *given && !known.contains(name)) {
             Some((name, _)) => Err(Stop::wrong(format!("{name} means nothing here"))),

@@ -1,6 +1,7 @@
 //! The tests of the whole book, in one program so that it is linked once.
 
 mod blocks;
+mod browser;
 mod ceiling;
 mod common;
 mod desk;
@@ -11,10 +12,12 @@ mod format;
 mod fuzz;
 mod header;
 mod json;
+mod ledger;
 mod library;
 mod limits;
 mod page_limits;
 mod panels;
+mod pictures;
 mod programs;
 mod readme;
 mod refusals;

@@ -8,10 +8,10 @@ use yokehour_host::books::by_name;
 use crate::programs::{noted, Folder};
 
 /// How the READMEs call the program.
-const PROGRAM: &str = "target/release/wallbook";
+pub const PROGRAM: &str = "target/release/wallbook";
 
 /// The lines of a README that call it, in their order.
-fn lines(readme: &str) -> Vec<String> {
+pub fn lines(readme: &str) -> Vec<String> {
     let path = Path::new(env!("CARGO_MANIFEST_DIR")).join(readme);
     let text = std::fs::read_to_string(path).expect("is there");
     text.lines().filter(|line| line.contains(&format!("{PROGRAM} "))).map(str::to_string).collect()
