@@ -1,4 +1,4 @@
--- A batch in two parts, over any kind of book: the commands behind find what those before them leave. Assumes nothing.
+-- A command among others, over any kind of book: it finds what those before it leave. Assumes nothing.
 use mathlib.Core.Path.{_≡_, refl, ap}
 use mathlib.Core.List.{List, [], _∷_, _++_}
 use Rattle.command.specs.declared.Command.{Command}
@@ -8,11 +8,6 @@ use Rattle.book.specs.SessionAfter.{sessionAfter}
 use Rattle.book.specs.InTurn.{afterAll, repliesTo, sessionAfterAll, repliesBehind}
 
 module _ {B : Type 0} (reply : Session → Command → B → Reply) (done : Session → Command → B → B) where
-  pub repliesTo-append : (before cs : List Command) (n : Session) (b : B) →
-      repliesTo reply done (before ++ cs) n b ≡ repliesTo reply done before n b ++ repliesBehind reply done before cs n b
-  repliesTo-append [] cs n b = refl
-  repliesTo-append (c ∷ before) cs n b = ap (reply n c b ∷_) (repliesTo-append before cs (sessionAfter c (reply n c b) n) (done n c b))
-
   -- One command among others: it is answered on the book that those before it leave.
   pub repliesTo-among : (before : List Command) (c : Command) (after : List Command) (n : Session) (b : B) →
       repliesTo reply done (before ++ (c ∷ after)) n b ≡
