@@ -33,13 +33,13 @@ pub(super) fn batch(text: &str) -> Result<Vec<u8>, String> {
 
 /// The bytes of a queue for each panel: a panel in words says whose the commands behind it are.
 pub(super) fn queues(text: &str) -> Result<Vec<Vec<u8>>, String> {
-    let (mut queues, mut speaks) = (vec![Vec::new()], 0);
+    let (mut queues, mut current) = (vec![Vec::new()], 0);
     for spoken in spoken(text)? {
         match spoken {
-            Spoken::Command(Command::Panel { panel }) => speaks = panel,
+            Spoken::Command(Command::Panel { panel }) => current = panel,
             spoken => {
-                queues.resize_with(queues.len().max(speaks + 1), Vec::new);
-                queues[speaks].extend(spoken.bytes());
+                queues.resize_with(queues.len().max(current + 1), Vec::new);
+                queues[current].extend(spoken.bytes());
             }
         }
     }
@@ -139,11 +139,11 @@ mod tests {
         ] {
             assert_eq!(batch(text).as_ref(), Ok(&bytes), "{text:?}");
         }
-        assert_eq!(batch("panel 3 delete 7 scan 1 2 32"), Ok(encode(&SWEEP)));
+        assert_eq!(batch("panel 3 delete 7 scan 1 2 32"), Ok(encode(&THREE)));
         assert_eq!((batch(""), batch("-")), (Ok(Vec::new()), Ok(Vec::new())));
     }
 
-    const SWEEP: [Command; 3] =
+    const THREE: [Command; 3] =
         [Command::Panel { panel: 3 }, Command::Delete { key: 7 }, Command::Scan { low: 1, high: 2, most: 32 }];
 
     #[test]
