@@ -191,7 +191,7 @@ lengths pool =
 pub node-limits : map nodeLimit (4 ∷ 64 ∷ []) ≡ 20 ∷ 620 ∷ []
 node-limits = refl
 
--- A pool that has no length named above is refused with 1 by both calls.
+-- A pool that has no length named above is refused with 1 by prepare and batch.
 pub wrong-length-prepare : (pool : List ℕ) (t : Tariff) → poolLength pool ≡ false → prepareOf pool t .number ≡ 1
 unfolding prepareOf
 wrong-length-prepare pool t e = rw e refl

@@ -100,11 +100,11 @@ pub worked-answers :
 unfolding answerBytes field
 worked-answers = refl
 
-pub worked-sweeps :
+pub worked-scans :
     map scanBytes ([] ∷ ((7, 100) ∷ []) ∷ []) ≡
     (0x84 ∷ 0 ∷ 0 ∷ []) ∷ (0x84 ∷ 0 ∷ 8 ∷ 0 ∷ 0 ∷ 0 ∷ 7 ∷ 0 ∷ 0 ∷ 0 ∷ 100 ∷ []) ∷ []
 unfolding scanBytes field
-worked-sweeps = refl
+worked-scans = refl
 
 -- "Batch: 0 to 32,768 bytes." Two puts and 4,678 gets have 2 × 11 + 4,678 × 7 = 32,768 bytes. They are read by the law of what is spelled, not
 -- command by command.

@@ -1,4 +1,4 @@
--- The two calls: from the entry bytes of every buffer, and the numbers given, to everything that a call leaves (document 01, "Questions
+-- Prepare and batch: from the entry bytes of every buffer, and the numbers given, to everything that a call leaves (document 01, "Questions
 -- before the work"; document 02, P2). The contracts of the entry points cite these two definitions. Assumes nothing.
 use mathlib.Core.Bool.{Bool, _&&_}
 use mathlib.Core.List.{List}

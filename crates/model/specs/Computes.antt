@@ -81,7 +81,7 @@ unfolding storeView.greatest storeView.pieces storeView.buffered storeView.pages
     storeCheckpoint.scoreIn storeCheckpoint.complete storeReopen.cellsIn storeReopen.reopened storeReopen.blocksPass storeReopen.pagesPass
 ofStore = tt
 
--- The book, and the two calls.
+-- The book, prepare and batch.
 unfoldable pub computes : Unit {0}
 unfolding ofBytes ofPages ofTree ofStore bookBook.serve bookBook.charge bookCommand.requests bookCommand.refuses bookCommand.answer bookInTurn.eachPanel
     modelState.bookOf modelState.serve modelBatch.closed modelMount.stateOf modelMount.threePages modelMount.scoresBelow modelMount.treeSound

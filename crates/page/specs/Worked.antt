@@ -63,7 +63,7 @@ preparedNode = page 2 (log (entry 0 1 (link Leaf 0xFFFFFFFF) ∷ []))
 abbrev pub preparedCheckpoint : Page
 preparedCheckpoint = page 3 (checkpoint (some workedTariff) (record { id = 0; score = 0 } ∷ []) (some 1))
 
--- The worked batch's log page: 7 hung with 100, and stripped.
+-- The worked batch's log page: 7 put with 100, and deleted.
 abbrev pub workedLog : Page
 workedLog = page 4 (log (entry 0 1 (put 7 100) ∷ entry 0 1 (remove 7) ∷ []))
 

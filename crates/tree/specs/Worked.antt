@@ -155,7 +155,7 @@ record Cases : Type 0 where
   replaces : putRequests 4 4 (between .table) 133 0 ≡ read 0 ∷ read 1 ∷ edit 1 (put 133 0) ∷ []
   fits : putRequests 4 4 (between .table) 7 0 ≡ read 0 ∷ read 2 ∷ edit 2 (put 7 0) ∷ []
   -- a delete of a present key is one edit, of an absent one reads alone
-  strips : deleteRequests 4 (between .table) 110 ≡ read 0 ∷ read 1 ∷ edit 1 (remove 110) ∷ []
+  removes : deleteRequests 4 (between .table) 110 ≡ read 0 ∷ read 1 ∷ edit 1 (remove 110) ∷ []
   absent : deleteRequests 4 (between .table) 7 ≡ read 0 ∷ read 2 ∷ []
   -- a scan: `most` met at a leaf's end reads no further; one more wanted, or the last key equal to the high one, reads the next
   -- leaf; an empty leaf is read; low above high reads nothing
@@ -183,7 +183,7 @@ cases =
       silent = refl;
       replaces = refl;
       fits = refl;
-      strips = refl;
+      removes = refl;
       absent = refl;
       enough = refl;
       onward = refl;
