@@ -12,7 +12,7 @@ mod tree;
 use crate::account::Tariff;
 use crate::layout::{node_limit, MAX_TARIFF};
 use crate::random::Random;
-use crate::reference::Ledger;
+use crate::reference::PaperBook;
 use draft::Draft;
 use spelling::Spelling;
 
@@ -61,7 +61,7 @@ impl PoolStyle {
 /// A foreign pool, and what it spells.
 pub struct Foreign {
     pub pool: Vec<u8>,
-    pub ledger: Ledger,
+    pub paper: PaperBook,
 }
 
 /// Makes a foreign pool that opens.
@@ -69,8 +69,9 @@ pub fn make(random: &mut Random, style: PoolStyle) -> Foreign {
     let spelling = Spelling::random(random, style);
     let draft = Draft::of(random, &spelling, style);
     let tariff = Tariff::from_numbers(spelling.tariff).expect("a random tariff is in range");
-    let ledger = Ledger { limit: node_limit(style.blocks), tariff, nodes: spelling.nodes, accounts: spelling.accounts };
-    Foreign { pool: draft.bytes(), ledger }
+    let paper =
+        PaperBook { limit: node_limit(style.blocks), tariff, nodes: spelling.nodes, accounts: spelling.accounts };
+    Foreign { pool: draft.bytes(), paper }
 }
 
 /// A random tariff in range, extremes among them.

@@ -17,7 +17,7 @@ use crate::tree::{self, Step};
 
 /// Tree, modes and scores.
 #[derive(Clone, PartialEq, Eq, Debug)]
-pub struct Ledger {
+pub struct PaperBook {
     pub limit: usize,
     pub tariff: Tariff,
     /// Nodes and their accounts, by id.
@@ -25,7 +25,7 @@ pub struct Ledger {
     pub accounts: Vec<Account>,
 }
 
-/// One node request as the ledger served it.
+/// One node request as the paper book served it.
 #[derive(Clone, Copy, PartialEq, Eq, Debug)]
 pub struct Line {
     pub id: usize,
@@ -49,10 +49,10 @@ pub struct Run {
     pub ceilings: Ceilings,
 }
 
-impl Ledger {
-    /// The ledger of a fresh pool: one empty leaf.
-    pub fn prepared(limit: usize, tariff: Tariff) -> Ledger {
-        Ledger { limit, tariff, nodes: vec![Node::empty_leaf()], accounts: vec![Account::default()] }
+impl PaperBook {
+    /// The paper book of a fresh pool: one empty leaf.
+    pub fn prepared(limit: usize, tariff: Tariff) -> PaperBook {
+        PaperBook { limit, tariff, nodes: vec![Node::empty_leaf()], accounts: vec![Account::default()] }
     }
 
     /// Runs an accepted batch, or the joined commands of a desk. A refused call changes nothing and is not fed.

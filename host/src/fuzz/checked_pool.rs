@@ -20,7 +20,7 @@ use crate::mount::{read, Mounted};
 use crate::node::Pair;
 use crate::page::{is_blank, sums_wrap};
 use crate::random::Random;
-use crate::reference::{in_turns, Ledger, Run};
+use crate::reference::{in_turns, PaperBook, Run};
 use crate::refusal::Refusal;
 use crate::score_order;
 use crate::tree::{self, IDS_USED_UP};
@@ -28,7 +28,7 @@ use crate::tree::{self, IDS_USED_UP};
 /// A pool, and what the reference model and an ordered map say of it.
 pub(super) struct CheckedPool {
     pool: Vec<u8>,
-    ledger: Ledger,
+    paper: PaperBook,
     map: BTreeMap<u32, u32>,
     /// What each node was charged; for a prepared pool alone.
     charges: Option<Vec<NodeCharges>>,
@@ -51,8 +51,8 @@ impl CheckedPool {
         tally.calls += 1;
         let tariff = Tariff::from_numbers(numbers).filter(|_| number == 0);
         let tariff = tariff.ok_or_else(|| format!("prepare with {numbers:?} was refused with {number}"))?;
-        let ledger = Ledger::prepared(node_limit(blocks), tariff);
-        let mut checked = CheckedPool { charges: Some(Vec::new()), ..CheckedPool::with(pool, ledger) };
+        let paper = PaperBook::prepared(node_limit(blocks), tariff);
+        let mut checked = CheckedPool { charges: Some(Vec::new()), ..CheckedPool::with(pool, paper) };
         checked.check_pool()?;
         Ok(checked)
     }
@@ -66,19 +66,19 @@ impl CheckedPool {
         };
         let foreign = foreign::make(random, style);
         count_foreign(tally, style.build, &foreign.pool);
-        CheckedPool { high: style.build == Build::High, ..CheckedPool::with(foreign.pool, foreign.ledger) }
+        CheckedPool { high: style.build == Build::High, ..CheckedPool::with(foreign.pool, foreign.paper) }
     }
 
     /// A pool that opens, compared with what it spells.
     pub fn opened(pool: Vec<u8>, mounted: Mounted) -> CheckedPool {
         let accounts = mounted.rows.iter().map(|row| row.account).collect();
         let limit = node_limit(pool.len() / BLOCK_BYTES);
-        CheckedPool::with(pool, Ledger { limit, tariff: mounted.tariff, nodes: mounted.nodes, accounts })
+        CheckedPool::with(pool, PaperBook { limit, tariff: mounted.tariff, nodes: mounted.nodes, accounts })
     }
 
-    fn with(pool: Vec<u8>, ledger: Ledger) -> CheckedPool {
-        let map = tree::pairs(&ledger.nodes).into_iter().map(|pair| (pair.key, pair.pointer)).collect();
-        CheckedPool { pool, ledger, map, charges: None, puts: 0, last_sequence: 0, high: false }
+    fn with(pool: Vec<u8>, paper: PaperBook) -> CheckedPool {
+        let map = tree::pairs(&paper.nodes).into_iter().map(|pair| (pair.key, pair.pointer)).collect();
+        CheckedPool { pool, paper, map, charges: None, puts: 0, last_sequence: 0, high: false }
     }
 
     pub fn pool(&self) -> &[u8] {
@@ -166,10 +166,10 @@ impl CheckedPool {
 
     /// Makes a call that does these commands, and asks everything of it.
     fn run(&mut self, tally: &mut Tally, call: &mut Call, commands: &[Command]) -> Result<Outcome, String> {
-        let modes = self.ledger.accounts.iter().map(|account| account.mode).collect();
-        let nodes_before = self.ledger.nodes.len();
-        let run = self.ledger.batch(commands);
-        let mut audit = Audit::new(&self.pool, modes, self.ledger.limit, &run.lines);
+        let modes = self.paper.accounts.iter().map(|account| account.mode).collect();
+        let nodes_before = self.paper.nodes.len();
+        let run = self.paper.batch(commands);
+        let mut audit = Audit::new(&self.pool, modes, self.paper.limit, &run.lines);
         let outcome = call.make_observed(&mut audit)?;
         if outcome.number != 0 {
             return Err(format!("a good call was refused with {}", outcome.number));
@@ -193,9 +193,9 @@ impl CheckedPool {
         let count = |wanted: fn(&&Command) -> bool| commands.iter().filter(wanted).count() as u64;
         tally.scans += count(|command| matches!(command, Command::Scan { .. }));
         tally.panels += count(|command| matches!(command, Command::Panel { .. }));
-        tally.multi_page_checkpoints += u64::from(self.ledger.nodes.len() > FIRST_CHECKPOINT_SCORES);
+        tally.multi_page_checkpoints += u64::from(self.paper.nodes.len() > FIRST_CHECKPOINT_SCORES);
         // Splits below the root create one node each, the root's two.
-        let created = (self.ledger.nodes.len() - nodes_before) as u64;
+        let created = (self.paper.nodes.len() - nodes_before) as u64;
         tally.root_splits += created - seen.splits;
         tally.seen.add(seen);
     }
@@ -225,14 +225,14 @@ impl CheckedPool {
     fn check_pool(&mut self) -> Result<(), String> {
         let mounted = read(&self.pool).map_err(|fault| format!("the pool does not open again: {fault}"))?;
         self.last_sequence = mounted.last_sequence;
-        if mounted.tariff != self.ledger.tariff {
+        if mounted.tariff != self.paper.tariff {
             return Err("the tariff has changed".to_string());
         }
         let accounts: Vec<Account> = mounted.rows.iter().map(|row| row.account).collect();
-        if accounts != self.ledger.accounts {
-            return Err(format!("modes and scores {accounts:?}, in the reference model {:?}", self.ledger.accounts));
+        if accounts != self.paper.accounts {
+            return Err(format!("modes and scores {accounts:?}, in the reference model {:?}", self.paper.accounts));
         }
-        if mounted.nodes != self.ledger.nodes {
+        if mounted.nodes != self.paper.nodes {
             return Err("the pool spells other nodes than the reference model has".to_string());
         }
         let pairs = tree::pairs(&mounted.nodes).into_iter();
@@ -244,8 +244,8 @@ impl CheckedPool {
 
     fn check_charges(&mut self, run: &Run, tally: &mut Tally) -> Result<(), String> {
         let Some(nodes) = &mut self.charges else { return Ok(()) };
-        nodes.resize(self.ledger.nodes.len(), NodeCharges::default());
-        charges::check(nodes, &self.ledger.tariff, &run.lines, tally)
+        nodes.resize(self.paper.nodes.len(), NodeCharges::default());
+        charges::check(nodes, &self.paper.tariff, &run.lines, tally)
     }
 }
 

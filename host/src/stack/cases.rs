@@ -9,7 +9,7 @@ use crate::fuzz::Script;
 use crate::input::Input;
 use crate::layout::{BLOCK_BYTES, MAX_BLOCKS, MAX_SCAN_PAIRS, MIN_BLOCKS};
 use crate::random::Random;
-use crate::reference::Ledger;
+use crate::reference::PaperBook;
 use crate::refusal::Refusal;
 use crate::tree::{self, Work};
 
@@ -78,9 +78,9 @@ fn deep_trees(book: &mut dyn Book, input: fn(&[Command]) -> Input) -> Result<usi
     let (mut most, mut most_created) = (0, 0);
     for _ in 0..6 {
         let style = PoolStyle { blocks: MAX_BLOCKS, build: Build::Deep };
-        let Foreign { pool, ledger } = foreign::make(&mut random, style);
-        let (created, put) = splitting_put(&ledger).ok_or("a deep tree has keys")?;
-        let commands = deep_commands(&ledger, put);
+        let Foreign { pool, paper } = foreign::make(&mut random, style);
+        let (created, put) = splitting_put(&paper).ok_or("a deep tree has keys")?;
+        let commands = deep_commands(&paper, put);
         let mut call = Call { input: input(&commands), ..Call::new(pool, &commands) };
         let (outcome, bytes) = make(book, &mut call)?;
         expect(outcome.number, 0)?;
@@ -93,21 +93,21 @@ fn deep_trees(book: &mut dyn Book, input: fn(&[Command]) -> Input) -> Result<usi
 }
 
 /// The put beside a key of the tree that creates the most nodes, and how many those are.
-fn splitting_put(ledger: &Ledger) -> Option<(usize, Command)> {
-    let pairs = tree::pairs(&ledger.nodes).into_iter();
+fn splitting_put(paper: &PaperBook) -> Option<(usize, Command)> {
+    let pairs = tree::pairs(&paper.nodes).into_iter();
     let puts = pairs.map(|pair| Command::Put { key: pair.key.wrapping_add(1), value: 1 });
-    puts.map(|put| (nodes_created(ledger, &put), put)).max_by_key(|&(created, _)| created)
+    puts.map(|put| (nodes_created(paper, &put), put)).max_by_key(|&(created, _)| created)
 }
 
-fn nodes_created(ledger: &Ledger, command: &Command) -> usize {
+fn nodes_created(paper: &PaperBook, command: &Command) -> usize {
     let mut steps = Vec::new();
-    tree::plan(&ledger.nodes, ledger.limit, command, &mut steps);
+    tree::plan(&paper.nodes, paper.limit, command, &mut steps);
     steps.iter().filter(|step| matches!(step.work, Work::Create(_))).count()
 }
 
 /// The put first; then at every twentieth key a get, a put beside it, a delete, a scan to the next and a ceiling.
-fn deep_commands(ledger: &Ledger, put: Command) -> Vec<Command> {
-    let pairs = tree::pairs(&ledger.nodes);
+fn deep_commands(paper: &PaperBook, put: Command) -> Vec<Command> {
+    let pairs = tree::pairs(&paper.nodes);
     let commands = |keys: &[u32]| {
         let (key, high) = (keys[0], keys[1]);
         [

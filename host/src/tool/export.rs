@@ -50,7 +50,7 @@ mod tests {
         for _ in 0..40 {
             let made = foreign::make(&mut random, PoolStyle { blocks: 6, build: Build::Any });
             std::fs::write(&name, &made.pool).expect("is written");
-            assert_eq!(text(&["export", &name]), csv::lines(&tree::pairs(&made.ledger.nodes)));
+            assert_eq!(text(&["export", &name]), csv::lines(&tree::pairs(&made.paper.nodes)));
             at_the_end += u32::from(mount(&made.pool).expect("opens").last_sequence == MAX_SEQUENCE);
         }
         assert!(at_the_end > 0);

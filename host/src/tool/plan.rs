@@ -56,10 +56,12 @@ fn fewest(pairs: usize, nodes: &[Node]) -> (usize, String) {
 }
 
 fn too_many(pairs: usize, needed: usize, blocks: usize) -> String {
-    let (limit, least) = (node_limit(blocks), needed.div_ceil(node_limit(3)) + 2);
-    let hint =
-        if least <= MAX_BLOCKS { format!("give {least} blocks or more") } else { "no pool has more".to_string() };
-    format!("{} take {needed} nodes, and {blocks} blocks have {limit}; {hint}", counted(pairs, "pair"))
+    let hint = match (MIN_BLOCKS..=MAX_BLOCKS).find(|&blocks| needed <= node_limit(blocks)) {
+        Some(least) => format!("give {least} blocks or more"),
+        None => "no pool has more".to_string(),
+    };
+    let (pairs, limit) = (counted(pairs, "pair"), node_limit(blocks));
+    format!("{pairs} take {needed} nodes, and {blocks} blocks have {limit}; {hint}")
 }
 
 #[cfg(test)]

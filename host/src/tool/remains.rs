@@ -216,7 +216,7 @@ mod tests {
     fn pool(random: &mut Random) -> (Vec<u8>, Map) {
         let style = PoolStyle { blocks: random.between(MIN_BLOCKS, 8), build: Build::Any };
         let made = foreign::make(random, style);
-        (made.pool, map(tree::pairs(&made.ledger.nodes)))
+        (made.pool, map(tree::pairs(&made.paper.nodes)))
     }
 
     fn sure(remains: &Remains) -> Map {

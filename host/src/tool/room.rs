@@ -156,7 +156,7 @@ mod tests {
             let style = PoolStyle { blocks: random.between(MIN_BLOCKS, 16), build: Build::Any };
             let (nodes, limit) = match round % 3 {
                 0 => (vec![Node::empty_leaf()], node_limit(style.blocks)),
-                _ => (foreign::make(&mut random, style).ledger.nodes, node_limit(style.blocks)),
+                _ => (foreign::make(&mut random, style).paper.nodes, node_limit(style.blocks)),
             };
             let Room { least, most } = room(&nodes, limit);
             let start = random.next_u32() / 2;

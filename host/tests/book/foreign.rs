@@ -25,9 +25,9 @@ fn foreign_pools_open_as_what_they_spell() {
         };
         let foreign = foreign::make(&mut random, style);
         let mounted = mount(&foreign.pool).unwrap_or_else(|fault| panic!("round {round}: {fault}"));
-        assert_eq!(mounted.nodes, foreign.ledger.nodes);
-        assert_eq!(mounted.rows.iter().map(|row| row.account).collect::<Vec<_>>(), foreign.ledger.accounts);
-        assert_eq!(mounted.tariff, foreign.ledger.tariff);
+        assert_eq!(mounted.nodes, foreign.paper.nodes);
+        assert_eq!(mounted.rows.iter().map(|row| row.account).collect::<Vec<_>>(), foreign.paper.accounts);
+        assert_eq!(mounted.tariff, foreign.paper.tariff);
         assert_eq!(number_of(foreign.pool), 0, "round {round}");
     }
 }
@@ -49,7 +49,7 @@ fn high_pools_have_pages_whose_sums_wrap() {
     let mut wrapped = [0; 2];
     for _ in 0..20 {
         let foreign = foreign::make(&mut random, PoolStyle { blocks: 8, build: Build::High });
-        let keys = foreign.ledger.nodes.iter().flat_map(|node| &node.pairs).map(|pair| pair.key);
+        let keys = foreign.paper.nodes.iter().flat_map(|node| &node.pairs).map(|pair| pair.key);
         assert!(keys.min().is_none_or(|least| least >= 0xFFFF_0000));
         for page in foreign.pool.chunks_exact(PAGE_BYTES).filter(|page| !is_blank(page)) {
             add_wraps(&mut wrapped, sums_wrap(page));

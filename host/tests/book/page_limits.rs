@@ -12,7 +12,7 @@ use yokehour_host::layout::{node_limit, page_range, BLANK, MIN_BLOCKS, NO_LINK, 
 use yokehour_host::mount::mount;
 use yokehour_host::node::{Change, Pair};
 use yokehour_host::page::{Checkpoint, Content, Entry, Page, Score};
-use yokehour_host::reference::Ledger;
+use yokehour_host::reference::PaperBook;
 
 #[test]
 fn a_node_page_has_up_to_24_keys() {
@@ -155,13 +155,13 @@ fn a_checkpoint_page_has_up_to_50_scores_behind_a_tariff_and_54_elsewhere() {
 /// A pool of 13 blocks with exactly so many nodes, grown by ascending keys in one batch.
 fn grown(nodes: usize) -> Fixture {
     let tariff = Tariff::from_numbers(FREE).expect("in range");
-    let mut ledger = Ledger::prepared(node_limit(13), tariff);
+    let mut paper = PaperBook::prepared(node_limit(13), tariff);
     let mut puts: Vec<Command> = Vec::new();
-    while ledger.nodes.len() < nodes {
+    while paper.nodes.len() < nodes {
         puts.push(put(puts.len() as u32, 0));
-        ledger.batch(&puts[puts.len() - 1..]);
+        paper.batch(&puts[puts.len() - 1..]);
     }
-    assert_eq!(ledger.nodes.len(), nodes);
+    assert_eq!(paper.nodes.len(), nodes);
     let mut fixture = Fixture::prepared(13, FREE);
     assert_eq!(fixture.batch(&puts).number, 0);
     fixture
