@@ -1,14 +1,25 @@
--- The commands of a batch in turn, worked, since the reference model and the run share what is said of it: who is charged, and what each command finds.
--- Assumes nothing.
+-- The commands of a batch in turn, worked, since the reference model and the run share what is said of it: who is charged, what each command finds, and
+-- what it is answered. Assumes nothing.
 use mathlib.Core.Path.{_≡_, refl}
-use mathlib.Core.List.{List, [], _∷_, _++_}
+use mathlib.Core.List.{List, [], _∷_, _++_, map}
 use Prim.Native.Nat.{ℕ, _+_, _*_}
 use lib.ListN.{length}
+use Rattle.layout.specs.Layout.{noLeaf, lastKey}
 use Rattle.account.specs.declared.Tariff.{Tariff}
+use Rattle.account.specs.Serve.{fresh}
+use Rattle.pairs.specs.Pairs.{lookup, range, hasAbove}
 use Rattle.command.specs.declared.Command.{Command}
 use Rattle.command.specs.declared.Command.the-variants.{Get, Put, Delete, Scan, Panel, Ceiling}
+use Rattle.command.specs.declared.Answer.the-variants.{Absent, Got, Replaced, Deleted}
 use Rattle.command.specs.Command.{roomFor}
-use Rattle.book.specs.Command.{Reply, listed}
+use Rattle.node.specs.declared.Shape.the-variants.{Leaf}
+use Rattle.node.specs.Node.{node}
+use Rattle.tree.specs.Table.{path, leafFor}
+use Rattle.tree.specs.Get.{getAnswer}
+use Rattle.tree.specs.Put.{fullRun, idsNeeded, putRefused}
+use Rattle.tree.specs.Scan.{stopsIn, pairsFrom, scanAnswer}
+use Rattle.book.specs.Book.{Book}
+use Rattle.book.specs.Command.{Reply, short, listed, nearest, silent, answer}
 use Rattle.book.specs.Session.{Session, atFirst}
 use Rattle.book.specs.InTurn.{eachPanel, afterAll, repliesTo, inRow, total, chargeOn}
 
@@ -69,3 +80,26 @@ worked-row t = refl
 
 pub worked-total : (t : Tariff) → total told noted (λ n c b. 10 * n .panel + length b) four (atFirst t) [] ≡ 66
 worked-total t = refl
+
+-- WHAT EACH IS ANSWERED, on a book of one leaf that has 7 with 100 and FFFFFFFF with 1: a key that is there and one that is not; pairs; the next route
+-- up, to the last key there is; a panel.
+abbrev oneLeaf : Book
+oneLeaf = record { count = 1; table = λ i. node Leaf ((7, 100) ∷ (lastKey, 1) ∷ []) noLeaf; account = λ i. fresh }
+
+pub worked-answers : (t : Tariff) →
+    map (λ c. answer 20 (atFirst t) c oneLeaf)
+    (Get 7 ∷ Get 8 ∷ Put 7 5 ∷ Put 8 5 ∷ Delete 7 ∷ Delete 8 ∷ Scan 0 lastKey 2 ∷ Ceiling 7 ∷ Ceiling 8 ∷ Ceiling lastKey ∷ Panel 3 ∷ []) ≡
+    short (Got 100) ∷
+    short Absent ∷
+    short (Replaced 100) ∷
+    short Absent ∷
+    short (Deleted 100) ∷
+    short Absent ∷
+    listed ((7, 100) ∷ (lastKey, 1) ∷ []) ∷
+    nearest (7, 100) ∷
+    nearest (lastKey, 1) ∷
+    nearest (lastKey, 1) ∷
+    silent ∷
+    []
+unfolding answer getAnswer lookup leafFor path fullRun idsNeeded putRefused range hasAbove stopsIn pairsFrom scanAnswer
+worked-answers t = refl

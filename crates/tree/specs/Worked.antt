@@ -76,6 +76,8 @@ record Splits : Type 0 where
   -- M 24 keys: no split. M 25 keys: 12 and 13.
   keys24 : sizes (puts 24) ≡ 24 ∷ []
   keys25 : sizes (puts 25) ≡ 13 ∷ 12 ∷ 1 ∷ []
+  -- 9: the root is among the full nodes, so that the 25th key needs two ids beside the one in use
+  rootIds : putRefused 2 1 (puts 24 .table) 24 ∷ putRefused 3 1 (puts 24 .table) 24 ∷ [] ≡ true ∷ false ∷ []
   -- the root, a leaf, splits: two new nodes, then it is rewritten above them
   rootSplit : putOn (puts 24) 24 ≡
       read 0 ∷
@@ -114,7 +116,17 @@ unfolding prepared limit afterPut afterPuts puts sizes putOn putRequests putRefu
     finish insert slot update lowerHalf upperHalf middleKey renamed joinPointers pairsOfNode pairsBelow ascends inOrder visitLeaf visitChildren
     visitBranch visit leftmost allMarked complete walkFrom sound
 splits =
-    record { keys24 = refl; keys25 = refl; rootSplit = refl; leafSplit = refl; branchSplit = refl; nodes330 = refl; pairs330 = refl; sound330 = refl }
+    record {
+      keys24 = refl;
+      keys25 = refl;
+      rootIds = refl;
+      rootSplit = refl;
+      leafSplit = refl;
+      branchSplit = refl;
+      nodes330 = refl;
+      pairs330 = refl;
+      sound330 = refl;
+    }
 
 -- A leaf splits in the middle: the slot that led to it has a key, and that key's pointer is renamed.
 between : Book
@@ -166,6 +178,7 @@ record Cases : Type 0 where
   empty : scanOn between 0 120 32 ≡ read 0 ∷ read 2 ∷ read 1 ∷ []
   nothing : scanOn between 9 3 32 ≡ []
   pairs : scanAnswer 4 (between .table) 130 201 32 ≡ run 4 130 ++ run 2 200
+  few : scanAnswer 4 (between .table) 130 250 5 ≡ run 4 130 ++ run 1 200
 
 cases : Cases
 unfolding between limit putOn scanOn putRequests putRefused getAnswer lookup leafFor path fullRun idsNeeded work settle finish insert slot update
@@ -192,4 +205,5 @@ cases =
       empty = refl;
       nothing = refl;
       pairs = refl;
+      few = refl;
     }
