@@ -8,7 +8,8 @@ use Rattle.laws.specs.Lay.{lay}
 use Rattle.layout.specs.Layout.{fewestBlocks, mostBlocks, blockBytes, tableBytes, panels}
 use Rattle.command.specs.declared.Command.{Command}
 use Rattle.command.specs.Batch.{commandsOf, roomForAll}
-use Rattle.model.specs.Call.{mountOf, batchMounted}
+use Rattle.model.specs.Pool.{mountOf}
+use Rattle.model.specs.Call.{batchMounted}
 use Rattle.model.specs.Call as Model
 use Rattle.batch.specs.declared.answer.Outcome.{Outcome}
 

@@ -10,7 +10,9 @@ use borrow.Rule.Slice.PartMut.{putMid}
 use Rattle.laws.specs.Lay.{lay, lay-lent}
 use Rattle.layout.specs.Layout.{tableBytes}
 use Rattle.command.specs.declared.Command.{Command}
-use Rattle.model.specs.Call.{blocksOf, cleared, batchMounted}
+use Rattle.model.specs.Pool.{blocksOf}
+use Rattle.model.specs.Outcome.{cleared}
+use Rattle.model.specs.Call.{batchMounted}
 use Rattle.model.specs.Call as Model
 use Rattle.model.specs.Mount.{Mounted, refused, opened}
 use Rattle.batch.specs.declared.answer.Outcome.{Outcome}

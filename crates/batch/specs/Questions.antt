@@ -14,7 +14,9 @@ use Rattle.command.specs.declared.Command.{Command}
 use Rattle.command.specs.Batch.{commandsOf, roomForAll, askedAs, askedOf}
 use Rattle.book.specs.InTurn.{noCharges}
 use Rattle.book.specs.EachPanel.{length-each}
-use Rattle.model.specs.Call.{refuse, blocksOf, poolLength, cleared, batchOf, batchMounted, mountOf}
+use Rattle.model.specs.Pool.{blocksOf, poolLength, mountOf}
+use Rattle.model.specs.Outcome.{refuse, cleared}
+use Rattle.model.specs.Call.{batchOf, batchMounted}
 use Rattle.prepare.specs.Prepared.{IsPool}
 use Rattle.batch.specs.Left.{refusedWith, wiped, Leaves}
 

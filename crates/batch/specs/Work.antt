@@ -14,7 +14,9 @@ use Rattle.book.specs.Session.{atFirst}
 use Rattle.book.specs.InTurn.{noCharges}
 use Rattle.book.specs.EachPanel.{length-each}
 use Rattle.model.specs.Mount.{Mounted, refused}
-use Rattle.model.specs.Call.{blocksOf, cleared, mountOf, batchMounted, accept}
+use Rattle.model.specs.Pool.{blocksOf, mountOf}
+use Rattle.model.specs.Outcome.{cleared, accept}
+use Rattle.model.specs.Call.{batchMounted}
 use Rattle.demands.specs.OneCall.{blocks-length}
 use Rattle.flash_rows.specs.Worktable.{Worktable, tableFrom}
 use Rattle.flash_blocks.specs.Pages.{pagesOf}

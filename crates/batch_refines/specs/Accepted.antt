@@ -21,7 +21,8 @@ use Rattle.model.specs.State as Model
 use Rattle.model.specs.Batch.{chargeOf}
 use Rattle.model.specs.Mount.{Mounted, refused, opened, mountCells}
 use Rattle.model.specs.Bytes.{cellsOf}
-use Rattle.model.specs.Call.{Outcome, blocksOf, mountBy, mountOf, accept}
+use Rattle.model.specs.Pool.{blocksOf, mountBy, mountOf}
+use Rattle.model.specs.Outcome.{Outcome, accept}
 use Rattle.store_laws.specs.Numbers.{last}
 use Rattle.demands.specs.Mount.{opened-mounts, mounts-ready}
 use Rattle.demands.specs.Run.{Holds}

@@ -2,7 +2,8 @@
 use mathlib.Core.List.{List, [], _∷_, _++_}
 use Prim.Native.Nat.{ℕ}
 use lib.ListN.{replicate, take}
-use Rattle.model.specs.Call.{Outcome, batchOf}
+use Rattle.model.specs.Outcome.{Outcome}
+use Rattle.model.specs.Call.{batchOf}
 use Rattle.cases.specs.Pools.{poolBytes, inFirst, prepared}
 
 -- A small number in four bytes; and the greatest.

@@ -14,7 +14,9 @@ use Rattle.store.specs.Checkpoint.{CheckpointPage, checkpointPages, checkpointO
 use Rattle.store.specs.Reopen.{Cells, cells, reopened}
 use Rattle.model.specs.Mount.{Mounted, refused, opened, numbersLeft, mountCells}
 use Rattle.model.specs.Bytes.{cellsOf}
-use Rattle.model.specs.Call.{Outcome, charge, blocksOf, prepareOf, mountOf, batchOf}
+use Rattle.model.specs.Pool.{blocksOf, mountOf}
+use Rattle.model.specs.Outcome.{Outcome, charge}
+use Rattle.model.specs.Call.{prepareOf, batchOf}
 use Rattle.cases.specs.Pools.{tariff, poolBytes}
 
 -- What a call is lent: the pool, a work table of so many bytes, the batch, an answer buffer of so many bytes. Each byte of the two is 7.

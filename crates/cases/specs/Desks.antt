@@ -11,9 +11,9 @@ use Rattle.desk_queues.specs.Queues as queues
 use Rattle.desk_queues.specs.Queues.{queuesOf}
 use Rattle.desk_queues.specs.Joined as joined
 use Rattle.desk_queues.specs.Joined.{joinedBy}
-use Rattle.model.specs.Call.{Outcome, refuse}
+use Rattle.model.specs.Outcome.{Outcome, refuse}
+use Rattle.model.specs.Call.{deskOf}
 use Rattle.model.specs.Desk as desk
-use Rattle.model.specs.Desk.{deskOf}
 use Rattle.model.specs.Computes.{computes}
 use Rattle.cases.specs.Pools.{poolBytes, inFirst, prepared}
 use Rattle.cases.specs.Batches.{small, greatest, panel, get, put, delete, absent, got, deleted, Result, result, outcomeOf, none}

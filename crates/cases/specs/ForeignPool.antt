@@ -15,7 +15,7 @@ use Rattle.tree.specs.Spells.{mapOf}
 use Rattle.book.specs.Book.{Book}
 use Rattle.model.specs.State.{bookOf}
 use Rattle.model.specs.Mount.{Mounted, refused, opened}
-use Rattle.model.specs.Call.{mountOf}
+use Rattle.model.specs.Pool.{mountOf}
 use Rattle.model.specs.Computes.{computes}
 
 -- Page 32: newest checkpoint.

@@ -18,7 +18,8 @@ use Rattle.node.specs.Change.{remove}
 use Rattle.store.specs.Checkpoint.{checkpointOf, tariffIn, complete}
 use Rattle.store.specs.Reopen.{Cells, reopened, pagesPass}
 use Rattle.model.specs.Mount.{refused, opened, stateOf, treeSound, mountCells}
-use Rattle.model.specs.Call.{poolLength, prepareOf, batchOf}
+use Rattle.model.specs.Pool.{poolLength}
+use Rattle.model.specs.Call.{prepareOf, batchOf}
 use Rattle.cases.specs.Pools.{
   poolBytes,
   inFirst,

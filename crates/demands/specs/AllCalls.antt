@@ -7,7 +7,6 @@ use Prim.Native.Nat.{ℕ, _+_, _≤_, _<_}
 use native.Mathlib.Omega.{arith}
 use Rattle.laws.specs.Every.{Every, both, every-append}
 use Rattle.laws.specs.Every as Every
-use Rattle.laws.specs.BigEndian.{Bytes}
 use Rattle.laws.specs.Update.{sum}
 use Rattle.layout.specs.Layout.{nodeLimit, mostLogPages}
 use Rattle.account.specs.declared.Tariff.{Tariff}
@@ -26,16 +25,15 @@ use Rattle.book.specs.OrderedMap.{mapRun}
 use Rattle.model.specs.State.{bookOf}
 use Rattle.model.specs.Mount.{stateOf}
 use Rattle.model.specs.Bytes.{cellsOf}
-use Rattle.model.specs.Call.{Outcome, charge, blocksOf}
-use Rattle.model.specs.Calls.{Lent, outcome, outcomes, answered, laid, bookIn, workOf, statesBy, allStates, allMoments, fed, commandsIn, fedBook}
+use Rattle.model.specs.Pool.{blocksOf}
+use Rattle.model.specs.Outcome.{Outcome, charge}
+use Rattle.model.specs.Call.{Call, bufferOf, outcome}
+use Rattle.model.specs.Calls.{outcomes, answered, laid, bookIn, workOf, statesBy, allStates, allMoments, fedOf, fed, commandsIn, fedBook}
 use Rattle.model.specs.Calls.{booksAfter, lastBook, allBooks, allCharges, allRequests, mapReplies, mapsAfter}
 use Rattle.demands.specs.Run.{serveAll-table, charges-append, runBook-requests}
-use Rattle.demands.specs.OneCall.{OpenPool, Thin, bookIn-is, fedOf, called}
+use Rattle.demands.specs.CallBytes.{CallBytes, run-bytes}
+use Rattle.demands.specs.OneCall.{OpenPool, Thin, bookIn-is, called}
 use Rattle.demands.specs.Obeys.{Obeys, stands-obeys}
-
--- Every batch is made of bytes.
-abbrev pub OfBytes : List Lent → Type 0
-OfBytes ls = Every (λ l. Bytes (l .batch)) ls
 
 -- Each log node of a pool between calls lies on at most three pages; of a pool with a page that does not check this does not hold.
 abbrev pub ThinCells : ℕ → Option Cells → Type 0
@@ -53,26 +51,26 @@ Spelled t [] (ps ∷ pss) = ⊥
 Spelled t (o ∷ os) [] = ⊥
 Spelled t (o ∷ os) (ps ∷ pss) = Obeys (o .pool) t ps × Spelled t os pss
 
-pub record AllCalled (t : Tariff) (pool : List ℕ) (ls : List Lent) (b : Book) (ps : List Pair) : Type 0 where
-  pub charges : map (λ (o : Outcome). o .charges) (outcomes pool ls) ≡ allCharges (blocksOf pool) t (fed pool ls) b
-  pub requests : map bookOf (allStates pool ls) ≡ allBooks (blocksOf pool) t (fed pool ls) b
-  pub calls : map (λ (o : Outcome). bookIn (o .pool)) (outcomes pool ls) ≡ map some (booksAfter (blocksOf pool) t (fed pool ls) b)
-  pub thin : Every Thin (allMoments pool ls)
-  pub thinCalls : Every (λ (o : Outcome). ThinPool (o .pool)) (outcomes pool ls)
-  pub answers : map answered (outcomes pool ls) ≡ laid ls (mapReplies (blocksOf pool) t (fed pool ls) b ps)
-  pub left : Spelled t (outcomes pool ls) (mapsAfter (blocksOf pool) t (fed pool ls) b ps)
+pub record AllCalled (t : Tariff) (pool : List ℕ) (cs : List Call) (b : Book) (ps : List Pair) : Type 0 where
+  pub charges : map (λ (o : Outcome). o .charges) (outcomes pool cs) ≡ allCharges (blocksOf pool) t (fed pool cs) b
+  pub requests : map bookOf (allStates pool cs) ≡ allBooks (blocksOf pool) t (fed pool cs) b
+  pub calls : map (λ (o : Outcome). bookIn (o .pool)) (outcomes pool cs) ≡ map some (booksAfter (blocksOf pool) t (fed pool cs) b)
+  pub thin : Every Thin (allMoments pool cs)
+  pub thinCalls : Every (λ (o : Outcome). ThinPool (o .pool)) (outcomes pool cs)
+  pub answers : map answered (outcomes pool cs) ≡ laid (map bufferOf cs) (mapReplies (blocksOf pool) t (fed pool cs) b ps)
+  pub left : Spelled t (outcomes pool cs) (mapsAfter (blocksOf pool) t (fed pool cs) b ps)
   -- The charges are those of all node requests of the list in a row.
-  pub total : sum (map charge (outcomes pool ls)) ≡ Book.charges t (allRequests (blocksOf pool) t (fed pool ls) b) b
+  pub total : sum (map charge (outcomes pool cs)) ≡ Book.charges t (allRequests (blocksOf pool) t (fed pool cs) b) b
   pub fits :
-      Fits (nodeLimit (blocksOf pool)) (allRequests (blocksOf pool) t (fed pool ls) b) (b .table) (b .count)
-      (lastBook (blocksOf pool) t (fed pool ls) b .count)
+      Fits (nodeLimit (blocksOf pool)) (allRequests (blocksOf pool) t (fed pool cs) b) (b .table) (b .count)
+      (lastBook (blocksOf pool) t (fed pool cs) b .count)
 
 thin-pool : {t : Tariff} {pool : List ℕ} {b : Book} {ps : List Pair} → OpenPool t pool b ps → ThinPool pool
 unfolding ThinPool stateOf bookOf
 thin-pool o = rw (o .reads) (λ n l. omega (arith, o .ready .says .sound .good .invariant .lean .each n l))
 
 module _ {t : Tariff} where
-  pub all-called : (ls : List Lent) (pool : List ℕ) (b : Book) (ps : List Pair) → OfBytes ls → OpenPool t pool b ps → AllCalled t pool ls b ps
+  pub all-called : (cs : List Call) (pool : List ℕ) (b : Book) (ps : List Pair) → Every CallBytes cs → OpenPool t pool b ps → AllCalled t pool cs b ps
   all-called [] pool b ps bytes o =
       record {
         charges = refl;
@@ -85,40 +83,40 @@ module _ {t : Tariff} where
         total = refl;
         fits = refl;
       }
-  all-called (l ∷ ls) pool b ps (both h bytes) o =
-      let x = called o l h in
+  all-called (c ∷ cs) pool b ps (both h bytes) o =
+      let x = called o c (run-bytes c h) in
       let B = blocksOf pool in
-      let next = outcome pool l .pool in
-      let cs = commandsIn (fedOf pool l) in
-      let b′ = fedBook B t (fedOf pool l) b in
-      let ps′ = mapRun (nodeLimit B) cs (atFirst t) b ps in
-      let y = all-called ls next b′ ps′ bytes (x .stands) in
+      let next = outcome pool c .pool in
+      let xs = commandsIn (fedOf pool c) in
+      let b′ = fedBook B t (fedOf pool c) b in
+      let ps′ = mapRun (nodeLimit B) xs (atFirst t) b ps in
+      let y = all-called cs next b′ ps′ bytes (x .stands) in
       let e : blocksOf next ≡ B = x .length in
-      let rs = requestsBook (nodeLimit B) cs (atFirst t) b in
+      let rs = requestsBook (nodeLimit B) xs (atFirst t) b in
       record {
-        charges = ap₂ {B = List (List ℕ)} _∷_ (x .charges) (y .charges ∙ ap (λ (k : ℕ). allCharges k t (fed next ls) b′) e);
+        charges = ap₂ {B = List (List ℕ)} _∷_ (x .charges) (y .charges ∙ ap (λ (k : ℕ). allCharges k t (fed next cs) b′) e);
         requests =
-            map-append bookOf (statesBy B (workOf pool l)) (allStates next ls) ∙
-            ap₂ {B = List Book} _++_ (x .passed) (y .requests ∙ ap (λ (k : ℕ). allBooks k t (fed next ls) b′) e);
+            map-append bookOf (statesBy B (workOf pool c)) (allStates next cs) ∙
+            ap₂ {B = List Book} _++_ (x .passed) (y .requests ∙ ap (λ (k : ℕ). allBooks k t (fed next cs) b′) e);
         calls =
-            ap₂ {B = List (Option Book)} _∷_ (bookIn-is (x .stands)) (y .calls ∙ ap (λ (k : ℕ). map some (booksAfter k t (fed next ls) b′)) e);
+            ap₂ {B = List (Option Book)} _∷_ (bookIn-is (x .stands)) (y .calls ∙ ap (λ (k : ℕ). map some (booksAfter k t (fed next cs) b′)) e);
         thin = every-append (x .thin) (y .thin);
         thinCalls = both (thin-pool (x .stands)) (y .thinCalls);
         answers =
-            ap₂ {B = List (List ℕ × ℕ)} _∷_ (x .answers) (y .answers ∙ ap (λ (k : ℕ). laid ls (mapReplies k t (fed next ls) b′ ps′)) e);
+            ap₂ {B = List (List ℕ × ℕ)} _∷_ (x .answers) (y .answers ∙ ap (λ (k : ℕ). laid (map bufferOf cs) (mapReplies k t (fed next cs) b′ ps′)) e);
         left =
-            (stands-obeys (x .stands), subst (λ (k : ℕ). Spelled t (outcomes next ls) (mapsAfter k t (fed next ls) b′ ps′)) e (y .left));
+            (stands-obeys (x .stands), subst (λ (k : ℕ). Spelled t (outcomes next cs) (mapsAfter k t (fed next cs) b′ ps′)) e (y .left));
         total =
             ap₂ _+_ (x .paid)
             (y .total ∙
-            ap₂ (λ (k : ℕ) (z : Book). Book.charges t (allRequests k t (fed next ls) b′) z) e (runBook-requests (nodeLimit B) cs (atFirst t) b)) ∙
-            sym (charges-append t rs (allRequests B t (fed next ls) b′) b);
+            ap₂ (λ (k : ℕ) (z : Book). Book.charges t (allRequests k t (fed next cs) b′) z) e (runBook-requests (nodeLimit B) xs (atFirst t) b)) ∙
+            sym (charges-append t rs (allRequests B t (fed next cs) b′) b);
         fits =
-            fits-append (nodeLimit B) rs (allRequests B t (fed next ls) b′) (b .table) (b .count) (b′ .count)
-            (lastBook B t (fed next ls) b′ .count) (x .fits)
-            (subst (λ (z : Table). Fits (nodeLimit B) (allRequests B t (fed next ls) b′) z (b′ .count) (lastBook B t (fed next ls) b′ .count))
-            (ap (λ (z : Book). z .table) (runBook-requests (nodeLimit B) cs (atFirst t) b) ∙ serveAll-table t rs b)
+            fits-append (nodeLimit B) rs (allRequests B t (fed next cs) b′) (b .table) (b .count) (b′ .count)
+            (lastBook B t (fed next cs) b′ .count) (x .fits)
+            (subst (λ (z : Table). Fits (nodeLimit B) (allRequests B t (fed next cs) b′) z (b′ .count) (lastBook B t (fed next cs) b′ .count))
+            (ap (λ (z : Book). z .table) (runBook-requests (nodeLimit B) xs (atFirst t) b) ∙ serveAll-table t rs b)
             (subst
-            (λ (k : ℕ). Fits (nodeLimit k) (allRequests k t (fed next ls) b′) (b′ .table) (b′ .count) (lastBook k t (fed next ls) b′ .count)) e
+            (λ (k : ℕ). Fits (nodeLimit k) (allRequests k t (fed next cs) b′) (b′ .table) (b′ .count) (lastBook k t (fed next cs) b′ .count)) e
             (y .fits)));
       }

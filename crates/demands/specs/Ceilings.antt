@@ -19,7 +19,9 @@ use Rattle.book.specs.EachPanel.{each-same}
 use Rattle.model.specs.State.{State}
 use Rattle.model.specs.Batch.{replyOf, done, cost, run, chargeOf, closed}
 use Rattle.model.specs.Bytes.{bytesOf}
-use Rattle.model.specs.Call.{Outcome, blocksOf, accept, batchOf}
+use Rattle.model.specs.Pool.{blocksOf}
+use Rattle.model.specs.Outcome.{Outcome, accept}
+use Rattle.model.specs.Call.{batchOf}
 use Rattle.demands.specs.TwoBatches.{both-end}
 
 -- The same commands in the same order, but that such a scan may stand for a ceiling.

@@ -34,13 +34,13 @@ use Rattle.book.specs.SessionAfter.{sessionAfter}
 use Rattle.book.specs.EachPanel.{length-each, each-at}
 use Rattle.book.specs.Batch.{doneBook, costBook, chargeBook, chargesBook}
 use Rattle.book.specs.Billed.{billCommands, billTotal, billed}
-use Rattle.model.specs.Call.{Outcome, blocksOf}
-use Rattle.model.specs.Calls.{commandsBy, commandsIn}
-use Rattle.model.specs.AnyCalls.{DeskLent, desk, callOutcome, joinedOr, callFed}
-use Rattle.demands.specs.Ends.{Ends, asFound, tableCleared, done, batch-ends}
-use Rattle.demands.specs.Desk.{desk-is-batch, desk-ends}
-use Rattle.demands.specs.OneCall.{OpenPool}
-use Rattle.demands.specs.AnyCall.{call-charges}
+use Rattle.model.specs.Pool.{blocksOf}
+use Rattle.model.specs.Call.{DeskLent, desk, joinedOr, outcome}
+use Rattle.model.specs.QuestionLaws.{joined-read, Passes}
+use Rattle.model.specs.Calls.{fedOf, commandsBy, commandsIn}
+use Rattle.demands.specs.Ends.{accepted-ends}
+use Rattle.demands.specs.OneCall.{OpenPool, called}
+use Rattle.demands.specs.CallBytes.{run-bytes}
 
 -- WHAT A CALL READS AND RUNS.
 pub record DeskReads (pool : List ℕ) (d : DeskLent) : Type 0 where
@@ -48,28 +48,24 @@ pub record DeskReads (pool : List ℕ) (d : DeskLent) : Type 0 where
   pub cut : queuesOf (d .lengths) (d .queues) ≡ some queues
   pub commands : List (List Command)
   pub read : allCommands queues ≡ some commands
-  pub served : commandsIn (callFed pool (desk d)) ≡ interleaved (turns commands)
+  pub served : commandsIn (fedOf pool (desk d)) ≡ interleaved (turns commands)
 
-module _ (pool : List ℕ) (d : DeskLent) (bytes : Bytes (d .queues)) (accepted : callOutcome pool (desk d) .number ≡ 0) where
-  -- It did not end before the joined bytes were asked about,
+module _ (pool : List ℕ) (d : DeskLent) (bytes : Bytes (d .queues)) (accepted : outcome pool (desk d) .number ≡ 0) where
+  passes : Passes pool (desk d)
+  passes = accepted-ends pool (desk d) accepted .passes
+
+  -- There are joined bytes,
   joined-there : joinedBy (queuesOf (d .lengths) (d .queues)) ≡ none → ⊥
-  joined-there e = let r = desk-ends pool (d .table) (d .lengths) (d .queues) (d .buffer) e in omega (arith, r .refused)
+  joined-there e = none-some (joined-read none ∙ sym (ap (λ (o : Option (List ℕ)). commandsOf (joinedOr o)) e) ∙ passes .are)
 
   module _ (qs : List (List ℕ)) (cut : queuesOf (d .lengths) (d .queues) ≡ some qs) (css : List (List Command)) (read : allCommands qs ≡ some css) where
-    joined-are : joinedOf qs ≡ some (joinedBytes css)
+    joined-are : joinedBy (queuesOf (d .lengths) (d .queues)) ≡ some (joinedBytes css)
     unfolding joinedOf
-    joined-are = ap bytesBy read
+    joined-are = ap joinedBy cut ∙ ap bytesBy read
 
     -- and these are commands,
     joined-valid : commandsOf (joinedBytes css) ≡ none → ⊥
-    joined-valid e =
-        go _ (ap (λ (o : Outcome). o .number) (desk-is-batch pool (d .table) (d .lengths) (d .queues) (d .buffer) qs (joinedBytes css) cut joined-are))
-        (batch-ends pool (d .table) (joinedBytes css) (d .buffer))
-      where
-        go : (o : Outcome) → callOutcome pool (desk d) .number ≡ o .number → Ends pool (d .table) (joinedBytes css) (d .buffer) o → ⊥
-        go o f (asFound n l h) = omega arith
-        go o f (tableCleared n l h) = omega arith
-        go o f (done t cs s p u q r m) = none-some (sym e ∙ q)
+    joined-valid e = none-some (sym e ∙ sym (ap (λ (o : Option (List ℕ)). commandsOf (joinedOr o)) joined-are) ∙ passes .are)
 
     -- those of the turns, each with its 05 before it.
     joined-turns : commandsOf (joinedBytes css) ≡ some (interleaved (turns css))
@@ -80,9 +76,9 @@ module _ (pool : List ℕ) (d : DeskLent) (bytes : Bytes (d .queues)) (accepted 
         go (inl l) = joined-short (cut-bytes (d .lengths) (d .queues) qs cut bytes) (cut-few (d .lengths) (d .queues) qs cut) (all-read qs css read) l
         go (inr l) = absurd (joined-valid (joined-long css l))
 
-    runs : commandsIn (callFed pool (desk d)) ≡ interleaved (turns css)
+    runs : commandsIn (fedOf pool (desk d)) ≡ interleaved (turns css)
     runs =
-        ap₂ (λ (n : ℕ) (o : Option (List ℕ)). commandsBy (eqb n 0) (commandsOf (joinedOr o))) accepted (ap joinedBy cut ∙ joined-are) ∙
+        ap₂ (λ (n : ℕ) (o : Option (List ℕ)). commandsBy (eqb n 0) (commandsOf (joinedOr o))) accepted joined-are ∙
         ap (commandsBy true) joined-turns
 
   pub desk-reads : DeskReads pool d
@@ -170,10 +166,10 @@ module _ (limit : ℕ) where
 -- EACH CHARGE of an accepted call, on a pool that stands.
 pub desk-charge : {t : Tariff} {pool : List ℕ} {b : Book} {ps : List Pair} → OpenPool t pool b ps → (d : DeskLent) → Bytes (d .queues) →
     (r : DeskReads pool d) (p : ℕ) →
-    getD (callOutcome pool (desk d) .charges) p 0 ≡ billTotal (billed (nodeLimit (blocksOf pool)) p (turns (r .commands)) (atFirst t) b)
+    getD (outcome pool (desk d) .charges) p 0 ≡ billTotal (billed (nodeLimit (blocksOf pool)) p (turns (r .commands)) (atFirst t) b)
 desk-charge {t} {pool} {b} {ps} o d bytes r p =
     let limit = nodeLimit (blocksOf pool) in
-    let charged = call-charges o (desk d) bytes ∙ ap (λ (cs : List Command). chargesBook limit cs (atFirst t) b) (r .served) in
+    let charged = called o (desk d) (run-bytes (desk d) bytes) .charges ∙ ap (λ (cs : List Command). chargesBook limit cs (atFirst t) b) (r .served) in
     let few : length (r .commands) ≤ panels =
     omega (arith, read-length (all-read (r .queues) (r .commands) (r .read)), cut-few (d .lengths) (d .queues) (r .queues) (r .cut)) in
     ap (λ (xs : List ℕ). getD xs p 0) charged ∙ billed-charge limit (r .commands) (atFirst t) b few p

@@ -15,27 +15,28 @@ use Rattle.book.specs.Session.{Session}
 use Rattle.book.specs.SessionAfter.{sessionAfter}
 use Rattle.book.specs.Batch.{doneBook}
 use Rattle.book.specs.OrderedMap.{mapAnswer, mapAfter, mapRun}
-use Rattle.model.specs.Calls.{accepted, commandsBy, commandsIn}
-use Rattle.model.specs.AnyCalls.{Call, callOutcome, asBatch, callFed}
+use Rattle.model.specs.Outcome.{accepted}
+use Rattle.model.specs.Call.{Call, bytesRun, outcome}
+use Rattle.model.specs.Calls.{fedOf, commandsBy, commandsIn}
 use Rattle.demands.specs.Commands.{ValidAll}
 use Rattle.demands.specs.Run.{Holds, command-holds}
 use Rattle.demands.specs.CommandBytes.{commandsOf-batch}
-use Rattle.demands.specs.AnyCall.{CallBytes, batch-bytes}
+use Rattle.demands.specs.CallBytes.{CallBytes, run-bytes}
 
 -- THE COMMANDS of a call, and those before another, are valid.
 valid-front : (before cs : List Command) → ValidAll (before ++ cs) → ValidAll before
 valid-front [] cs valid = tt
 valid-front (c ∷ before) cs valid = (valid .0, valid-front before cs (valid .1))
 
-pub call-valid : (pool : List ℕ) (c : Call) → CallBytes c → ValidAll (commandsIn (callFed pool c))
-call-valid pool c bytes = go (accepted (callOutcome pool c)) (commandsOf (asBatch c .batch)) refl
+pub call-valid : (pool : List ℕ) (c : Call) → CallBytes c → ValidAll (commandsIn (fedOf pool c))
+call-valid pool c bytes = go (accepted (outcome pool c)) (commandsOf (bytesRun c)) refl
   where
-    go : (a : Bool) (o : Option (List Command)) → commandsOf (asBatch c .batch) ≡ o → ValidAll (commandsBy a o)
+    go : (a : Bool) (o : Option (List Command)) → commandsOf (bytesRun c) ≡ o → ValidAll (commandsBy a o)
     go false o e = tt
     go true none e = tt
-    go true (some cs) e = commandsOf-batch (asBatch c .batch) (batch-bytes c bytes) cs e .valid
+    go true (some cs) e = commandsOf-batch (bytesRun c) (run-bytes c bytes) cs e .valid
 
-pub before-valid : (pool : List ℕ) (c : Call) → CallBytes c → (before cs : List Command) → commandsIn (callFed pool c) ≡ before ++ cs → ValidAll before
+pub before-valid : (pool : List ℕ) (c : Call) → CallBytes c → (before cs : List Command) → commandsIn (fedOf pool c) ≡ before ++ cs → ValidAll before
 before-valid pool c bytes before cs e = valid-front before cs (subst ValidAll e (call-valid pool c bytes))
 
 -- THE MAP after valid commands: its keys ascend and have 32 bits.

@@ -37,14 +37,15 @@ use Rattle.book.specs.Book.{Book}
 use Rattle.model.specs.State.{State, bookOf}
 use Rattle.model.specs.Mount.{opened, stateOf, threePages, scoresBelow, treeSound, numbersLeft}
 use Rattle.model.specs.Bytes.{bytesOf, cellsOf}
-use Rattle.model.specs.Call.{blocksOf, poolLength, mountBy, mountOf}
+use Rattle.model.specs.Pool.{blocksOf, poolLength, mountBy, mountOf}
+use Rattle.model.specs.PoolLaws.{is-pool}
 use Rattle.model.specs.Calls.{bookBy, bookIn}
 use Rattle.demands.specs.Mount.{Sealed, sealed-mounts, mounts-sealed, mounts-opened, opened-mounts, Ready, sealed-ready}
 use Rattle.demands.specs.Mount.{three-each, ranged, rest-tests, range-tests, kept}
 use Rattle.demands.specs.Mount as Mount
 use Rattle.demands.specs.Close.{three-below}
 use Rattle.demands.specs.PoolBytes.{CellFits, cellsOf-bytesOf, bytes-bytesOf, IsPool, cellsOf-is}
-use Rattle.demands.specs.OneCall.{OpenPool, sized}
+use Rattle.demands.specs.OneCall.{OpenPool}
 
 -- THE LAYOUT: what document 01 asks of a pool, but for question 8, whether its greatest sequence number is at most 4,000,000,000.
 pub record Obeys (pool : List ℕ) (t : Tariff) (ps : List Pair) : Type 0 where
@@ -153,7 +154,7 @@ module _ {pool : List ℕ} {t : Tariff} {ps : List Pair} (o : Obeys pool t ps) w
             subst (λ (z : Book). Ready (blocksOf pool) t reopening z ps) (ap (λ (z : Store). bookOf (stateOf z)) again ∙ obeys-book b e)
             (subst (Ready (blocksOf pool) t reopening (bookOf reopening))
             (ap (λ (z : Store). mapOf (bookOf (stateOf z) .count) (bookOf (stateOf z) .table)) again ∙ obeys-map)
-            (sealed-ready (sized pool (o .size) .few) obeys-sealed));
+            (sealed-ready (is-pool pool (o .size) .least) obeys-sealed));
       }
 
 -- Two readings of one pool find the same pages, and so the same map.
@@ -194,12 +195,12 @@ module _ (pool : List ℕ) (bytes : Bytes pool) (t : Tariff) (size : poolLength 
   cells-are = cells-blocksIn pagesInBlock B c (omega (arith, block-tests .size)) (block-tests .filled)
 
   image : IsPool pool c
-  image = cellsOf-is pool bytes (32 * B) (omega (arith, sized pool size .bytes)) c r
+  image = cellsOf-is pool bytes (32 * B) (omega (arith, is-pool pool size .whole)) c r
 
   sealed-obeys : Obeys pool t (mapOf (bookOf (stateOf (reopened B c)) .count) (bookOf (stateOf (reopened B c)) .table))
   unfolding reopened
   sealed-obeys =
-      let four = sized pool size .few in
+      let four = is-pool pool size .least in
       record {
         size = size;
         blocks = bs;

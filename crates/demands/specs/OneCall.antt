@@ -1,23 +1,22 @@
--- One batch on a pool that stands between calls, whatever its bytes, with any work table and answer buffer: what it returns and leaves is
--- what the reference model and the ordered map say. Assumes nothing.
+-- One call on a pool that stands between calls, whatever its bytes, with any work table and answer buffer: what it returns and leaves is what
+-- the reference model and the ordered map say. Assumes nothing.
 use mathlib.Core.Path.{_≡_, refl, sym, ap, _∙_, subst}
 use mathlib.Core.Bool.{Bool, true, false}
 use mathlib.Core.List.{List, [], map}
 use mathlib.Core.Option.{Option, none, some}
-use Prim.Native.Nat.{ℕ, _*_, _/_, _≤_, _<_}
-use native.Mathlib.Nat.{mul-div-cancel-left}
+use Prim.Native.Nat.{ℕ, _≤_, _<_}
 use native.Mathlib.Omega.{arith}
-use borrow.Author.Tests.{leb-true, eqb-true, le-leb, eq-eqb, ne-eqb}
-use lib.Dec.{eqb, leb}
+use borrow.Author.Tests.{ne-eqb}
+use lib.Dec.{eqb}
 use lib.ListN.{length}
-use Rattle.laws.specs.Tests.{and-left, and-right, and-both}
+use Rattle.laws.specs.Tests.{choose}
 use Rattle.laws.specs.Every.{Every, every-weaken}
 use Rattle.laws.specs.Every as Every
 use Rattle.laws.specs.Lay.{lay-nil}
 use Rattle.laws.specs.Update.{sum}
 use Rattle.laws.specs.BigEndian.{Bytes}
 use Rattle.laws.specs.Options.{some-same}
-use Rattle.layout.specs.Layout.{blockBytes, fewestBlocks, mostBlocks, nodeLimit, mostLogPages, noLeaf}
+use Rattle.layout.specs.Layout.{nodeLimit, mostLogPages, noLeaf}
 use Rattle.account.specs.declared.Tariff.{Tariff}
 use Rattle.account.specs.Range.{limit-some}
 use Rattle.pairs.specs.Pairs.{Pair}
@@ -41,15 +40,18 @@ use Rattle.model.specs.State.{State, bookOf}
 use Rattle.model.specs.Batch.{run, chargeOf, chargesOf, closed}
 use Rattle.model.specs.Mount.{opened, stateOf, mountCells}
 use Rattle.model.specs.Bytes.{bytesOf, cellsOf}
-use Rattle.model.specs.Call.{Outcome, charge, refuse, blocksOf, poolLength, mountBy, mountOf, accept}
-use Rattle.model.specs.Calls.{Lent, outcome, answered, laidOver, accepted, bookIn, Work, workBy, workOf, statesBy, momentsBy, Fed, commandsBy, commandsIn}
+use Rattle.model.specs.Pool.{blocksOf, poolLength, mountBy, mountOf}
+use Rattle.model.specs.PoolLaws.{is-pool, blocks-length, whole-length}
+use Rattle.model.specs.Outcome.{Outcome, charge, refuse, accept, accepted, Work}
+use Rattle.model.specs.Call.{Call, tableOf, bufferOf, bytesRun, workIn, outcome}
+use Rattle.model.specs.Calls.{answered, laidOver, bookIn, workOf, statesBy, momentsBy, fedOf, commandsBy, commandsIn}
 use Rattle.demands.specs.Says.{Says}
 use Rattle.demands.specs.Run as Run
 use Rattle.demands.specs.Run.{Batched, batch-batched, runBook-requests, total-requests}
 use Rattle.demands.specs.Panels.{sum-charges}
 use Rattle.demands.specs.Mount.{Sealed, Ready, opened-mounts}
 use Rattle.demands.specs.Close.{closed-says, closed-sealed, closed-ready, closed-checkpoint, score-of}
-use Rattle.demands.specs.Ends.{Ends, asFound, tableCleared, done, batch-ends}
+use Rattle.demands.specs.Ends.{Ends, refused, done, call-ends}
 use Rattle.demands.specs.CommandBytes.{Batch, commandsOf-batch}
 use Rattle.demands.specs.ChargesFit.{mostBatchCharge, batch-charge}
 use Rattle.demands.specs.ScoreOrder.{InNodeOrder, closed-in-order}
@@ -72,41 +74,10 @@ Thin m = (n : ℕ) → n < m .nodes → pages (view (m .state)) n ≤ mostLogPag
 lean-thin : (m : Moment) → LeanAt m → Thin m
 lean-thin m h n l = omega (arith, h .each n l)
 
--- What the length of a pool says.
-pub record Sized (pool : List ℕ) : Type 0 where
-  pub few : fewestBlocks ≤ blocksOf pool
-  pub most : blocksOf pool ≤ mostBlocks
-  pub bytes : length pool ≡ blockBytes * blocksOf pool
-
-pub sized : (pool : List ℕ) → poolLength pool ≡ true → Sized pool
-unfolding poolLength
-sized pool e =
-    let rest = and-right (leb fewestBlocks (blocksOf pool)) _ e in
-    record {
-      few = leb-true _ _ (and-left (leb fewestBlocks (blocksOf pool)) _ e);
-      most = leb-true _ _ (and-left (leb (blocksOf pool) mostBlocks) _ rest);
-      bytes = sym (eqb-true _ _ (and-right (leb (blocksOf pool) mostBlocks) _ rest));
-    }
-
--- A pool of so many whole blocks.
-pub blocks-length : (pool : List ℕ) (blocks : ℕ) → length pool ≡ blockBytes * blocks → blocksOf pool ≡ blocks
-blocks-length pool blocks e = ap (λ (n : ℕ). n / blockBytes) e ∙ mul-div-cancel-left blocks (omega arith)
-
-pub whole-length : (pool : List ℕ) (blocks : ℕ) → length pool ≡ blockBytes * blocks → fewestBlocks ≤ blocks → blocks ≤ mostBlocks → poolLength pool ≡ true
-unfolding poolLength
-whole-length pool blocks e l m =
-    rw (blocks-length pool blocks e)
-    (and-both (leb fewestBlocks blocks) _ (le-leb fewestBlocks blocks l)
-    (and-both (leb blocks mostBlocks) (eqb (blockBytes * blocks) (length pool)) (le-leb blocks mostBlocks m) (eq-eqb _ _ (sym e))))
-
 -- The book that the pool spells is the book.
 pub bookIn-is : {t : Tariff} {pool : List ℕ} {b : Book} {ps : List Pair} → OpenPool t pool b ps → bookIn pool ≡ some b
 unfolding bookIn
 bookIn-is o = rw (o .reads) (ap some (o .ready .says .is))
-
--- What the reference model is fed of a call.
-abbrev pub fedOf : List ℕ → Lent → Fed
-fedOf pool l = record { batch = l .batch; accepted = accepted (outcome pool l) }
 
 -- What a call leaves, `r`, what it ran, `w`, and the commands that the reference model was fed.
 pub record CalledBy (t : Tariff) (pool buffer : List ℕ) (b : Book) (ps : List Pair) (r : Outcome) (w : Option Work) (cs : List Command) : Type 0 where
@@ -124,10 +95,10 @@ pub record CalledBy (t : Tariff) (pool buffer : List ℕ) (b : Book) (ps : List 
       (runBook (nodeLimit (blocksOf pool)) cs (atFirst t) b .count)
 
 -- ONE CALL.
-abbrev pub Called : Tariff → List ℕ → Lent → Book → List Pair → Type 0
-Called t pool l b ps = CalledBy t pool (l .buffer) b ps (outcome pool l) (workOf pool l) (commandsIn (fedOf pool l))
+abbrev pub Called : Tariff → List ℕ → Call → Book → List Pair → Type 0
+Called t pool c b ps = CalledBy t pool (bufferOf c) b ps (outcome pool c) (workOf pool c) (commandsIn (fedOf pool c))
 
-module _ {t : Tariff} {pool : List ℕ} {b : Book} {ps : List Pair} (o : OpenPool t pool b ps) (l : Lent) where
+module _ {t : Tariff} {pool : List ℕ} {b : Book} {ps : List Pair} (o : OpenPool t pool b ps) (call : Call) where
   abbrev B : ℕ
   B = blocksOf pool
 
@@ -135,19 +106,19 @@ module _ {t : Tariff} {pool : List ℕ} {b : Book} {ps : List Pair} (o : OpenPoo
   limit = nodeLimit B
 
   -- Where a call is known, what it ran and what the model is fed follow.
-  from-known : (r : Outcome) (w : Option Work) (cs : List Command) → outcome pool l ≡ r → workOf pool l ≡ w → commandsIn (fedOf pool l) ≡ cs →
-      CalledBy t pool (l .buffer) b ps r w cs → Called t pool l b ps
+  from-known : (r : Outcome) (w : Option Work) (cs : List Command) → outcome pool call ≡ r → workOf pool call ≡ w → commandsIn (fedOf pool call) ≡ cs →
+      CalledBy t pool (bufferOf call) b ps r w cs → Called t pool call b ps
   from-known r w cs e f g c =
-      subst (λ (x : Outcome). CalledBy t pool (l .buffer) b ps x (workOf pool l) (commandsIn (fedOf pool l))) (sym e)
-      (subst (λ (x : Option Work). CalledBy t pool (l .buffer) b ps r x (commandsIn (fedOf pool l))) (sym f)
-      (subst (λ (x : List Command). CalledBy t pool (l .buffer) b ps r w x) (sym g) c))
+      subst (λ (x : Outcome). CalledBy t pool (bufferOf call) b ps x (workOf pool call) (commandsIn (fedOf pool call))) (sym e)
+      (subst (λ (x : Option Work). CalledBy t pool (bufferOf call) b ps r x (commandsIn (fedOf pool call))) (sym f)
+      (subst (λ (x : List Command). CalledBy t pool (bufferOf call) b ps r w x) (sym g) c))
 
   -- A refused call leaves the pool, and the reference model is fed no command.
-  refused-called : (n : ℕ) → 1 ≤ n → (table : List ℕ) → outcome pool l ≡ refuse n pool table (l .buffer) → Called t pool l b ps
+  refused-called : (n : ℕ) → 1 ≤ n → outcome pool call ≡ refuse n pool (tableOf call) (bufferOf call) → Called t pool call b ps
   unfolding workOf
-  refused-called n h table e =
-      from-known (refuse n pool table (l .buffer)) none [] e
-      (ap (λ (x : Bool). workBy x (commandsOf (l .batch)) (mountOf pool)) no) (ap (λ (x : Bool). commandsBy x (commandsOf (l .batch))) no)
+  refused-called n h e =
+      from-known (refuse n pool (tableOf call) (bufferOf call)) none [] e (ap (λ (x : Bool). choose x (workIn pool call) none) no)
+      (ap (λ (x : Bool). commandsBy x (commandsOf (bytesRun call))) no)
       (record {
         length = refl;
         stands = o;
@@ -157,15 +128,15 @@ module _ {t : Tariff} {pool : List ℕ} {b : Book} {ps : List Pair} (o : OpenPoo
         paid = sum-each (λ q. 0);
         passed = refl;
         thin = Every.none;
-        answers = ap (λ (z : List ℕ). (z, 0)) (sym (lay-nil (l .buffer) 0));
+        answers = ap (λ (z : List ℕ). (z, 0)) (sym (lay-nil (bufferOf call) 0));
         fits = refl;
       })
     where
-      no : accepted (outcome pool l) ≡ false
+      no : accepted (outcome pool call) ≡ false
       no = ap (λ (x : Outcome). eqb (x .number) 0) e ∙ ne-eqb n 0 (λ z. omega arith)
 
-  module _ (bytes : Bytes (l .batch)) (cs : List Command) (t′ : Tariff) (s : State) (p : poolLength pool ≡ true)
-      (q : commandsOf (l .batch) ≡ some cs) (m : mountOf pool ≡ opened t′ s) where
+  module _ (bytes : Bytes (bytesRun call)) (cs : List Command) (t′ : Tariff) (s : State) (p : poolLength pool ≡ true)
+      (q : commandsOf (bytesRun call) ≡ some cs) (m : mountOf pool ≡ opened t′ s) where
     mounted : mountCells B (o .cells) ≡ opened t′ s
     unfolding mountOf
     mounted = sym (ap (mountBy B) (o .reads)) ∙ m
@@ -180,11 +151,11 @@ module _ {t : Tariff} {pool : List ℕ} {b : Book} {ps : List Pair} (o : OpenPoo
     start : Ready B t s b ps
     start = rw same-state (o .ready)
 
-    abbrev commands : Batch (l .batch) bytes cs
-    commands = commandsOf-batch (l .batch) bytes cs q
+    abbrev commands : Batch (bytesRun call) bytes cs
+    commands = commandsOf-batch (bytesRun call) bytes cs q
 
     small : limit < noLeaf
-    small = omega (arith, sized pool p .most)
+    small = omega (arith, is-pool pool p .most)
 
     ran : Batched B cs (atFirst t) s ps
     ran =
@@ -229,13 +200,13 @@ module _ {t : Tariff} {pool : List ℕ} {b : Book} {ps : List Pair} (o : OpenPoo
 
     paid-few : Book.charges t (requestsBook limit cs (atFirst t) b) b ≤ mostBatchCharge
     paid-few =
-        batch-charge limit (omega (arith, sized pool p .most)) cs (atFirst t) b ps (start .ranged) (commands .valid) (start .holds)
+        batch-charge limit (omega (arith, is-pool pool p .most)) cs (atFirst t) b ps (start .ranged) (commands .valid) (start .holds)
         (commands .few)
 
     pool-after : PoolAfter B s (closed t after)
     pool-after =
         subst (λ (z : Tariff). PoolAfter B s (closed z (run limit cs (atFirst z) s))) same-tariff
-        (batch-pool (sized pool p .few) (sized pool p .most) pool (o .bytes) (sized pool p .bytes) (o .reads) mounted cs (commands .valid)
+        (batch-pool (is-pool pool p .least) (is-pool pool p .most) pool (o .bytes) (is-pool pool p .whole) (o .reads) mounted cs (commands .valid)
         (commands .few))
 
     abbrev left : List ℕ
@@ -248,23 +219,23 @@ module _ {t : Tariff} {pool : List ℕ} {b : Book} {ps : List Pair} (o : OpenPoo
     stands-left =
         record {
           bytes = pool-after .bytes;
-          size = whole-length left B (pool-after .size) (sized pool p .few) (sized pool p .most);
+          size = whole-length left B (pool-after .size) (is-pool pool p .least) (is-pool pool p .most);
           cells = poolOf (closed t after .run .now);
           reads = pool-after .back;
-          sealed = rw same-blocks (closed-sealed (sized pool p .most) ended);
-          ready = rw same-blocks (closed-ready (sized pool p .most) ended);
+          sealed = rw same-blocks (closed-sealed (is-pool pool p .most) ended);
+          ready = rw same-blocks (closed-ready (is-pool pool p .most) ended);
         }
 
     ordered-left : InNodeOrder left
     ordered-left =
         closed-in-order left t book (bookIn-is stands-left) (poolOf (closed t after .run .now)) (pool-after .back) (after .score)
-        (rw same-blocks (closed-checkpoint (sized pool p .most) ended)) (score-of (sized pool p .most) ended)
+        (rw same-blocks (closed-checkpoint (is-pool pool p .most) ended)) (score-of (is-pool pool p .most) ended)
 
-    accepted-called : outcome pool l ≡ accept B t′ cs s (l .table) (l .buffer) → Called t pool l b ps
+    accepted-called : outcome pool call ≡ accept B t′ cs s (tableOf call) (bufferOf call) → Called t pool call b ps
     unfolding workOf
     accepted-called e =
-        from-known (accept B t cs s (l .table) (l .buffer)) (some (record { tariff = t; commands = cs; start = s })) cs
-        (e ∙ ap (λ (z : Tariff). accept B z cs s (l .table) (l .buffer)) same-tariff) work fed
+        from-known (accept B t cs s (tableOf call) (bufferOf call)) (some (record { tariff = t; commands = cs; start = s })) cs
+        (e ∙ ap (λ (z : Tariff). accept B z cs s (tableOf call) (bufferOf call)) same-tariff) work fed
         (record {
           length = same-blocks;
           stands = stands-left;
@@ -273,27 +244,26 @@ module _ {t : Tariff} {pool : List ℕ} {b : Book} {ps : List Pair} (o : OpenPoo
           few = omega (arith, ap sum charged, paid-all, paid-few);
           paid = ap sum charged ∙ paid-all;
           passed = ran .passed ∙ ap (booksPassed limit cs (atFirst t)) (start .says .is);
-          thin = every-weaken lean-thin (closed-says (sized pool p .most) ended .sound .good .passed);
+          thin = every-weaken lean-thin (closed-says (is-pool pool p .most) ended .sound .good .passed);
           answers =
-              ap (laidOver (l .buffer))
+              ap (laidOver (bufferOf call))
               (ran .answers ∙ ap (λ (z : Book). mapAnswers limit cs (atFirst t) z ps) (start .says .is));
           fits = fits-after;
         })
       where
-        yes : accepted (outcome pool l) ≡ true
+        yes : accepted (outcome pool call) ≡ true
         yes = ap (λ (x : Outcome). eqb (x .number) 0) e
 
-        work : workOf pool l ≡ some (record { tariff = t; commands = cs; start = s })
+        work : workOf pool call ≡ some (record { tariff = t; commands = cs; start = s })
         work = rw (yes, q, m, same-tariff) refl
 
-        fed : commandsIn (fedOf pool l) ≡ cs
+        fed : commandsIn (fedOf pool call) ≡ cs
         fed = rw (yes, q) refl
 
   -- EVERY CALL, accepted or refused.
-  pub called : Bytes (l .batch) → Called t pool l b ps
-  called bytes = go (outcome pool l) refl (batch-ends pool (l .table) (l .batch) (l .buffer))
+  pub called : Bytes (bytesRun call) → Called t pool call b ps
+  called bytes = go (outcome pool call) refl (call-ends pool call)
     where
-      go : (r : Outcome) → outcome pool l ≡ r → Ends pool (l .table) (l .batch) (l .buffer) r → Called t pool l b ps
-      go r e (asFound n x y) = refused-called n x (l .table) e
-      go r e (tableCleared n x y) = refused-called n (omega arith) _ e
-      go r e (done t′ cs s p u q x m) = accepted-called bytes cs t′ s p q m e
+      go : (r : Outcome) → outcome pool call ≡ r → Ends pool call r → Called t pool call b ps
+      go r e (refused n l) = refused-called n l e
+      go r e (done p t′ s m) = accepted-called bytes (p .commands) t′ s (p .size) (p .are) m e

@@ -25,7 +25,9 @@ use Rattle.book.specs.EachPanel.{sum-each}
 use Rattle.model.specs.State.{State, bookOf, serveAll, charges}
 use Rattle.model.specs.Batch.{replyOf, done, cost, run, answers, closed}
 use Rattle.model.specs.Bytes.{bytesOf}
-use Rattle.model.specs.Call.{Outcome, charge, blocksOf, accept, batchOf}
+use Rattle.model.specs.Pool.{blocksOf}
+use Rattle.model.specs.Outcome.{Outcome, charge, accept}
+use Rattle.model.specs.Call.{batchOf}
 use Rattle.demands.specs.Commands.{ValidAll}
 use Rattle.demands.specs.TwoBatches.{both-end}
 

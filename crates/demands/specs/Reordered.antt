@@ -37,10 +37,11 @@ use Rattle.book.specs.Book.{Book}
 use Rattle.model.specs.State.{bookOf}
 use Rattle.model.specs.Mount.{stateOf, threePages, scoresBelow, treeSound, numbersLeft}
 use Rattle.model.specs.Bytes.{cellsOf}
-use Rattle.model.specs.Call.{blocksOf, poolLength}
+use Rattle.model.specs.Pool.{blocksOf, poolLength}
+use Rattle.model.specs.PoolLaws.{is-pool}
 use Rattle.model.specs.Questions.{asked, ofPages, ofPool}
 use Rattle.demands.specs.Mount.{Sealed, Ready, sealed-ready}
-use Rattle.demands.specs.OneCall.{OpenPool, sized}
+use Rattle.demands.specs.OneCall.{OpenPool}
 
 -- TWO POOLS THAT DIFFER IN THE ORDER OF SCORES ALONE, both made of bytes and of one length.
 pub record ReorderedPool (pool pool′ : List ℕ) : Type 0 where
@@ -198,4 +199,4 @@ module _ {pool pool′ : List ℕ} (r : ReorderedPool pool pool′) where
 
       ready′ : Ready B t (stateOf st′) (bookOf (stateOf st′)) ps
       ready′ =
-          subst (Ready B t (stateOf st′) (bookOf (stateOf st′))) same-map (sealed-ready (sized pool (o .size) .few) (sealed-again m))
+          subst (Ready B t (stateOf st′) (bookOf (stateOf st′))) same-map (sealed-ready (is-pool pool (o .size) .least) (sealed-again m))

@@ -20,7 +20,7 @@ use Rattle.store.specs.Reopen.{Cells, reopened}
 use Rattle.store_laws.specs.CheckpointPageLaws.{scoreIn-scoresFrom}
 use Rattle.book.specs.Book.{Book}
 use Rattle.model.specs.Bytes.{cellsOf}
-use Rattle.model.specs.Call.{blocksOf}
+use Rattle.model.specs.Pool.{blocksOf}
 use Rattle.model.specs.Calls.{bookIn}
 
 -- The newest checkpoint of a pool (document 01: closing set), its pages by sequence number; none where a page does not check.

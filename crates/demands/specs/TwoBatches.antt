@@ -1,47 +1,38 @@
 -- Two batches with the same pool and buffers, which ask for the same room: a relation that holds of equal ends, and of both ends where the pool opens,
 -- holds of the ends of both calls. Assumes nothing.
-use mathlib.Core.Path.{_≡_}
+use mathlib.Core.Path.{_≡_, refl}
 use mathlib.Core.Bool.{Bool, true, false}
-use mathlib.Core.List.{List}
+use mathlib.Core.List.{List, [], _++_}
 use mathlib.Core.Option.{some}
 use Prim.Native.Nat.{ℕ}
-use lib.Dec.{leb}
-use lib.ListN.{length}
+use lib.Dec.{eqb}
 use Rattle.laws.specs.Tests.{choose}
-use Rattle.layout.specs.Layout.{tableBytes}
 use Rattle.account.specs.declared.Tariff.{Tariff}
 use Rattle.command.specs.declared.Command.{Command}
 use Rattle.command.specs.Batch.{commandsOf, roomForAll}
 use Rattle.model.specs.State.{State}
 use Rattle.model.specs.Mount.{Mounted, refused, opened}
-use Rattle.model.specs.Call.{Outcome, refuse, blocksOf, poolLength, cleared, mountOf, accept, batchMounted, batchAsked, batchOf}
+use Rattle.model.specs.Pool.{blocksOf, mountOf}
+use Rattle.model.specs.Questions.{firstNo, ofBuffers, ofPool}
+use Rattle.model.specs.Outcome.{Outcome, refuse, workBy, accept, done}
+use Rattle.model.specs.Call.{outcome, batchOf}
 
 module _ (R : Outcome → Outcome → Type 0) (alike : (o : Outcome) → R o o) (pool table buffer : List ℕ) (cs ds : List Command)
     (room : roomForAll cs ≡ roomForAll ds)
     (accepts : (t : Tariff) (s : State) → R (accept (blocksOf pool) t cs s table buffer) (accept (blocksOf pool) t ds s table buffer)) where
-  mounted : (m : Mounted) → R (batchMounted m cs pool table buffer) (batchMounted m ds pool table buffer)
-  mounted (refused n) = alike (refuse n pool (cleared (blocksOf pool) table) buffer)
-  mounted (opened t s) = accepts t s
+  abbrev endOf : ℕ → Bool → Mounted → List Command → Outcome
+  endOf n b m xs = choose b (done (workBy (some xs) m) pool table buffer) (refuse n pool table buffer)
 
-  asked : R (batchAsked (some cs) pool table buffer) (batchAsked (some ds) pool table buffer)
-  asked = rw (← room) (go (leb (roomForAll cs) (length buffer)))
-    where
-      short : Outcome
-      short = refuse 4 pool (cleared (blocksOf pool) table) buffer
+  ends : (n : ℕ) (b : Bool) (m : Mounted) → R (endOf n b m cs) (endOf n b m ds)
+  ends n true (refused k) = alike (refuse 0 pool table buffer)
+  ends n true (opened t s) = accepts t s
+  ends n false m = alike (refuse n pool table buffer)
 
-      go : (b : Bool) →
-          R (choose b (batchMounted (mountOf pool) cs pool table buffer) short) (choose b (batchMounted (mountOf pool) ds pool table buffer) short)
-      go true = mounted (mountOf pool)
-      go false = alike short
+  module _ (bytes bytes′ : List ℕ) (e : commandsOf bytes ≡ some cs) (f : commandsOf bytes′ ≡ some ds) where
+    asked : ofBuffers pool table bytes buffer ≡ ofBuffers pool table bytes′ buffer
+    unfolding ofBuffers
+    asked = rw (e, f, room) refl
 
-  pub both-end : (batch batch′ : List ℕ) → commandsOf batch ≡ some cs → commandsOf batch′ ≡ some ds →
-      R (batchOf pool table batch buffer) (batchOf pool table batch′ buffer)
-  unfolding batchOf
-  both-end batch batch′ e f = rw (e, f) (go (poolLength pool) (leb (tableBytes (blocksOf pool)) (length table)))
-    where
-      go : (a b : Bool) →
-          R (choose a (choose b (batchAsked (some cs) pool table buffer) (refuse 2 pool table buffer)) (refuse 1 pool table buffer))
-          (choose a (choose b (batchAsked (some ds) pool table buffer) (refuse 2 pool table buffer)) (refuse 1 pool table buffer))
-      go false b = alike (refuse 1 pool table buffer)
-      go true false = alike (refuse 2 pool table buffer)
-      go true true = asked
+    pub both-end : R (batchOf pool table bytes buffer) (batchOf pool table bytes′ buffer)
+    unfolding outcome
+    both-end = let n = firstNo (ofBuffers pool table bytes′ buffer ++ (ofPool pool ++ [])) in rw (asked, e, f) (ends n (eqb n 0) (mountOf pool))

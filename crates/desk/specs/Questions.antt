@@ -12,8 +12,10 @@ use Rattle.command.specs.Batch.{commandsOf, roomForAll}
 use Rattle.book.specs.InTurn.{noCharges}
 use Rattle.desk_queues.specs.Queues.{queuesIn, fills, queuesOf}
 use Rattle.desk_queues.specs.Joined.{allCommands, bytesBy, joined, joinedBytes, joinedOf, joinedRead}
-use Rattle.model.specs.Call.{Outcome, refuse, blocksOf, poolLength, cleared, batchMounted, batchOf, mountOf}
-use Rattle.model.specs.Desk.{deskJoined, deskQueues, deskOf}
+use Rattle.model.specs.Pool.{blocksOf, poolLength, mountOf}
+use Rattle.model.specs.Outcome.{Outcome, refuse, cleared}
+use Rattle.model.specs.Call.{batchMounted, batchOf, deskOf}
+use Rattle.model.specs.Desk.{deskJoined, deskQueues}
 use Rattle.demands.specs.Desk.{desk-is-batch}
 use Rattle.prepare.specs.Prepared.{IsPool}
 use Rattle.batch.specs.Left.{refusedWith, wiped, Leaves}

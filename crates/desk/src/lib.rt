@@ -2,7 +2,7 @@
 ghost use lib.ListN.{length};
 ghost use mathlib.Core.Path.{_≡_};
 ghost use Rattle.book.specs.InTurn.{noCharges};
-ghost use Rattle.model.specs.Desk.{deskOf};
+ghost use Rattle.model.specs.Call.{deskOf};
 ghost use Rattle.desk_queues.specs.Joined.{joinedBytes};
 ghost use Rattle.desk_run.specs.Served.{listsIn};
 ghost use Rattle.batch.specs.Left.{Worked, Leaves};

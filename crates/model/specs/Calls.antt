@@ -1,11 +1,11 @@
--- A list of batches of any bytes, "each on the pool as the last call left it", and the reference model beside it (document 01, "What demand
--- 3 compares"; document 02, P2). Assumes nothing.
+-- A list of calls of any kind, "each on the pool as the last call left it", and the reference model beside it (document 01, "What demand 3
+-- compares"; document 02, P2). Assumes nothing.
 use mathlib.Core.Bool.{Bool, true, false}
 use mathlib.Core.List.{List, [], _∷_, _++_}
 use mathlib.Core.Option.{Option, none, some}
 use Prim.Native.Nat.{ℕ}
-use lib.Dec.{eqb}
 use lib.ListN.{length}
+use Rattle.laws.specs.Tests.{choose}
 use Rattle.laws.specs.Lay.{lay}
 use Rattle.layout.specs.Layout.{nodeLimit}
 use Rattle.account.specs.declared.Tariff.{Tariff}
@@ -22,23 +22,16 @@ use Rattle.book.specs.Session.{atFirst}
 use Rattle.book.specs.OrderedMap.{mapAnswers, mapRun}
 use Rattle.model.specs.State.{State, bookOf}
 use Rattle.model.specs.Batch.{run, statesPassed, closed}
-use Rattle.model.specs.Mount.{Mounted, refused, opened, stateOf}
+use Rattle.model.specs.Mount.{stateOf}
 use Rattle.model.specs.Bytes.{cellsOf}
-use Rattle.model.specs.Call.{Outcome, blocksOf, mountOf, batchOf}
+use Rattle.model.specs.Pool.{blocksOf}
+use Rattle.model.specs.Outcome.{Outcome, accepted, Work}
+use Rattle.model.specs.Call.{Call, bytesRun, workIn, outcome}
 
--- What a caller lends to one call beside the pool: "batches of any bytes, .. with any work table and answer buffer".
-pub record Lent : Type 0 where
-  pub table : List ℕ
-  pub batch : List ℕ
-  pub buffer : List ℕ
-
--- One call, and what each call of a list leaves.
-abbrev pub outcome : List ℕ → Lent → Outcome
-outcome pool l = batchOf pool (l .table) (l .batch) (l .buffer)
-
-abbrev pub outcomes : List ℕ → List Lent → List Outcome
+-- What each call of a list leaves.
+abbrev pub outcomes : List ℕ → List Call → List Outcome
 outcomes pool [] = []
-outcomes pool (l ∷ ls) = outcome pool l ∷ outcomes (outcome pool l .pool) ls
+outcomes pool (c ∷ cs) = outcome pool c ∷ outcomes (outcome pool c .pool) cs
 
 -- What a call gives back in answers: the bytes of the answer buffer, and the length returned.
 abbrev pub answered : Outcome → List ℕ × ℕ
@@ -49,14 +42,10 @@ abbrev pub laidOver : List ℕ → List Reply → List ℕ × ℕ
 laidOver buffer rs = (lay buffer 0 (repliesBytes rs), length (repliesBytes rs))
 
 -- The replies of each call of a list, each in the buffer lent to it.
-abbrev pub laid : List Lent → List (List Reply) → List (List ℕ × ℕ)
+abbrev pub laid : List (List ℕ) → List (List Reply) → List (List ℕ × ℕ)
 laid [] rss = []
-laid (l ∷ ls) [] = []
-laid (l ∷ ls) (rs ∷ rss) = laidOver (l .buffer) rs ∷ laid ls rss
-
--- "Accepted or refused": an accepted call returns number 0.
-abbrev pub accepted : Outcome → Bool
-accepted o = eqb (o .number) 0
+laid (b ∷ bs) [] = []
+laid (b ∷ bs) (rs ∷ rss) = laidOver b rs ∷ laid bs rss
 
 -- The book that a pool spells between calls: contents and modes by its pages, scores by its checkpoint; none where a page does not check.
 abbrev pub bookBy : ℕ → Option Cells → Option Book
@@ -66,20 +55,9 @@ bookBy blocks (some c) = some (bookOf (stateOf (reopened blocks c)))
 unfoldable pub bookIn : List ℕ → Option Book
 bookIn pool = bookBy (blocksOf pool) (cellsOf pool)
 
--- What an accepted call runs: its commands from the state that its pool mounts as.
-pub record Work : Type 0 where
-  pub tariff : Tariff
-  pub commands : List Command
-  pub start : State
-
-abbrev pub workBy : Bool → Option (List Command) → Mounted → Option Work
-workBy false cs m = none
-workBy true none m = none
-workBy true (some cs) (refused n) = none
-workBy true (some cs) (opened t s) = some (record { tariff = t; commands = cs; start = s })
-
-unfoldable pub workOf : List ℕ → Lent → Option Work
-workOf pool l = workBy (accepted (outcome pool l)) (commandsOf (l .batch)) (mountOf pool)
+-- What an accepted call runs; a refused one runs nothing.
+unfoldable pub workOf : List ℕ → Call → Option Work
+workOf pool c = choose (accepted (outcome pool c)) (workIn pool c) none
 
 -- The states that it passes: after every node request; and after every page written and every node request, with the node count then.
 abbrev pub statesBy : ℕ → Option Work → List State
@@ -90,22 +68,25 @@ abbrev pub momentsBy : ℕ → Option Work → List Moment
 momentsBy blocks none = []
 momentsBy blocks (some w) = closed (w .tariff) (run (nodeLimit blocks) (w .commands) (atFirst (w .tariff)) (w .start)) .run .passed
 
-abbrev pub allStates : List ℕ → List Lent → List State
+abbrev pub allStates : List ℕ → List Call → List State
 allStates pool [] = []
-allStates pool (l ∷ ls) = statesBy (blocksOf pool) (workOf pool l) ++ allStates (outcome pool l .pool) ls
+allStates pool (c ∷ cs) = statesBy (blocksOf pool) (workOf pool c) ++ allStates (outcome pool c .pool) cs
 
-abbrev pub allMoments : List ℕ → List Lent → List Moment
+abbrev pub allMoments : List ℕ → List Call → List Moment
 allMoments pool [] = []
-allMoments pool (l ∷ ls) = momentsBy (blocksOf pool) (workOf pool l) ++ allMoments (outcome pool l .pool) ls
+allMoments pool (c ∷ cs) = momentsBy (blocksOf pool) (workOf pool c) ++ allMoments (outcome pool c .pool) cs
 
 -- The reference model "is fed the pool's length, the tariff, each batch's bytes and whether it was accepted".
 pub record Fed : Type 0 where
   pub batch : List ℕ
   pub accepted : Bool
 
-abbrev pub fed : List ℕ → List Lent → List Fed
+abbrev pub fedOf : List ℕ → Call → Fed
+fedOf pool c = record { batch = bytesRun c; accepted = accepted (outcome pool c) }
+
+abbrev pub fed : List ℕ → List Call → List Fed
 fed pool [] = []
-fed pool (l ∷ ls) = record { batch = l .batch; accepted = accepted (outcome pool l) } ∷ fed (outcome pool l .pool) ls
+fed pool (c ∷ cs) = fedOf pool c ∷ fed (outcome pool c .pool) cs
 
 -- "A refused batch changes nothing and costs 0."
 abbrev pub commandsBy : Bool → Option (List Command) → List Command

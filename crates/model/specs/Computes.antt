@@ -40,6 +40,8 @@ use Rattle.model.specs.Batch as modelBatch
 use Rattle.model.specs.Mount as modelMount
 use Rattle.model.specs.Prepare as modelPrepare
 use Rattle.model.specs.Bytes as modelBytes
+use Rattle.model.specs.Pool as modelPool
+use Rattle.model.specs.Questions as modelQuestions
 use Rattle.model.specs.Call as modelCall
 use Rattle.model.specs.Calls as modelCalls
 
@@ -85,6 +87,6 @@ ofStore = tt
 unfoldable pub computes : Unit {0}
 unfolding ofBytes ofPages ofTree ofStore bookBook.serve bookBook.charge bookCommand.requests bookCommand.refuses bookCommand.answer bookInTurn.eachPanel
     modelState.bookOf modelState.serve modelBatch.closed modelMount.stateOf modelMount.threePages modelMount.scoresBelow modelMount.treeSound
-    modelMount.mountCells modelPrepare.prepared modelBytes.cellsFrom modelBytes.cellsOf modelCall.poolLength modelCall.mountOf modelCall.batchOf
-    modelCall.prepareOf modelCalls.bookIn
+    modelMount.mountCells modelPrepare.prepared modelBytes.cellsFrom modelBytes.cellsOf modelPool.poolLength modelPool.mountOf modelQuestions.ofBuffers
+    modelQuestions.ofPool modelQuestions.ofPrepare modelCall.outcome modelCall.prepareOf modelCalls.bookIn
 computes = tt

@@ -3,10 +3,12 @@ pub mod Batch
 pub mod Mount
 pub mod Prepare
 pub mod Bytes
-pub mod Call
+pub mod Pool
+pub mod PoolLaws
 pub mod Questions
+pub mod Outcome
+pub mod Call
+pub mod QuestionLaws
 pub mod Calls
-pub mod Desk
-pub mod AnyCalls
 pub mod Computes
 pub mod Worked

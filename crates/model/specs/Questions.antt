@@ -1,5 +1,5 @@
--- "Questions before the work", side by side in the documents' order, each with its number and its answer. `batchOf`, `deskOf` and `prepareOf` ask
--- one after the other; that they end with the number of the first "no" is proved in `demands`. Assumes nothing.
+-- "Questions before the work", in the documents' order, each with its number and its answer. A call is defined by its list of them (Call). Assumes
+-- nothing.
 use mathlib.Core.Bool.{Bool, true, false, _&&_}
 use mathlib.Core.List.{List, [], _∷_}
 use mathlib.Core.Option.{Option, none, some}
@@ -17,7 +17,7 @@ use Rattle.store.specs.Checkpoint.{CheckpointPage, checkpointOf, tariffIn, comp
 use Rattle.store.specs.Reopen.{Cells, reopened, pagesPass}
 use Rattle.model.specs.Mount.{treeSound, numbersLeft}
 use Rattle.model.specs.Bytes.{cellsOf}
-use Rattle.model.specs.Call.{blocksOf, poolLength}
+use Rattle.model.specs.Pool.{blocksOf, poolLength}
 
 -- A number, and whether the answer is yes.
 abbrev pub Question : Type 0

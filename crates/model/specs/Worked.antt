@@ -16,7 +16,8 @@ use Rattle.account.specs.Tariff.{tariffOf, limit}
 use Rattle.account.specs.Serve.{serveOf, chargesOf}
 use Rattle.node.specs.Node.{pairsOf}
 use Rattle.book.specs.Book.{Book}
-use Rattle.model.specs.Call.{Outcome, charge, prepareOf, batchOf}
+use Rattle.model.specs.Outcome.{Outcome, charge}
+use Rattle.model.specs.Call.{prepareOf, batchOf}
 use Rattle.model.specs.Calls.{bookIn}
 use Rattle.model.specs.Computes.{computes}
 

@@ -11,7 +11,7 @@ use Rattle.layout.specs.Layout.{tableBytes}
 use Rattle.account.specs.declared.Tariff.{Tariff}
 use Rattle.store.specs.Reopen.{Cells, reopened}
 use Rattle.model.specs.Mount as Model
-use Rattle.model.specs.Call.{mountOf}
+use Rattle.model.specs.Pool.{mountOf}
 use Rattle.flash_rows.specs.Worktable.{Worktable}
 use Rattle.flash_blocks.specs.Pages.{pagesOf}
 use Rattle.flash_allocate.specs.declared.state.State.{State}

@@ -20,7 +20,8 @@ use Rattle.page_write.specs.Chunks.{chunks}
 use Rattle.page_write.specs.Pages.{entryRecord, entryRecord-bytes, logBody, logImage}
 use Rattle.page_checkpoint.specs.Checkpoint.{scoresIn}
 use Rattle.page_checkpoint.specs.Checkpoint as Writer
-use Rattle.model.specs.Call.{poolLength, prepareOf}
+use Rattle.model.specs.Pool.{poolLength}
+use Rattle.model.specs.Call.{prepareOf}
 use Rattle.flash_blocks.specs.Pages.{erasedBytes}
 use Rattle.prepare.specs.Prepared.{rootPage, checkpointPage, firstBytes, Leaves, IsPool, prepared-bytes}
 

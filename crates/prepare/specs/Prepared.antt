@@ -20,7 +20,8 @@ use Rattle.page.specs.Image.{image, blankBytes}
 use Rattle.store.specs.Reopen.{Cells, cellsIn, cells}
 use Rattle.model.specs.Bytes.{cellBytes, bytesOf}
 use Rattle.model.specs.Prepare.{prepared}
-use Rattle.model.specs.Call.{blocksOf, poolLength, Prepared}
+use Rattle.model.specs.Pool.{blocksOf, poolLength}
+use Rattle.model.specs.Call.{Prepared}
 
 -- The two pages.
 abbrev pub rootPage : Page

@@ -1,7 +1,6 @@
 // The wall book as C firmware calls it: prepare, batch and desk, on lent buffers that do not overlap. None asks anything of its caller.
 ghost use Rattle.account.specs.Tariff.{tariffOf};
-ghost use Rattle.model.specs.Call.{batchOf, prepareOf};
-ghost use Rattle.model.specs.Desk.{deskOf};
+ghost use Rattle.model.specs.Call.{batchOf, prepareOf, deskOf};
 ghost use Rattle.prepare.specs.Prepared as Prepare;
 ghost use Rattle.batch.specs.Left.{Leaves};
 ghost use Rattle.wall_book.specs.Entry.{outcome};

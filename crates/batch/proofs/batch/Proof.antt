@@ -4,7 +4,7 @@ use Prim.Native.Nat.{ℕ, _-_}
 use native.Mathlib.Omega.{arith}
 use borrow.Rule.Slice.PartMut.{putMid}
 use Rattle.layout.specs.Layout.{tableBytes}
-use Rattle.model.specs.Call.{mountOf}
+use Rattle.model.specs.Pool.{mountOf}
 use Rattle.model.specs.Call as Model
 use Rattle.prepare.specs.Prepared.{no-pool, a-pool}
 use Rattle.batch.specs.Left.{wiped, Leaves}

@@ -8,7 +8,7 @@ use Rattle.laws.specs.BigEndian.{bytes-getD}
 use Rattle.layout.specs.Layout.{tableBytes}
 use Rattle.desk_laws.specs.QueueLaws.{filled}
 use Rattle.desk_questions.specs.Answers.{served-rounds, served-invalid}
-use Rattle.model.specs.Call.{mountOf}
+use Rattle.model.specs.Pool.{mountOf}
 use Rattle.model.specs.Call as Model
 use Rattle.prepare.specs.Prepared.{no-pool, a-pool}
 use Rattle.batch.specs.Left.{wiped, Leaves}

@@ -18,7 +18,7 @@ use Rattle.store.specs.Reopen.{Cells, reopened}
 use Rattle.store_laws.specs.Opening as Opening
 use Rattle.model.specs.State as Model
 use Rattle.model.specs.Mount.{refused, opened, stateOf, threePages, treeSound, numbersLeft, ask, mountCells}
-use Rattle.model.specs.Call.{mountOf}
+use Rattle.model.specs.Pool.{mountOf}
 use Rattle.demands.specs.Mount.{Mounts, mounts-sealed, mounts-opened, mounts-ready, ranged}
 use Rattle.demands.specs.MountFits.{opened-enters}
 use Rattle.demands.specs.PoolBytes.{cellsOf-is}

@@ -11,7 +11,7 @@ use Rattle.store.specs.Checkpoint.{checkpointOf, complete}
 use Rattle.store.specs.Reopen.{Cells, reopened}
 use Rattle.model.specs.Bytes.{cellsOf}
 use Rattle.model.specs.Mount.{refused, mountCells}
-use Rattle.model.specs.Call.{blocksOf, mountBy, mountOf}
+use Rattle.model.specs.Pool.{blocksOf, mountBy, mountOf}
 use Rattle.flash_blocks.specs.Pages.{pagesOf}
 use Rattle.mount_survey.specs.Surveyed.{cellsCheck, pagesCheck}
 use Rattle.mount_checkpoint.specs.Find.{checkpointIn}

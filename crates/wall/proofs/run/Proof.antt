@@ -4,7 +4,7 @@ use native.Mathlib.Omega.{arith}
 use borrow.Author.Needs.{needs}
 use Rattle.laws.specs.BigEndian.{bytes-getD}
 use Rattle.laws.specs.Update.{sum}
-use Rattle.model.specs.AnyCalls.{batch}
+use Rattle.model.specs.Call.{batch}
 use Rattle.demands.specs.TheBook.{charges-fit}
 use Rattle.wall.proofs.run.Statement.{statement}
 use Rattle.wall.proofs.run.Tie as tie

@@ -1,0 +1,170 @@
+-- The laws of lists of questions; what is known where those of the lent buffers are all answered with yes; and that a mount ends by those of the
+-- pool. Assumes nothing.
+use mathlib.Core.Path.{_≡_, refl, sym, ap, _∙_}
+use mathlib.Core.Bool.{Bool, true, false, _&&_}
+use mathlib.Core.List.{List, [], _∷_, _++_}
+use mathlib.Core.Option.{Option, none, some}
+use Prim.Native.Nat.{ℕ, _≤_}
+use native.Mathlib.Omega.{arith}
+use borrow.Author.Tests.{leb-true}
+use lib.Dec.{leb}
+use lib.ListN.{length}
+use Rattle.laws.specs.Tests.{choose, and-left, and-right}
+use Rattle.layout.specs.Layout.{tableBytes}
+use Rattle.wire.specs.Field.{fieldAt}
+use Rattle.account.specs.declared.Tariff.{Tariff}
+use Rattle.command.specs.declared.Command.{Command}
+use Rattle.command.specs.Command.{commandAt}
+use Rattle.command.specs.Batch.{run, commandsFrom, commandsOf, roomForAll}
+use Rattle.desk_queues.specs.Queues.{fills, queuesOf}
+use Rattle.desk_queues.specs.Joined.{joinedBy, joinedRead}
+use Rattle.store.specs.Store.{Store}
+use Rattle.store.specs.Checkpoint.{checkpointOf, tariffIn, complete}
+use Rattle.store.specs.Reopen.{Cells, reopened, pagesPass}
+use Rattle.model.specs.State.{State}
+use Rattle.model.specs.Mount.{Mounted, refused, opened, ask, treeSound, numbersLeft, stateOf, mountTree, mountCells}
+use Rattle.model.specs.Bytes.{cellsOf}
+use Rattle.model.specs.Pool.{blocksOf, poolLength, mountBy, mountOf}
+use Rattle.model.specs.Questions.{Question, firstNo, asked, ofBuffers, ofDesk, ofPages, ofPool}
+use Rattle.model.specs.Call.{Call, batch, desk, tableOf, bufferOf, joinedOr, bytesRun, ofLent}
+
+-- A no among the first questions decides.
+pub first-front : (xs ys : List Question) → 1 ≤ firstNo xs → firstNo (xs ++ ys) ≡ firstNo xs
+first-front [] ys l = absurd (omega arith)
+first-front (q ∷ xs) ys l = go (q .1) l (first-front xs ys)
+  where
+    go : (b : Bool) → 1 ≤ choose b (firstNo xs) (q .0) → (1 ≤ firstNo xs → firstNo (xs ++ ys) ≡ firstNo xs) →
+        choose b (firstNo (xs ++ ys)) (q .0) ≡ choose b (firstNo xs) (q .0)
+    go true h r = r h
+    go false h r = refl
+
+-- Questions whose numbers are none of them 0: where all are answered with yes, those behind them decide.
+abbrev pub numbered : List Question → Bool
+numbered [] = true
+numbered (q ∷ qs) = leb 1 (q .0) && numbered qs
+
+pub first-behind : (xs ys : List Question) → numbered xs ≡ true → firstNo xs ≡ 0 → firstNo (xs ++ ys) ≡ firstNo ys
+first-behind [] ys h e = refl
+first-behind (q ∷ xs) ys h e = go (q .1) e (first-behind xs ys (and-right (leb 1 (q .0)) (numbered xs) h))
+  where
+    go : (b : Bool) → choose b (firstNo xs) (q .0) ≡ 0 → (firstNo xs ≡ 0 → firstNo (xs ++ ys) ≡ firstNo ys) →
+        choose b (firstNo (xs ++ ys)) (q .0) ≡ firstNo ys
+    go true f r = r f
+    go false f r = absurd (omega (arith, f, leb-true 1 (q .0) (and-left (leb 1 (q .0)) (numbered xs) h)))
+
+pub front-yes : (xs ys : List Question) → numbered xs ≡ true → firstNo (xs ++ ys) ≡ 0 → firstNo xs ≡ 0
+front-yes [] ys h e = refl
+front-yes (q ∷ xs) ys h e = go (q .1) e (front-yes xs ys (and-right (leb 1 (q .0)) (numbered xs) h))
+  where
+    go : (b : Bool) → choose b (firstNo (xs ++ ys)) (q .0) ≡ 0 → (firstNo (xs ++ ys) ≡ 0 → firstNo xs ≡ 0) → choose b (firstNo xs) (q .0) ≡ 0
+    go true f r = r f
+    go false f r = f
+
+pub behind-yes : (xs ys : List Question) → numbered xs ≡ true → firstNo (xs ++ ys) ≡ 0 → firstNo ys ≡ 0
+behind-yes xs ys h e = sym (first-behind xs ys h (front-yes xs ys h e)) ∙ e
+
+-- So it is with the questions of calls.
+pub lent-numbered : (pool : List ℕ) (c : Call) → numbered (ofLent pool c) ≡ true
+unfolding ofBuffers ofDesk
+lent-numbered pool (batch l) = refl
+lent-numbered pool (desk d) = refl
+
+pub pool-numbered : (pool : List ℕ) → numbered (ofPool pool) ≡ true
+unfolding ofPool
+pool-numbered pool = refl
+
+-- WHERE WHAT IS LENT IS RIGHT: the pool has its length, the table is long enough, the bytes are commands, and the answer buffer has room.
+pub record Passes (pool : List ℕ) (c : Call) : Type 0 where
+  pub size : poolLength pool ≡ true
+  pub table : tableBytes (blocksOf pool) ≤ length (tableOf c)
+  pub commands : List Command
+  pub are : commandsOf (bytesRun c) ≡ some commands
+  pub room : roomForAll commands ≤ length (bufferOf c)
+
+no-command : commandsOf (0 ∷ []) ≡ none
+unfolding commandsOf commandsFrom run commandAt fieldAt
+no-command = refl
+
+pub joined-read : (o : Option (List ℕ)) → joinedRead o ≡ commandsOf (joinedOr o)
+joined-read none = sym no-command
+joined-read (some bytes) = refl
+
+-- The last two questions, 3 and 4, of what the commands are.
+module _ (pool : List ℕ) (c : Call) (p : poolLength pool ≡ true) (u : leb (tableBytes (blocksOf pool)) (length (tableOf c)) ≡ true) where
+  last-pass : (o : Option (List Command)) → o ≡ commandsOf (bytesRun c) →
+      firstNo ((3, asked (λ cs. true) o) ∷ (4, asked (λ cs. leb (roomForAll cs) (length (bufferOf c))) o) ∷ []) ≡ 0 → Passes pool c
+  last-pass none e f = absurd (omega (arith, f))
+  last-pass (some cs) e f = go (leb (roomForAll cs) (length (bufferOf c))) refl f
+    where
+      go : (b : Bool) → leb (roomForAll cs) (length (bufferOf c)) ≡ b → firstNo ((4, b) ∷ []) ≡ 0 → Passes pool c
+      go true r g = record { size = p; table = leb-true _ _ u; commands = cs; are = sym e; room = leb-true _ _ r }
+      go false r g = absurd (omega (arith, g))
+
+pub lent-passes : (pool : List ℕ) (c : Call) → firstNo (ofLent pool c) ≡ 0 → Passes pool c
+unfolding ofBuffers ofDesk
+lent-passes pool (batch l) e = go (poolLength pool) refl (leb (tableBytes (blocksOf pool)) (length (l .table))) refl e
+  where
+    rest : List Question
+    rest = (3, asked (λ cs. true) (commandsOf (l .batch))) ∷ (4, asked (λ cs. leb (roomForAll cs) (length (l .buffer))) (commandsOf (l .batch))) ∷ []
+
+    go : (a : Bool) → poolLength pool ≡ a → (b : Bool) → leb (tableBytes (blocksOf pool)) (length (l .table)) ≡ b →
+        firstNo ((1, a) ∷ (2, b) ∷ rest) ≡ 0 → Passes pool (batch l)
+    go false p b u f = absurd (omega (arith, f))
+    go true p false u f = absurd (omega (arith, f))
+    go true p true u f = last-pass pool (batch l) p u (commandsOf (l .batch)) refl f
+lent-passes pool (desk d) e =
+    go (poolLength pool) refl (leb (tableBytes (blocksOf pool)) (length (d .table))) refl (fills (d .lengths) (d .queues)) e
+  where
+    run : Option (List ℕ)
+    run = joinedBy (queuesOf (d .lengths) (d .queues))
+
+    rest : List Question
+    rest = (3, asked (λ cs. true) (joinedRead run)) ∷ (4, asked (λ cs. leb (roomForAll cs) (length (d .buffer))) (joinedRead run)) ∷ []
+
+    go : (a : Bool) → poolLength pool ≡ a → (b : Bool) → leb (tableBytes (blocksOf pool)) (length (d .table)) ≡ b → (f : Bool) →
+        firstNo ((1, a) ∷ (2, b) ∷ (11, f) ∷ rest) ≡ 0 → Passes pool (desk d)
+    go false p b u f g = absurd (omega (arith, g))
+    go true p false u f g = absurd (omega (arith, g))
+    go true p true u false g = absurd (omega (arith, g))
+    go true p true u true g = last-pass pool (desk d) p u (joinedRead run) (joined-read run) g
+
+-- A MOUNT ENDS BY THE POOL'S QUESTIONS: it refuses with the number of the first no, or opens where there is none.
+pub data MountEnds : ℕ → Mounted → Type 0 where
+  unopened : (n : ℕ) → 5 ≤ n → n ≤ 8 → MountEnds n (refused n)
+  mounted : (t : Tariff) (s : State) → MountEnds 0 (opened t s)
+
+-- Of a pool whose pages check one by one.
+cells-end : (blocks : ℕ) (c : Cells) → MountEnds (firstNo (ofPages blocks (some c))) (mountCells blocks c)
+unfolding mountCells
+cells-end blocks c = go (pagesPass blocks c) (complete (checkpointOf st)) (tariffIn (checkpointOf st))
+  where
+    st : Store
+    st = reopened blocks c
+
+    last : (t : Tariff) (a b : Bool) → MountEnds (firstNo ((7, a) ∷ (8, b) ∷ [])) (ask 7 a (ask 8 b (opened t (stateOf st))))
+    last t true true = mounted t (stateOf st)
+    last t true false = unopened 8 (omega arith) (omega arith)
+    last t false b = unopened 7 (omega arith) (omega arith)
+
+    go : (p q : Bool) (o : Option Tariff) →
+        MountEnds (firstNo ((5, p) ∷ (6, q && asked (λ t. true) o) ∷ (7, asked (λ t. treeSound blocks t st) o) ∷ (8, numbersLeft st) ∷ []))
+        (ask 5 p (ask 6 q (mountTree blocks st o)))
+    go false q o = unopened 5 (omega arith) (omega arith)
+    go true false o = unopened 6 (omega arith) (omega arith)
+    go true true none = unopened 6 (omega arith) (omega arith)
+    go true true (some t) = last t (treeSound blocks t st) (numbersLeft st)
+
+pub mount-ends : (pool : List ℕ) → MountEnds (firstNo (ofPool pool)) (mountOf pool)
+unfolding mountOf ofPool
+mount-ends pool = go (cellsOf pool)
+  where
+    go : (o : Option Cells) → MountEnds (firstNo (ofPages (blocksOf pool) o)) (mountBy (blocksOf pool) o)
+    go none = unopened 5 (omega arith) (omega arith)
+    go (some c) = cells-end (blocksOf pool) c
+
+pub opens-yes : (pool : List ℕ) {t : Tariff} {s : State} → mountOf pool ≡ opened t s → firstNo (ofPool pool) ≡ 0
+opens-yes pool {t} {s} e = go (mount-ends pool) e
+  where
+    go : {n : ℕ} {m : Mounted} → MountEnds n m → m ≡ opened t s → n ≡ 0
+    go (unopened n l h) e = cc
+    go (mounted t′ s′) e = refl
