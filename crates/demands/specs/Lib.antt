@@ -37,3 +37,4 @@ pub mod AgainstSchedules
 pub mod PreparedPool
 pub mod Tags
 pub mod TheBook
+pub mod Nested
