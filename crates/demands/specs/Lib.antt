@@ -37,4 +37,3 @@ pub mod AgainstSchedules
 pub mod PreparedPool
 pub mod Tags
 pub mod TheBook
-pub mod Nested
