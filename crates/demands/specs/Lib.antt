@@ -1,13 +1,12 @@
+-- THE PROMISES: the demands, and what document 02 adds, each a theorem that can be read alone.
+pub mod TheBook
+
+-- THE LINKS, on which they rest. The store says a book, request by request, command by command and batch by batch.
 pub mod Says
 pub mod Step
 pub mod Commands
 pub mod Run
-pub mod TwoBatches
-pub mod Panels
-pub mod Ceilings
-pub mod Mount
-pub mod Close
-pub mod Prepare
+-- Every number and every page fits its bytes; what a batch is charged fits in 64 bits.
 pub mod ReplayNarrow
 pub mod NodesNarrow
 pub mod ServeFits
@@ -16,24 +15,32 @@ pub mod RequestCount
 pub mod RequestFits
 pub mod BatchFits
 pub mod ChargesFit
-pub mod PoolBytes
-pub mod MountFits
 pub mod PrepareFits
+pub mod MountFits
+-- A pool closed, mounted and prepared; its bytes; what obeys the layout.
+pub mod Mount
+pub mod Close
+pub mod Prepare
+pub mod PoolBytes
 pub mod PoolAfter
+pub mod PreparedPool
+pub mod Obeys
+-- How a call ends; one call, and a list of them; against schedules.
 pub mod Ends
 pub mod CommandBytes
 pub mod CallBytes
-pub mod ScoreOrder
 pub mod OneCall
-pub mod Obeys
+pub mod AllCalls
+pub mod InCall
+pub mod CallCharge
+pub mod AgainstSchedules
+-- Of requests: scores in any order, panels, ceilings, tags, the desk.
+pub mod ScoreOrder
 pub mod Reordered
 pub mod AnyOrder
-pub mod AllCalls
-pub mod CallCharge
-pub mod InCall
+pub mod TwoBatches
+pub mod Panels
+pub mod Ceilings
+pub mod Tags
 pub mod Desk
 pub mod DeskServes
-pub mod AgainstSchedules
-pub mod PreparedPool
-pub mod Tags
-pub mod TheBook
