@@ -2,11 +2,11 @@
 -- pool. Assumes nothing.
 use mathlib.Core.Path.{_≡_, refl, sym, ap, _∙_}
 use mathlib.Core.Bool.{Bool, true, false, _&&_}
-use mathlib.Core.List.{List, [], _∷_, _++_}
+use mathlib.Core.List.{List, [], _∷_, _++_, append-nil}
 use mathlib.Core.Option.{Option, none, some}
 use Prim.Native.Nat.{ℕ, _≤_}
 use native.Mathlib.Omega.{arith}
-use borrow.Author.Tests.{leb-true}
+use borrow.Author.Tests.{leb-true, ne-eqb}
 use lib.Dec.{leb}
 use lib.ListN.{length}
 use Rattle.laws.specs.Tests.{choose, and-left, and-right}
@@ -25,8 +25,9 @@ use Rattle.model.specs.State.{State}
 use Rattle.model.specs.Mount.{Mounted, refused, opened, ask, treeSound, numbersLeft, stateOf, mountTree, mountCells}
 use Rattle.model.specs.Bytes.{cellsOf}
 use Rattle.model.specs.Pool.{blocksOf, poolLength, mountBy, mountOf}
-use Rattle.model.specs.Questions.{Question, firstNo, asked, ofBuffers, ofDesk, ofPages, ofPool}
-use Rattle.model.specs.Call.{Call, batch, desk, tableOf, bufferOf, joinedOr, bytesRun, ofLent}
+use Rattle.model.specs.Questions.{Question, firstNo, asked, ofSizes, ofCommands, ofBuffers, ofDesk, ofPages, ofPool}
+use Rattle.model.specs.Outcome.{Outcome, refuse, ended}
+use Rattle.model.specs.Call.{Call, batch, desk, tableOf, bufferOf, joinedOr, bytesRun, ofLent, ofLast, workIn, outcome}
 
 -- A no among the first questions decides.
 pub first-front : (xs ys : List Question) → 1 ≤ firstNo xs → firstNo (xs ++ ys) ≡ firstNo xs
@@ -89,44 +90,67 @@ pub joined-read : (o : Option (List ℕ)) → joinedRead o ≡ commandsOf (joine
 joined-read none = sym no-command
 joined-read (some bytes) = refl
 
--- The last two questions, 3 and 4, of what the commands are.
-module _ (pool : List ℕ) (c : Call) (p : poolLength pool ≡ true) (u : leb (tableBytes (blocksOf pool)) (length (tableOf c)) ≡ true) where
-  last-pass : (o : Option (List Command)) → o ≡ commandsOf (bytesRun c) →
-      firstNo ((3, asked (λ cs. true) o) ∷ (4, asked (λ cs. leb (roomForAll cs) (length (bufferOf c))) o) ∷ []) ≡ 0 → Passes pool c
-  last-pass none e f = absurd (omega (arith, f))
-  last-pass (some cs) e f = go (leb (roomForAll cs) (length (bufferOf c))) refl f
-    where
-      go : (b : Bool) → leb (roomForAll cs) (length (bufferOf c)) ≡ b → firstNo ((4, b) ∷ []) ≡ 0 → Passes pool c
-      go true r g = record { size = p; table = leb-true _ _ u; commands = cs; are = sym e; room = leb-true _ _ r }
-      go false r g = absurd (omega (arith, g))
+-- Questions 1 and 2, and 3 and 4.
+pub record Sizes (pool table : List ℕ) : Type 0 where
+  pub size : poolLength pool ≡ true
+  pub enough : tableBytes (blocksOf pool) ≤ length table
+
+pub sizes-yes : (pool table : List ℕ) → firstNo (ofSizes pool table) ≡ 0 → Sizes pool table
+sizes-yes pool table e = go (poolLength pool) refl (leb (tableBytes (blocksOf pool)) (length table)) refl e
+  where
+    go : (a : Bool) → poolLength pool ≡ a → (b : Bool) → leb (tableBytes (blocksOf pool)) (length table) ≡ b → firstNo ((1, a) ∷ (2, b) ∷ []) ≡ 0 →
+        Sizes pool table
+    go false p b u f = absurd (omega (arith, f))
+    go true p false u f = absurd (omega (arith, f))
+    go true p true u f = record { size = p; enough = leb-true _ _ u }
+
+pub commands-yes : (o : Option (List Command)) (buffer : List ℕ) → firstNo (ofCommands o buffer) ≡ 0 →
+    (cs : List Command) × (o ≡ some cs) × (roomForAll cs ≤ length buffer)
+commands-yes none buffer e = absurd (omega (arith, e))
+commands-yes (some cs) buffer e = go (leb (roomForAll cs) (length buffer)) refl e
+  where
+    go : (b : Bool) → leb (roomForAll cs) (length buffer) ≡ b → firstNo ((4, b) ∷ []) ≡ 0 →
+        (ds : List Command) × (some cs ≡ some ds) × (roomForAll ds ≤ length buffer)
+    go true r f = (cs, refl, leb-true _ _ r)
+    go false r f = absurd (omega (arith, f))
+
+-- A number of 3 or more: 1 and 2 have passed.
+pub sizes-first : (pool table : List ℕ) (rest : List Question) → 3 ≤ firstNo (ofSizes pool table ++ rest) → firstNo (ofSizes pool table) ≡ 0
+sizes-first pool table rest l = go (poolLength pool) (leb (tableBytes (blocksOf pool)) (length table)) l
+  where
+    go : (a b : Bool) → 3 ≤ firstNo ((1, a) ∷ (2, b) ∷ rest) → firstNo ((1, a) ∷ (2, b) ∷ []) ≡ 0
+    go false b h = absurd (omega arith)
+    go true false h = absurd (omega arith)
+    go true true h = refl
+
+pub lent-sizes : (pool : List ℕ) (c : Call) → 3 ≤ firstNo (ofLent pool c) → Sizes pool (tableOf c)
+unfolding ofBuffers ofDesk
+lent-sizes pool (batch l) h = sizes-yes pool (l .table) (sizes-first pool (l .table) (ofCommands (commandsOf (l .batch)) (l .buffer)) h)
+lent-sizes pool (desk d) h =
+    sizes-yes pool (d .table)
+    (sizes-first pool (d .table)
+    ((11, fills (d .lengths) (d .queues)) ∷ ofCommands (joinedRead (joinedBy (queuesOf (d .lengths) (d .queues)))) (d .buffer)) h)
+
+-- What follows where nothing lent is answered with no.
+passes : (pool : List ℕ) (c : Call) (o : Option (List Command)) → o ≡ commandsOf (bytesRun c) → firstNo (ofSizes pool (tableOf c)) ≡ 0 →
+    firstNo (ofCommands o (bufferOf c)) ≡ 0 → Passes pool c
+passes pool c o e f g =
+    let s = sizes-yes pool (tableOf c) f in
+    let x = commands-yes o (bufferOf c) g in
+    record { size = s .size; table = s .enough; commands = x .0; are = sym e ∙ x .1; room = x .2 }
 
 pub lent-passes : (pool : List ℕ) (c : Call) → firstNo (ofLent pool c) ≡ 0 → Passes pool c
 unfolding ofBuffers ofDesk
-lent-passes pool (batch l) e = go (poolLength pool) refl (leb (tableBytes (blocksOf pool)) (length (l .table))) refl e
-  where
-    rest : List Question
-    rest = (3, asked (λ cs. true) (commandsOf (l .batch))) ∷ (4, asked (λ cs. leb (roomForAll cs) (length (l .buffer))) (commandsOf (l .batch))) ∷ []
-
-    go : (a : Bool) → poolLength pool ≡ a → (b : Bool) → leb (tableBytes (blocksOf pool)) (length (l .table)) ≡ b →
-        firstNo ((1, a) ∷ (2, b) ∷ rest) ≡ 0 → Passes pool (batch l)
-    go false p b u f = absurd (omega (arith, f))
-    go true p false u f = absurd (omega (arith, f))
-    go true p true u f = last-pass pool (batch l) p u (commandsOf (l .batch)) refl f
+lent-passes pool (batch l) e =
+    let rest = ofCommands (commandsOf (l .batch)) (l .buffer) in
+    passes pool (batch l) (commandsOf (l .batch)) refl (front-yes (ofSizes pool (l .table)) rest refl e)
+    (behind-yes (ofSizes pool (l .table)) rest refl e)
 lent-passes pool (desk d) e =
-    go (poolLength pool) refl (leb (tableBytes (blocksOf pool)) (length (d .table))) refl (fills (d .lengths) (d .queues)) e
-  where
-    run : Option (List ℕ)
-    run = joinedBy (queuesOf (d .lengths) (d .queues))
-
-    rest : List Question
-    rest = (3, asked (λ cs. true) (joinedRead run)) ∷ (4, asked (λ cs. leb (roomForAll cs) (length (d .buffer))) (joinedRead run)) ∷ []
-
-    go : (a : Bool) → poolLength pool ≡ a → (b : Bool) → leb (tableBytes (blocksOf pool)) (length (d .table)) ≡ b → (f : Bool) →
-        firstNo ((1, a) ∷ (2, b) ∷ (11, f) ∷ rest) ≡ 0 → Passes pool (desk d)
-    go false p b u f g = absurd (omega (arith, g))
-    go true p false u f g = absurd (omega (arith, g))
-    go true p true u false g = absurd (omega (arith, g))
-    go true p true u true g = last-pass pool (desk d) p u (joinedRead run) (joined-read run) g
+    let run = joinedBy (queuesOf (d .lengths) (d .queues)) in
+    let rest = ofCommands (joinedRead run) (d .buffer) in
+    let queues : List Question = (11, fills (d .lengths) (d .queues)) ∷ [] in
+    passes pool (desk d) (joinedRead run) (joined-read run) (front-yes (ofSizes pool (d .table)) (queues ++ rest) refl e)
+    (behind-yes queues rest refl (behind-yes (ofSizes pool (d .table)) (queues ++ rest) refl e))
 
 -- A MOUNT ENDS BY THE POOL'S QUESTIONS: it refuses with the number of the first no, or opens where there is none.
 pub data MountEnds : ℕ → Mounted → Type 0 where
@@ -162,9 +186,43 @@ mount-ends pool = go (cellsOf pool)
     go none = unopened 5 (omega arith) (omega arith)
     go (some c) = cells-end (blocksOf pool) c
 
+-- What the code of a mount says of the list.
 pub opens-yes : (pool : List ℕ) {t : Tariff} {s : State} → mountOf pool ≡ opened t s → firstNo (ofPool pool) ≡ 0
 opens-yes pool {t} {s} e = go (mount-ends pool) e
   where
     go : {n : ℕ} {m : Mounted} → MountEnds n m → m ≡ opened t s → n ≡ 0
     go (unopened n l h) e = cc
     go (mounted t′ s′) e = refl
+
+pub record FirstNo (pool : List ℕ) (n : ℕ) : Type 0 where
+  pub first : firstNo (ofPool pool) ≡ n
+  pub least : 5 ≤ n
+  pub most : n ≤ 8
+
+pub refused-no : (pool : List ℕ) {n : ℕ} → mountOf pool ≡ refused n → FirstNo pool n
+refused-no pool {n} e = go (mount-ends pool) refl e
+  where
+    go : {k : ℕ} {m : Mounted} → MountEnds k m → firstNo (ofPool pool) ≡ k → m ≡ refused n → FirstNo pool n
+    go (unopened k l h) f g =
+        let same : k ≡ n = cc in record { first = f ∙ same; least = omega (arith, same); most = omega (arith, same) }
+    go (mounted t s) f g = absurd (let z : _≡_ {A = ℕ} 0 1 = cc in omega arith)
+
+-- HOW A CALL ENDS: by what is lent, and then by what is in the pool.
+module _ (pool : List ℕ) (c : Call) where
+  abbrev endedBy : ℕ → Outcome
+  endedBy n = ended n (workIn pool c) pool (tableOf c) (bufferOf c)
+
+  pub lent-refuses : 1 ≤ firstNo (ofLent pool c) → outcome pool c ≡ refuse (firstNo (ofLent pool c)) pool (tableOf c) (bufferOf c)
+  unfolding outcome
+  lent-refuses l =
+      ap endedBy (first-front (ofLent pool c) (ofPool pool ++ ofLast pool c) l) ∙
+      rw (ne-eqb (firstNo (ofLent pool c)) 0 (λ z. omega (arith, z))) refl
+
+  -- Of a call that asks nothing behind that.
+  pub lent-right : firstNo (ofLent pool c) ≡ 0 → ofLast pool c ≡ [] → outcome pool c ≡ endedBy (firstNo (ofPool pool))
+  unfolding outcome
+  lent-right e nothing =
+      ap endedBy
+      (first-behind (ofLent pool c) (ofPool pool ++ ofLast pool c) (lent-numbered pool c) e ∙
+      ap (λ (last : List Question). firstNo (ofPool pool ++ last)) nothing ∙
+      ap firstNo (append-nil (ofPool pool)))

@@ -1,7 +1,7 @@
 -- "Questions before the work", in the documents' order, each with its number and its answer. A call is defined by its list of them (Call). Assumes
 -- nothing.
 use mathlib.Core.Bool.{Bool, true, false, _&&_}
-use mathlib.Core.List.{List, [], _∷_}
+use mathlib.Core.List.{List, [], _∷_, _++_}
 use mathlib.Core.Option.{Option, none, some}
 use Prim.Native.Nat.{ℕ}
 use lib.Dec.{leb}
@@ -10,6 +10,7 @@ use Rattle.laws.specs.Tests.{choose}
 use Rattle.layout.specs.Layout.{tableBytes}
 use Rattle.account.specs.declared.Tariff.{Tariff}
 use Rattle.account.specs.Range.{inRange}
+use Rattle.command.specs.declared.Command.{Command}
 use Rattle.command.specs.Batch.{commandsOf, roomForAll}
 use Rattle.desk_queues.specs.Queues.{fills, queuesOf}
 use Rattle.desk_queues.specs.Joined.{joinedBy, joinedRead}
@@ -33,26 +34,23 @@ abbrev pub asked : {A : Type 0} → (A → Bool) → Option A → Bool
 asked f none = false
 asked f (some x) = f x
 
--- What the caller lends, 1 to 4: "is the pool a length named above?", "is the work table long enough?", "is the batch within its length and made
--- wholly of valid commands?", "has the answer buffer" room?
-unfoldable pub ofBuffers : List ℕ → List ℕ → List ℕ → List ℕ → List Question
-ofBuffers pool table batch buffer =
-    (1, poolLength pool) ∷
-    (2, leb (tableBytes (blocksOf pool)) (length table)) ∷
-    (3, asked (λ cs. true) (commandsOf batch)) ∷
-    (4, asked (λ cs. leb (roomForAll cs) (length buffer)) (commandsOf batch)) ∷
-    []
+-- Questions 1 and 2 of every call: "is the pool a length named above?", "is the work table long enough?"
+abbrev pub ofSizes : List ℕ → List ℕ → List Question
+ofSizes pool table = (1, poolLength pool) ∷ (2, leb (tableBytes (blocksOf pool)) (length table)) ∷ []
 
--- What the caller lends to the desk (document 02, P5): 1 and 2; 11, "asked between 2 and 3"; then 3 and 4, of the joined bytes.
+-- 3 and 4, of what its bytes are read as: "is the batch within its length and made wholly of valid commands?", "has the answer buffer" room?
+abbrev pub ofCommands : Option (List Command) → List ℕ → List Question
+ofCommands commands buffer =
+    (3, asked (λ cs. true) commands) ∷ (4, asked (λ cs. leb (roomForAll cs) (length buffer)) commands) ∷ []
+
+-- What the caller lends to a batch.
+unfoldable pub ofBuffers : List ℕ → List ℕ → List ℕ → List ℕ → List Question
+ofBuffers pool table batch buffer = ofSizes pool table ++ ofCommands (commandsOf batch) buffer
+
+-- What the caller lends to the desk (document 02, P5): 11 is "asked between 2 and 3"; then 3 and 4, of the joined bytes.
 unfoldable pub ofDesk : List ℕ → List ℕ → List ℕ → List ℕ → List ℕ → List Question
 ofDesk pool table lengths queues buffer =
-    let commands = joinedRead (joinedBy (queuesOf lengths queues)) in
-    (1, poolLength pool) ∷
-    (2, leb (tableBytes (blocksOf pool)) (length table)) ∷
-    (11, fills lengths queues) ∷
-    (3, asked (λ cs. true) commands) ∷
-    (4, asked (λ cs. leb (roomForAll cs) (length buffer)) commands) ∷
-    []
+    ofSizes pool table ++ ((11, fills lengths queues) ∷ ofCommands (joinedRead (joinedBy (queuesOf lengths queues))) buffer)
 
 -- "A complete closing set": it has the tariff too.
 abbrev pub closes : List CheckpointPage → Bool
