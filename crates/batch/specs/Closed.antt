@@ -1,9 +1,12 @@
--- What is left where a call ends behind question 4: the table zero, and where the pool opened the checkpoint written. Assumes nothing.
+-- What is left where a call ends: refused for what is lent; refused for its pool, with the table zero; or closed, with the checkpoint written
+-- too. Assumes nothing.
 use mathlib.Core.Path.{_≡_}
 use mathlib.Core.List.{List}
 use Prim.Native.Nat.{ℕ}
 use lib.ListN.{length, replicate}
 use Rattle.account.specs.declared.Tariff.{Tariff}
+use Rattle.model.specs.Pool.{blocksOf}
+use Rattle.model.specs.Outcome.{tableAfter}
 use Rattle.flash_rows.specs.Worktable.{Worktable}
 use Rattle.flash_blocks.specs.Pages.{pagesOf}
 use Rattle.flash_allocate.specs.declared.state.State.{State}
@@ -19,6 +22,10 @@ doneWith p = record { number = 0; length = p .at }
 
 abbrev pub zeros : ℕ → List ℕ
 zeros n = replicate n 0
+
+pub record Refused (pool table table′ : List ℕ) (number : ℕ) (r : Outcome) : Type 0 where
+  pub says : r ≡ refusedWith number
+  pub left : table′ ≡ tableAfter number (blocksOf pool) table
 
 pub record Unopened (table table′ : List ℕ) (number : ℕ) (r : Outcome) : Type 0 where
   pub says : r ≡ refusedWith number

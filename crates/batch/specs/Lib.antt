@@ -1,5 +1,5 @@
 pub mod Left
 pub mod Closed
-pub mod Questions
 pub mod Work
 pub mod Lent
+pub mod AnyCall

@@ -1,6 +1,7 @@
 -- Questions 5 to 8, the commands and the checkpoint, put together from what the code of each leaves. Assumes nothing.
 use mathlib.Core.Path.{_≡_, refl, sym, ap, _∙_, subst}
 use mathlib.Core.List.{List}
+use mathlib.Core.Option.{some}
 use Prim.Native.Nat.{ℕ}
 use native.Mathlib.Omega.{arith}
 use lib.ListN.{length, length-replicate}
@@ -13,11 +14,14 @@ use Rattle.command.specs.declared.Command.{Command}
 use Rattle.book.specs.Session.{atFirst}
 use Rattle.book.specs.InTurn.{noCharges}
 use Rattle.book.specs.EachPanel.{length-each}
-use Rattle.model.specs.Mount.{Mounted, refused}
+use Rattle.model.specs.Mount.{refused}
 use Rattle.model.specs.Pool.{blocksOf, mountOf}
-use Rattle.model.specs.Outcome.{cleared, accept}
-use Rattle.model.specs.Call.{batchMounted}
-use Rattle.demands.specs.OneCall.{blocks-length}
+use Rattle.model.specs.PoolLaws.{blocks-length}
+use Rattle.model.specs.Questions.{firstNo, ofPool}
+use Rattle.model.specs.Outcome as Model
+use Rattle.model.specs.Outcome.{cleared, workBy, accept, ended}
+use Rattle.model.specs.QuestionLaws.{opens-yes, refused-no}
+use Rattle.model.specs.OutcomeLaws.{ended-no, table-cleared}
 use Rattle.flash_rows.specs.Worktable.{Worktable, tableFrom}
 use Rattle.flash_blocks.specs.Pages.{pagesOf}
 use Rattle.flash_allocate.specs.declared.state.State.{State}
@@ -29,8 +33,7 @@ use Rattle.run.specs.declared.Ran.{Ran}
 use Rattle.run.specs.Run.{runWorld, runCharge, RunAs}
 use Rattle.batch_refines.specs.Accepted.{accepted}
 use Rattle.batch.specs.declared.answer.Outcome.{Outcome}
-use Rattle.batch.specs.Questions.{refused-leaves}
-use Rattle.batch.specs.Left.{refusedWith, Leaves, Accepts, Worked}
+use Rattle.batch.specs.Left.{refusedWith, Leaves, refused-leaves, Accepts, Worked}
 use Rattle.batch.specs.Closed.{doneWith, zeros, Unopened, Closed}
 
 -- A table of just the pool's size is all zero afterwards.
@@ -50,11 +53,16 @@ module _ (pool table batch answers : List ℕ) {blocks : ℕ} (a : Accepts (leng
   pub worked-refused : (number : ℕ) → mountOf pool ≡ refused number → (charges : List ℕ) → charges ≡ noCharges →
       Worked pool pool table table′ batch answers answers charges (refusedWith number)
   worked-refused number e charges none =
+      let no = refused-no pool e in
       record {
         leaves =
             λ cs are.
-            subst (λ (m : Mounted). Leaves (batchMounted m cs pool table answers) (refusedWith number) pool table′ answers charges) (sym e)
-            (refused-leaves number pool (cleared (blocksOf pool) table) table′ answers charges cleared-is none);
+            let w = workBy (some cs) (mountOf pool) in
+            subst (λ (o : Model.Outcome). Leaves o (refusedWith number) pool table′ answers charges)
+            (sym (ended-no number (omega (arith, no .least)) w pool table answers) ∙
+            ap (λ (n : ℕ). ended n w pool table answers) (sym (no .first)))
+            (refused-leaves number pool table table′ answers charges
+            (cleared-is ∙ sym (table-cleared number (blocksOf pool) table (omega (arith, no .least)))) none);
       }
 
   -- One that opens, its commands run and its checkpoint written.
@@ -62,13 +70,13 @@ module _ (pool table batch answers : List ℕ) {blocks : ℕ} (a : Accepts (leng
       (o : Opens pool tableLength blocks held t st)
       {pages₁ : List (List ℕ)} {answers₁ charges : List ℕ} {p : Ran}
       (ran : RunAs P T pages₁ held₁ answers answers₁ charges p t (a .commands) (world (pagesOf pool) held st))
-      (pool′ : List ℕ) (ended : world (pagesOf pool′) held₂ st₂ ≡ checkpoint t (world pages₁ held₁ (p .state)))
+      (pool′ : List ℕ) (written : world (pagesOf pool′) held₂ st₂ ≡ checkpoint t (world pages₁ held₁ (p .state)))
       (kept : st₂ .blocks ≡ p .state .blocks) (size : length pool′ ≡ length pool) where
     abbrev w : World
     w = world (pagesOf pool) held st
 
     end : world (pagesOf pool′) held₂ st₂ ≡ checkpoint t (runWorld (a .commands) (atFirst t) w)
-    end = ended ∙ ap (checkpoint t) (ran .kept .is)
+    end = written ∙ ap (checkpoint t) (ran .kept .is)
 
     blocks-end : checkpoint t (runWorld (a .commands) (atFirst t) w) .state .blocks ≡ blocks
     blocks-end =
@@ -89,16 +97,19 @@ module _ (pool table batch answers : List ℕ) {blocks : ℕ} (a : Accepts (leng
           sixteen = ap length (ran .paid) ∙ length-each (λ q. runCharge q (a .commands) (atFirst t) w);
         }
 
+    abbrev endOf : List Command → Model.Outcome
+    endOf cs = ended (firstNo (ofPool pool)) (workBy (some cs) (mountOf pool)) pool table answers
+
+    done-as : (cs : List Command) → a .commands ≡ cs → accept blocks t (a .commands) (o .state) table answers ≡ endOf cs
+    done-as cs same = rw (opens-yes pool (o .is), o .is, blocks-are, same) refl
+
     pub worked-done : Worked pool pool′ table table′ batch answers answers₁ charges (doneWith p)
     worked-done =
         record {
           leaves =
               λ cs are.
-              let same : a .commands ≡ cs = some-same (sym (a .are) ∙ are) in
-              subst (λ (m : Mounted). Leaves (batchMounted m cs pool table answers) (doneWith p) pool′ table′ answers₁ charges) (sym (o .is))
-              (subst (λ (b : ℕ). Leaves (accept b t cs (o .state) table answers) (doneWith p) pool′ table′ answers₁ charges) (sym blocks-are)
-              (subst (λ (ds : List Command). Leaves (accept blocks t ds (o .state) table answers) (doneWith p) pool′ table′ answers₁ charges) same
-              by-commands));
+              subst (λ (right : Model.Outcome). Leaves right (doneWith p) pool′ table′ answers₁ charges)
+              (done-as cs (some-same (sym (a .are) ∙ are))) by-commands;
         }
 
 -- The same, from what the code of each leaves.

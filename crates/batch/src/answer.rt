@@ -1,4 +1,4 @@
-// What a batch answers, beside what it writes into the buffers lent to it.
+// What a call answers, beside what it writes into the buffers lent to it.
 ghost use mathlib.Core.Path.{_≡_};
 ghost use Rattle.batch.specs.Left.{refusedWith};
 
@@ -8,7 +8,7 @@ pub struct Outcome {
     pub length: usize,
 }
 
-// A batch refused.
+// A call refused.
 pub fn refused(number: u32) -> Outcome
     ensures { λ r. ⌜ r ≡ refusedWith number ⌝ }
 {

@@ -1,24 +1,30 @@
-// How calls end: the table zero in its first bytes, and the checkpoint written where the pool opened.
-ghost use mathlib.Core.Path.{_≡_};
+// How calls end: the table zero in its first bytes, but after 1 and 2, and the checkpoint written where the pool opened.
 ghost use Prim.Native.Nat.{_≤_};
 ghost use lib.ListN.{length};
+ghost use Rattle.model.specs.QuestionLaws.{Sizes};
 ghost use Rattle.run_split.specs.Growing.{Growing};
-ghost use Rattle.batch.specs.Left.{refusedWith, wiped};
-ghost use Rattle.batch.specs.Closed.{zeros, Unopened, Closed};
+ghost use Rattle.batch.specs.Closed.{Refused, Unopened, Closed};
 use super::answer::Outcome;
 use super::answer::refused;
 use account::Tariff;
 use flash_checkpoint::checkpoint;
+use layout::TABLE_BYTES;
+use layout::pool_blocks;
 use run::Ran;
 use wire::bytes::fill;
 use wire::bytes::fill_part;
 
-// The first bytes of the table zero.
-pub fn wipe(table: &mut [u8], bytes: usize)
-    requires { ⌜ bytes ≤ length (now table) ⌝ }
-    ensures { λ _. ⌜ now (table .exit) ≡ wiped bytes (now (table .entry)) ⌝ }
+// A call refused for what is lent, whichever call it is.
+pub fn refuse(pool: &[u8], table: &mut [u8], number: u32) -> Outcome
+    requires { ⌜ (1 ≤ number) × (3 ≤ number → Sizes (now pool) (now table)) ⌝ }
+    ensures { λ r. ⌜ Refused (now (pool .entry)) (now (table .entry)) (now (table .exit)) number r ⌝ }
 {
-    fill_part(table, 0, bytes, 0);
+    if number < 3 {
+        return refused(number);
+    }
+    let blocks = pool_blocks(pool.len());
+    fill_part(table, 0, TABLE_BYTES * blocks, 0);
+    refused(number)
 }
 
 // A pool that does not open: the table that it was read into is zero again.

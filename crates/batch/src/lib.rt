@@ -9,16 +9,14 @@ pub mod answer;
 pub mod end;
 
 use answer::Outcome;
-use answer::refused;
-use command::Asked;
-use command::batch::asked;
 use end::close;
+use end::refuse;
 use end::unopened;
-use end::wipe;
 use layout::PANELS;
 use layout::TABLE_BYTES;
 use layout::pool_blocks;
 use mount::mount;
+use questions::batch::refusal;
 use run::charges::clear;
 use run::run::run_commands;
 
@@ -59,37 +57,18 @@ pub fn batch(
         (now (charges .exit)) ⌝ }
 {
     clear(charges);
+    let number = refusal(pool, table, commands, answers);
+    if number == 0 {} else {
+        return refuse(pool, table, number);
+    }
     let blocks = pool_blocks(pool.len());
-    if blocks == 0 {
-        return refused(1);
-    }
     let bytes = TABLE_BYTES * blocks;
-    if table.len() < bytes {
-        return refused(2);
-    }
-    let wanted = asked(commands);
-    match wanted {
-        Asked::Invalid => {
-            wipe(table, bytes);
-            return refused(3);
-        }
-        Asked::Bytes {
-            room,
-            commands: _,
-            named: _,
-        } => {
-            if answers.len() < room {
-                wipe(table, bytes);
-                return refused(4);
-            }
-            return work(
-                pool,
-                &mut table[0..bytes],
-                commands,
-                answers,
-                charges,
-                blocks,
-            );
-        }
-    }
+    work(
+        pool,
+        &mut table[0..bytes],
+        commands,
+        answers,
+        charges,
+        blocks,
+    )
 }

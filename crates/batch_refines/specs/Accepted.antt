@@ -22,12 +22,12 @@ use Rattle.model.specs.Batch.{chargeOf}
 use Rattle.model.specs.Mount.{Mounted, refused, opened, mountCells}
 use Rattle.model.specs.Bytes.{cellsOf}
 use Rattle.model.specs.Pool.{blocksOf, mountBy, mountOf}
+use Rattle.model.specs.PoolLaws.{blocks-length}
 use Rattle.model.specs.Outcome.{Outcome, accept}
 use Rattle.store_laws.specs.Numbers.{last}
 use Rattle.demands.specs.Mount.{opened-mounts, mounts-ready}
 use Rattle.demands.specs.Run.{Holds}
 use Rattle.demands.specs.CommandBytes.{Batch, commandsOf-batch}
-use Rattle.demands.specs.OneCall.{blocks-length}
 use Rattle.flash_rows.specs.Worktable.{Worktable}
 use Rattle.flash_blocks.specs.Pages.{pagesOf}
 use Rattle.flash_allocate.specs.declared.state.State.{State}

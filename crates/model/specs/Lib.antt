@@ -9,6 +9,7 @@ pub mod Questions
 pub mod Outcome
 pub mod Call
 pub mod QuestionLaws
+pub mod OutcomeLaws
 pub mod Calls
 pub mod Computes
 pub mod Worked
