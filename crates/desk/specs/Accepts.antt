@@ -1,4 +1,4 @@
--- What is known of a desk call where questions 1, 2, 11, 3 and 4 have passed: what a batch of the joined bytes would have, and queues that can be
+-- What is known of a desk where nothing that is lent was answered with no: what a batch of the joined bytes would have, and queues that can be
 -- served. Assumes nothing.
 use mathlib.Core.Path.{_≡_, refl, sym, ap, _∙_}
 use mathlib.Core.Bool.{true}
@@ -14,13 +14,14 @@ use Rattle.command.specs.declared.Command.{Command}
 use Rattle.command.specs.Batch.{commandsOf, roomForAll}
 use Rattle.command.specs.BatchLaws.{commandsFrom-few}
 use Rattle.desk_order.specs.Turns.{longest}
-use Rattle.desk_queues.specs.Queues.{queueCount, queuesIn, fills}
-use Rattle.desk_queues.specs.Joined.{allCommands, joined, joinedBytes}
+use Rattle.desk_queues.specs.Queues.{queueCount, queuesIn, fills, queuesOf}
+use Rattle.desk_queues.specs.Joined.{allCommands, joined, joinedBytes, joinedOf, joinedBy}
 use Rattle.desk_laws.specs.QueueLaws.{Filled, filled, queues-bytes}
 use Rattle.desk_laws.specs.Read.{all-read}
 use Rattle.desk_laws.specs.JoinedLaws.{joined-bytes}
 use Rattle.desk_questions.specs.Answers.{Ready}
 use Rattle.desk_questions.specs.Total.{lent-few}
+use Rattle.model.specs.Call.{joinedOr}
 use Rattle.run.specs.Valid.{commandsIn, Fits, commandsIn-is, valid-fits}
 use Rattle.desk_run.specs.Served.{listsOr, listsIn, Serves}
 use Rattle.batch.specs.Left.{Accepts}
@@ -40,6 +41,12 @@ lists-are lengths queues css e = ap listsOr e
 pub lists-read : (lengths queues : List ℕ) (css : List (List Command)) → allCommands (queuesIn lengths queues) ≡ some css →
     commandsOf (joinedBytes css) ≡ some (joined css) → commandsOf (joinedBytes (listsIn lengths queues)) ≡ some (joined css)
 lists-read lengths queues css e read = ap (λ (l : List (List Command)). commandsOf (joinedBytes l)) (lists-are lengths queues css e) ∙ read
+
+-- So are the bytes that the call runs.
+pub runs-read : (lengths queues : List ℕ) {room rounds : ℕ} → fills lengths queues ≡ true → (r : Ready lengths queues room rounds) →
+    commandsOf (joinedOr (joinedBy (queuesOf lengths queues))) ≡ some (joined (r .commands))
+unfolding queuesOf joinedOf
+runs-read lengths queues fill r = rw (fill, r .are) (r .read)
 
 module _ (lengths queues : List ℕ) (fill : fills lengths queues ≡ true) where
   -- By the answer to question 3, and by question 4.

@@ -8,18 +8,15 @@ ghost use Rattle.desk_run.specs.Served.{listsIn};
 ghost use Rattle.batch.specs.Left.{Worked, Leaves};
 ghost use Rattle.desk.specs.Accepts.{DeskAccepts};
 use batch::answer::Outcome;
-use batch::answer::refused;
 use batch::end::close;
+use batch::end::refuse;
 use batch::end::unopened;
-use batch::end::wipe;
-use desk_questions::Served;
-use desk_questions::lengths_fill;
-use desk_questions::queues_asked;
 use desk_run::rounds::run_rounds;
 use layout::PANELS;
 use layout::TABLE_BYTES;
 use layout::pool_blocks;
 use mount::mount;
+use questions::desk::refusal;
 use run::charges::clear;
 
 // Questions 5 to 8, the rounds and the checkpoint, in a table of the pool's size.
@@ -73,39 +70,20 @@ pub fn desk(
         (now (charges .exit)) ⌝ }
 {
     clear(charges);
+    let asked = refusal(pool, table, lengths, queues, answers);
+    if asked.number == 0 {} else {
+        return refuse(pool, table, asked.number);
+    }
     let blocks = pool_blocks(pool.len());
-    if blocks == 0 {
-        return refused(1);
-    }
     let bytes = TABLE_BYTES * blocks;
-    if table.len() < bytes {
-        return refused(2);
-    }
-    if lengths_fill(lengths, queues) {} else {
-        wipe(table, bytes);
-        return refused(11);
-    }
-    let wanted = queues_asked(lengths, queues);
-    match wanted {
-        Served::Rounds { room, rounds } => {
-            if answers.len() < room {
-                wipe(table, bytes);
-                return refused(4);
-            }
-            return work(
-                pool,
-                &mut table[0..bytes],
-                lengths,
-                queues,
-                answers,
-                charges,
-                blocks,
-                rounds,
-            );
-        }
-        Served::Invalid => {
-            wipe(table, bytes);
-            return refused(3);
-        }
-    }
+    work(
+        pool,
+        &mut table[0..bytes],
+        lengths,
+        queues,
+        answers,
+        charges,
+        blocks,
+        asked.rounds,
+    )
 }
