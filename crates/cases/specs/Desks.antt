@@ -11,16 +11,16 @@ use Rattle.desk_queues.specs.Queues as queues
 use Rattle.desk_queues.specs.Queues.{queuesOf}
 use Rattle.desk_queues.specs.Joined as joined
 use Rattle.desk_queues.specs.Joined.{joinedBy}
-use Rattle.model.specs.Outcome.{Outcome, refuse}
+use Rattle.model.specs.Questions as questions
+use Rattle.model.specs.Outcome.{Outcome}
 use Rattle.model.specs.Call.{deskOf}
-use Rattle.model.specs.Desk as desk
 use Rattle.model.specs.Computes.{computes}
 use Rattle.cases.specs.Pools.{poolBytes, inFirst, prepared}
 use Rattle.cases.specs.Batches.{small, greatest, panel, get, put, delete, absent, got, deleted, Result, result, outcomeOf, none}
 
 -- Every definition that a desk adds to those of a batch.
 unfoldable deskComputes : Unit {0}
-unfolding computes command.commandBytes order.turns queues.fills queues.queuesOf joined.queueCommands joined.joinedBytes joined.joinedOf desk.deskOf
+unfolding computes command.commandBytes order.turns queues.fills queues.queuesOf joined.queueCommands joined.joinedBytes joined.joinedOf questions.ofDesk
 deskComputes = tt
 
 -- A call with so many bytes for its answers; its number, answers and charges.
@@ -95,7 +95,8 @@ pub wrong-lengths : map (λ lengths. resultBy (deskOn 7 lengths (get 7))) wrongL
 unfolding deskComputes
 wrong-lengths = refl
 
-pub left-by-eleven : deskOn 7 (small 6) (get 7) ≡ refuse 11 pool (replicate 4096 0) (replicate 7 7)
+pub left-by-eleven : deskOn 7 (small 6) (get 7) ≡
+    record { number = 11; pool = pool; table = replicate 4096 0; answers = replicate 7 7; length = 0; charges = replicate 16 0 }
 unfolding deskComputes
 left-by-eleven = refl
 

@@ -19,7 +19,8 @@ use Rattle.store.specs.Checkpoint.{checkpointOf, tariffIn, complete}
 use Rattle.store.specs.Reopen.{Cells, reopened, pagesPass}
 use Rattle.model.specs.Mount.{refused, opened, stateOf, treeSound, mountCells}
 use Rattle.model.specs.Pool.{poolLength}
-use Rattle.model.specs.Call.{prepareOf, batchOf}
+use Rattle.model.specs.Questions.{ofBuffers, ofPrepare}
+use Rattle.model.specs.Call.{outcome, prepareOf, batchOf}
 use Rattle.cases.specs.Pools.{
   poolBytes,
   inFirst,
@@ -194,11 +195,11 @@ node-limits = refl
 
 -- A pool that has no length named above is refused with 1 by prepare and batch.
 pub wrong-length-prepare : (pool : List ℕ) (t : Tariff) → poolLength pool ≡ false → prepareOf pool t .number ≡ 1
-unfolding prepareOf
+unfolding prepareOf ofPrepare
 wrong-length-prepare pool t e = rw e refl
 
 pub wrong-length-batch : (pool table batch buffer : List ℕ) → poolLength pool ≡ false → batchOf pool table batch buffer .number ≡ 1
-unfolding batchOf
+unfolding outcome ofBuffers
 wrong-length-batch pool table batch buffer e = rw e refl
 
 -- "Is the greatest stamp at most 4,000,000,000? (8)", of any pool that passes questions 5 to 7: a mount with such numbers does not compute, since a

@@ -1,6 +1,5 @@
 -- THE PROMISES: the demands, and what document 02 adds, each a theorem that can be read alone.
 pub mod TheBook
-
 -- THE LINKS, on which they rest. The store says a book, request by request, command by command and batch by batch.
 pub mod Says
 pub mod Step

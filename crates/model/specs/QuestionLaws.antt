@@ -13,6 +13,7 @@ use Rattle.laws.specs.Tests.{choose, and-left, and-right}
 use Rattle.layout.specs.Layout.{tableBytes}
 use Rattle.wire.specs.Field.{fieldAt}
 use Rattle.account.specs.declared.Tariff.{Tariff}
+use Rattle.account.specs.Range.{inRange}
 use Rattle.command.specs.declared.Command.{Command}
 use Rattle.command.specs.Command.{commandAt}
 use Rattle.command.specs.Batch.{run, commandsFrom, commandsOf, roomForAll}
@@ -25,7 +26,8 @@ use Rattle.model.specs.State.{State}
 use Rattle.model.specs.Mount.{Mounted, refused, opened, ask, treeSound, numbersLeft, stateOf, mountTree, mountCells}
 use Rattle.model.specs.Bytes.{cellsOf}
 use Rattle.model.specs.Pool.{blocksOf, poolLength, mountBy, mountOf}
-use Rattle.model.specs.Questions.{Question, firstNo, asked, ofSizes, ofCommands, ofBuffers, ofDesk, ofPages, ofPool}
+use Rattle.model.specs.PoolLaws.{IsPool, is-pool}
+use Rattle.model.specs.Questions.{Question, firstNo, asked, ofSizes, ofCommands, ofBuffers, ofDesk, ofPages, ofPool, ofPrepare}
 use Rattle.model.specs.Outcome.{Outcome, refuse, ended}
 use Rattle.model.specs.Call.{Call, batch, desk, tableOf, bufferOf, joinedOr, bytesRun, ofLent, ofLast, workIn, outcome}
 
@@ -151,6 +153,15 @@ lent-passes pool (desk d) e =
     let queues : List Question = (11, fills (d .lengths) (d .queues)) ∷ [] in
     passes pool (desk d) (joinedRead run) (joined-read run) (front-yes (ofSizes pool (d .table)) (queues ++ rest) refl e)
     (behind-yes queues rest refl (behind-yes (ofSizes pool (d .table)) (queues ++ rest) refl e))
+
+-- Of a prepare: a pool's length.
+pub prepare-pool : (pool : List ℕ) (t : Tariff) → firstNo (ofPrepare pool t) ≡ 0 → IsPool pool
+unfolding ofPrepare
+prepare-pool pool t e = go (poolLength pool) refl e
+  where
+    go : (a : Bool) → poolLength pool ≡ a → firstNo ((1, a) ∷ (10, inRange t) ∷ []) ≡ 0 → IsPool pool
+    go true p f = is-pool pool p
+    go false p f = absurd (omega (arith, f))
 
 -- A MOUNT ENDS BY THE POOL'S QUESTIONS: it refuses with the number of the first no, or opens where there is none.
 pub data MountEnds : ℕ → Mounted → Type 0 where

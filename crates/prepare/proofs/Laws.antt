@@ -1,15 +1,15 @@
 -- The two pages as the writers make them, and the ways out of prepare. Assumes nothing.
 use mathlib.Core.Path.{_≡_, refl, sym, ap, _∙_}
-use mathlib.Core.Bool.{true, false}
+use mathlib.Core.Bool.{true}
 use mathlib.Core.List.{List, [], _∷_}
 use Prim.Native.Nat.{ℕ, _+_, _*_}
 use native.Mathlib.Omega.{arith}
+use borrow.Author.Tests.{ne-eqb}
 use lib.ListN.{length, replicate, length-replicate, replicate-append-replicate}
 use Rattle.laws.specs.Lay.{lay, lay-next, lay-whole, part, part-whole}
 use Rattle.laws.specs.BigEndian.{number, numberAt}
 use Rattle.layout.specs.Layout.{pageBytes, noLeaf}
 use Rattle.account.specs.declared.Tariff.{Tariff}
-use Rattle.account.specs.Range.{inRange}
 use Rattle.node.specs.declared.Shape.the-variants.{Leaf}
 use Rattle.node.specs.Change.{link}
 use Rattle.page.specs.Page.{Entry}
@@ -20,10 +20,12 @@ use Rattle.page_write.specs.Chunks.{chunks}
 use Rattle.page_write.specs.Pages.{entryRecord, entryRecord-bytes, logBody, logImage}
 use Rattle.page_checkpoint.specs.Checkpoint.{scoresIn}
 use Rattle.page_checkpoint.specs.Checkpoint as Writer
-use Rattle.model.specs.Pool.{poolLength}
+use Rattle.model.specs.PoolLaws.{IsPool}
+use Rattle.model.specs.Questions.{firstNo, ofPrepare}
+use Rattle.model.specs.QuestionLaws.{prepare-pool}
 use Rattle.model.specs.Call.{prepareOf}
 use Rattle.flash_blocks.specs.Pages.{erasedBytes}
-use Rattle.prepare.specs.Prepared.{rootPage, checkpointPage, firstBytes, Leaves, IsPool, prepared-bytes}
+use Rattle.prepare.specs.Prepared.{rootPage, checkpointPage, firstBytes, Leaves, prepared-bytes}
 
 abbrev root : Entry
 root = record { id = 0; version = 1; change = link Leaf noLeaf }
@@ -64,24 +66,22 @@ pub first-written : (bytes : ℕ) (a b erased one two : List ℕ) → erased ≡
 unfolding firstBytes
 first-written bytes a b erased one two e f g = g ∙ ap (λ (s : List ℕ). lay s 512 b) (f ∙ ap (λ (s : List ℕ). lay s 0 a) e)
 
--- Refused with 1, with 10, or prepared.
-module _ (pool : List ℕ) (t : Tariff) where
-  pub refused-length : poolLength pool ≡ false → Leaves (prepareOf pool t) 1 pool
+-- Refused, or prepared.
+module _ (pool : List ℕ) (t : Tariff) (n : ℕ) (is : n ≡ firstNo (ofPrepare pool t)) where
+  pub refused-leaves : (n ≡ 0 → ⊥) → Leaves (prepareOf pool t) n pool
   unfolding prepareOf
-  refused-length e = rw e (record { number = refl; pool = refl })
+  refused-leaves some = rw (← is, ne-eqb n 0 some) (record { number = refl; pool = refl })
 
-  module _ (h : IsPool pool) where
-    pub refused-tariff : inRange t ≡ false → Leaves (prepareOf pool t) 10 pool
-    unfolding prepareOf
-    refused-tariff e = rw (h .question, e) (record { number = refl; pool = refl })
+  module _ (z : n ≡ 0) where
+    pub is-prepared : IsPool pool
+    is-prepared = prepare-pool pool t (sym is ∙ z)
 
-    pub prepared-pool : inRange t ≡ true → (a b left : List ℕ) → a ≡ image rootPage → b ≡ image (checkpointPage t) →
-        length a ≡ pageBytes → length b ≡ pageBytes →
+    pub prepared-leaves : (a b left : List ℕ) → a ≡ image rootPage → b ≡ image (checkpointPage t) → length a ≡ pageBytes → length b ≡ pageBytes →
         left ≡ firstBytes (length pool) a b → Leaves (prepareOf pool t) 0 left
     unfolding prepareOf
-    prepared-pool e a b left ea eb la lb is =
-        rw (h .question, e)
+    prepared-leaves a b left ea eb la lb e =
+        rw (sym is ∙ z)
         (record {
           number = refl;
-          pool = is ∙ rw (ea, eb) (prepared-bytes pool h t (ap length (sym ea) ∙ la) (ap length (sym eb) ∙ lb));
+          pool = e ∙ rw (ea, eb) (prepared-bytes pool is-prepared t (ap length (sym ea) ∙ la) (ap length (sym eb) ∙ lb));
         })

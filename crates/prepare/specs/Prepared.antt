@@ -1,17 +1,12 @@
 -- What prepare leaves, by bytes: all FF but the first two pages; and that these are the bytes of the prepared pool. Assumes nothing.
 use mathlib.Core.Path.{_≡_, refl, sym, ap, ap₂, _∙_}
-use mathlib.Core.Bool.{true, false}
-use mathlib.Core.Logic.{_⊎_, inl, inr}
 use mathlib.Core.List.{List, [], _∷_, _++_, append-assoc}
 use mathlib.Core.Option.{some}
-use Prim.Native.Nat.{ℕ, zero, suc, _+_, _-_, _*_, _≤_, _<_}
+use Prim.Native.Nat.{ℕ, zero, suc, _+_, _-_, _*_, _≤_}
 use native.Mathlib.Omega.{arith}
-use borrow.Author.Tests.{le-leb, lt-leb, eq-eqb, ne-eqb}
 use lib.ListN.{length, replicate, length-append, length-replicate, replicate-append-replicate}
-use Rattle.laws.specs.Order.{eq-or, le-or}
 use Rattle.laws.specs.Lay.{lay, lay-replicate, lay-next}
-use Rattle.layout.specs.Blocks.{blocksIf, too-few, too-many, whole-blocks, cut-block}
-use Rattle.layout.specs.Layout.{pageBytes, pagesInBlock, blockBytes, fewestBlocks, mostBlocks, noLeaf}
+use Rattle.layout.specs.Layout.{pageBytes, pagesInBlock, blockBytes, noLeaf}
 use Rattle.account.specs.declared.Tariff.{Tariff}
 use Rattle.node.specs.declared.Shape.the-variants.{Leaf}
 use Rattle.node.specs.Change.{link}
@@ -20,7 +15,8 @@ use Rattle.page.specs.Image.{image, blankBytes}
 use Rattle.store.specs.Reopen.{Cells, cellsIn, cells}
 use Rattle.model.specs.Bytes.{cellBytes, bytesOf}
 use Rattle.model.specs.Prepare.{prepared}
-use Rattle.model.specs.Pool.{blocksOf, poolLength}
+use Rattle.model.specs.Pool.{blocksOf}
+use Rattle.model.specs.PoolLaws.{IsPool}
 use Rattle.model.specs.Call.{Prepared}
 
 -- The two pages.
@@ -38,60 +34,6 @@ firstBytes bytes a b = lay (lay (replicate bytes 255) 0 a) pageBytes b
 pub record Leaves (right : Prepared) (returned : ℕ) (left : List ℕ) : Type 0 where
   pub number : returned ≡ right .number
   pub pool : left ≡ right .pool
-
--- A buffer is a pool by its length, or is none; question 1 says which.
-pub record IsPool (pool : List ℕ) : Type 0 where
-  pub question : poolLength pool ≡ true
-  pub least : fewestBlocks ≤ blocksOf pool
-  pub most : blocksOf pool ≤ mostBlocks
-  pub whole : length pool ≡ blockBytes * blocksOf pool
-  pub blocks : blocksIf (length pool) ≡ blocksOf pool
-
-pub data Question (pool : List ℕ) : Type 0 where
-  refused : blocksIf (length pool) ≡ 0 → poolLength pool ≡ false → Question pool
-  passed : IsPool pool → Question pool
-
-pub question-one : (pool : List ℕ) → Question pool
-unfolding poolLength
-question-one pool = go (le-or fewestBlocks (blocksOf pool)) (le-or (blocksOf pool) mostBlocks) (eq-or (blockBytes * blocksOf pool) (length pool))
-  where
-    n : ℕ
-    n = length pool
-
-    go : (fewestBlocks ≤ blocksOf pool) ⊎ (blocksOf pool < fewestBlocks) → (blocksOf pool ≤ mostBlocks) ⊎ (mostBlocks < blocksOf pool) →
-        (blockBytes * blocksOf pool ≡ length pool) ⊎ (blockBytes * blocksOf pool ≡ length pool → ⊥) → Question pool
-    go (inr l) b c = refused (sym (too-few n l)) (rw (lt-leb fewestBlocks (blocksOf pool) l) refl)
-    go (inl a) (inr l) c = refused (sym (too-many n a l)) (rw (le-leb fewestBlocks (blocksOf pool) a, lt-leb (blocksOf pool) mostBlocks l) refl)
-    go (inl a) (inl b) (inr d) =
-        refused (sym (cut-block n a b d))
-        (rw (le-leb fewestBlocks (blocksOf pool) a, le-leb (blocksOf pool) mostBlocks b, ne-eqb (blockBytes * blocksOf pool) (length pool) d) refl)
-    go (inl a) (inl b) (inl e) =
-        passed
-        (record {
-          question = rw (le-leb fewestBlocks (blocksOf pool) a, le-leb (blocksOf pool) mostBlocks b, eq-eqb (blockBytes * blocksOf pool) (length pool) e) refl;
-          least = a;
-          most = b;
-          whole = sym e;
-          blocks = sym (whole-blocks n a b e);
-        })
-
--- No block counted: no pool; some block counted: a pool.
-module _ (pool : List ℕ) (n : ℕ) (is : n ≡ blocksIf (length pool)) where
-  pub no-pool : n ≡ 0 → poolLength pool ≡ false
-  no-pool z = go (question-one pool)
-    where
-      go : Question pool → poolLength pool ≡ false
-      go (refused e q) = q
-      go (passed h) = absurd (omega (arith, is, h .blocks, h .least))
-
-  pub a-pool : (n ≡ 0 → ⊥) → IsPool pool
-  a-pool d = go (question-one pool)
-    where
-      go : Question pool → IsPool pool
-      go (refused e q) = absurd (d (is ∙ e))
-      go (passed h) = h
-
--- ---- the bytes of the prepared pool
 
 abbrev erasedBytes : ℕ → List ℕ
 erasedBytes n = replicate n 255

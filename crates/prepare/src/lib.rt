@@ -17,6 +17,7 @@ use layout::pool_blocks;
 use page_checkpoint::checkpoint_image;
 use page_write::log_page::lay_entry;
 use page_write::log_page::log_image;
+use questions::prepare::refusal;
 
 // The first page: node 0 as an empty leaf.
 fn root_page() -> [u8; PAGE_BYTES]
@@ -62,19 +63,17 @@ fn write_first(
     put_page(pool, 1, checkpoint);
 }
 
-// A pool prepared, or refused with 1, no pool's length, or 10, a tariff number out of range.
+// A pool prepared, or refused for its length or for a tariff number out of range.
 pub fn prepare(pool: &mut [u8], tariff: Tariff) -> u32
     ensures { λ r. ⌜ Leaves (prepareOf (now (pool .entry)) tariff) r (now (pool .exit)) ⌝ }
 {
-    let blocks = pool_blocks(pool.len());
-    if blocks == 0 {
-        return 1;
-    }
-    if tariff.in_range() {} else {
-        return 10;
+    let number = refusal(pool, tariff);
+    if number == 0 {} else {
+        return number;
     }
     let root = root_page();
     let checkpoint = checkpoint_page(tariff);
+    let blocks = pool_blocks(pool.len());
     write_first(pool, blocks, &root, &checkpoint);
     0
 }

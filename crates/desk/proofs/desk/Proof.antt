@@ -92,7 +92,7 @@ work-requires c κs =
     let b = counted .pool-blocks in
     let d = asked .refusal .ensures .ready z in (
       desk-accepts (a .lengths .now) (a .queues .now) (d .fill) _ (omega (arith, h .whole, b .ensures, h .blocks))
-      (omega (arith, h .least, b .ensures, h .blocks)) (omega (arith, h .most, b .ensures, h .blocks)) (search needs) (d .ready) (d .enough),
+          (omega (arith, h .least, b .ensures, h .blocks)) (omega (arith, h .most, b .ensures, h .blocks)) (search needs) (d .ready) (d .enough),
       cleared .clear .ensures,
     )
 

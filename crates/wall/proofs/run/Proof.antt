@@ -5,7 +5,7 @@ use borrow.Author.Needs.{needs}
 use Rattle.laws.specs.BigEndian.{bytes-getD}
 use Rattle.laws.specs.Update.{sum}
 use Rattle.model.specs.Call.{batch}
-use Rattle.demands.specs.TheBook.{charges-fit}
+use Rattle.demands.specs.TheBook.P2.{charges-fit}
 use Rattle.wall.proofs.run.Statement.{statement}
 use Rattle.wall.proofs.run.Tie as tie
 
