@@ -8,6 +8,7 @@ pub mod PoolLaws
 pub mod Questions
 pub mod Outcome
 pub mod Call
+pub mod Order
 pub mod QuestionLaws
 pub mod OutcomeLaws
 pub mod Calls
