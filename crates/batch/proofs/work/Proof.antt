@@ -22,23 +22,23 @@ same-length-2 c = search needs
 
 returns : tie.Need-returns
 returns c =
-    let c2 = c .before .before in
-    let c4 = c2 .before .before in
-    let c8 = c4 .before .before .before .before in
-    let c15 = c8 .before .before .before .before .before .before .before in
-    let m = c8 .mount in
-    worked-unopened (c15 .pre .0) (m .kept .1 .0) (m .ensures .refused (c4 .if1 .left)) (c15 .args .charges .now) (c15 .pre .1)
-    (c2 .unopened .ensures)
+    let unopened = c .before .before in
+    let asked = unopened .before .before in
+    let mounted = asked .before .before .before .before in
+    let begun = mounted .before .before .before .before .before .before .before in
+    let m = mounted .mount in
+    worked-unopened (begun .pre .0) (m .kept .1 .0) (m .ensures .refused (asked .if1 .left)) (begun .args .charges .now) (begun .pre .1)
+    (unopened .unopened .ensures)
 
 run-commands-requires : tie.Need-run-commands-requires
 run-commands-requires c κs =
-    let c6 = c .before .before .before .before .before .before in
-    let c10 = c6 .before .before .before .before in
-    let c17 = c10 .before .before .before .before .before .before .before in
-    let a = c17 .args in
-    let pre = c17 .pre .0 in
-    let o = c10 .mount .ensures .opened (c6 .if1 .taken) in
-    (grows o, o .ranged, valid-fits (a .commands .now) (pre .commands) (pre .are) (length (a .answers .now)) (pre .enough), c17 .pre .1)
+    let asked = c .before .before .before .before .before .before in
+    let mounted = asked .before .before .before .before in
+    let begun = mounted .before .before .before .before .before .before .before in
+    let a = begun .args in
+    let pre = begun .pre .0 in
+    let o = mounted .mount .ensures .opened (asked .if1 .taken) in
+    (grows o, o .ranged, valid-fits (a .commands .now) (pre .commands) (pre .are) (length (a .answers .now)) (pre .enough), begun .pre .1)
 
 close-requires : tie.Need-close-requires
 close-requires c κs = c .before .before .before .before .before .before .before .before .run-commands .ensures .kept .growing
@@ -48,29 +48,29 @@ same-length-3 c = search needs
 
 same-length-4 : tie.Need-same-length-4
 same-length-4 c =
-    let c4 = c .before .before .before .before in
-    let c13 = c4 .before .before .before .before .before .before .before .before .before in
-    let c24 = c13 .before .before .before .before .before .before .before .before .before .before .before in
-    c4 .close .kept .1 .0 ∙ c13 .run-commands .kept .1 .0 ∙ c24 .mount .kept .1 .0
+    let closed = c .before .before .before .before in
+    let ran = closed .before .before .before .before .before .before .before .before .before in
+    let mounted = ran .before .before .before .before .before .before .before .before .before .before .before in
+    closed .close .kept .1 .0 ∙ ran .run-commands .kept .1 .0 ∙ mounted .mount .kept .1 .0
 
 same-length-5 : tie.Need-same-length-5
 same-length-5 c = search needs
 
 returns-2 : tie.Need-returns-2
 returns-2 c =
-    let c4 = c .before .before .before .before in
-    let c13 = c4 .before .before .before .before .before .before .before .before .before in
-    let c20 = c13 .before .before .before .before .before .before .before in
-    let c24 = c20 .before .before .before .before in
-    let c31 = c24 .before .before .before .before .before .before .before in
-    let c28 = c24 .before .before .before .before in
-    let a = c31 .args in
-    let pre = c31 .pre .0 in
-    let m = c24 .mount in
-    let r = c13 .run-commands in
-    worked-closed pre (r .kept .1 .0 ∙ m .kept .1 .0) (bytes-getD (a .commands .now) (λ i. c28 .shared-slice-known .given i .fits))
-    (m .ensures .opened (c20 .if1 .taken)) (commandsIn-is (a .commands .now) (pre .commands) (pre .are)) (r .ensures) (c4 .close .ensures)
-    (c4 .close .kept .0 ∙ r .kept .0)
+    let closed = c .before .before .before .before in
+    let ran = closed .before .before .before .before .before .before .before .before .before in
+    let asked = ran .before .before .before .before .before .before .before in
+    let mounted = asked .before .before .before .before in
+    let begun = mounted .before .before .before .before .before .before .before in
+    let lent = mounted .before .before .before .before in
+    let a = begun .args in
+    let pre = begun .pre .0 in
+    let m = mounted .mount in
+    let r = ran .run-commands in
+    worked-closed pre (r .kept .1 .0 ∙ m .kept .1 .0) (bytes-getD (a .commands .now) (λ i. lent .shared-slice-known .given i .fits))
+    (m .ensures .opened (asked .if1 .taken)) (commandsIn-is (a .commands .now) (pre .commands) (pre .are)) (r .ensures) (closed .close .ensures)
+    (closed .close .kept .0 ∙ r .kept .0)
 
 pub work-spec : {M : Type 1} → statement M
 work-spec =

@@ -21,11 +21,11 @@ same-length-2 c = search needs
 
 returns : tie.Need-returns
 returns c =
-    let c2 = c .before .before in
-    let x = c2 .before .before .before .before .before .before .checkpoint in
+    let filled = c .before .before in
+    let x = filled .before .before .before .before .before .before .checkpoint in
     record {
       says = refl;
-      zero = c2 .fill .ensures ∙ ap zeros (x .kept .1 .0);
+      zero = filled .fill .ensures ∙ ap zeros (x .kept .1 .0);
       sizes = (length (x .last .0), length (x .last .1 .0));
       rows = tableFrom (x .last .1 .0);
       state = x .result;
