@@ -11,6 +11,7 @@ use Rattle.laws.specs.Lay.{part, length-part, part-add, part-whole}
 use Rattle.laws.specs.BigEndian.{Bytes, bigEndian, numberAt, bytes-part, bigEndian-numberAt}
 use Rattle.laws.specs.Options.{none-some, some-same}
 use Rattle.laws.specs.Order.{le-or}
+use Rattle.laws.specs.Lists.{length-one}
 use Rattle.layout.specs.Layout.{mostBatchBytes}
 use Rattle.wire.specs.Tag.{lengthOf, allowed}
 use Rattle.wire.specs.Field.{field, fieldAt, payloadAt, isPayload, standsAt}
@@ -32,12 +33,6 @@ abbrev Own : ℕ → List ℕ → Option Command → Type 0
 Own tag p none = Unit {0}
 Own tag p (some c) = (commandTag c ≡ tag) × (commandValues c ≡ p)
 
--- a payload of one byte
-one-byte : (p : List ℕ) → length p ≡ 1 → getD p 0 0 ∷ [] ≡ p
-one-byte [] e = absurd (omega arith)
-one-byte (b ∷ []) e = refl
-one-byte (b ∷ c ∷ p) e = absurd (omega arith)
-
 commandOf-own : (tag : ℕ) (p : List ℕ) → Bytes p → allowed (lengthOf tag) (length p) ≡ true → Own tag p (commandOf tag p)
 commandOf-own tag p bytes may =
     commandOf-each (Own tag p) tag p tt (λ e. (sym e, whole (payload-get tag (length p) may e)))
@@ -55,7 +50,7 @@ commandOf-own tag p bytes may =
           sym (part-add p 0 4 6) ∙
           part-whole p 10 l,
     ))
-    (λ e r. (sym e, one-byte p (payload-panel tag (length p) may e))) (λ e. (sym e, whole (payload-ceiling tag (length p) may e)))
+    (λ e r. (sym e, length-one p 0 (payload-panel tag (length p) may e))) (λ e. (sym e, whole (payload-ceiling tag (length p) may e)))
   where
     read : (w i : ℕ) → i + w ≤ length p → bigEndian w (numberAt w p i) ≡ part p i w
     read w i l = bigEndian-numberAt w p i bytes l

@@ -1,15 +1,14 @@
 -- A batch that spells valid commands one behind the other is read as these commands. Assumes nothing.
 use mathlib.Core.Path.{_≡_, refl, sym, ap, ap₂, _∙_}
-use mathlib.Core.Bool.{true, false, true≢false}
+use mathlib.Core.Bool.{true, true≢false}
 use mathlib.Core.List.{List, [], _∷_, _++_, append-assoc, append-nil}
 use mathlib.Core.Option.{some}
 use Prim.Native.Nat.{ℕ, _+_, _-_, _^_, _≤_, _<_}
-use native.Mathlib.Nat.{add-zero}
 use native.Mathlib.Omega.{arith}
 use lib.ListN.{length, length-append}
 use Rattle.laws.specs.Every.{Every, none as every-none, both}
-use Rattle.laws.specs.Lay.{part, length-part, part-append, part-front, part-whole}
-use Rattle.laws.specs.BigEndian.{bigEndian, number, numberAt, number-bigEndian, length-bigEndian}
+use Rattle.laws.specs.Lay.{part, length-part}
+use Rattle.laws.specs.BigEndian.{bigEndian, numberAt, length-bigEndian, numberAt-bigEndian, numberAt-front, numberAt-behind}
 use Rattle.layout.specs.Layout.{mostBatchBytes}
 use Rattle.wire.specs.Tag.{lengthOf, allowed, find, rows}
 use Rattle.wire.specs.Field.{field, fieldAt, payloadOf, payloadAt, isPayload, standsAt}
@@ -46,42 +45,28 @@ values-short (Scan low high most) = omega arith
 values-short (Panel panel) = omega arith
 values-short (Ceiling k) = omega arith
 
--- numbers read back from a payload
-number-front : (w v : ℕ) (rest : List ℕ) → v < 256 ^ w → numberAt w (bigEndian w v ++ rest) 0 ≡ v
-unfolding numberAt
-number-front w v rest h = ap number (part-front (bigEndian w v) rest w (length-bigEndian w v)) ∙ number-bigEndian w v h
-
-number-whole : (w v : ℕ) → v < 256 ^ w → numberAt w (bigEndian w v) 0 ≡ v
-unfolding numberAt
-number-whole w v h = ap number (part-whole (bigEndian w v) w (length-bigEndian w v)) ∙ number-bigEndian w v h
-
-number-behind : (w k : ℕ) (front rest : List ℕ) → length front ≡ k → numberAt w (front ++ rest) k ≡ numberAt w rest 0
-unfolding numberAt
-number-behind w k front rest e =
-    ap (λ (i : ℕ). number (part (front ++ rest) i w)) (sym e ∙ sym (add-zero (length front))) ∙ ap number (part-append front rest 0 w)
-
 values-command : (c : Command) → Valid c → commandOf (commandTag c) (commandValues c) ≡ some c
-values-command (Get k) h = commandOf-get 1 (bigEndian 4 k) refl ∙ ap (λ (x : ℕ). some (Get x)) (number-whole 4 k h)
+values-command (Get k) h = commandOf-get 1 (bigEndian 4 k) refl ∙ ap (λ (x : ℕ). some (Get x)) (numberAt-bigEndian 4 k h)
 values-command (Put k v) h =
     commandOf-put 2 (bigEndian 4 k ++ bigEndian 4 v) refl ∙
-    ap₂ (λ (x y : ℕ). some (Put x y)) (number-front 4 k (bigEndian 4 v) (h .0))
-    (number-behind 4 4 (bigEndian 4 k) (bigEndian 4 v) (length-bigEndian 4 k) ∙ number-whole 4 v (h .1))
-values-command (Delete k) h = commandOf-delete 3 (bigEndian 4 k) refl ∙ ap (λ (x : ℕ). some (Delete x)) (number-whole 4 k h)
+    ap₂ (λ (x y : ℕ). some (Put x y)) (numberAt-front 4 k (bigEndian 4 v) (h .0))
+    (numberAt-behind 4 4 (bigEndian 4 k) (bigEndian 4 v) (length-bigEndian 4 k) ∙ numberAt-bigEndian 4 v (h .1))
+values-command (Delete k) h = commandOf-delete 3 (bigEndian 4 k) refl ∙ ap (λ (x : ℕ). some (Delete x)) (numberAt-bigEndian 4 k h)
 values-command (Scan low high most) h =
     let p = bigEndian 4 low ++ (bigEndian 4 high ++ bigEndian 2 most) in
     let second : numberAt 4 p 4 ≡ high =
-    number-behind 4 4 (bigEndian 4 low) (bigEndian 4 high ++ bigEndian 2 most) (length-bigEndian 4 low) ∙
-    number-front 4 high (bigEndian 2 most) (h .1) in
+    numberAt-behind 4 4 (bigEndian 4 low) (bigEndian 4 high ++ bigEndian 2 most) (length-bigEndian 4 low) ∙
+    numberAt-front 4 high (bigEndian 2 most) (h .1) in
     let third : numberAt 2 p 8 ≡ most =
     ap (λ (l : List ℕ). numberAt 2 l 8) (sym (append-assoc (bigEndian 4 low) (bigEndian 4 high) (bigEndian 2 most))) ∙
-    number-behind 2 8 (bigEndian 4 low ++ bigEndian 4 high) (bigEndian 2 most)
+    numberAt-behind 2 8 (bigEndian 4 low ++ bigEndian 4 high) (bigEndian 2 most)
     (length-append (bigEndian 4 low) (bigEndian 4 high) ∙ omega (arith, length-bigEndian 4 low, length-bigEndian 4 high)) ∙
-    number-whole 2 most (omega (arith, h .3)) in
+    numberAt-bigEndian 2 most (omega (arith, h .3)) in
     commandOf-scan p (omega (arith, h .2)) (omega (arith, h .3)) ∙
-    ap₂ (λ (x y : ℕ). some (Scan x y (numberAt 2 p 8))) (number-front 4 low (bigEndian 4 high ++ bigEndian 2 most) (h .0)) second ∙
+    ap₂ (λ (x y : ℕ). some (Scan x y (numberAt 2 p 8))) (numberAt-front 4 low (bigEndian 4 high ++ bigEndian 2 most) (h .0)) second ∙
     ap (λ (z : ℕ). some (Scan low high z)) third
 values-command (Panel panel) h = commandOf-panel (panel ∷ []) h
-values-command (Ceiling k) h = commandOf-ceiling 7 (bigEndian 4 k) refl ∙ ap (λ (x : ℕ). some (Ceiling x)) (number-whole 4 k h)
+values-command (Ceiling k) h = commandOf-ceiling 7 (bigEndian 4 k) refl ∙ ap (λ (x : ℕ). some (Ceiling x)) (numberAt-bigEndian 4 k h)
 
 -- the command where a field stands
 command-stands :

@@ -2,10 +2,10 @@
 use mathlib.Core.Path.{_≡_, refl}
 use mathlib.Core.List.{List, [], _∷_, _++_, map}
 use mathlib.Core.Option.{none, some}
-use Prim.Native.Nat.{ℕ, zero, suc}
+use Prim.Native.Nat.{ℕ}
 use native.Mathlib.Omega.{arith}
 use lib.ListN.{length, replicate}
-use Rattle.laws.specs.Every.{Every, none as every-none, both, every-append}
+use Rattle.laws.specs.Every.{Every, every-append, every-replicate}
 use Rattle.laws.specs.Lay.{part}
 use Rattle.laws.specs.BigEndian.{numberAt}
 use Rattle.wire.specs.Tag.{lengthOf, find, rows, isNodeBytes}
@@ -110,10 +110,6 @@ worked-scans = refl
 -- command by command.
 pub longest : List Command
 longest = replicate 2 (Put 7 100) ++ replicate 4678 (Get 7)
-
-every-replicate : (n : ℕ) (c : Command) → Valid c → Every Valid (replicate n c)
-every-replicate zero c v = every-none
-every-replicate (suc n) c v = both v (every-replicate n c v)
 
 valid : Every Valid longest
 unfolding longest

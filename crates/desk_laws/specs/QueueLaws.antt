@@ -10,12 +10,12 @@ use borrow.Author.Tests.{eqb-true, leb-true}
 use lib.Dec.{eqb, leb}
 use lib.ListN.{length}
 use Rattle.laws.specs.BigEndian.{Bytes, bytes-part}
-use Rattle.laws.specs.Every.{Every, none as every-none, both}
+use Rattle.laws.specs.Every.{Every}
 use Rattle.laws.specs.Lay.{length-part}
 use Rattle.laws.specs.Options.{none-some, some-same}
 use Rattle.laws.specs.Order.{le-suc-or}
 use Rattle.laws.specs.Tests.{choose, and-left, and-right}
-use Rattle.laws.specs.Update.{sumBelow-ext, listBelow, length-below, sum, sum-below}
+use Rattle.laws.specs.Update.{sumBelow-ext, listBelow, length-below, sum, sum-below, every-below, map-below}
 use Rattle.layout.specs.Layout.{panels, lengthBytes}
 use Rattle.desk_queues.specs.Queues.{queueCount, lengthAt, startAt, queueAt, queuesIn, fills, queuesOf}
 
@@ -53,20 +53,12 @@ module _ (lengths queues : List ℕ) where
   queue-length n p h l = length-part queues (startAt lengths p) (lengthAt lengths p) (omega (arith, h, start-le lengths (suc p) n l))
 
   -- The first n queues: their bytes, and their lengths together.
-  below-bytes : (n : ℕ) (f : ℕ → List ℕ) → ((p : ℕ) → Bytes (f p)) → Every Bytes (listBelow n f)
-  below-bytes zero f h = every-none
-  below-bytes (suc n) f h = both (h 0) (below-bytes n (λ p. f (suc p)) (λ p. h (suc p)))
-
   pub queues-bytes : (n : ℕ) → Bytes queues → Every Bytes (listBelow n (queueAt lengths queues))
-  queues-bytes n bytes = below-bytes n (queueAt lengths queues) (λ p. bytes-part (startAt lengths p) (lengthAt lengths p) bytes)
-
-  below-length : (n : ℕ) (f : ℕ → List ℕ) → sum (map length (listBelow n f)) ≡ sum (listBelow n (λ p. length (f p)))
-  below-length zero f = refl
-  below-length (suc n) f = omega (arith, below-length n (λ p. f (suc p)))
+  queues-bytes n bytes = every-below n (queueAt lengths queues) (λ p. bytes-part (startAt lengths p) (lengthAt lengths p) bytes)
 
   pub queues-length : (n : ℕ) → startAt lengths n ≤ length queues → sum (map length (listBelow n (queueAt lengths queues))) ≡ startAt lengths n
   queues-length n h =
-      below-length n (queueAt lengths queues) ∙
+      ap sum (map-below length n (queueAt lengths queues)) ∙
       sum-below n (λ p. length (queueAt lengths queues p)) ∙
       sumBelow-ext n (λ p. length (queueAt lengths queues p)) (lengthAt lengths) (λ p l. queue-length n p h l)
 

@@ -2,8 +2,7 @@
 use mathlib.Core.Path.{_≡_, refl, ap}
 use mathlib.Core.List.{List, [], _∷_, _++_}
 use mathlib.Core.Option.{some}
-use Prim.Native.Nat.{ℕ, zero, suc, _≤_, _<_}
-use native.Mathlib.Omega.{arith}
+use Prim.Native.Nat.{ℕ, zero, suc, _<_}
 use lib.ListN.{length, getD, drop}
 use Rattle.laws.specs.Update.{listBelow}
 use Rattle.layout.specs.Layout.{panels}
@@ -37,18 +36,7 @@ pub record RoundLeft (lengths queues places places′ : List ℕ) : Type 0 where
   pub placed : Placed lengths queues places′
   pub rests-are : rests lengths queues places′ ≡ tails (rests lengths queues places)
 
--- A list of entries from one on; and each without its first.
-pub below-drop : {A : Type 0} (n : ℕ) (f : ℕ → A) (p : ℕ) → p < n → drop p (listBelow n f) ≡ f p ∷ drop (suc p) (listBelow n f)
-below-drop zero f p l = absurd (omega arith)
-below-drop (suc n) f zero l = refl
-below-drop (suc n) f (suc p) l = below-drop n (λ i. f (suc i)) p (omega arith)
-
-pub below-done : {A : Type 0} (n : ℕ) (f : ℕ → A) (p : ℕ) → n ≤ p → drop p (listBelow n f) ≡ []
-below-done zero f zero l = refl
-below-done zero f (suc p) l = refl
-below-done (suc n) f zero l = absurd (omega arith)
-below-done (suc n) f (suc p) l = below-done n (λ i. f (suc i)) p (omega arith)
-
+-- A list of entries, each without its first.
 pub tails-below : (n : ℕ) (f : ℕ → List Command) → tails (listBelow n f) ≡ listBelow n (λ p. drop 1 (f p))
 tails-below zero f = refl
 tails-below (suc n) f = first (f 0) (listBelow n (λ p. f (suc p))) (tails-below n (λ p. f (suc p)))

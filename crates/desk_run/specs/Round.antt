@@ -11,7 +11,7 @@ use lib.ListN.{length, getD, drop, set, length-set}
 use lib.Seq.{getD-set-same, getD-set-other}
 use Rattle.laws.specs.Lay.{part}
 use Rattle.laws.specs.Order.{Tri, tri, eq-or}
-use Rattle.laws.specs.Update.{length-below, below-at, below-is}
+use Rattle.laws.specs.Update.{length-below, below-at, below-is, drop-below, drop-below-past}
 use Rattle.layout.specs.Layout.{panels, lengthBytes}
 use Rattle.command.specs.declared.Command.{Command}
 use Rattle.command.specs.Batch.{commandsFrom}
@@ -24,7 +24,7 @@ use Rattle.desk_queues.specs.Queues.{queueCount, lengthAt, startAt, queueAt, fi
 use Rattle.desk_queues.specs.Joined.{interleaved}
 use Rattle.desk_laws.specs.QueueLaws.{Filled, filled, start-le}
 use Rattle.desk_run.specs.Turn.{turnAt, placeAfter, Taken, takes}
-use Rattle.desk_run.specs.Places.{restAt, rests, Placed, RoundLeft, rest-is, below-drop, below-done, tails-below, heads-first, interleaved-append}
+use Rattle.desk_run.specs.Places.{restAt, rests, Placed, RoundLeft, rest-is, tails-below, heads-first, interleaved-append}
 
 -- The turns from a panel on.
 abbrev pub ahead : List ℕ → List ℕ → List ℕ → ℕ → List (ℕ × Command)
@@ -93,7 +93,7 @@ module _ {P T : ℕ} {lengths queues : List ℕ} where
 
       ahead-is : ahead lengths queues places₀ panel ≡ turn ++ ahead lengths queues places₀ (suc panel)
       ahead-is =
-          ap (heads panel) (below-drop (queueCount lengths) (restAt lengths queues places₀) panel passing-inside) ∙
+          ap (heads panel) (drop-below (queueCount lengths) (restAt lengths queues places₀) panel passing-inside) ∙
           heads-first panel (restAt lengths queues places₀ panel) (drop (suc panel) (rests lengths queues places₀))
 
       both : Ready P T (length empty) paid there (interleaved turn ++ interleaved (ahead lengths queues places₀ (suc panel)))
@@ -178,7 +178,7 @@ module _ {P T : ℕ} {lengths queues : List ℕ} where
           subst (λ (xs : List (ℕ × Command)). RunOn P T pages table empty answers none paid here there (interleaved xs) w)
           (sym (append-nil (r .done)) ∙
           ap (λ (css : List (List Command)). r .done ++ heads panel css)
-          (sym (below-done (queueCount lengths) (restAt lengths queues places₀) panel at-end)) ∙
+          (sym (drop-below-past (queueCount lengths) (restAt lengths queues places₀) panel at-end)) ∙
           r .whole) (r .ran)
 
       behind : (p : ℕ) → p < queueCount lengths → restAt lengths queues places p ≡ drop 1 (restAt lengths queues places₀ p)

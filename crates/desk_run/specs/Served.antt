@@ -1,7 +1,7 @@
 -- Queues that questions 11, 3 and 4 let through, and where their service begins: each at its first command. Assumes nothing.
-use mathlib.Core.Path.{_≡_, refl, sym, ap, _∙_}
+use mathlib.Core.Path.{_≡_, sym, ap, _∙_}
 use mathlib.Core.Bool.{true}
-use mathlib.Core.List.{List, [], _∷_}
+use mathlib.Core.List.{List, []}
 use mathlib.Core.Logic.{_⊎_, inl, inr}
 use mathlib.Core.Option.{Option, none, some}
 use Prim.Native.Nat.{ℕ, zero, suc, _≤_, _<_}
@@ -10,6 +10,7 @@ use lib.ListN.{length, getD, replicate, length-replicate}
 use Rattle.laws.specs.Options.{none-some}
 use Rattle.laws.specs.Order.{le-or}
 use Rattle.laws.specs.Update.{length-below, below-at, below-is}
+use Rattle.laws.specs.Lists.{getD-replicate-same}
 use Rattle.layout.specs.Layout.{mostBatchBytes, panels}
 use Rattle.command.specs.declared.Command.{Command}
 use Rattle.command.specs.Batch.{commandsFrom, commandsOf, roomForAll}
@@ -51,11 +52,6 @@ read-at (next o r) zero l = o
 read-at (next o r) (suc p) l = read-at r p (omega arith)
 
 -- All places are 0 at first.
-zero-at : (n p : ℕ) → getD {A = ℕ} (replicate n 0) p 0 ≡ 0
-zero-at zero p = refl
-zero-at (suc n) zero = refl
-zero-at (suc n) (suc p) = zero-at n p
-
 module _ (lengths queues : List ℕ) (valid : allCommands (queuesIn lengths queues) ≡ some (listsIn lengths queues)) where
   abbrev zeros : List ℕ
   zeros = replicate panels 0
@@ -68,7 +64,7 @@ module _ (lengths queues : List ℕ) (valid : allCommands (queuesIn lengths queu
 
   whole : (p : ℕ) → p < queueCount lengths → commandsFrom (queueAt lengths queues p) (getD zeros p 0) ≡ some (getD (listsIn lengths queues) p [])
   whole p l =
-      ap (commandsFrom (queueAt lengths queues p)) (zero-at panels p) ∙
+      ap (commandsFrom (queueAt lengths queues p)) (getD-replicate-same panels p 0) ∙
       read-start (queueAt lengths queues p) (getD (listsIn lengths queues) p [])
       (ap commandsOf (sym (below-at (queueCount lengths) (queueAt lengths queues) p [] l)) ∙ read-at all p (omega (arith, count)) .commands)
 

@@ -8,9 +8,9 @@ use native.Mathlib.Omega.{arith}
 use lib.Dec.{eqb}
 use lib.ListN.{length, getD, set, take, drop, replicate, length-append}
 use borrow.Author.Tests.{le-leb, lt-leb, eq-eqb, ne-eqb}
-use Rattle.laws.specs.Every.{Every, none, both, every-append}
+use Rattle.laws.specs.Every.{Every, none, both, map-back}
 use Rattle.laws.specs.Lay.{lay, part, lay-nil, lay-next, part-append, part-front}
-use Rattle.laws.specs.BigEndian.{Bytes, bytes-bigEndian}
+use Rattle.laws.specs.BigEndian.{Bytes}
 use Rattle.layout.specs.Layout.{pageBytes, nodeLimit}
 use Rattle.account.specs.declared.Tariff.{Tariff}
 use Rattle.flash_rows.specs.Row.{noRow}
@@ -22,9 +22,9 @@ use Rattle.page.specs.Image.{scoreBytes, tariffBytes, countBytes, fields, field
 use Rattle.page.specs.Decode.{mostScores}
 use Rattle.page.specs.Decode as decode
 use Rattle.page.specs.Spelled.{scoreBytes-of, length-scoreBytes}
-use Rattle.page.specs.ReadBack.{map-back}
 use Rattle.page_write.specs.Chunks.{chunks}
 use Rattle.page_checkpoint.specs.Checkpoint.{onlyIf, scored, scoresIn, recordsPage}
+use Rattle.page.specs.ImageBytes.{bytes-score}
 use Rattle.flash_allocate.specs.World.{World, world, spot, used, Good, Made, Kept}
 use Rattle.flash_allocate.specs.Allocate.{allocate}
 use Rattle.flash_allocate.specs.declared.state.State.{State}
@@ -43,13 +43,9 @@ unfolding scoresOf
 length-scoresOf rows from zero = refl
 length-scoresOf rows from (suc n) = ap suc (length-scoresOf rows (from + 1) n)
 
-bytes-scoreBytes : (s : Score) → Bytes (scoreBytes s)
-unfolding scoreBytes
-bytes-scoreBytes s = every-append (bytes-bigEndian 2 (s .id)) (bytes-bigEndian 4 (s .score))
-
 every-score : (ss : List Score) → Every (λ b. (length b ≡ 6) × Bytes b) (map scoreBytes ss)
 every-score [] = none
-every-score (s ∷ ss) = both (length-scoreBytes s, bytes-scoreBytes s) (every-score ss)
+every-score (s ∷ ss) = both (length-scoreBytes s, bytes-score s) (every-score ss)
 
 -- The start, a turn and the end of the loop that lays records.
 module _ (rows : List Row) (from n : ℕ) where

@@ -9,7 +9,7 @@ use native.Mathlib.Omega.{arith}
 use lib.ListN.{length, getD, set, take, drop, replicate, getD-replicate, List·getD-eq-default}
 use lib.Seq.{take-suc-set, length-take-le}
 use borrow.Author.Tests.{eq-eqb, ne-eqb, lt-ltb, le-ltb, le-leb, lt-leb}
-use Rattle.laws.specs.Lay.{part}
+use Rattle.laws.specs.Lay.{part, part-lent}
 use Rattle.laws.specs.BigEndian.{number, numberAt}
 use Rattle.layout.specs.Layout.{mostEntries, bound32}
 use Rattle.pairs.specs.Pairs.{Pair, Within}
@@ -71,15 +71,10 @@ module _ (id version : ℕ) (e : Entry) (d : Draft) (test : Bool) (t : test ≡ 
   unfolding redoEntry
   entry-other o = rw (sym t ∙ o) refl
 
--- An entry's fifteen bytes, lent as a part.
-part-lent : (bytes : List ℕ) (at to : ℕ) → to ≡ at + 15 → take (to - at) (drop at bytes) ≡ part bytes at 15
-unfolding part
-part-lent bytes at to e = let size : to - at ≡ 15 = omega arith in ap (λ (n : ℕ). take n (drop at bytes)) size
-
 -- An entry in the buffer.
 pub entry-plain : (bytes : List ℕ) (at : ℕ) → at + 15 ≤ length bytes → take (at + 15 - at) (drop at bytes) ≡ entryIn false bytes at
 unfolding entryIn
-entry-plain bytes at h = rw (le-leb (at + 15) (length bytes) h) (part-lent bytes at (at + 15) refl)
+entry-plain bytes at h = rw (le-leb (at + 15) (length bytes) h) (part-lent bytes at (at + 15) 15 refl)
 
 -- A field 12 is known by its tag and length: it has one length only.
 module _ (bytes : List ℕ) (at : ℕ) (h : at + 18 ≤ length bytes) (t : getD bytes at 0 ≡ 0x12) (n : ℕ) (e : n ≡ lengthAt bytes at) where
@@ -91,7 +86,7 @@ module _ (bytes : List ℕ) (at : ℕ) (h : at + 18 ≤ length bytes) (t : getD 
   unfolding payloadAt lengthOf find rows
   field-there f =
       let size : at + 3 + n - (at + 3) ≡ 15 = omega arith in
-      part-lent bytes (at + 3) (at + 18) (omega arith) ∙
+      part-lent bytes (at + 3) (at + 18) 15 (omega arith) ∙
       ap (part bytes (at + 3)) (sym size) ∙
       ap (payloadOf bytes) (is-payload bytes at 0x12 (omega arith) n t e (eq-eqb n 15 f) (omega arith))
 

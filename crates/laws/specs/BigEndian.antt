@@ -6,8 +6,8 @@ use Prim.Native.Nat.{ℕ, zero, suc, _+_, _*_, _/_, _%_, _^_, _≤_, _<_}
 use native.Mathlib.Nat.{pow-suc, div-add-mod', div-lt-iff-lt-mul, mod-lt, add-zero, zero-add, suc-add, add-suc, mul-le-mul-right}
 use native.Mathlib.Omega.{arith}
 use lib.ListN.{length, getD, take, drop, length-append}
-use Rattle.laws.specs.Every.{Every, none, both, every-append}
-use Rattle.laws.specs.Lay.{lay, part, part-lay, part-lay-before, part-lay-behind, length-part, part-cons, part-part}
+use Rattle.laws.specs.Every.{Every, none, both, every-append, every-take, every-drop}
+use Rattle.laws.specs.Lay.{lay, part, part-lay, part-lay-before, part-lay-behind, length-part, part-cons, part-part, part-append, part-front, part-whole}
 
 -- The number that bytes spell, a number so far in front of them.
 abbrev pub numberFrom : ℕ → List ℕ → ℕ
@@ -78,14 +78,10 @@ number-lt bs h = omega (arith, numberFrom-lt 0 bs h)
 
 -- Parts of bytes are bytes.
 pub bytes-drop : (k : ℕ) {s : List ℕ} → Bytes s → Bytes (drop k s)
-bytes-drop zero h = h
-bytes-drop (suc k) none = none
-bytes-drop (suc k) (both p h) = bytes-drop k h
+bytes-drop k {s} h = every-drop k s h
 
 pub bytes-take : (k : ℕ) {s : List ℕ} → Bytes s → Bytes (take k s)
-bytes-take zero h = none
-bytes-take (suc k) none = none
-bytes-take (suc k) (both p h) = both p (bytes-take k h)
+bytes-take k {s} h = every-take k s h
 
 pub bytes-part : (at n : ℕ) {s : List ℕ} → Bytes s → Bytes (part s at n)
 unfolding part
@@ -142,3 +138,20 @@ numberAt-4 s at h =
 pub numberAt-part : (w : ℕ) (s : List ℕ) (at n i : ℕ) → i + w ≤ n → numberAt w (part s at n) i ≡ numberAt w s (at + i)
 unfolding numberAt
 numberAt-part w s at n i h = ap number (part-part s at n i w h)
+
+-- The number that a whole buffer spells, that of its own bytes; a number in front of other bytes; and one behind them.
+pub numberAt-whole : (w : ℕ) (s : List ℕ) → length s ≡ w → numberAt w s 0 ≡ number s
+unfolding numberAt
+numberAt-whole w s e = ap number (part-whole s w e)
+
+pub numberAt-bigEndian : (w v : ℕ) → v < 256 ^ w → numberAt w (bigEndian w v) 0 ≡ v
+numberAt-bigEndian w v h = numberAt-whole w (bigEndian w v) (length-bigEndian w v) ∙ number-bigEndian w v h
+
+pub numberAt-front : (w v : ℕ) (rest : List ℕ) → v < 256 ^ w → numberAt w (bigEndian w v ++ rest) 0 ≡ v
+unfolding numberAt
+numberAt-front w v rest h = ap number (part-front (bigEndian w v) rest w (length-bigEndian w v)) ∙ number-bigEndian w v h
+
+pub numberAt-behind : (w k : ℕ) (front rest : List ℕ) → length front ≡ k → numberAt w (front ++ rest) k ≡ numberAt w rest 0
+unfolding numberAt
+numberAt-behind w k front rest e =
+    ap (λ (i : ℕ). number (part (front ++ rest) i w)) (sym e ∙ sym (add-zero (length front))) ∙ ap number (part-append front rest 0 w)

@@ -10,7 +10,7 @@ use native.Mathlib.Omega.{arith}
 use lib.ListN.{length, getD, set, take, drop, replicate, length-set, length-drop, length-replicate, replicate-append-replicate}
 use lib.Seq.{length-take-le, take-at, drop-at, take-add, drop-drop, getD-set-same, getD-set-other}
 use Rattle.laws.specs.Order.{eq-or, le-or}
-use Rattle.laws.specs.Lay.{lay, part, lay-next, lay-nil, length-lay, drop-lay, part-lay}
+use Rattle.laws.specs.Lay.{lay, part, lay-next, lay-nil, length-lay, drop-lay, part-lay, part-zero}
 
 -- The first n chunks of a buffer.
 unfoldable pub firstChunks : ℕ → ℕ → List ℕ → List (List ℕ)
@@ -53,10 +53,6 @@ length-firstChunks size (suc n) s = ap suc (length-firstChunks size n (drop size
 pub length-chunks : (size : ℕ) (s : List ℕ) → length (chunks size s) ≡ length s / size
 unfolding chunks
 length-chunks size s = length-firstChunks size (length s / size) s
-
-part-zero : (s : List ℕ) (n : ℕ) → part s 0 n ≡ take n s
-unfolding part
-part-zero s n = refl
 
 mul-front : (w k : ℕ) → w * suc k ≡ w + w * k
 mul-front w k = omega (arith, mul-suc w k)

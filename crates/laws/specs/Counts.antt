@@ -5,6 +5,8 @@ use mathlib.Core.List.{List, [], _∷_, _++_}
 use Prim.Native.Nat.{ℕ, zero, suc, _+_, _*_, _≤_, _<_, suc-le-suc}
 use native.Mathlib.Nat.{not-suc-le-zero, le-of-suc-le-suc}
 use native.Mathlib.Omega.{arith}
+use borrow.Author.Tests.{ne-eqb}
+use lib.Dec.{eqb}
 use lib.ListN.{length, getD, set}
 
 -- 1 for a test passed, 0 for one failed
@@ -57,9 +59,26 @@ module _ {A : Type 0} where
   count-mono f g [] h = omega arith
   count-mono f g (x ∷ xs) h = omega (arith, count-mono f g xs h, bit-mono (f x) (g x) (h x))
 
+  pub count-none : (f : A → Bool) (xs : List A) → ((x : A) → f x ≡ false) → count f xs ≡ 0
+  count-none f [] h = refl
+  count-none f (x ∷ xs) h = omega (arith, ap bit (h x), count-none f xs h)
+
+  -- two tests that never pass together, and each only where a third does
+  pub count-apart : (f g h : A → Bool) (xs : List A) → ((x : A) → bit (f x) + bit (g x) ≤ bit (h x)) → count f xs + count g xs ≤ count h xs
+  count-apart f g h [] e = omega arith
+  count-apart f g h (x ∷ xs) e = omega (arith, e x, count-apart f g h xs e)
+
   pub count-or : (f g : A → Bool) (xs : List A) → count (λ x. f x || g x) xs ≤ count f xs + count g xs
   count-or f g [] = omega arith
   count-or f g (x ∷ xs) = omega (arith, count-or f g xs, bit-or (f x) (g x))
+
+  pub consIf-append : (b : Bool) (x : A) (xs ys : List A) → consIf b x (xs ++ ys) ≡ consIf b x xs ++ ys
+  consIf-append true x xs ys = refl
+  consIf-append false x xs ys = refl
+
+  pub filter-append : (f : A → Bool) (xs ys : List A) → filter f (xs ++ ys) ≡ filter f xs ++ filter f ys
+  filter-append f [] ys = refl
+  filter-append f (x ∷ xs) ys = ap (consIf (f x) x) (filter-append f xs ys) ∙ consIf-append (f x) x (filter f xs) (filter f ys)
 
   count-consIf : (f : A → Bool) (b : Bool) (x : A) (r : List A) → count f (consIf b x r) ≡ bit (b && f x) + count f r
   count-consIf f true x r = refl
@@ -102,6 +121,10 @@ module _ {A : Type 0} where
   tally-mono f g [] h = omega arith
   tally-mono f g (b ∷ bs) h = omega (arith, tally-mono f g bs h, count-mono f g b h)
 
+  pub tally-apart : (f g h : A → Bool) (bs : List (List A)) → ((x : A) → bit (f x) + bit (g x) ≤ bit (h x)) → tally f bs + tally g bs ≤ tally h bs
+  tally-apart f g h [] e = omega arith
+  tally-apart f g h (b ∷ bs) e = omega (arith, count-apart f g h b e, tally-apart f g h bs e)
+
   pub tally-or : (f g : A → Bool) (bs : List (List A)) → tally (λ x. f x || g x) bs ≤ tally f bs + tally g bs
   tally-or f g [] = omega arith
   tally-or f g (b ∷ bs) = omega (arith, tally-or f g bs, count-or f g b)
@@ -121,6 +144,14 @@ module _ {A : Type 0} where
   abbrev pub empty : List A → Bool
   empty [] = true
   empty (x ∷ xs) = false
+
+  pub empty-nil : (xs : List A) → empty xs ≡ true → xs ≡ []
+  empty-nil [] e = refl
+  empty-nil (x ∷ xs) e = cc
+
+  pub empty-length : (xs : List A) → eqb (length xs) 0 ≡ empty xs
+  empty-length [] = refl
+  empty-length (x ∷ xs) = ne-eqb (suc (length xs)) 0 (λ e. omega arith)
 
   abbrev pub occupied : List (List A) → ℕ
   occupied [] = 0

@@ -1,8 +1,9 @@
 -- What holds of every element of a list. Assumes nothing.
+use mathlib.Core.Path.{_≡_, refl, ap₂}
 use mathlib.Core.Bool.{Bool, true, false}
 use mathlib.Core.List.{List, [], _∷_, _++_, map}
 use Prim.Native.Nat.{ℕ, zero, suc}
-use lib.ListN.{getD, take, drop, set}
+use lib.ListN.{getD, take, drop, set, replicate}
 use Rattle.laws.specs.Counts.{consIf, filter}
 
 pub data Every {A : Type 0} (P : A → Type 0) : List A → Type 0 where
@@ -25,6 +26,21 @@ module _ {A : Type 0} {P : A → Type 0} where
 pub every-map : {A B : Type 0} {P : B → Type 0} (f : A → B) {xs : List A} → Every (λ x. P (f x)) xs → Every P (map f xs)
 every-map f none = none
 every-map f (both p a) = both p (every-map f a)
+
+-- Elements of one kind mapped to those of another.
+pub every-map-by : {A B : Type 0} {P : A → Type 0} {Q : B → Type 0} (f : A → B) → ((a : A) → P a → Q (f a)) →
+    (xs : List A) → Every P xs → Every Q (map f xs)
+every-map-by f holds xs e = every-map f (every-weaken holds e)
+
+pub every-replicate : {A : Type 0} {P : A → Type 0} (n : ℕ) (x : A) → P x → Every P (replicate n x)
+every-replicate zero x p = none
+every-replicate (suc n) x p = both p (every-replicate n x p)
+
+-- Elements that a function sends back one by one it sends back as a list.
+pub map-back : {A B : Type 0} {P : A → Type 0} (to : A → B) (from : B → A) → ((a : A) → P a → from (to a) ≡ a) →
+    (xs : List A) → Every P xs → map from (map to xs) ≡ xs
+map-back to from back [] none = refl
+map-back to from back (x ∷ xs) (both h hs) = ap₂ _∷_ (back x h) (map-back to from back xs hs)
 
 -- of its parts: what is taken, left, picked out or put in place
 module _ {A : Type 0} {P : A → Type 0} where

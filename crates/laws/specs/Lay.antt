@@ -39,6 +39,7 @@ use lib.Seq.{
   getD-drop,
 }
 use borrow.Rule.Slice.PartMut.{putMid, post-is}
+use Rattle.laws.specs.Order.{Tri, less, same, more, tri}
 
 -- The buffer with the bytes laid over it at a place.
 unfoldable pub lay : List ℕ → ℕ → List ℕ → List ℕ
@@ -166,6 +167,19 @@ module _ (s : List ℕ) (at : ℕ) (xs : List ℕ) where
       getD-drop (at + length xs) s (i - (at + length xs)) 0 ∙
       ap (λ (n : ℕ). getD s n 0) f)
 
+-- A single byte laid: read there, and elsewhere.
+module _ (s : List ℕ) (at x i : ℕ) (h : at < length s) where
+  pub getD-lay-one : i ≡ at → getD (lay s at (x ∷ [])) i 0 ≡ x
+  getD-lay-one e = ap (λ (k : ℕ). getD (lay s at (x ∷ [])) k 0) (e ∙ sym (add-zero at)) ∙ getD-lay s at (x ∷ []) 0 (omega arith) (omega arith)
+
+  pub getD-lay-other : (i ≡ at → ⊥) → getD (lay s at (x ∷ [])) i 0 ≡ getD s i 0
+  getD-lay-other e = go (tri i at)
+    where
+      go : Tri i at → getD (lay s at (x ∷ [])) i 0 ≡ getD s i 0
+      go (less l) = getD-lay-before s at (x ∷ []) i (omega arith) l
+      go (same l) = absurd (e l)
+      go (more l) = getD-lay-behind s at (x ∷ []) i (omega arith) (omega arith)
+
 -- Parts: the part laid, and those that it does not touch.
 module _ (s : List ℕ) (at : ℕ) (xs : List ℕ) (h : at ≤ length s) where
   pub part-lay : part (lay s at xs) at (length xs) ≡ xs
@@ -225,6 +239,23 @@ part-take (x ∷ s) (suc k) (suc at) n h = part-take s k at n (omega arith)
 pub part-part : (s : List ℕ) (at n i m : ℕ) → i + m ≤ n → part (part s at n) i m ≡ part s (at + i) m
 unfolding part
 part-part s at n i m h = part-take (drop at s) n i m h ∙ part-drop s at i m
+
+-- From the start, of one byte, of a byte repeated, and as the code lends it.
+pub part-zero : (s : List ℕ) (n : ℕ) → part s 0 n ≡ take n s
+unfolding part
+part-zero s n = refl
+
+pub part-one : (s : List ℕ) (at : ℕ) → at < length s → part s at 1 ≡ getD s at 0 ∷ []
+unfolding part
+part-one s at h = part-cons s at 0 h
+
+pub part-replicate : (m a at n : ℕ) → at + n ≤ m → part (replicate m a) at n ≡ replicate n a
+unfolding part
+part-replicate m a at n l = ap (take n) (drop-replicate at m a) ∙ take-replicate n (m - at) a (omega arith)
+
+pub part-lent : (s : List ℕ) (from to n : ℕ) → to ≡ from + n → take (to - from) (drop from s) ≡ part s from n
+unfolding part
+part-lent s from to n e = let size : to - from ≡ n = omega arith in ap (λ (k : ℕ). take k (drop from s)) size
 
 -- Parts of joined lists: of the second, and the whole first.
 pub part-append : (a b : List ℕ) (i n : ℕ) → part (a ++ b) (length a + i) n ≡ part b i n

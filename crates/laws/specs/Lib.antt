@@ -4,6 +4,7 @@ pub mod Options
 pub mod Lists
 pub mod Counts
 pub mod Every
+pub mod Elements
 pub mod Update
 pub mod Lay
 pub mod BigEndian

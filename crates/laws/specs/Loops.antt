@@ -3,7 +3,7 @@
 use mathlib.Core.Path.{_≡_, refl, sym, ap, _∙_, subst}
 use mathlib.Core.Bool.{Bool, true, false, _&&_}
 use mathlib.Core.Logic.{_⊎_, inl, inr}
-use Prim.Native.Nat.{ℕ, zero, suc, _+_, _-_, _≤_, _<_}
+use Prim.Native.Nat.{ℕ, zero, suc, _+_, _-_, _*_, _≤_, _<_}
 use native.Mathlib.Nat.{add-zero, sub-zero}
 use native.Mathlib.Omega.{arith}
 use native.Mathlib.Numerals.{lt-of-le-of-ne}
@@ -116,3 +116,15 @@ steps-keep {A} P f n keep a p = go n 0 a (omega arith) p
     go : (k i : ℕ) (x : A) → i + k ≡ n → P i x → P n (steps f k i x)
     go zero i x e q = subst (λ (j : ℕ). P j x) (omega arith) q
     go (suc k) i x e q = go k (i + 1) (f i x) (omega arith) (keep i x (omega arith) q)
+
+-- A fold that only adds is a sum, and a sum of numbers with a bound has one.
+pub steps-sum : {A : Type 0} (part : A → ℕ) (g : ℕ → A → A) (f : ℕ → ℕ) → ((i : ℕ) (a : A) → part (g i a) ≡ part a + f i) →
+    (k i : ℕ) (a : A) → part (steps g k i a) ≡ part a + sumFrom f k i
+unfolding steps sumFrom
+steps-sum part g f h zero i a = omega arith
+steps-sum part g f h (suc k) i a = omega (arith, steps-sum part g f h k (i + 1) (g i a), h i a)
+
+pub sumFrom-le : (f : ℕ → ℕ) (m k i : ℕ) → ((q : ℕ) → f q ≤ m) → sumFrom f k i ≤ m * k
+unfolding sumFrom
+sumFrom-le f m zero i h = omega arith
+sumFrom-le f m (suc k) i h = omega (arith, h i, sumFrom-le f m k (i + 1) h)

@@ -4,13 +4,13 @@ use mathlib.Core.Bool.{true, false}
 use mathlib.Core.Logic.{_⊎_, inl, inr}
 use mathlib.Core.List.{List, [], _∷_, _++_}
 use Prim.Native.Nat.{ℕ, _+_, _*_, _<_, _≤_}
-use native.Mathlib.Nat.{add-zero, zero-add}
+use native.Mathlib.Nat.{zero-add}
 use native.Mathlib.Omega.{arith}
 use lib.ListN.{length, getD}
 use borrow.Author.Tests.{eq-eqb, ne-eqb}
 use Rattle.laws.specs.Tests.{test-clash}
-use Rattle.laws.specs.Order.{eq-or, Tri, less, same, more, tri}
-use Rattle.laws.specs.Lay.{lay, getD-lay, getD-lay-before, getD-lay-behind}
+use Rattle.laws.specs.Order.{eq-or}
+use Rattle.laws.specs.Lay.{lay, getD-lay-one, getD-lay-other}
 use Rattle.laws.specs.Counts.{bit, count, count-append}
 use Rattle.laws.specs.BigEndian.{numberAt}
 use Rattle.mount_sequences.specs.Row.{row, row-snoc, row-lay-before}
@@ -83,20 +83,6 @@ printed-rules mark x v t = go (eq-or mark 0) (eq-or mark (fingerprint x))
         record { before = ap (λ (m : ℕ). excludes m v) q ∙ own; other = own-print x v own }
     go (inr z) (inr q) = absurd (several (withFingerprint mark (fingerprint x)) v (sym (printed-other mark (fingerprint x) z q)) t)
 
--- A byte laid elsewhere is not read; one laid here is.
-module _ (t : List ℕ) (at byte i : ℕ) (h : at < length t) where
-  byte-here : i ≡ at → getD (lay t at (byte ∷ [])) i 0 ≡ byte
-  byte-here e =
-      ap (λ (k : ℕ). getD (lay t at (byte ∷ [])) k 0) (e ∙ sym (add-zero at)) ∙ getD-lay t at (byte ∷ []) 0 (omega arith) (omega arith)
-
-  byte-elsewhere : (i ≡ at → ⊥) → getD (lay t at (byte ∷ [])) i 0 ≡ getD t i 0
-  byte-elsewhere e = go (tri i at)
-    where
-      go : Tri i at → getD (lay t at (byte ∷ [])) i 0 ≡ getD t i 0
-      go (less l) = getD-lay-before t at (byte ∷ []) i (omega arith) l
-      go (same l) = absurd (e l)
-      go (more l) = getD-lay-behind t at (byte ∷ []) i (omega arith) (omega arith)
-
 -- The print of number i laid in its place.
 module _
     (t : List ℕ) (n blocks i x at byte : ℕ) (room : Room t n blocks) (h : i < n) (here : x ≡ numberAt 4 t (4 * i)) (place : at ≡ markOf blocks x)
@@ -123,12 +109,12 @@ module _
         go : (markOf blocks v ≡ at) ⊎ (markOf blocks v ≡ at → ⊥) → count (is v) (row (i + 1) 0 marking) ≡ 0
         go (inl e) =
             let w : 512 * blocks + markOf blocks v ≡ 512 * blocks + at = omega arith in
-            let byte-is = byte-here t (512 * blocks + at) byte (512 * blocks + markOf blocks v) (omega (arith, room .size)) w ∙ is-print in
+            let byte-is = getD-lay-one t (512 * blocks + at) byte (512 * blocks + markOf blocks v) (omega (arith, room .size)) w ∙ is-print in
             let ruled = printed-rules (getD t (512 * blocks + at) 0) x v (sym (ap (λ (m : ℕ). excludes m v) byte-is) ∙ z) in
             none (ruled .other) (ap (λ (k : ℕ). excludes (getD t k 0) v) w ∙ ruled .before)
         go (inr e) =
             let apart : 512 * blocks + markOf blocks v ≡ 512 * blocks + at → ⊥ = λ q. e (omega arith) in
-            let same-byte = byte-elsewhere t (512 * blocks + at) byte (512 * blocks + markOf blocks v) (omega (arith, room .size)) apart in
+            let same-byte = getD-lay-other t (512 * blocks + at) byte (512 * blocks + markOf blocks v) (omega (arith, room .size)) apart in
             none (λ q. e (ap (markOf blocks) (sym q) ∙ sym place)) (sym (ap (λ (m : ℕ). excludes m v) same-byte) ∙ z)
 
 pub room-kept : (t s : List ℕ) (n blocks : ℕ) → Room t n blocks → length s ≡ length t → Room s n blocks

@@ -13,7 +13,7 @@ use lib.Seq.{getD-set-other, ext-getD, length-take-le, take-take}
 use Rattle.laws.specs.Order.{le-or}
 use Rattle.laws.specs.Tests.{choose}
 use Rattle.laws.specs.Lists.{drop-take}
-use Rattle.laws.specs.Lay.{lay, part, drop-replicate, take-replicate, part-lay, part-lay-before, part-part, part-take, length-lay}
+use Rattle.laws.specs.Lay.{lay, part, part-lay, part-lay-before, part-part, part-take, length-lay, part-replicate}
 use Rattle.laws.specs.Chunks.{drop-lay-front}
 use Rattle.laws.specs.BigEndian.{numberAt}
 use Rattle.laws.specs.Loops.{steps-keep}
@@ -43,10 +43,6 @@ BlankFrom count rows = (n : ℕ) → count ≤ n → getD rows n noRow ≡ noRow
 
 -- ---- zeros
 
-part-zeros : (m at n : ℕ) → at + n ≤ m → part (replicate m 0) at n ≡ replicate n 0
-unfolding part
-part-zeros m at n l = ap (take n) (drop-replicate at m 0) ∙ take-replicate n (m - at) 0 (omega arith)
-
 zero-row : decode (replicate rowBytes 0) ≡ noRow
 unfolding decode noRow numberAt part modeFrom
 zero-row = refl
@@ -66,7 +62,7 @@ empty-blank : (blocks count : ℕ) → BlankFrom count (emptyRows blocks)
 unfolding emptyRows
 empty-blank blocks count n l =
     let size = tableBytes blocks - rowsAt in
-    blank-row (replicate size 0) n (λ h. part-zeros size (rowBytes * n) rowBytes (omega (arith, length-replicate {A = ℕ} size 0)))
+    blank-row (replicate size 0) n (λ h. part-replicate size 0 (rowBytes * n) rowBytes (omega (arith, length-replicate {A = ℕ} size 0)))
 
 -- A row of a node set, or none.
 set-blank : (count id : ℕ) (x : Row) (rows : List Row) (b : Bool) → ltb id count ≡ b → BlankFrom count rows →
@@ -175,7 +171,7 @@ module _ (limit : ℕ) (table : List ℕ) (room : rowBytes * limit ≤ length ta
               ap (λ (k : ℕ). part after k rowBytes) at ∙
               sym (part-part after (rowBytes * limit) size j rowBytes (omega (arith, long))) ∙
               ap (λ (s : List ℕ). part s j rowBytes) behind ∙
-              part-zeros size j rowBytes (omega (arith, long))
+              part-replicate size 0 j rowBytes (omega (arith, long))
       go n (inr l) =
           get-rows after n (omega (arith, long)) ∙
           ap decode

@@ -10,8 +10,8 @@ use lib.Dec.{eqb, leb, ltb}
 use lib.ListN.{length, getD, take, drop, length-drop}
 use lib.Seq.{length-take-le, getD-take, getD-drop, drop-drop}
 use borrow.Author.Tests.{eq-eqb, ne-eqb, lt-ltb, le-ltb}
-use Rattle.laws.specs.Tests.{choose}
-use Rattle.laws.specs.Counts.{bit, count, empty}
+use Rattle.laws.specs.Tests.{choose, and-swap}
+use Rattle.laws.specs.Counts.{bit, count, empty, empty-length}
 use Rattle.laws.specs.Loops.{firstFrom, allFrom}
 use Rattle.page.specs.Page.{Page, sequence}
 use Rattle.store.specs.Pool.{block, numbered}
@@ -98,10 +98,6 @@ module _ (pages : List (List ℕ)) where
           let f : 0 + count (numbered s) (blockIn d) ≡ count (numbered s) (blockIn d) = omega arith in
           rw (e, f) ih
 
-empty-length : (b : List Page) → eqb (length b) 0 ≡ empty b
-empty-length [] = refl
-empty-length (p ∷ b) = ne-eqb (suc (length b)) 0 (λ e. omega arith)
-
 empty-vacant : (d : Cells) → 0 < length d → empty (blockIn d) ≡ vacant (getD d 0 none)
 empty-vacant [] l = absurd (not-suc-le-zero l)
 empty-vacant (none ∷ d) l = refl
@@ -125,12 +121,6 @@ block-at (suc k) c (suc i) l =
     let e : 32 + 32 * i ≡ 32 * suc i = omega arith in
     block-at k (drop 32 c) i (le-of-suc-le-suc l) ∙
     ap (λ (x : Cells). blockIn (take 32 x)) (drop-drop (32 * i) 32 c ∙ ap (λ (n : ℕ). drop n c) e)
-
-and-swap : (a b x y : Bool) → ((a && b) && (x && y)) ≡ ((a && x) && (b && y))
-and-swap true true x y = refl
-and-swap true false true y = refl
-and-swap true false false y = refl
-and-swap false b x y = refl
 
 module _ (pages : List (List ℕ)) (c : Cells) (B : ℕ) (size : length c ≡ 32 * B) (whole : Stretch pages 0 c) where
   length-at : (i : ℕ) → i < B → length (cellsAt c i) ≡ 32

@@ -8,15 +8,16 @@ use mathlib.Core.Option.{Option, none, some}
 use Prim.Native.Nat.{ℕ, _+_, _-_, _^_, _≤_, _<_}
 use native.Mathlib.Nat.{add-zero}
 use native.Mathlib.Omega.{arith}
-use lib.Dec.{eqb, ltb}
+use lib.Dec.{eqb}
 use lib.ListN.{length, getD, replicate, length-append}
 use lib.Seq.{getD-append-add}
-use borrow.Author.Tests.{eq-eqb, ne-eqb, le-leb, lt-ltb, le-ltb}
+use borrow.Author.Tests.{le-leb, lt-ltb}
 use Rattle.laws.specs.Order.{eq-or}
 use Rattle.laws.specs.Every.{Every, none, both}
 use Rattle.laws.specs.Lay.{part, part-append}
 use Rattle.laws.specs.Counts.{count, tally}
 use Rattle.laws.specs.BigEndian.{bigEndian, number, numberAt, number-bigEndian}
+use Rattle.laws.specs.Tests.{not-positive}
 use Rattle.layout.specs.Layout.{mostEntries}
 use Rattle.account.specs.declared.Tariff.{Tariff}
 use Rattle.node.specs.Node.{Node}
@@ -155,13 +156,6 @@ apart-image test (page s (whole id n)) f = no-entries test (image (page s (whole
 apart-image test (page s (checkpoint t ss c)) f = no-entries test (image (page s (checkpoint t ss c))) (λ q. checkpoint-tag s t ss c (f .content .some) q)
 
 -- ---- and so the model's test of a page
-
-not-positive : (n : ℕ) → not (ltb 0 n) ≡ eqb n 0
-not-positive n = go (eq-or n 0)
-  where
-    go : (n ≡ 0) ⊎ (n ≡ 0 → ⊥) → not (ltb 0 n) ≡ eqb n 0
-    go (inl e) = rw (le-ltb 0 n (omega arith), eq-eqb n 0 e)
-    go (inr e) = rw (lt-ltb 0 n (omega arith), ne-eqb n 0 e)
 
 -- The sequence numbers of a list are those of the blocks.
 module _ (sequences : List ℕ) (bs : Blocks) (same : (v : ℕ) → count (is v) sequences ≡ tally (Pool.numbered v) bs) where

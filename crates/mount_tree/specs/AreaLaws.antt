@@ -7,30 +7,22 @@ use native.Mathlib.Omega.{arith}
 use lib.ListN.{length, take, drop, set, replicate, length-set, length-replicate, drop-of-length-le}
 use lib.Seq.{drop-cons, drop-set-lt, getD-set-same, take-set-le, take-set-lt, drop-set-add}
 use borrow.Rule.Slice.PartMut.{putMid}
-use Rattle.laws.specs.Lay.{lay, part, part-lay, part-lay-before, part-lay-behind, length-part, length-lay, lay-lent}
+use Rattle.laws.specs.Lay.{lay, part, part-lay, part-lay-before, part-lay-behind, length-part, length-lay, lay-lent, part-zero, part-lent}
 use Rattle.mount_tree.specs.declared.due.Due.{Due}
 use Rattle.layout.specs.Layout.{dueBytes, workBytes}
 use Rattle.mount_tree.specs.Due.{duesOf, noDue}
 use Rattle.mount_tree.specs.Stack.{length-dues}
 use Rattle.mount_tree.specs.Area.{duesIn, marksIn, Marks, Pushes, rootDue, Begun}
 
--- A part that the code lends from one place to another.
-part-between : (s : List ℕ) (at n : ℕ) → take (at + n - at) (drop at s) ≡ part s at n
-unfolding part
-part-between s at n = let e : at + n - at ≡ n = omega arith in rw e
-
+-- The dues and the marks, as the code lends them.
 pub dues-between : (kept nodes : ℕ) (table : List ℕ) → duesOf (take (kept + dueBytes * nodes - kept) (drop kept table)) ≡ duesIn kept nodes table
 unfolding duesIn
-dues-between kept nodes table = ap duesOf (part-between table kept (dueBytes * nodes))
+dues-between kept nodes table = ap duesOf (part-lent table kept (kept + dueBytes * nodes) (dueBytes * nodes) refl)
 
 pub marks-between : (kept nodes : ℕ) (table : List ℕ) →
     take (kept + dueBytes * nodes + nodes - (kept + dueBytes * nodes)) (drop (kept + dueBytes * nodes) table) ≡ marksIn kept nodes table
 unfolding marksIn
-marks-between kept nodes table = part-between table (kept + dueBytes * nodes) nodes
-
-front : (kept : ℕ) (s : List ℕ) → take kept s ≡ part s 0 kept
-unfolding part
-front kept s = refl
+marks-between kept nodes table = part-lent table (kept + dueBytes * nodes) (kept + dueBytes * nodes + nodes) nodes refl
 
 module _ (kept nodes : ℕ) (before : List ℕ) (room : kept + workBytes nodes ≤ length before) where
   pub length-duesIn : length (duesIn kept nodes before) ≡ nodes
@@ -70,7 +62,7 @@ module _ (kept nodes : ℕ) (before : List ℕ) (room : kept + workBytes nodes �
       let whole : part (lay before kept stack) kept (dueBytes * nodes) ≡ stack = rw many at (part-lay before kept stack inside) in
       rw (lay-lent kept (kept + dueBytes * nodes) before stack (omega arith) size)
       record {
-        same = front kept (lay before kept stack) ∙ part-lay-before before kept stack inside 0 kept (omega arith) ∙ sym (front kept before);
+        same = sym (part-zero (lay before kept stack) kept) ∙ part-lay-before before kept stack inside 0 kept (omega arith) ∙ part-zero before kept;
         dues =
             ap (λ (s : List ℕ). drop base (duesOf s)) whole ∙ d ∙
             ap (λ (ds : List Due). children ++ drop behind ds) (dues-between kept nodes before);
@@ -103,8 +95,8 @@ begin-leaves kept nodes depth size before middle after room s e p =
     let short : length (duesIn kept nodes middle) ≤ nodes = omega (arith, length-duesIn kept nodes middle room′) in
     record {
       same =
-          p .same ∙ ap (take kept) f ∙ front kept (lay before from (replicate nodes 0)) ∙
-          part-lay-before before from (replicate nodes 0) inside 0 kept (omega arith) ∙ sym (front kept before);
+          p .same ∙ ap (take kept) f ∙ sym (part-zero (lay before from (replicate nodes 0)) kept) ∙
+          part-lay-before before from (replicate nodes 0) inside 0 kept (omega arith) ∙ part-zero before kept;
       dues = p .dues ∙ ap (λ (ds : List Due). rootDue depth ∷ ds) (drop-of-length-le (duesIn kept nodes middle) short);
       marks = p .marks ∙ ap (λ (t : List ℕ). part t from nodes) f ∙ laid;
     }

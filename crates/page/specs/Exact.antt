@@ -12,6 +12,7 @@ use borrow.Author.Tests.{eqb-true, eqb-false, leb-true, leb-false}
 use Rattle.laws.specs.Tests.{and-left, and-right}
 use Rattle.laws.specs.Lay.{part, part-add}
 use Rattle.laws.specs.BigEndian.{bigEndian, number, numberAt, Bytes, bigEndian-number, number-lt, numberAt-lt}
+use Rattle.laws.specs.Every.{map-back, every-map-by}
 use Rattle.layout.specs.Layout.{pageBytes, mostEntries, bound32}
 use Rattle.wire.specs.Tag.{lengthOf, allowed, isNodeBytes}
 use Rattle.wire.specs.Field.{field, payloadAt}
@@ -28,7 +29,7 @@ use Rattle.page.specs.Runs.{length-payloads, Ran, ran}
 use Rattle.page.specs.Spelled.{entryBytes-of, entryOf-fits, scoreBytes-of, scoreOf-fits, tariffBytes-of, tariffOf-fits}
 use Rattle.page.specs.SpelledNode.{wholeBytes-of, nodeOf-fits, node-long}
 use Rattle.page.specs.Seal.{sealedAt-is}
-use Rattle.page.specs.ReadBack.{map-back, every-to, taken-found}
+use Rattle.page.specs.ReadBack.{taken-found}
 
 -- Where on a page that checks its values stand: the entries in the fields 12 behind field 10, the node in field 11, the tariff
 -- in field 13, the scores in the fields 14 behind it, the node count in field 15 behind those.
@@ -122,7 +123,7 @@ module _ (s : ℕ) (b : List ℕ) (bs : Bytes b) (h : 1 ≤ s) (l : s < bound32)
               record {
                 some = omega (arith, leb-true 1 n (and-left (leb 1 n) _ t));
                 few = omega (arith, r .few);
-                entries = every-to entryOf (λ p f. entryOf-fits s p (f .1) (f .0)) entries (r .pass);
+                entries = every-map-by entryOf (λ p f. entryOf-fits s p (f .1) (f .0)) entries (r .pass);
               };
         })
 
@@ -213,7 +214,7 @@ module _ (s : ℕ) (b : List ℕ) (bs : Bytes b) (h : 1 ≤ s) (l : s < bound32)
                   tariff = if-fits b bs 7 0x13 32 tariffOf tariffBytes TariffIfFits only-13 (λ e. tt) tariffOf-fits;
                   some = omega (arith, length-read, leb-true 1 n (and-left (leb 1 n) _ t));
                   few = rw (← (found-given tariff)) (omega (arith, length-read, r .few));
-                  scores = every-to scoreOf (λ p f. scoreOf-fits p (f .1) (eqb-true (length p) 6 (f .0))) scores (r .pass);
+                  scores = every-map-by scoreOf (λ p f. scoreOf-fits p (f .1) (eqb-true (length p) 6 (f .0))) scores (r .pass);
                   filled =
                       if-fits b bs (start + 9 * n) 0x15 2 number countBytes
                       (λ o. Filled (mostScores (given (readIf tariffOf tariff))) (length (map scoreOf scores)) o) only-15

@@ -1,10 +1,10 @@
 -- A page's image is made of bytes: tags and kinds are small numbers, and every other number is laid down in bytes. Assumes nothing.
 use mathlib.Core.List.{List, [], _∷_, _++_, map}
 use mathlib.Core.Option.{Option, none, some}
-use Prim.Native.Nat.{ℕ, zero, suc, _-_, _<_}
+use Prim.Native.Nat.{ℕ, _-_, _<_}
 use native.Mathlib.Omega.{arith}
-use lib.ListN.{length, replicate}
-use Rattle.laws.specs.Every.{none, both, every-append}
+use lib.ListN.{length}
+use Rattle.laws.specs.Every.{none, both, every-append, every-replicate}
 use Rattle.laws.specs.BigEndian.{bigEndian, Bytes, bytes-bigEndian}
 use Rattle.layout.specs.Layout.{pageBytes}
 use Rattle.pairs.specs.Pairs.{Pair}
@@ -81,7 +81,7 @@ bytes-tariff t =
     (before 4 (t .disk .edit)
     (before 4 (t .disk .rewrite) (before 4 (t .disk .enter) (bytes-bigEndian 4 (t .log .enter))))))))
 
-bytes-score : (s : Score) → Bytes (scoreBytes s)
+pub bytes-score : (s : Score) → Bytes (scoreBytes s)
 unfolding scoreBytes
 bytes-score s = before 2 (s .id) (bytes-bigEndian 4 (s .score))
 
@@ -109,10 +109,6 @@ bytes-numbered : (s : ℕ) (content : List ℕ) → Bytes content → Bytes (num
 unfolding numbered
 bytes-numbered s content e = every-append (bytes-field 0x10 (bigEndian 4 s) (omega arith) (bytes-bigEndian 4 s)) e
 
-bytes-blanks : (n : ℕ) → Bytes (replicate n 255)
-bytes-blanks zero = none
-bytes-blanks (suc n) = both {x = 255} (omega arith) (bytes-blanks n)
-
 bytes-sums : (body : List ℕ) → Bytes (sumsField body)
 unfolding sumsField
 bytes-sums body =
@@ -121,7 +117,7 @@ bytes-sums body =
 
 bytes-sealed : (size : ℕ) (body : List ℕ) → Bytes body → Bytes (sealed size body)
 unfolding sealed
-bytes-sealed size body e = every-append e (every-append (bytes-sums body) (bytes-blanks (size - length (body ++ sumsField body))))
+bytes-sealed size body e = every-append e (every-append (bytes-sums body) (every-replicate (size - length (body ++ sumsField body)) 255 (omega arith)))
 
 -- A PAGE, AND A BLANK ONE
 pub bytes-image : (p : Page) → Bytes (image p)
@@ -130,4 +126,4 @@ bytes-image (page s c) = bytes-sealed pageBytes (numbered s (contentBytes c)) (b
 
 pub bytes-blankBytes : Bytes blankBytes
 unfolding blankBytes
-bytes-blankBytes = bytes-blanks pageBytes
+bytes-blankBytes = every-replicate pageBytes 255 (omega arith)

@@ -10,7 +10,7 @@ use native.Mathlib.Omega.{arith}
 use lib.Dec.{eqb}
 use lib.ListN.{length, getD, replicate, length-append, length-map}
 use borrow.Author.Tests.{eq-eqb, le-leb}
-use Rattle.laws.specs.Every.{Every, none, both}
+use Rattle.laws.specs.Every.{Every, none, both, map-back, every-map-by}
 use Rattle.laws.specs.BigEndian.{bigEndian, number, number-bigEndian}
 use Rattle.layout.specs.Layout.{pageBytes, mostEntries, mostKeys, bound32}
 use Rattle.pairs.specs.Pairs.{Pair}
@@ -48,17 +48,6 @@ unfolding fields
 length-fields tag len [] none = omega arith
 length-fields tag len (p ∷ ps) (both h hs) =
     length-append (field tag p) (fields tag ps) ∙ omega (arith, length-field tag p, length-fields tag len ps hs)
-
--- Values that are read back one by one are read back as a list.
-pub map-back : {A B : Type 0} {P : A → Type 0} (to : A → B) (from : B → A) → ((a : A) → P a → from (to a) ≡ a) →
-    (xs : List A) → Every P xs → map from (map to xs) ≡ xs
-map-back to from back [] none = refl
-map-back to from back (x ∷ xs) (both h hs) = ap₂ _∷_ (back x h) (map-back to from back xs hs)
-
-pub every-to : {A B : Type 0} {P : A → Type 0} {Q : B → Type 0} (to : A → B) → ((a : A) → P a → Q (to a)) →
-    (xs : List A) → Every P xs → Every Q (map to xs)
-every-to to holds [] none = none
-every-to to holds (x ∷ xs) (both h hs) = both (holds x h) (every-to to holds xs hs)
 
 pub taken-found : (p : List ℕ) → 1 ≤ length p → taken p ≡ 3 + length p
 taken-found [] h = absurd (not-suc-le-zero h)
@@ -123,7 +112,7 @@ module _ (s : ℕ) (e : Entry) (es : List Entry) (n : ℕ) (h : Fits s (log (e �
 
   entries-good : Every (Good (entryOk s) 0x12 15 (omega arith) allowed-12) entries
   entries-good =
-      every-to entryBytes
+      every-map-by entryBytes
       (λ x f. record { size = length-entryBytes x; passes = entryOk-bytes s x (h .below) f }) (e ∷ es) (h .content .entries)
 
   no-entry : (front : List ℕ) → entryOk s (payloadAt (front ++ after-log) (length front) 0x12) ≡ false
@@ -147,7 +136,7 @@ module _ (s : ℕ) (e : Entry) (es : List Entry) (n : ℕ) (h : Fits s (log (e �
   seal-log : sealedAt (numbered s (fields 0x12 entries ++ after-log)) (7 + 18 * length entries) ≡ true
   seal-log =
       seal-found s (fields 0x12 entries) n (7 + 18 * length entries)
-      (omega (arith, length-fields 0x12 15 entries (every-to entryBytes (λ x f. length-entryBytes x) (e ∷ es) (h .content .entries))))
+      (omega (arith, length-fields 0x12 15 entries (every-map-by entryBytes (λ x f. length-entryBytes x) (e ∷ es) (h .content .entries))))
 
   entries-back : map entryOf entries ≡ e ∷ es
   entries-back = map-back entryBytes entryOf (λ x f. entryOf-bytes s x (h .below) f) (e ∷ es) (h .content .entries)
@@ -304,7 +293,7 @@ module _ (s : ℕ) (t : Option Tariff) (x : Score) (xs : List Score) (c : Option
 
   scores-good : Every (Good scoreOk 0x14 6 (omega arith) allowed-14) scores
   scores-good =
-      every-to scoreBytes (λ y f. record { size = length-scoreBytes y; passes = eq-eqb _ _ (length-scoreBytes y) }) (x ∷ xs) (h .content .scores)
+      every-map-by scoreBytes (λ y f. record { size = length-scoreBytes y; passes = eq-eqb _ _ (length-scoreBytes y) }) (x ∷ xs) (h .content .scores)
 
   length-scores : length scores ≡ length (x ∷ xs)
   length-scores = length-map (x ∷ xs) scoreBytes
@@ -329,7 +318,7 @@ module _ (s : ℕ) (t : Option Tariff) (x : Score) (xs : List Score) (c : Option
       payloads-fields scoreOk 0x14 6 (omega arith) allowed-14 scores scores-good front (last ++ after)
 
   length-all : length (fields 0x14 scores) ≡ 9 * length scores
-  length-all = length-fields 0x14 6 scores (every-to scoreBytes (λ y f. length-scoreBytes y) (x ∷ xs) (h .content .scores))
+  length-all = length-fields 0x14 6 scores (every-map-by scoreBytes (λ y f. length-scoreBytes y) (x ∷ xs) (h .content .scores))
 
   length-behind : 7 + taken tariff + 9 * length scores ≡ length behind
   length-behind = sym (length-append front (fields 0x14 scores) ∙ ap₂ _+_ (sym length-front) length-all)

@@ -8,6 +8,7 @@ use native.Mathlib.Omega.{arith}
 use lib.Dec.{eqb, leb}
 use lib.ListN.{length, getD, replicate, length-append, length-map}
 use borrow.Author.Tests.{eqb-true, eqb-false, leb-true, leb-false}
+use Rattle.laws.specs.Every.{every-map-by}
 use Rattle.layout.specs.Layout.{pageBytes}
 use Rattle.account.specs.declared.Tariff.{Tariff}
 use Rattle.node.specs.Node.{node}
@@ -30,7 +31,7 @@ use Rattle.page.specs.Cases.{
 use Rattle.page.specs.Spelled.{length-entryBytes, length-scoreBytes, length-tariffBytes}
 use Rattle.page.specs.SpelledNode.{length-wholeBytes}
 use Rattle.page.specs.Seal.{allBlank-replicate, allBlank-is, length-sealed}
-use Rattle.page.specs.ReadBack.{length-fields, every-to}
+use Rattle.page.specs.ReadBack.{length-fields}
 
 -- ---- sizes
 
@@ -50,7 +51,7 @@ unfolding contentBytes
 length-content s (log es) h =
     omega (
       arith,
-      length-fields 0x12 15 (map entryBytes es) (every-to entryBytes (λ e f. length-entryBytes e) es (h .entries)),
+      length-fields 0x12 15 (map entryBytes es) (every-map-by entryBytes (λ e f. length-entryBytes e) es (h .entries)),
       length-map es entryBytes,
       h .few,
     )
@@ -61,7 +62,7 @@ length-content s (checkpoint t ss c) h =
       arith,
       length-append (fieldIf 0x13 tariffBytes t) (fields 0x14 (map scoreBytes ss) ++ fieldIf 0x15 countBytes c),
       length-append (fields 0x14 (map scoreBytes ss)) (fieldIf 0x15 countBytes c),
-      length-fields 0x14 6 (map scoreBytes ss) (every-to scoreBytes (λ e f. length-scoreBytes e) ss (h .scores)),
+      length-fields 0x14 6 (map scoreBytes ss) (every-map-by scoreBytes (λ e f. length-scoreBytes e) ss (h .scores)),
       length-map ss scoreBytes,
       length-tariffIf t,
       length-countIf c,

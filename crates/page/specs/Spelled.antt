@@ -9,7 +9,7 @@ use lib.Dec.{eqb, leb, ltb}
 use lib.ListN.{length, getD}
 use borrow.Author.Tests.{eqb-true, leb-true, ltb-true, le-leb, lt-ltb}
 use Rattle.laws.specs.Tests.{choose, and-left, and-right}
-use Rattle.laws.specs.Lay.{part, part-add, part-cons, part-whole}
+use Rattle.laws.specs.Lay.{part, part-add, part-whole, part-one}
 use Rattle.laws.specs.BigEndian.{bigEndian, number, numberAt, Bytes, number-bigEndian, bigEndian-numberAt, numberAt-lt}
 use Rattle.layout.specs.Layout.{bound32}
 use Rattle.account.specs.declared.Costs.{Costs}
@@ -47,11 +47,6 @@ parts-join w (v ∷ vs) s at =
 
 pub parts-whole : (w : ℕ) (vs s : List ℕ) → length s ≡ total w vs → parts w vs s 0 ≡ s
 parts-whole w vs s e = parts-join w vs s 0 ∙ part-whole s (total w vs) e
-
--- One byte is a part.
-pub part-one : (s : List ℕ) (at : ℕ) → at < length s → part s at 1 ≡ getD s at 0 ∷ []
-unfolding part
-part-one s at h = part-cons s at 0 h
 
 -- ---- changes and entries
 

@@ -10,7 +10,7 @@ use lib.ListN.{length, getD, length-append}
 use borrow.Author.Tests.{eqb-true, leb-true}
 use Rattle.laws.specs.Tests.{and-left, and-right}
 use Rattle.laws.specs.Every.{Every, none, both}
-use Rattle.laws.specs.Lay.{part, part-add, part-append}
+use Rattle.laws.specs.Lay.{part, part-add, part-append, part-one}
 use Rattle.laws.specs.BigEndian.{bigEndian, number, numberAt, Bytes, number-bigEndian, bigEndian-numberAt, numberAt-lt}
 use Rattle.layout.specs.Layout.{mostKeys, bound32}
 use Rattle.pairs.specs.Pairs.{Pair}
@@ -22,7 +22,7 @@ use Rattle.wire.specs.Tag.{nodeBytes, isNodeBytes}
 use Rattle.page.specs.Image.{shapeNumber, pairsBytes, wholeBytes}
 use Rattle.page.specs.Decode.{found, pairsFrom, pairsIn, shapeOfNumber, nodeOk, nodeOf}
 use Rattle.page.specs.Limits.{bound16, NodeFits}
-use Rattle.page.specs.Spelled.{parts-whole, part-one}
+use Rattle.page.specs.Spelled.{parts-whole}
 
 pub length-pairsBytes : (ps : List Pair) → length (pairsBytes ps) ≡ 8 * length ps
 unfolding pairsBytes

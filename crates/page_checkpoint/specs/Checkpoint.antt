@@ -8,6 +8,7 @@ use native.Mathlib.Omega.{arith}
 use lib.ListN.{length, length-append}
 use Rattle.laws.specs.Lay.{lay, lay-next, length-lay}
 use Rattle.laws.specs.BigEndian.{Bytes, bigEndian}
+use Rattle.laws.specs.Every.{map-back}
 use Rattle.account.specs.declared.Tariff.{Tariff}
 use Rattle.wire.specs.Field.{field, head}
 use Rattle.wire.specs.FieldLaws.{lay-field, length-field}
@@ -15,7 +16,6 @@ use Rattle.page.specs.Page.{Score, checkpoint, Page, page}
 use Rattle.page.specs.Image.{tariffBytes, scoreBytes, countBytes, fields, fieldIf, contentBytes, numbered}
 use Rattle.page.specs.Decode.{mostScores, scoreOf}
 use Rattle.page.specs.Spelled.{scoreBytes-of, length-tariffBytes}
-use Rattle.page.specs.ReadBack.{map-back}
 use Rattle.page_write.specs.Chunks.{chunks, every-chunk, length-chunk-fields}
 use Rattle.page_write.specs.Laid.{numbered-laid}
 use Rattle.page_write.specs.Pages.{bodyOf}

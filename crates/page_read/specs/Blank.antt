@@ -1,6 +1,6 @@
 -- Whether bytes are all FF: byte by byte, and sixteen at a time by their sum. Assumes nothing.
 use mathlib.Core.Path.{_≡_, refl, sym, ap, _∙_}
-use mathlib.Core.Bool.{Bool, true, false, _&&_}
+use mathlib.Core.Bool.{Bool, true, false, _&&_, and-true, and-assoc}
 use mathlib.Core.List.{List, [], _∷_, _++_}
 use Prim.Native.Nat.{ℕ, suc, _+_, _-_, _*_, _≤_, _<_}
 use native.Mathlib.Nat.{add-zero, sub-zero}
@@ -47,14 +47,6 @@ sum-highest n sum x h k = test-same (eqb (sum + x) (255 * (n + 1))) (eqb sum (25
         let e = eqb-true sum (255 * n) (and-left (eqb sum (255 * n)) (eqb x 255) t) in
         let f = eqb-true x 255 (and-right (eqb sum (255 * n)) (eqb x 255) t) in
         eq-eqb (sum + x) (255 * (n + 1)) (omega arith)
-
-and-true : (a : Bool) → (a && true) ≡ a
-and-true true = refl
-and-true false = refl
-
-and-assoc : (a b c : Bool) → ((a && b) && c) ≡ (a && (b && c))
-and-assoc true b c = refl
-and-assoc false b c = refl
 
 module _ (s : List ℕ) (at : ℕ) where
   -- k bytes added up, and whether the others are FF

@@ -9,8 +9,6 @@ use lib.Dec.{eqb}
 use lib.ListN.{length}
 use borrow.Author.Tests.{eqb-true}
 use Rattle.laws.specs.Tests.{and-left}
-use Rattle.laws.specs.BigEndian.{number, numberAt}
-use Rattle.laws.specs.Lay.{part-whole}
 use Rattle.laws.specs.Lists.{empty-or}
 use Rattle.wire.specs.Tag.{lengthOf, allowed, isNodeBytes}
 use Rattle.wire.specs.Field.{payloadAt}
@@ -34,11 +32,6 @@ module _ (b : List ℕ) (at tag len : ℕ) (only : (n : ℕ) → allowed (length
       go : (payloadAt b at tag ≡ []) ⊎ (1 ≤ length (payloadAt b at tag)) → payloadAt b at tag ≡ []
       go (inl e) = e
       go (inr l) = absurd (h (only (length (payloadAt b at tag)) (allowed-payload b at tag (stands-payload b at tag l))))
-
--- The number that a whole payload spells.
-pub number-whole : (p : List ℕ) (w : ℕ) → length p ≡ w → numberAt w p 0 ≡ number p
-unfolding numberAt
-number-whole p w e = ap number (part-whole p w e)
 
 -- A whole node's payload: its length by its pairs.
 pub node-size : (b : List ℕ) (at : ℕ) → 1 ≤ length (payloadAt b at 0x11) → 7 + 8 * ((length (payloadAt b at 0x11) - 7) / 8) ≡ length (payloadAt b at 0x11)

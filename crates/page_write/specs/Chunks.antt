@@ -3,7 +3,7 @@ use mathlib.Core.Path.{_≡_, refl, sym, ap, _∙_}
 use mathlib.Core.List.{List, [], _∷_}
 use Prim.Native.Nat.{ℕ, zero, suc, _+_, _-_, _*_, _≤_, _<_}
 use native.Mathlib.Omega.{arith}
-use lib.ListN.{length, take, drop}
+use lib.ListN.{length}
 use Rattle.laws.specs.Every.{Every, none, both}
 use Rattle.laws.specs.Lay.{lay, part, lay-nil, lay-next, length-part}
 use Rattle.laws.specs.BigEndian.{Bytes, bytes-part}
@@ -63,10 +63,3 @@ pub mul-split : (size n : ℕ) → 0 < n → size * n ≡ size + size * (n - 1)
 mul-split size n h =
     let e : n ≡ suc (n - 1) = omega arith in
     ap (λ (k : ℕ). size * k) e ∙ omega arith
-
--- The part that is lent from a place to a size behind it.
-pub lent-part : (s : List ℕ) (from size : ℕ) → take (from + size - from) (drop from s) ≡ part s from size
-unfolding part
-lent-part s from size =
-    let e : from + size - from ≡ size = omega arith in
-    ap (λ (n : ℕ). take n (drop from s)) e

@@ -4,7 +4,7 @@ use mathlib.Core.Bool.{true}
 use mathlib.Core.List.{List, [], _∷_, _++_, map}
 use Prim.Native.Nat.{ℕ, zero, suc, _+_}
 use lib.ListN.{getD}
-use Rattle.laws.specs.Every.{Every}
+use Rattle.laws.specs.Every.{Every, map-back}
 use Rattle.laws.specs.BigEndian.{Bytes, bigEndian}
 use Rattle.layout.specs.Layout.{pageBytes}
 use Rattle.pairs.specs.Pairs.{Pair}
@@ -25,7 +25,6 @@ use Rattle.page.specs.Image.{
 }
 use Rattle.page.specs.Decode.{entryOk, entryOf}
 use Rattle.page.specs.Spelled.{entryBytes-of}
-use Rattle.page.specs.ReadBack.{map-back}
 use Rattle.page_write.specs.Chunks.{chunks}
 
 -- ---- log pages: from the log buffer, 15 bytes an entry

@@ -1,13 +1,12 @@
 -- The steps of a node's turn put together. Assumes nothing.
 use mathlib.Core.Path.{_≡_, refl, sym, ap, ap₂, _∙_, subst}
 use mathlib.Core.Bool.{Bool, true, false}
-use mathlib.Core.Logic.{_⊎_, inl, inr}
 use mathlib.Core.List.{List, [], _∷_}
 use Prim.Native.Nat.{ℕ, _+_, _≤_, _<_}
 use native.Mathlib.Omega.{arith}
+use native.Mathlib.Nat.{lt-of-not-le}
 use borrow.Author.Tests.{lt-ltb, le-ltb}
 use lib.ListN.{length}
-use Rattle.laws.specs.Order.{le-or}
 use Rattle.layout.specs.Layout.{nodeLimit, mostKeys}
 use Rattle.account.specs.declared.Tariff.{Tariff}
 use Rattle.pairs.specs.Pairs.{insert}
@@ -159,14 +158,6 @@ module _ {P₀ T₀ : ℕ} (t : Tariff) (id : ℕ) (w : World) (g : Growing P₀
       let step = serve t id (edit second) in
       record { charged = grew-charged g (then step (charge t id (edit second)) (kept-then step) s s′); pending = refl }
 
--- A node that is full is there.
-there : (n id : ℕ) → (n ≤ id → ⊥) → id < n
-there n id h = go (le-or n id)
-  where
-    go : (n ≤ id) ⊎ (id < n) → id < n
-    go (inl l) = absurd (h l)
-    go (inr l) = l
-
 full-none : (v : NodeValue) (at key : ℕ) → Splits v at key → pairsIn v ≡ [] → ⊥
 full-none v at key s e = omega (arith, ap length e, length-pairsIn v (s .held .sized), s .full)
 
@@ -190,7 +181,7 @@ module _ (t : Tariff) (root : Bool) (id key value : ℕ) (w : World) (v : NodeVa
 
     pub pair-there : Held v → id < w .state .nodes
     pair-there h =
-        there (w .state .nodes) id
+        lt-of-not-le
         (λ l. full-none v at key (pair-full h) (ap pairsOf (is ∙ tableOf-out (w .pages) (w .table) (w .state) id l)))
 
 none-renamed : (wanted right : ℕ) → pairsOf (change (renaming wanted right noNode) noNode) ≡ []
@@ -227,7 +218,7 @@ module _ (t : Tariff) (root : Bool) (id wanted middle left right : ℕ) (w : Wor
 
     pub halves-there : Held u → id < w .state .nodes
     halves-there h =
-        there (w .state .nodes) id
+        lt-of-not-le
         (λ l.
         full-none u at middle (halves-full h)
         (ap pairsOf (renamed-is ∙ ap renamedIn (tableOf-out (w .pages) (w .table) (w .state) id l)) ∙ none-renamed wanted right))

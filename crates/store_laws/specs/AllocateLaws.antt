@@ -13,11 +13,10 @@ use lib.Dec.{leb}
 use lib.ListN.{length}
 use Rattle.laws.specs.Tests.{test-clash}
 use Rattle.laws.specs.Order.{le-or}
-use Rattle.laws.specs.Counts.{bit, bit-le-one, count, tally, empty, occupied, pigeonhole}
+use Rattle.laws.specs.Counts.{bit, bit-le-one, count, tally, empty, occupied, pigeonhole, empty-nil}
 use Rattle.page.specs.Page.{Page}
 use Rattle.store.specs.Pool.{Blocks, block}
 use Rattle.store.specs.Allocate.{blanks, later, hereOr, blankFrom, firstOf, nextBlank, Choice, nothing, taken, better, compare, fewest, victim}
-use Rattle.store_laws.specs.ItemLaws.{empty-nil}
 
 -- No written block has fewer live pages than `few`, and none below `i` has as few.
 abbrev Least : (Page → Bool) → Blocks → ℕ → ℕ → Type 0

@@ -12,12 +12,11 @@ use lib.Dec.{eqb, leb, ltb}
 use lib.ListN.{length}
 use Rattle.laws.specs.Tests.{and-left, and-right}
 use Rattle.laws.specs.Order.{eq-or, le-or}
-use Rattle.laws.specs.Counts.{bit, bit-le-one, count, tally, tally-at, empty}
+use Rattle.laws.specs.Counts.{bit, bit-le-one, count, tally, tally-at, empty, empty-nil}
 use Rattle.page.specs.Page.{Page, sequence}
 use Rattle.store.specs.Pool.{Blocks, block, numbered, above}
 use Rattle.store.specs.Allocate.{blanks}
 use Rattle.store.specs.Reopen.{Cells, cells, blocksIn, greatestOf, newest, hereOrNext, blockOf, allFilled, differIn, differ, fullOr, fullOrAll, blocksPass}
-use Rattle.store_laws.specs.ItemLaws.{empty-nil}
 use Rattle.store_laws.specs.AllocateLaws.{a-blank, blanks-positive}
 use Rattle.store_laws.specs.BlockRules.{Whole, BlockRules}
 use Rattle.store_laws.specs.CellLaws.{length-cells, blocksIn-cells, allFilled-cells, length-blocksIn, block-blocksIn}

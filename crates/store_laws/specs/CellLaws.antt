@@ -8,9 +8,9 @@ use Prim.Native.Nat.{ℕ, zero, suc, _+_, _*_, _≤_, _<_}
 use native.Mathlib.Nat.{not-suc-le-zero, le-of-suc-le-suc}
 use native.Mathlib.Omega.{arith}
 use lib.ListN.{length, set, take, drop, length-take, length-drop, length-append, take-append-drop}
-use lib.Seq.{take-at, drop-at, set-append-left, take-append-add, drop-append-add}
+use lib.Seq.{take-at, drop-at, set-append-left}
 use Rattle.laws.specs.Tests.{and-left, and-right}
-use Rattle.laws.specs.Lists.{set-append-right}
+use Rattle.laws.specs.Lists.{set-append-right, take-append-right, drop-append-right, length-zero}
 use Rattle.page.specs.Page.{Page}
 use Rattle.store.specs.Pool.{Blocks, block, addTo}
 use Rattle.store.specs.Reopen.{Cells, cellsIn, cells, blockIn, blocksIn, blank, filled, allFilled}
@@ -76,12 +76,8 @@ cellsIn-blockIn [] e = refl
 cellsIn-blockIn (none ∷ c) e = ap {B = Cells} (λ z. none ∷ z) (cellsIn-blank c e)
 cellsIn-blockIn (some p ∷ c) e = ap {B = Cells} (λ z. some p ∷ z) (cellsIn-blockIn c e)
 
-nil-of : (c : Cells) → length c ≡ 0 → [] ≡ c
-nil-of [] e = refl
-nil-of (x ∷ c) e = absurd (omega arith)
-
 pub cells-blocksIn : (width k : ℕ) (c : Cells) → length c ≡ k * width → allFilled width k c ≡ true → cells width (blocksIn width k c) ≡ c
-cells-blocksIn width zero c l t = nil-of c (omega arith)
+cells-blocksIn width zero c l t = sym (length-zero c (omega arith))
 cells-blocksIn width (suc k) c l t =
     let n : length (take width c) ≡ width = omega (arith, length-take width c) in
     ap₂ {B = Cells} _++_
@@ -128,12 +124,6 @@ cells-addTo width (b ∷ bs) (suc i) p l f =
     (rw (length-cellsIn width b) (omega arith)))
 
 -- A block erased or filled is its cells changed.
-take-past : {A : Type 0} (xs ys : List A) (n k : ℕ) → n ≡ length xs + k → take n (xs ++ ys) ≡ xs ++ take k ys
-take-past xs ys n k e = rw e (take-append-add xs ys k)
-
-drop-past : {A : Type 0} (xs ys : List A) (n k : ℕ) → n ≡ length xs + k → drop n (xs ++ ys) ≡ drop k ys
-drop-past xs ys n k e = rw e (drop-append-add xs ys k)
-
 pub cells-set : (width : ℕ) (bs : Blocks) (i : ℕ) (b : List Page) → i < length bs →
     cells width (set bs i b) ≡ take (i * width) (cells width bs) ++ (cellsIn width b ++ drop (i * width + width) (cells width bs))
 cells-set width [] i b l = absurd (not-suc-le-zero l)
@@ -145,8 +135,8 @@ cells-set width (c ∷ bs) zero b l =
 cells-set width (c ∷ bs) (suc i) b l =
     ap {B = Cells} (λ z. cellsIn width c ++ z) (cells-set width bs i b (le-of-suc-le-suc l)) ∙
     rw (
-      take-past (cellsIn width c) (cells width bs) (suc i * width) (i * width) (rw (length-cellsIn width c) (omega arith)),
-      drop-past (cellsIn width c) (cells width bs) (suc i * width + width) (i * width + width)
+      take-append-right (cellsIn width c) (cells width bs) (suc i * width) (i * width) (rw (length-cellsIn width c) (omega arith)),
+      drop-append-right (cellsIn width c) (cells width bs) (suc i * width + width) (i * width + width)
           (rw (length-cellsIn width c) (omega arith)),
     )
     (simp append-assoc)

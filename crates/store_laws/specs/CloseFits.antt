@@ -10,6 +10,7 @@ use native.Mathlib.Omega.{arith}
 use lib.ListN.{length, take, drop, length-take, drop-of-length-le}
 use Rattle.laws.specs.Every.{Every, none, both, every-take, every-drop}
 use Rattle.laws.specs.Order.{le-or}
+use Rattle.laws.specs.Lists.{nil-cons}
 use Rattle.layout.specs.Layout.{firstScores, otherScores, nodeLimit, mostBlocks, bound32}
 use Rattle.account.specs.declared.Costs.{Costs}
 use Rattle.account.specs.declared.Tariff.{Tariff}
@@ -52,9 +53,6 @@ scoresFrom-fit i zero score l h = none
 scoresFrom-fit i (suc k) score l h =
     both {x = record { id = i; score = score i }} (record { id = omega arith; score = h i (omega arith) })
     (scoresFrom-fit (suc i) k score (omega arith) (λ n b. h n (omega arith)))
-
-nil-cons : {A : Type 0} (x : A) (xs : List A) → [] ≡ x ∷ xs → ⊥
-nil-cons x xs e = let z : _≡_ {A = ℕ} 0 1 = cc in omega arith
 
 -- What is taken of scores fills a page, where more are left behind it; else the page has the count.
 module _ (width most width′ n : ℕ) (few : n < bound16) where

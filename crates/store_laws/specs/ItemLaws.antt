@@ -10,15 +10,11 @@ use borrow.Author.Tests.{eqb-true, eqb-false, eq-eqb, ne-eqb}
 use lib.Dec.{eqb}
 use lib.ListN.{length}
 use Rattle.laws.specs.Order.{eq-or}
-use Rattle.laws.specs.Counts.{consIf, empty}
+use Rattle.laws.specs.Counts.{empty, consIf-append}
 use Rattle.node.specs.Change.{Change}
 use Rattle.node.specs.Replay.{Piece, step}
 use Rattle.page.specs.Page.{Entry}
 use Rattle.store.specs.Item.{Item, item, entryItem, piecesIn, greatestIn, group, entries}
-
-consIf-append : {A : Type 0} (b : Bool) (x : A) (r t : List A) → consIf b x (r ++ t) ≡ consIf b x r ++ t
-consIf-append true x r t = refl
-consIf-append false x r t = refl
 
 pub piecesIn-append : (n v : ℕ) (xs ys : List Item) → piecesIn n v (xs ++ ys) ≡ piecesIn n v xs ++ piecesIn n v ys
 piecesIn-append n v [] ys = refl
@@ -50,10 +46,6 @@ piecesIn-greatest n v (x ∷ xs) p e = go (eqb (x .id) n) refl (eqb (x .version)
     go true ea true eb r = rw (ea, eb) refl
     go true ea false eb r = rw (ea, eb) (r (omega (arith, rw ea at e, eqb-false (x .version) v eb)))
     go false ea b eb r = rw ea (r (omega (arith, rw ea at e)))
-
-pub empty-nil : {A : Type 0} (xs : List A) → empty xs ≡ true → xs ≡ []
-empty-nil [] e = refl
-empty-nil (x ∷ xs) e = cc
 
 -- A group: seen from its own node and version, and from another node.
 pub piecesIn-group : (n v : ℕ) (xs : List Piece) → piecesIn n v (group n v xs) ≡ xs

@@ -1,6 +1,6 @@
 -- The store keeps a table of nodes and their modes: after each request it holds exactly the table and modes that the request makes of
 -- them. Each write is handed on as "this node has this, the others stay"; a switch writes the same content. Assumes nothing.
-use mathlib.Core.Path.{_≡_, refl, sym, ap, _∙_, subst, fun-ext}
+use mathlib.Core.Path.{_≡_, refl, sym, ap, _∙_, subst}
 use mathlib.Core.Bool.{Bool, true, false}
 use mathlib.Core.Logic.{_⊎_, inl, inr}
 use mathlib.Core.List.{List, [], _∷_, _++_, map}
@@ -10,7 +10,7 @@ use lib.Dec.{leb}
 use lib.ListN.{length}
 use Rattle.laws.specs.Order.{eq-or}
 use Rattle.laws.specs.Every.{none, both, every-append}
-use Rattle.laws.specs.Update.{update, update-same, update-other}
+use Rattle.laws.specs.Update.{update, update-same, update-other, update-self}
 use Rattle.layout.specs.Layout.{mostEntries, mostLogPages, nodeLimit}
 use Rattle.account.specs.declared.Mode.{Mode}
 use Rattle.account.specs.declared.Mode.the-variants.{Log, Disk}
@@ -93,13 +93,6 @@ writeEdit-nodes n c x run l = go (leb mostLogPages (pages (view (makeRoom 1 run 
     go : (b : Bool) → editBy b n c x (makeRoom 1 run) .nodes ≡ run .nodes
     go true = writeGroup-nodes n x (makeRoom 1 run) ∙ omega (arith, makeRoom-nodes 1 run)
     go false = makeRoom-nodes 1 run
-
-update-self : {A : Type 0} (f : ℕ → A) (n : ℕ) (a : A) → f n ≡ a → update f n a ≡ f
-update-self f n a e = fun-ext (λ k. go k (eq-or k n))
-  where
-    go : (k : ℕ) → (k ≡ n) ⊎ (k ≡ n → ⊥) → update f n a k ≡ f k
-    go k (inl q) = update-same f n a k q ∙ sym e ∙ ap f (sym q)
-    go k (inr q) = update-other f n a k q
 
 module _ {B N : ℕ} {table : ℕ → Node} {modes : ℕ → Mode} {run : Run} (v : Keeps B N table modes run) (n : ℕ) where
   -- A NODE PAGE

@@ -11,7 +11,7 @@ use borrow.Author.Tests.{eq-eqb, leb-true, le-leb, lt-ltb, not-false}
 use lib.Dec.{leb}
 use Rattle.laws.specs.Tests.{choose, and-right, or-left, or-right}
 use Rattle.laws.specs.Order.{eq-or, le-or, le-suc-or}
-use Rattle.laws.specs.Counts.{bit, count, count-mono, tally, tally-mono, tally-or, empty}
+use Rattle.laws.specs.Counts.{bit, count, count-mono, tally, tally-mono, tally-or, empty, empty-nil}
 use Rattle.page.specs.Page.{Entry, Page, sequence}
 use Rattle.store.specs.Item.{itemsOf, piecesIn}
 use Rattle.store.specs.View.{View, sumTo, some?, greatest, pages}
@@ -19,7 +19,6 @@ use Rattle.store.specs.Pool.{Blocks, numbered, above, pageIn, orElse, find, ite
 use Rattle.store.specs.Store.{seen}
 use Rattle.store.specs.Live.{carries, live}
 use Rattle.store.specs.Allocate.{compact}
-use Rattle.store_laws.specs.ItemLaws.{empty-nil}
 use Rattle.store_laws.specs.ViewLaws.{sumTo-ext}
 use Rattle.store_laws.specs.Steps.{Pruned, Fate}
 use Rattle.store_laws.specs.Steps as Steps

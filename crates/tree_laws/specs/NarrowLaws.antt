@@ -7,8 +7,8 @@ use mathlib.Core.Option.{Option, none, some}
 use Prim.Native.Nat.{ℕ, zero, suc, _+_, _≤_, _<_}
 use native.Mathlib.Omega.{arith}
 use lib.Dec.{ltb}
-use lib.ListN.{length, take, drop}
-use Rattle.laws.specs.Every.{Every, none, both, every-append, every-weaken, every-map}
+use lib.ListN.{length}
+use Rattle.laws.specs.Every.{Every, none, both, every-append, every-weaken, every-map, every-take, every-drop}
 use Rattle.layout.specs.Layout.{keptKeys, bound32}
 use Rattle.pairs.specs.Pairs.{Pair}
 use Rattle.pairs.specs.Members.{every-insert, every-delete}
@@ -27,18 +27,6 @@ use Rattle.tree_laws.specs.Size.{depth-count}
 use Rattle.tree_laws.specs.GetLaws.{path-found}
 use Rattle.node.specs.Narrow.{NarrowPair, Narrow, NarrowChange}
 use Rattle.tree.specs.Narrow.{NarrowRequest}
-
--- Parts of lists of pairs.
-module _ {P : Pair → Type 0} where
-  every-take : (n : ℕ) (ps : List Pair) → Every P ps → Every P (take n ps)
-  every-take zero ps e = none
-  every-take (suc n) [] none = none
-  every-take (suc n) (p ∷ ps) (both x e) = both x (every-take n ps e)
-
-  every-drop : (n : ℕ) (ps : List Pair) → Every P ps → Every P (drop n ps)
-  every-drop zero ps e = e
-  every-drop (suc n) [] none = none
-  every-drop (suc n) (p ∷ ps) (both x e) = every-drop n ps e
 
 keyAt-narrow : (ps : List Pair) (j : ℕ) → Every NarrowPair ps → keyAt ps j < bound32
 keyAt-narrow [] j e = omega arith

@@ -1,36 +1,23 @@
 -- The node count bounds the depth, and the depth with the number of leaves, so it is fuel enough for every walk: each level adds
 -- a node, and every node is counted once. Assumes nothing.
-use mathlib.Core.Path.{_≡_, refl, sym}
+use mathlib.Core.Path.{_≡_}
 use mathlib.Core.List.{List, [], _∷_}
 use Prim.Native.Nat.{ℕ, zero, suc, _+_, _≤_, _<_}
 use native.Mathlib.Omega.{arith}
 use lib.Dec.{eqb, ltb}
 use Rattle.laws.specs.Counts.{bit}
-use Rattle.laws.specs.Order.{Tri, less, same, more, tri}
-use Rattle.laws.specs.Update.{sumBelow, sumBelow-add}
+use Rattle.laws.specs.Update.{sumBelow, sumBelow-add, sumBelow-change, sumBelow-zeros, sumBelow-le}
 use Rattle.pairs.specs.Pairs.{Pair}
 use Rattle.tree.specs.Table.{Table}
 use Rattle.tree.specs.Tree.{sumOf, Tree, rootOf, reached}
 use Rattle.tree.specs.Spells.{Spells}
-use Rattle.tree_laws.specs.Ids.{id-same, id-other, used-le}
+use Rattle.tree_laws.specs.Ids.{id-other, used-le, id-self}
 use Rattle.tree_laws.specs.Standing.{Once, root-used}
 
-sumBelow-ones : (n : ℕ) (f : ℕ → ℕ) → ((i : ℕ) → f i ≤ 1) → sumBelow n f ≤ n
-sumBelow-ones zero f h = omega arith
-sumBelow-ones (suc n) f h = omega (arith, sumBelow-ones n f h, h n)
-
-sumBelow-id-out : (n id : ℕ) → n ≤ id → sumBelow n (λ i. bit (eqb i id)) ≡ 0
-sumBelow-id-out zero id l = refl
-sumBelow-id-out (suc n) id l = omega (arith, sumBelow-id-out n id (omega arith), id-other n id (omega arith))
-
+-- An id below a bound is counted once.
 sumBelow-id : (n id : ℕ) → id < n → sumBelow n (λ i. bit (eqb i id)) ≡ 1
-sumBelow-id zero id l = absurd (omega arith)
-sumBelow-id (suc n) id l = go (tri id n) (sumBelow-id n id)
-  where
-    go : Tri id n → (id < n → sumBelow n (λ i. bit (eqb i id)) ≡ 1) → sumBelow (suc n) (λ i. bit (eqb i id)) ≡ 1
-    go (less h) r = omega (arith, r h, id-other n id (omega arith))
-    go (same h) r = omega (arith, sumBelow-id-out n id (omega arith), id-same n id (sym h))
-    go (more h) r = absurd (omega arith)
+sumBelow-id n id l =
+    omega (arith, sumBelow-change n (λ i. 0) (λ i. bit (eqb i id)) id l (λ i e. id-other i id e), sumBelow-zeros n, id-self id)
 
 -- The nodes and the leaves of a tree.
 unfoldable pub size : (d : ℕ) → Tree d → ℕ
@@ -90,7 +77,7 @@ module _ (table : Table) (count : ℕ) (pairs : List Pair) (s : Spells table cou
   pub size-count : size (s .depth) (s .tree) ≤ count
   size-count =
       rw (← sum-reached (s .depth) count (s .tree) spells-once)
-      (sumBelow-ones count (reached (s .depth) (s .tree)) (λ i. omega (arith, s .ids i, used-le count i)))
+      (omega (arith, sumBelow-le count (reached (s .depth) (s .tree)) 1 (λ i. omega (arith, s .ids i, used-le count i))))
 
   pub depth-count : s .depth < count
   depth-count = omega (arith, size-count, depth-leaves (s .depth) (s .tree), leaves-some (s .depth) (s .tree))

@@ -8,11 +8,11 @@ use mathlib.Core.List.{List, [], _∷_}
 use Prim.Native.Nat.{ℕ, zero, suc, _+_, _-_, _*_, _≤_, _<_, min}
 use native.Mathlib.Numerals.{add-one}
 use native.Mathlib.Omega.{arith}
-use borrow.Author.Tests.{eqb-true, eq-eqb, ne-eqb, le-leb, lt-leb}
+use borrow.Author.Tests.{ne-eqb, le-leb, lt-leb}
 use lib.Dec.{eqb}
 use lib.ListN.{take, drop}
 use Rattle.laws.specs.Order.{le-or}
-use Rattle.laws.specs.Tests.{test-same}
+use Rattle.laws.specs.Tests.{eqb-same}
 use Rattle.layout.specs.Layout.{firstScores, otherScores}
 use Rattle.account.specs.declared.Tariff.{Tariff}
 use Rattle.page.specs.Page.{Score}
@@ -88,9 +88,6 @@ module _ (score : ℕ → ℕ) where
   count-last nodes (suc most) width i zero l = refl
   count-last nodes (suc most) width i (suc m) l = ap (λ (b : Bool). onlyIf b nodes) (sym (ne-eqb (suc m) 0 (λ e. omega arith)))
 
-same-eqb : (a b c d : ℕ) → (a ≡ b → c ≡ d) → (c ≡ d → a ≡ b) → eqb a b ≡ eqb c d
-same-eqb a b c d f g = test-same (eqb a b) (eqb c d) (λ e. eq-eqb c d (f (eqb-true a b e))) (λ e. eq-eqb a b (g (eqb-true c d e)))
-
 module _ (t : Tariff) (score : ℕ → ℕ) (nodes : ℕ) where
   abbrev scores : List Score
   scores = scoresFrom 0 nodes score
@@ -109,7 +106,7 @@ module _ (t : Tariff) (score : ℕ → ℕ) (nodes : ℕ) where
       ap₂ (checkpointPage (some t)) (take-scores score firstScores 0 nodes ∙ ap (λ (n : ℕ). scoresFrom 0 n score) size)
       (ap (λ (l : List Score). countIfLast nodes (parts nodes otherScores l)) (drop-scores score firstScores 0 nodes) ∙
       count-last score nodes nodes otherScores (0 + firstScores) (nodes - firstScores) (omega arith) ∙
-      ap (λ (b : Bool). onlyIf b nodes) (same-eqb (nodes - firstScores) 0 (0 + 1) (pageCount nodes) (λ e. omega arith) (λ e. omega arith)))
+      ap (λ (b : Bool). onlyIf b nodes) (eqb-same (nodes - firstScores) 0 (0 + 1) (pageCount nodes) (λ e. omega arith) (λ e. omega arith)))
 
   checkpoint-page-later : (most k m : ℕ) → 1 ≤ k → m - otherScores ≤ most → 1 ≤ m → m ≡ nodes - scoresBefore k →
       checkpointPage none (take otherScores (scoresFrom (scoresBefore k) m score))
@@ -121,7 +118,7 @@ module _ (t : Tariff) (score : ℕ → ℕ) (nodes : ℕ) where
       rw (ne-eqb k 0 (λ z. omega arith))
       (ap₂ (checkpointPage none) (take-scores score otherScores (scoresBefore k) m ∙ ap (λ (n : ℕ). scoresFrom (scoresBefore k) n score) size)
       (count-last score nodes most otherScores (scoresBefore (k + 1)) (m - otherScores) f ∙
-      ap (λ (b : Bool). onlyIf b nodes) (same-eqb (m - otherScores) 0 (k + 1) (pageCount nodes) (λ z. omega arith) (λ z. omega arith))))
+      ap (λ (b : Bool). onlyIf b nodes) (eqb-same (m - otherScores) 0 (k + 1) (pageCount nodes) (λ z. omega arith) (λ z. omega arith))))
 
   as-many : (a b k : ℕ) → a ≡ b → checkpointPagesFrom t score nodes a k ≡ checkpointPagesFrom t score nodes b k
   as-many a b k e = ap (λ (n : ℕ). checkpointPagesFrom t score nodes n k) e

@@ -9,7 +9,7 @@ use lib.Dec.{eqb}
 use lib.ListN.{length}
 use Rattle.laws.specs.Tests.{choose}
 use Rattle.laws.specs.Counts.{consIf}
-use Rattle.laws.specs.Every.{Every}
+use Rattle.laws.specs.Every.{Every, map-back}
 use Rattle.laws.specs.Lay.{part}
 use Rattle.laws.specs.Loops.{steps}
 use Rattle.laws.specs.BigEndian.{numberAt, number-bigEndian}
@@ -22,7 +22,6 @@ use Rattle.page.specs.Decode.{run, payloads, entryOf}
 use Rattle.page.specs.Limits.{EntryFits}
 use Rattle.page.specs.Runs.{run-goes, run-stops}
 use Rattle.page.specs.Spelled.{entryOf-bytes}
-use Rattle.page.specs.ReadBack.{map-back}
 use Rattle.page_write.specs.Chunks.{chunks}
 use Rattle.store.specs.Item.{entryItem, piecesIn}
 use Rattle.flash_read.specs.Replay.{redoEntry, redoRun, redoNth, redoBuffer}

@@ -4,13 +4,14 @@ use mathlib.Core.Path.{_≡_, refl, sym, ap, _∙_}
 use mathlib.Core.Bool.{Bool, true, false}
 use mathlib.Core.Option.{Option, none, some}
 use mathlib.Core.List.{List, [], _∷_}
-use Prim.Native.Nat.{ℕ, zero, suc, _+_, _*_, _<_, suc-le-suc}
+use Prim.Native.Nat.{ℕ, suc, _+_, _*_, _<_, suc-le-suc}
 use native.Mathlib.Omega.{arith}
 use borrow.Author.Tests.{eqb-true}
 use lib.ListN.{length, getElem?}
 use Rattle.laws.specs.Tests.{choose}
-use Rattle.laws.specs.Every.{Every, none, both, every-in}
+use Rattle.laws.specs.Every.{none, every-in}
 use Rattle.laws.specs.Options.{some-same}
+use Rattle.laws.specs.Elements.{every-get}
 use Rattle.page.specs.Page.{Page, sequence}
 use Rattle.page.specs.Limits.{PageFits}
 use Rattle.store.specs.Pool.{Blocks, block, numbered, pageIn, orElse, find}
@@ -52,18 +53,13 @@ find-lies s (b ∷ bs) p e = go (pageIn s b) refl e (λ q. find-lies s bs p q)
     go none q h r = let f = r h in record { number = suc (f .number); inside = suc-le-suc (f .inside); at = f .at }
     go (some x) q h r = record { number = 0; inside = omega arith; at = pageIn-in s b p (q ∙ h) }
 
-every-here : {P : Page → Type 0} {b : List Page} → Every P b → (q : ℕ) (p : Page) → getElem? b q ≡ some p → P p
-every-here none q p e = absurd (let z : _≡_ {A = ℕ} 0 1 = cc in omega arith)
-every-here (both h hs) zero p e = rw (some-same e) at h
-every-here (both h hs) (suc q) p e = every-here hs q p e
-
 module _ {bs : Blocks} {s : ℕ} {p : Page} (h : Lies bs s p) where
   -- its place among all pages
   abbrev pub placeOf : ℕ
   placeOf = 32 * h .number + h .at .place
 
   pub page-fits : BlocksFit bs → PageFits p
-  page-fits f = every-here (every-in bs (h .number) f) (h .at .place) p (h .at .here)
+  page-fits f = every-get (every-in bs (h .number) f) (h .at .place) p (h .at .here)
 
 module _ {B : ℕ} {image : Page → List ℕ} {ps : List (List ℕ)} {bs : Blocks} {s : ℕ} {p : Page} (r : PagesAre B image ps bs) (h : Lies bs s p) where
   pub block-below : h .number < B

@@ -9,10 +9,10 @@ use Prim.Native.Nat.{ℕ, zero, suc, _≤_, _<_}
 use native.Mathlib.Omega.{arith}
 use borrow.Author.Tests.{ne-eqb, eq-eqb}
 use lib.Dec.{eqb}
-use lib.ListN.{getElem?}
 use Rattle.laws.specs.Tests.{test-clash}
 use Rattle.laws.specs.Order.{le-or}
-use Rattle.laws.specs.Counts.{bit, count, tally, tally-at, consIf, empty}
+use Rattle.laws.specs.Counts.{bit, count, tally, consIf, empty}
+use Rattle.laws.specs.Elements.{tally-get}
 use Rattle.layout.specs.Layout.{mostEntries}
 use Rattle.node.specs.Node.{Node}
 use Rattle.node.specs.Replay.{Draft, replayFrom}
@@ -22,7 +22,7 @@ use Rattle.page.specs.Image.{image}
 use Rattle.page.specs.Limits.{PageFits}
 use Rattle.store.specs.Item.{entryItem, itemsOf, piecesIn}
 use Rattle.store.specs.View.{greatest}
-use Rattle.store.specs.Pool.{Blocks, block, numbered, find, itemsAt}
+use Rattle.store.specs.Pool.{Blocks, numbered, find, itemsAt}
 use Rattle.store.specs.Store.{Store, view}
 use Rattle.store_laws.specs.PoolLaws.{find-none}
 use Rattle.store_laws.specs.Versions.{versionIs, positive, says, said, VersionRules, OnPage}
@@ -31,17 +31,12 @@ use Rattle.flash_refines.specs.Read.PageRead.{entries-read}
 use Rattle.flash_refines.specs.Read.Lies.{Lies, find-lies}
 
 -- What no page of a pool passes, the page of a number does not.
-count-here : (f : Page → Bool) (b : List Page) (q : ℕ) (p : Page) → getElem? b q ≡ some p → bit (f p) ≤ count f b
-count-here f [] q p e = absurd (let z : _≡_ {A = ℕ} 0 1 = cc in omega arith)
-count-here f (x ∷ b) zero p e = let same : x ≡ p = cc in rw same (omega arith)
-count-here f (x ∷ b) (suc q) p e = omega (arith, count-here f b q p e)
-
 pub none-lies : (f : Page → Bool) {bs : Blocks} {s : ℕ} {p : Page} → tally f bs ≡ 0 → Lies bs s p → f p ≡ false
 none-lies f {bs} {s} {p} e h = go (f p) refl
   where
     go : (t : Bool) → f p ≡ t → t ≡ false
     go true q =
-        absurd (omega (arith, ap bit q, count-here f (block bs (h .number)) (h .at .place) p (h .at .here), tally-at f bs (h .number)))
+        absurd (omega (arith, ap bit q, tally-get f bs (h .number) (h .at .place) p (h .at .here)))
     go false q = refl
 
 -- Nothing of a version where its test fails.

@@ -7,7 +7,7 @@ use Prim.Native.Nat.{ℕ, _+_, _-_, _*_, _%_}
 use native.Mathlib.Omega.{arith}
 use borrow.Author.Tests.{eq-eqb, le-leb, le-ltb}
 use lib.ListN.{length, replicate, length-map}
-use Rattle.laws.specs.Every.{Every}
+use Rattle.laws.specs.Every.{Every, map-back, every-map-by}
 use Rattle.laws.specs.BigEndian.{bigEndian, number}
 use Rattle.layout.specs.Layout.{pageBytes, mostEntries, mostKeys, bound32}
 use Rattle.pairs.specs.Pairs.{Pair}
@@ -26,7 +26,7 @@ use Rattle.page.specs.Tags.{allowed-11, allowed-12}
 use Rattle.page.specs.Runs.{Good, run-fields, payloads-fields}
 use Rattle.page.specs.Spelled.{length-entryBytes}
 use Rattle.page.specs.SpelledNode.{length-wholeBytes, nodeOf-bytes}
-use Rattle.page.specs.ReadBack.{map-back, every-to, sequence-found}
+use Rattle.page.specs.ReadBack.{sequence-found}
 use Rattle.store.specs.Item.{entryItem, piecesIn}
 use Rattle.flash_read.specs.Replay.{redoRun}
 use Rattle.flash_read.specs.NodePage.{nodeOfPayload}
@@ -60,7 +60,7 @@ module _ (s : ℕ) (es : List Entry) (h : Fits s (log es)) where
 
   laid-good : Every (Good isEntry 0x12 15 (omega arith) allowed-12) laid
   laid-good =
-      every-to entryBytes (λ e f. record { size = length-entryBytes e; passes = eq-eqb _ _ (length-entryBytes e) }) es (h .content .entries)
+      every-map-by entryBytes (λ e f. record { size = length-entryBytes e; passes = eq-eqb _ _ (length-entryBytes e) }) es (h .content .entries)
 
   pub run-read : run isEntry 0x12 18 mostEntries (numbered s (fields 0x12 laid ++ behind s (fields 0x12 laid))) 7 ≡ length laid
   unfolding numbered field

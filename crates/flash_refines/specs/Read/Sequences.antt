@@ -9,10 +9,9 @@ use native.Mathlib.Nat.{le-trans}
 use native.Mathlib.Omega.{arith}
 use lib.ListN.{length}
 use Rattle.laws.specs.Order.{eq-or}
-use Rattle.laws.specs.Counts.{bit, consIf, empty}
+use Rattle.laws.specs.Counts.{bit, consIf, empty, empty-nil}
 use Rattle.node.specs.Replay.{Piece}
 use Rattle.store.specs.View.{gather, sumTo, some?}
-use Rattle.store_laws.specs.ItemLaws.{empty-nil}
 
 module _ (f : ℕ → List Piece) where
   -- the numbers from 1 to k that have a piece, descending

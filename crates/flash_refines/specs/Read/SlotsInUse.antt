@@ -6,10 +6,10 @@ use Prim.Native.Nat.{ℕ, _<_}
 use native.Mathlib.Omega.{arith}
 use borrow.Author.Tests.{ltb-true}
 use lib.Dec.{eqb, ltb}
-use Rattle.laws.specs.Tests.{and-left}
+use Rattle.laws.specs.Tests.{and-left, or-cases}
 use Rattle.flash_rows.specs.Step.{holds, names}
 use Rattle.flash_rows.specs.declared.Row.{Row}
-use Rattle.flash_refines.specs.Store.Names.{or-cases, holds-slot}
+use Rattle.flash_refines.specs.Store.Names.{holds-slot}
 
 -- What holds of the page holds of a slot in use.
 module _ (P : ℕ → Type 0) {x : ℕ} (h : P x) (r : Row) (e : names x r ≡ true) where

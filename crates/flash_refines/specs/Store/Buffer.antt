@@ -11,9 +11,10 @@ use borrow.Author.Tests.{lt-ltb}
 use lib.Dec.{ltb}
 use lib.ListN.{length, getElem?, length-append}
 use Rattle.laws.specs.Tests.{choose}
-use Rattle.laws.specs.Every.{Every, none, both}
+use Rattle.laws.specs.Every.{Every}
 use Rattle.laws.specs.Lay.{lay, part, part-lay, part-lay-before, length-lay}
 use Rattle.laws.specs.BigEndian.{numberAt, numberAt-part}
+use Rattle.laws.specs.Elements.{every-get}
 use Rattle.layout.specs.Layout.{pageBytes, mostEntries, bound32}
 use Rattle.node.specs.Change.{Change}
 use Rattle.page.specs.Page.{Entry, page, log}
@@ -29,12 +30,6 @@ use Rattle.flash_log.specs.Entry.{Logged, logged, entryOf, entered, append, app
 use Rattle.flash_log.specs.Claim.{idAt, versionAt}
 use Rattle.flash_refines.specs.Store.Follows.{BufferIs}
 use Rattle.flash_allocate.specs.State.{withEntries}
-
--- What holds of every entry holds of the k-th.
-every-entry : {P : Entry → Type 0} {es : List Entry} → Every P es → (k : ℕ) (e : Entry) → getElem? es k ≡ some e → P e
-every-entry none k e q = let z : _≡_ {A = ℕ} 0 1 = cc in absurd (omega arith)
-every-entry {P} (both {x} p h) zero e q = subst P (cc) p
-every-entry (both p h) (suc k) e q = every-entry h k e q
 
 -- Bytes that are those of entries one behind another have those of the k-th at its place.
 bytes-at : (es : List Entry) (s : List ℕ) (at : ℕ) → chunks 15 (length es) s at ≡ map entryBytes es → (k : ℕ) (e : Entry) → getElem? es k ≡ some e →
@@ -80,13 +75,13 @@ module _ {buffer : List ℕ} {entries : ℕ} {es : List Entry} (b : BufferIs buf
           ap (numberAt 2 buffer) (sym (add-zero (15 * k))) ∙
           sym (numberAt-part 2 buffer (15 * k) 15 0 (omega arith)) ∙
           ap (λ (p : List ℕ). numberAt 2 p 0) entry-at ∙
-          id-bytes n e l (every-entry f k e q)
+          id-bytes n e l (every-get f k e q)
 
       pub version-at : versionAt buffer k ≡ e .version
       version-at =
           sym (numberAt-part 4 buffer (15 * k) 15 2 (omega arith)) ∙
           ap (λ (p : List ℕ). numberAt 4 p 2) entry-at ∙
-          version-bytes n e l (every-entry f k e q)
+          version-bytes n e l (every-get f k e q)
 
   -- THE BUFFER AS A PAGE
   pub image-log : (n : ℕ) → logImage n entries buffer ≡ image (page n (log es))

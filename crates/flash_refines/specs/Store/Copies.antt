@@ -6,7 +6,7 @@ use mathlib.Core.Logic.{_⊎_, inl, inr}
 use mathlib.Core.Option.{Option, none, some}
 use mathlib.Core.List.{List, [], _∷_, _++_, append-nil}
 use Prim.Native.Nat.{ℕ, zero, suc, _+_, _*_, _≤_, _<_}
-use native.Mathlib.Numerals.{add-one, lt-of-le-of-ne}
+use native.Mathlib.Numerals.{lt-of-le-of-ne}
 use native.Mathlib.Omega.{arith}
 use lib.Dec.{eqb}
 use lib.ListN.{length, getD, set, take, getElem?, replicate, length-set, length-take, length-replicate}
@@ -14,8 +14,9 @@ use lib.Seq.{getD-set-same, getD-set-other, set-set, set-getD, take-all}
 use borrow.Author.Tests.{not-true, not-false}
 use Rattle.laws.specs.Tests.{choose, test-clash}
 use Rattle.laws.specs.Order.{eq-or}
-use Rattle.laws.specs.Counts.{bit, count, count-append, count-le-length, consIf, filter, length-filter}
+use Rattle.laws.specs.Counts.{bit, count, count-append, count-le-length, consIf, filter, length-filter, filter-append}
 use Rattle.laws.specs.Loops.{steps-keep}
+use Rattle.laws.specs.Elements.{take-get, take-get-none}
 use Rattle.page.specs.Page.{Page}
 use Rattle.store.specs.Pool.{Blocks, block}
 use Rattle.store_laws.specs.PoolLaws.{Moves}
@@ -26,14 +27,6 @@ use Rattle.flash_refines.specs.Store.Mirror.{test, imageAt, PagesAre}
 use Rattle.flash_refines.specs.Store.Pages.{pages-add}
 
 module _ (f : Page → Bool) where
-  filter-append : (xs ys : List Page) → filter f (xs ++ ys) ≡ filter f xs ++ filter f ys
-  filter-append [] ys = refl
-  filter-append (x ∷ xs) ys = go (f x) (filter-append xs ys)
-    where
-      go : (t : Bool) → filter f (xs ++ ys) ≡ filter f xs ++ filter f ys → consIf t x (filter f (xs ++ ys)) ≡ consIf t x (filter f xs) ++ filter f ys
-      go true e = ap (λ (l : List Page). x ∷ l) e
-      go false e = e
-
   -- how many pages that pass stand before place q
   abbrev pub rank : ℕ → List Page → ℕ
   rank q b = count f (take q b)
@@ -67,24 +60,6 @@ module _ (f : Page → Bool) where
       go true d zero h rec = record { place = 0; here = h; passes = (let q : x ≡ p = cc in rw (← q) d); ranked = refl }
       go true d (suc r) h rec = behind (suc r) r (rec r h) (omega (arith, ap bit d))
       go false d r h rec = behind r r (rec r h) (omega (arith, ap bit d))
-
-  -- one place further
-  take-page : (b : List Page) (q : ℕ) (p : Page) → getElem? b q ≡ some p → take (q + 1) b ≡ take q b ++ (p ∷ [])
-  take-page b q p e = ap (λ (n : ℕ). take n b) (add-one q) ∙ go b q e
-    where
-      go : (b : List Page) (q : ℕ) → getElem? b q ≡ some p → take (suc q) b ≡ take q b ++ (p ∷ [])
-      go [] q h = absurd (let z : _≡_ {A = ℕ} 0 1 = cc in omega arith)
-      go (x ∷ b) zero h = let d : x ≡ p = cc in rw d refl
-      go (x ∷ b) (suc q) h = ap (λ (l : List Page). x ∷ l) (go b q h)
-
-  take-past : (b : List Page) (q : ℕ) → getElem? b q ≡ none → take (q + 1) b ≡ take q b
-  take-past b q e = ap (λ (n : ℕ). take n b) (add-one q) ∙ go b q e
-    where
-      go : (b : List Page) (q : ℕ) → getElem? b q ≡ none → take (suc q) b ≡ take q b
-      go [] zero h = refl
-      go [] (suc q) h = refl
-      go (x ∷ b) zero h = absurd (let z : _≡_ {A = ℕ} 0 1 = cc in omega arith)
-      go (x ∷ b) (suc q) h = ap (λ (l : List Page). x ∷ l) (go b q h)
 
 unmarked : (x : ℕ) → marked x ≡ false → eqb x 0 ≡ true
 unmarked x e = not-false (eqb x 0) e
@@ -154,10 +129,10 @@ module _ {B : ℕ} {image : Page → List ℕ} (live : Page → Bool) {ps : List
           (pages-add (h .pages) j target p (rw here (omega (arith, few-copies k)))))
 
       more : filter live (take (k + 1) (block bs i)) ≡ cp ++ (p ∷ [])
-      more = ap (filter live) (take-page live (block bs i) k p e) ∙ filter-append live (take k (block bs i)) (p ∷ []) ∙ ap (λ (x : Bool). cp ++ consIf x p []) t
+      more = ap (filter live) (take-get (block bs i) k p e) ∙ filter-append live (take k (block bs i)) (p ∷ []) ∙ ap (λ (x : Bool). cp ++ consIf x p []) t
 
       counted : rank live (k + 1) (block bs i) ≡ rank live k (block bs i) + 1
-      counted = ap (count live) (take-page live (block bs i) k p e) ∙ count-append live (take k (block bs i)) (p ∷ []) ∙ omega (arith, ap bit t)
+      counted = ap (count live) (take-get (block bs i) k p e) ∙ count-append live (take k (block bs i)) (p ∷ []) ∙ omega (arith, ap bit t)
 
       place : (q : ℕ) → q < k + 1 → (p′ : Page) → getElem? (block bs i) q ≡ some p′ → live p′ ≡ true → (q ≡ k) ⊎ (q ≡ k → ⊥) →
           getD (set (w .places) k (32 * j + w .fill)) q 0 ≡ 32 * j + rank live q (block bs i)
@@ -172,7 +147,7 @@ module _ {B : ℕ} {image : Page → List ℕ} (live : Page → Bool) {ps : List
       go : (c : Option Page) → getElem? (block bs i) k ≡ c → Copied (k + 1) (choose (eqb (getD m (32 * i + k) 0) 0) w (copyPage (32 * i) (32 * j) k w))
       go none e =
           rw (unmarked (getD m (32 * i + k) 0) (mark k l ∙ ap (test live) e))
-          (copied-stays k w (ap (filter live) (take-past live (block bs i) k e)) (ap (count live) (take-past live (block bs i) k e))
+          (copied-stays k w (ap (filter live) (take-get-none (block bs i) k e)) (ap (count live) (take-get-none (block bs i) k e))
           (λ p d t. let z : _≡_ {A = ℕ} 0 1 = cc in omega arith) h)
       go (some p) e = by (live p) refl
         where
@@ -185,13 +160,13 @@ module _ {B : ℕ} {image : Page → List ℕ} (live : Page → Bool) {ps : List
             where
               same : filter live (take (k + 1) (block bs i)) ≡ filter live (take k (block bs i))
               same =
-                  ap (filter live) (take-page live (block bs i) k p e) ∙
+                  ap (filter live) (take-get (block bs i) k p e) ∙
                   filter-append live (take k (block bs i)) (p ∷ []) ∙
                   ap (λ (x : Bool). filter live (take k (block bs i)) ++ consIf x p []) t ∙
                   append-nil (filter live (take k (block bs i)))
 
               counted : rank live (k + 1) (block bs i) ≡ rank live k (block bs i)
-              counted = ap (count live) (take-page live (block bs i) k p e) ∙ count-append live (take k (block bs i)) (p ∷ []) ∙ omega (arith, ap bit t)
+              counted = ap (count live) (take-get (block bs i) k p e) ∙ count-append live (take k (block bs i)) (p ∷ []) ∙ omega (arith, ap bit t)
 
               other : (p′ : Page) → getElem? (block bs i) k ≡ some p′ → live p′ ≡ true → ⊥
               other p′ d t′ = let z : p ≡ p′ = cc in test-clash (live p) (ap live z ∙ t′) t

@@ -4,8 +4,8 @@ use mathlib.Core.Path.{_≡_, refl, sym, ap, _∙_, subst}
 use mathlib.Core.Bool.{Bool, true, false}
 use mathlib.Core.Logic.{_⊎_, inl, inr}
 use mathlib.Core.Option.{Option, none, some}
-use mathlib.Core.List.{List, [], _∷_}
-use Prim.Native.Nat.{ℕ, zero, suc, _+_, _-_, _*_, _≤_, _<_}
+use mathlib.Core.List.{List}
+use Prim.Native.Nat.{ℕ, _+_, _-_, _*_, _≤_, _<_}
 use native.Mathlib.Omega.{arith}
 use borrow.Author.Tests.{lt-ltb, le-ltb}
 use lib.ListN.{length, getD, set, take, getElem?, replicate, length-take}
@@ -13,6 +13,7 @@ use native.Mathlib.Numerals.{lt-of-le-of-ne}
 use Rattle.laws.specs.Tests.{test-clash, test-same}
 use Rattle.laws.specs.Order.{eq-or, le-or}
 use Rattle.laws.specs.Counts.{count, count-le-length, filter, length-filter}
+use Rattle.laws.specs.Elements.{get-below}
 use Rattle.page.specs.Page.{Page}
 use Rattle.store.specs.Pool.{Blocks, block}
 use Rattle.store.specs.Allocate as Model
@@ -38,11 +39,6 @@ new-outside : (base : ℕ) (places : List ℕ) (x : ℕ) → (x < base) ⊎ (bas
 unfolding newPlace
 new-outside base places x (inl l) = rw (lt-ltb x base l) refl
 new-outside base places x (inr l) = rw (le-ltb x base (omega arith), le-ltb (x - base) 32 (omega arith)) refl
-
-page-below : (b : List Page) (q : ℕ) (p : Page) → getElem? b q ≡ some p → q < length b
-page-below [] q p e = absurd (let z : _≡_ {A = ℕ} 0 1 = cc in omega arith)
-page-below (x ∷ b) zero p e = omega arith
-page-below (x ∷ b) (suc q) p e = omega (arith, page-below b q p e)
 
 module _ {B rowsUsed : ℕ} {own : ℕ → Page → Bool} {rows : List Row} {bs : Blocks} (live : Page → Bool) {i j : ℕ} (v : Moves bs i j) (size : length bs ≡ B)
     (most : length (block bs i) ≤ 32) (named : RowsName B rowsUsed own rows bs) (o : Owned live own rowsUsed bs) (places : List ℕ)
@@ -111,7 +107,7 @@ module _ {B rowsUsed : ℕ} {own : ℕ → Page → Bool} {rows : List Row} {bs 
         came none d t aj = absurd (test-clash false t refl)
         came (some p) d t aj =
             let h = rank-filter live (block bs i) r p d in
-            let lq : h .place < 32 = omega (arith, page-below (block bs i) (h .place) p (h .here)) in
+            let lq : h .place < 32 = omega (arith, get-below (block bs i) (h .place) p (h .here)) in
             let was : names (32 * i + h .place) (rowAt rows n) ≡ true = named .each n i (h .place) ln (omega (arith, v .from)) lq ∙ ap (test (own n)) (h .here) ∙ t in
             let now : newPlace (32 * i) places (32 * i + h .place) ≡ 32 * a + r =
             new-inside (32 * i) places (h .place) lq ∙ went (h .place) lq p (h .here) (h .passes) ∙ omega (arith, h .ranked, aj) in

@@ -1,6 +1,6 @@
 -- What a row names after its slots were read through a function, and the rows after all of them were. Assumes nothing.
 use mathlib.Core.Path.{_≡_, refl, ap, _∙_}
-use mathlib.Core.Bool.{Bool, true, false, _||_, or-true}
+use mathlib.Core.Bool.{Bool, true, _||_}
 use mathlib.Core.Logic.{_⊎_, inl, inr}
 use mathlib.Core.List.{List}
 use Prim.Native.Nat.{ℕ, _+_, _≤_, _<_}
@@ -10,7 +10,7 @@ use lib.Dec.{eqb, ltb}
 use lib.ListN.{length, set, length-set}
 use lib.Seq.{getD-set-same, getD-set-other}
 use native.Mathlib.Numerals.{lt-of-le-of-ne}
-use Rattle.laws.specs.Tests.{and-left, and-right, and-both}
+use Rattle.laws.specs.Tests.{and-left, and-right, and-both, or-cases, or-by-left, or-by-right}
 use Rattle.laws.specs.Order.{eq-or}
 use Rattle.laws.specs.Loops.{steps-keep}
 use Rattle.flash_rows.specs.Row.{noRow}
@@ -18,16 +18,6 @@ use Rattle.flash_rows.specs.Step.{holds, names, newPlace, moved}
 use Rattle.flash_rows.specs.declared.Row.{Row}
 use Rattle.flash_allocate.specs.Compact.{renameRow, renameRows}
 use Rattle.flash_refines.specs.Store.Mirror.{rowAt}
-
-pub or-cases : (a b : Bool) → (a || b) ≡ true → (a ≡ true) ⊎ (b ≡ true)
-or-cases true b e = inl refl
-or-cases false b e = inr e
-
-or-first : (a b : Bool) → a ≡ true → (a || b) ≡ true
-or-first a b e = rw e refl
-
-or-second : (a b : Bool) → b ≡ true → (a || b) ≡ true
-or-second a b e = rw e (or-true a)
 
 -- The row with each slot read through a function.
 abbrev pub mapped : (ℕ → ℕ) → Row → Row
@@ -77,12 +67,12 @@ module _ (f : ℕ → ℕ) (r : Row) where
       c′ = holds 2 n (f (r .third)) (f x)
 
       late : (b ≡ true) ⊎ (c ≡ true) → (b′ || c′) ≡ true
-      late (inl h) = or-first b′ c′ (holds-other 1 n (r .second) x (f (r .second)) (f x) h (ap f (holds-slot 1 n (r .second) x h)))
-      late (inr h) = or-second b′ c′ (holds-other 2 n (r .third) x (f (r .third)) (f x) h (ap f (holds-slot 2 n (r .third) x h)))
+      late (inl h) = or-by-left b′ c′ (holds-other 1 n (r .second) x (f (r .second)) (f x) h (ap f (holds-slot 1 n (r .second) x h)))
+      late (inr h) = or-by-right b′ c′ (holds-other 2 n (r .third) x (f (r .third)) (f x) h (ap f (holds-slot 2 n (r .third) x h)))
 
       go : (a ≡ true) ⊎ ((b || c) ≡ true) → (a′ || (b′ || c′)) ≡ true
-      go (inl h) = or-first a′ (b′ || c′) (holds-other 0 n (r .first) x (f (r .first)) (f x) h (ap f (holds-slot 0 n (r .first) x h)))
-      go (inr h) = or-second a′ (b′ || c′) (late (or-cases b c h))
+      go (inl h) = or-by-left a′ (b′ || c′) (holds-other 0 n (r .first) x (f (r .first)) (f x) h (ap f (holds-slot 0 n (r .first) x h)))
+      go (inr h) = or-by-right a′ (b′ || c′) (late (or-cases b c h))
 
   pub names-unmapped : (y : ℕ) → names y (mapped f r) ≡ true → (x : ℕ) × (names x r ≡ true) × (f x ≡ y)
   unfolding names
@@ -104,22 +94,22 @@ module _ (f : ℕ → ℕ) (r : Row) where
       late (inl h) =
           let x : ℕ = r .second in (
             x,
-            or-second (holds 0 n (r .first) x) (holds 1 n x x || holds 2 n (r .third) x)
-                (or-first (holds 1 n x x) (holds 2 n (r .third) x) (holds-other 1 n (f x) y x x h refl)),
+            or-by-right (holds 0 n (r .first) x) (holds 1 n x x || holds 2 n (r .third) x)
+                (or-by-left (holds 1 n x x) (holds 2 n (r .third) x) (holds-other 1 n (f x) y x x h refl)),
             holds-slot 1 n (f x) y h,
           )
       late (inr h) =
           let x : ℕ = r .third in (
             x,
-            or-second (holds 0 n (r .first) x) (holds 1 n (r .second) x || holds 2 n x x)
-                (or-second (holds 1 n (r .second) x) (holds 2 n x x) (holds-other 2 n (f x) y x x h refl)),
+            or-by-right (holds 0 n (r .first) x) (holds 1 n (r .second) x || holds 2 n x x)
+                (or-by-right (holds 1 n (r .second) x) (holds 2 n x x) (holds-other 2 n (f x) y x x h refl)),
             holds-slot 2 n (f x) y h,
           )
 
       go : (a ≡ true) ⊎ ((b || c) ≡ true) → (x : ℕ) × (names x r ≡ true) × (f x ≡ y)
       go (inl h) =
           let x : ℕ = r .first in
-          (x, or-first (holds 0 n x x) (holds 1 n (r .second) x || holds 2 n (r .third) x) (holds-other 0 n (f x) y x x h refl), holds-slot 0 n (f x) y h)
+          (x, or-by-left (holds 0 n x x) (holds 1 n (r .second) x || holds 2 n (r .third) x) (holds-other 0 n (f x) y x x h refl), holds-slot 0 n (f x) y h)
       go (inr h) = late (or-cases b c h)
 
 -- The first k rows are renamed, the others as they were.

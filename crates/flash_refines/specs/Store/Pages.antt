@@ -2,9 +2,8 @@
 use mathlib.Core.Path.{_≡_, refl, sym, ap, _∙_}
 use mathlib.Core.Bool.{true}
 use mathlib.Core.Logic.{_⊎_, inl, inr}
-use mathlib.Core.Option.{some}
 use mathlib.Core.List.{List, [], _∷_, _++_}
-use Prim.Native.Nat.{ℕ, zero, suc, _+_, _*_, _≤_, _<_}
+use Prim.Native.Nat.{ℕ, _+_, _*_, _≤_, _<_}
 use native.Mathlib.Nat.{add-zero}
 use native.Mathlib.Omega.{arith}
 use lib.ListN.{length, getD, set, getElem?, length-set, length-append}
@@ -13,22 +12,12 @@ use native.Mathlib.Numerals.{lt-of-le-of-ne}
 use Rattle.laws.specs.Order.{eq-or, le-or}
 use Rattle.laws.specs.Counts.{empty}
 use Rattle.laws.specs.Chunks.{length-setRun, get-setRun-inside, get-setRun-outside}
+use Rattle.laws.specs.Elements.{get-snoc-old, get-snoc-new}
 use Rattle.page.specs.Page.{Page}
 use Rattle.store.specs.Pool.{Blocks, block, addTo}
 use Rattle.flash_blocks.specs.Pages.{blankPage, pageAt, isBlank, erased}
 use Rattle.flash_blocks.specs.Blank.{blankBlock}
 use Rattle.flash_refines.specs.Store.Mirror.{imageAt, Images, PagesAre}
-
--- A block with one page more, read by place.
-pub snoc-old : (b : List Page) (p : Page) (q : ℕ) → (q ≡ length b → ⊥) → getElem? (b ++ (p ∷ [])) q ≡ getElem? b q
-snoc-old [] p zero d = absurd (d refl)
-snoc-old [] p (suc q) d = refl
-snoc-old (x ∷ b) p zero d = refl
-snoc-old (x ∷ b) p (suc q) d = snoc-old b p q (λ e. d (ap suc e))
-
-pub snoc-new : (b : List Page) (p : Page) → getElem? (b ++ (p ∷ [])) (length b) ≡ some p
-snoc-new [] p = refl
-snoc-new (x ∷ b) p = snoc-new b p
 
 -- Two places are one only in one block.
 pub place-apart : (i j q r : ℕ) → q < 32 → r < 32 → (i ≡ j → ⊥) → 32 * i + q ≡ 32 * j + r → ⊥
@@ -80,9 +69,9 @@ module _ {B : ℕ} {image : Page → List ℕ} {ps : List (List ℕ)} {bs : Bloc
         each : (i q : ℕ) → i < B → q < 32 → (i ≡ j) ⊎ (i ≡ j → ⊥) → (q ≡ length (block bs j)) ⊎ (q ≡ length (block bs j) → ⊥) →
             getD (set ps at (image p)) (32 * i + q) blankPage ≡ imageAt image (getElem? (block (addTo bs j p) i) q)
         each i q li lq (inl e) (inl d) =
-            rw (e, d, here, snoc-new (block bs j) p) (getD-set-same ps at (image p) blankPage (omega (arith, r .long)))
+            rw (e, d, here, get-snoc-new (block bs j) p) (getD-set-same ps at (image p) blankPage (omega (arith, r .long)))
         each i q li lq (inl e) (inr d) =
-            rw (e, here, snoc-old (block bs j) p q d) (getD-set-other ps at (32 * j + q) (image p) blankPage (λ x. d (omega arith)) ∙ r .each j q l lq)
+            rw (e, here, get-snoc-old (block bs j) p q d) (getD-set-other ps at (32 * j + q) (image p) blankPage (λ x. d (omega arith)) ∙ r .each j q l lq)
         each i q li lq (inr e) d =
             rw (getD-set-other bs j i new [] e)
             (getD-set-other ps at (32 * i + q) (image p) blankPage (place-apart i j q (length (block bs j)) lq f e) ∙ r .each i q li lq)

@@ -3,13 +3,13 @@
 use mathlib.Core.Path.{_≡_, refl, sym, ap, _∙_, subst}
 use mathlib.Core.Bool.{Bool, false}
 use mathlib.Core.Logic.{_⊎_, inl, inr}
-use mathlib.Core.Option.{none}
 use mathlib.Core.List.{List, [], _∷_, _++_}
 use Prim.Native.Nat.{ℕ, _+_, _*_, _≤_, _<_}
 use native.Mathlib.Omega.{arith}
 use lib.ListN.{length, set, getElem?, length-append}
 use lib.Seq.{getD-set-same, getD-set-other}
 use Rattle.laws.specs.Order.{eq-or}
+use Rattle.laws.specs.Elements.{get-past, get-snoc-old, get-snoc-new}
 use Rattle.page.specs.Page.{Page}
 use Rattle.store.specs.Pool.{Blocks, block, addTo}
 use Rattle.flash_rows.specs.Step.{names}
@@ -18,13 +18,8 @@ use Rattle.flash_rows.specs.Worktable.{Worktable}
 use Rattle.flash_allocate.specs.declared.state.State.{State}
 use Rattle.flash_allocate.specs.World.{World, world, used, spot}
 use Rattle.flash_refines.specs.Store.Mirror.{rowAt, test, PagesAre, RowsName}
-use Rattle.flash_refines.specs.Store.Pages.{snoc-old, snoc-new, place-apart, pages-add}
+use Rattle.flash_refines.specs.Store.Pages.{place-apart, pages-add}
 use Rattle.flash_refines.specs.Store.Allocate.{Stands}
-
--- Behind the last page of a block there is none.
-page-past : (b : List Page) → getElem? b (length b) ≡ none
-page-past [] = refl
-page-past (p ∷ b) = page-past b
 
 module _ {image : Page → List ℕ} {own : ℕ → Page → Bool} {w : World} {bs : Blocks} {here : ℕ} (r : Stands image own w bs here) (inside : here < w .state .blocks)
     (room : length (block bs here) < 32) where
@@ -36,7 +31,7 @@ module _ {image : Page → List ℕ} {own : ℕ → Page → Bool} {w : World} {
   spot-free n l =
       ap (λ (x : ℕ). names x (rowAt (w .table .rows) n)) spot-is ∙
       r .names .each n here (length (block bs here)) l inside room ∙
-      ap (test (own n)) (page-past (block bs here))
+      ap (test (own n)) (get-past (block bs here))
 
   -- What the rows must say after the page was written: `own′` tells whose the pages are then.
   pub record Named (p : Page) (rowsUsed : ℕ) (own′ : ℕ → Page → Bool) (rows′ : List Row) : Type 0 where
@@ -58,10 +53,10 @@ module _ {image : Page → List ℕ} {own : ℕ → Page → Bool} {w : World} {
           names (32 * i + q) (rowAt rows′ n) ≡ test (own′ n) (getElem? (block (addTo bs here p) i) q)
       each n i q ln li lq (inl e) (inl d) =
           let z : 32 * i + q ≡ spot (w .state) = omega (arith, spot-is) in
-          ap (λ (x : ℕ). names x (rowAt rows′ n)) z ∙ h .new n ln ∙ sym (rw (e, d, added, snoc-new (block bs here) p) refl)
+          ap (λ (x : ℕ). names x (rowAt rows′ n)) z ∙ h .new n ln ∙ sym (rw (e, d, added, get-snoc-new (block bs here) p) refl)
       each n i q ln li lq (inl e) (inr d) =
           h .old n i q ln li lq (λ z. d (omega (arith, spot-is))) ∙
-          sym (rw (e, added, snoc-old (block bs here) p q d) refl)
+          sym (rw (e, added, get-snoc-old (block bs here) p q d) refl)
       each n i q ln li lq (inr e) d =
           h .old n i q ln li lq (λ z. place-apart i here q (length (block bs here)) lq room e (z ∙ spot-is)) ∙
           sym (ap (λ (b : List Page). test (own′ n) (getElem? b q)) (getD-set-other bs here i (block bs here ++ (p ∷ [])) [] e))

@@ -1,7 +1,7 @@
 -- The checkpoint as the store collects it, page by page down from the newest, is the pages numbered at or above its first: what is
 -- collected adds up to the sum over those numbers. Assumes nothing.
 use mathlib.Core.Path.{_≡_, refl, sym, ap, _∙_}
-use mathlib.Core.Bool.{Bool, true, false, _&&_}
+use mathlib.Core.Bool.{Bool, true, false, _&&_, true≢false}
 use mathlib.Core.Logic.{_⊎_, inl, inr}
 use mathlib.Core.List.{List, [], _∷_}
 use mathlib.Core.Option.{Option, none, some}
@@ -31,30 +31,27 @@ consCheckpointPage (some (page s (log es))) later = later
 consCheckpointPage (some (page s (whole n x))) later = later
 consCheckpointPage (some (page s (checkpoint t ss c))) later = checkpointPage t ss c ∷ later
 
-clash : {A : Type 0} → true ≡ false → A
-clash e = absurd (let z : _≡_ {A = ℕ} 0 1 = cc in omega arith)
-
 -- one page taken: the first of the set, or one within it
 collect-first : (x : Option Page) (later : List CheckpointPage) (rest : List CheckpointPage → List CheckpointPage) → opens x ≡ true → collectAt x
     later rest ≡ consCheckpointPage x later
-collect-first none later rest e = clash (sym e)
-collect-first (some (page s (log es))) later rest e = clash (sym e)
-collect-first (some (page s (whole n x))) later rest e = clash (sym e)
-collect-first (some (page s (checkpoint none ss c))) later rest e = clash (sym e)
+collect-first none later rest e = absurd (true≢false (sym e))
+collect-first (some (page s (log es))) later rest e = absurd (true≢false (sym e))
+collect-first (some (page s (whole n x))) later rest e = absurd (true≢false (sym e))
+collect-first (some (page s (checkpoint none ss c))) later rest e = absurd (true≢false (sym e))
 collect-first (some (page s (checkpoint (some t) ss c))) later rest e = refl
 
 collect-plain : (x : Option Page) (later : List CheckpointPage) (rest : List CheckpointPage → List CheckpointPage) → foreign x ≡ false → opens x ≡ false →
     collectAt x later rest ≡ rest (consCheckpointPage x later)
 collect-plain none later rest f e = refl
-collect-plain (some (page s (log es))) later rest f e = clash f
-collect-plain (some (page s (whole n x))) later rest f e = clash f
+collect-plain (some (page s (log es))) later rest f e = absurd (true≢false f)
+collect-plain (some (page s (whole n x))) later rest f e = absurd (true≢false f)
 collect-plain (some (page s (checkpoint none ss c))) later rest f e = refl
-collect-plain (some (page s (checkpoint (some t) ss c))) later rest f e = clash e
+collect-plain (some (page s (checkpoint (some t) ss c))) later rest f e = absurd (true≢false e)
 
 tariff-cons : (x : Option Page) (later : List CheckpointPage) → opens x ≡ true → tariffIn (consCheckpointPage x later) ≡ checkpointPageIn x .tariff
-tariff-cons none later o = clash (sym o)
-tariff-cons (some (page s (log es))) later o = clash (sym o)
-tariff-cons (some (page s (whole n x))) later o = clash (sym o)
+tariff-cons none later o = absurd (true≢false (sym o))
+tariff-cons (some (page s (log es))) later o = absurd (true≢false (sym o))
+tariff-cons (some (page s (whole n x))) later o = absurd (true≢false (sym o))
 tariff-cons (some (page s (checkpoint t ss c))) later o = refl
 
 module _ (at : ℕ → Option Page) where
@@ -271,8 +268,8 @@ module _ (at : ℕ → Option Page) (s : ℕ) where
 
   checkpoint-page-alone : (x : Option Page) → foreign x ≡ false → (x ≡ none → ⊥) → consCheckpointPage x [] ≡ checkpointPageIn x ∷ []
   checkpoint-page-alone none f h = absurd (h refl)
-  checkpoint-page-alone (some (page n (log es))) f h = clash f
-  checkpoint-page-alone (some (page n (whole m y))) f h = clash f
+  checkpoint-page-alone (some (page n (log es))) f h = absurd (true≢false f)
+  checkpoint-page-alone (some (page n (whole m y))) f h = absurd (true≢false f)
   checkpoint-page-alone (some (page n (checkpoint t ss c))) f h = refl
 
   pub top-newest : (k : ℕ) → foreign (at (suc (s + k))) ≡ false → (at (suc (s + k)) ≡ none → ⊥) →

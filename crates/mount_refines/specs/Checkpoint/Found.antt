@@ -12,7 +12,7 @@ use lib.ListN.{length, getD}
 use borrow.Author.Tests.{eqb-true, le-leb, leb-true}
 use Rattle.laws.specs.Tests.{choose, and-left, and-right, test-clash}
 use Rattle.laws.specs.Order.{le-or}
-use Rattle.laws.specs.Loops.{sumFrom}
+use Rattle.laws.specs.Loops.{sumFrom-le}
 use Rattle.layout.specs.Layout.{tableBytes}
 use Rattle.account.specs.declared.Tariff.{Tariff}
 use Rattle.wire.specs.Field.{payloadAt}
@@ -88,11 +88,6 @@ scoresOn-le b = go (found (payloadAt b 7 0x13)) (run-le scoreOk 0x14 9 (mostScor
     go : (t : Bool) → scoresOn b ≤ mostScores t → scoresOn b ≤ 54
     go true l = omega arith
     go false l = l
-
-sumFrom-le : (f : ℕ → ℕ) (m k i : ℕ) → ((q : ℕ) → f q ≤ m) → sumFrom f k i ≤ m * k
-unfolding sumFrom
-sumFrom-le f m zero i h = omega arith
-sumFrom-le f m (suc k) i h = omega (arith, h i, sumFrom-le f m k (i + 1) h)
 
 pub scores-few : (ps : List (List ℕ)) (n since newest : ℕ) → totalsOf ps n since newest .scores ≤ 54 * n
 scores-few ps n since newest =

@@ -12,7 +12,7 @@ use native.Mathlib.Numerals.{lt-of-le-of-ne}
 use Rattle.laws.specs.Tests.{choose}
 use Rattle.laws.specs.Order.{eq-or, le-or}
 use Rattle.laws.specs.Counts.{bit, bit-le-one, count}
-use Rattle.laws.specs.Update.{sumBelow, sumBelow-ext, sumBelow-add}
+use Rattle.laws.specs.Update.{sumBelow, sumBelow-ext, sumBelow-add, sumBelow-zeros, sumBelow-ge, sumBelow-more}
 use Rattle.page.specs.Page.{Score}
 use Rattle.store.specs.Checkpoint.{scoreIn, scoreOf, onceBelow}
 use Rattle.store_laws.specs.ScoreOrder.{once-at}
@@ -80,36 +80,11 @@ shares g x (suc n) = go (eq-or n (x .id)) (le-or n (x .id)) (shares g x n)
           ap (λ (t : Bool). choose t (g x) 0) (lt-leb n (x .id) l),
         )
 
-sumBelow-zeros : (n : ℕ) → sumBelow n (λ i. 0) ≡ 0
-sumBelow-zeros zero = refl
-sumBelow-zeros (suc n) = omega (arith, sumBelow-zeros n)
-
 by-id : (g : Score → ℕ) (n : ℕ) (xs : List Score) → sumBelow n (λ m. sumScores (ofId m g) xs) + sumScores (beyond n g) xs ≡ sumScores g xs
 by-id g n [] = omega (arith, sumBelow-zeros n)
 by-id g n (x ∷ xs) = omega (arith, sumBelow-add n (λ m. ofId m g x) (λ m. sumScores (ofId m g) xs), shares g x n, by-id g n xs)
 
 -- ---- one each
-
-pub sumBelow-at : (n : ℕ) (f : ℕ → ℕ) (i : ℕ) → i < n → f i ≤ sumBelow n f
-sumBelow-at zero f i l = absurd (omega arith)
-sumBelow-at (suc n) f i l = go (eq-or i n) (λ h. sumBelow-at n f i h)
-  where
-    go : (i ≡ n) ⊎ (i ≡ n → ⊥) → (i < n → f i ≤ sumBelow n f) → f i ≤ sumBelow n f + f n
-    go (inl e) r = omega (arith, ap f e)
-    go (inr e) r = omega (arith, r (lt-of-le-of-ne (omega arith) e))
-
-sumBelow-ones : (n : ℕ) (f : ℕ → ℕ) → ((i : ℕ) → i < n → 1 ≤ f i) → n ≤ sumBelow n f
-sumBelow-ones zero f h = omega arith
-sumBelow-ones (suc n) f h = omega (arith, sumBelow-ones n f (λ i l. h i (omega arith)), h n (omega arith))
-
--- where each is at least one, one of them exceeds the others' least by what it has
-sumBelow-more : (n : ℕ) (f : ℕ → ℕ) → ((i : ℕ) → i < n → 1 ≤ f i) → (k : ℕ) → k < n → n + f k ≤ sumBelow n f + 1
-sumBelow-more zero f h k l = absurd (omega arith)
-sumBelow-more (suc n) f h k l = go (eq-or k n) (λ m. sumBelow-more n f (λ i q. h i (omega arith)) k m)
-  where
-    go : (k ≡ n) ⊎ (k ≡ n → ⊥) → (k < n → n + f k ≤ sumBelow n f + 1) → suc n + f k ≤ sumBelow n f + f n + 1
-    go (inl e) r = omega (arith, ap f e, sumBelow-ones n f (λ i q. h i (omega arith)))
-    go (inr e) r = omega (arith, r (lt-of-le-of-ne (omega arith) e), h n (omega arith))
 
 module _ (n : ℕ) (xs : List Score) (size : length xs ≡ n) where
   shared : sumBelow n (λ m. sumScores (ofId m one) xs) + sumScores (beyond n one) xs ≡ n
@@ -132,7 +107,7 @@ module _ (n : ℕ) (xs : List Score) (size : length xs ≡ n) where
         omega (
           arith,
           shared,
-          sumBelow-ones n (λ m. sumScores (ofId m one) xs) (λ i l. omega (arith, once-at n xs o i l, count-ofId i xs)),
+          sumBelow-ge n (λ m. sumScores (ofId m one) xs) (λ i l. omega (arith, once-at n xs o i l, count-ofId i xs)),
         )
 
     none-beyond-of : (g : Score → ℕ) → ((x : Score) → g x ≤ 1) → sumScores (beyond n g) xs ≡ 0

@@ -15,7 +15,7 @@ use Rattle.laws.specs.Tests.{choose, and-left, and-right}
 use Rattle.laws.specs.Order.{eq-or, le-or}
 use Rattle.laws.specs.Counts.{bit}
 use Rattle.laws.specs.Loops.{steps, sumFrom, steps-keep, allFrom, all-at, all-true}
-use Rattle.laws.specs.Update.{sumBelow}
+use Rattle.laws.specs.Update.{sumBelow, sumBelow-at}
 use Rattle.layout.specs.Layout.{tableBytes}
 use Rattle.account.specs.declared.Tariff.{Tariff}
 use Rattle.flash_rows.specs.Row.{noRow}
@@ -44,7 +44,6 @@ use Rattle.mount_refines.specs.Checkpoint.Ids.{
   sumScores-append,
   count-ofId,
   sum-once,
-  sumBelow-at,
   scoresBelow-ids,
 }
 use Rattle.mount_refines.specs.Checkpoint.Marks.{scoreOn, scores-read}

@@ -5,7 +5,7 @@ use mathlib.Core.Bool.{Bool, true, false, not, _&&_}
 use mathlib.Core.Logic.{_⊎_, inl, inr}
 use mathlib.Core.List.{List, [], _∷_}
 use mathlib.Core.Option.{Option, none, some}
-use Prim.Native.Nat.{ℕ, zero, suc, _+_, _*_, _≤_, _<_, max}
+use Prim.Native.Nat.{ℕ, suc, _+_, _*_, _≤_, _<_, max}
 use native.Mathlib.Nat.{add-zero}
 use native.Mathlib.Omega.{arith}
 use lib.Dec.{eqb, ltb}
@@ -15,8 +15,8 @@ use native.Mathlib.Numerals.{lt-of-le-of-ne}
 use Rattle.laws.specs.Tests.{choose, test-clash}
 use Rattle.laws.specs.Order.{eq-or, le-or}
 use Rattle.laws.specs.Counts.{bit}
-use Rattle.laws.specs.Loops.{steps, sumFrom}
-use Rattle.laws.specs.Update.{sumBelow, sumBelow-ext}
+use Rattle.laws.specs.Loops.{sumFrom, steps-sum}
+use Rattle.laws.specs.Update.{sumBelow, sumBelow-ext, sumBelow-at}
 use Rattle.laws.specs.BigEndian.{number}
 use Rattle.page.specs.Page.{Page, page, log, whole, checkpoint, sequence}
 use Rattle.page.specs.Decode.{found, readIf, scoreOf, payloads}
@@ -42,16 +42,7 @@ use Rattle.mount_refines.specs.Checkpoint.Collect.{
   countLast-is,
   top-newest,
 }
-use Rattle.mount_refines.specs.Checkpoint.Ids.{sumBelow-at}
 use Rattle.mount_refines.specs.Checkpoint.Pool.{Judged, length-cells, headers, once, own-number}
-
--- ---- a fold that only adds is a sum
-
-pub steps-sum : {A : Type 0} (part : A → ℕ) (g : ℕ → A → A) (f : ℕ → ℕ) → ((i : ℕ) (a : A) → part (g i a) ≡ part a + f i) →
-    (k i : ℕ) (a : A) → part (steps g k i a) ≡ part a + sumFrom f k i
-unfolding steps sumFrom
-steps-sum part g f h zero i a = omega arith
-steps-sum part g f h (suc k) i a = omega (arith, steps-sum part g f h k (i + 1) (g i a), h i a)
 
 -- 1 for a page that does not fit.
 abbrev misfitOn : ℕ → List ℕ → ℕ

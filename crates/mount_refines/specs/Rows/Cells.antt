@@ -10,7 +10,7 @@ use native.Mathlib.Omega.{arith}
 use borrow.Author.Tests.{eq-eqb, ne-eqb}
 use lib.Dec.{eqb}
 use lib.ListN.{getD}
-use Rattle.laws.specs.Tests.{choose}
+use Rattle.laws.specs.Tests.{choose, and-not-right}
 use Rattle.laws.specs.Order.{le-or}
 use Rattle.laws.specs.Counts.{bit, count}
 use Rattle.laws.specs.Every.{Every, none, both}
@@ -71,9 +71,6 @@ module _ (n : ℕ) where
     abbrev Clear : ℕ → Row → Type 0
     Clear q r = pagesAt v r ≤ 3 → (x : ℕ) → q ≤ x → namesAt v x r ≡ false
 
-    and-none : (a b : Bool) → b ≡ false → (a && b) ≡ false
-    and-none a b e = rw e (and-false a)
-
     -- a page that the row does not name counts
     new-page : (q : ℕ) (c : Option Page) {r r₁ : Row} → r .pages ≤ 4 → Clear q r → Adds (hasCell n v c) q v r r₁ →
         pagesAt v r₁ ≡ cap (pagesAt v r + bit (hasCell n v c))
@@ -114,7 +111,7 @@ module _ (n : ℕ) where
         still k x b =
             first .names k x ∙
             ap (λ (t : Bool). t || (hasCell n v c && eqb q x)) (clear (omega (arith, one)) x (omega arith)) ∙
-            and-none (hasCell n v c) (eqb q x) (ne-eqb q x (λ z. omega arith))
+            and-not-right (hasCell n v c) (eqb q x) (ne-eqb q x (λ z. omega arith))
 
         rest : Fills (q + 1) cs (rowCell n q c r) (rowCells n (q + 1) cs (rowCell n q c r))
         rest = more (goes .few) (omega (arith, goes .version)) still
@@ -130,14 +127,14 @@ module _ (n : ℕ) where
     has-before : (q : ℕ) (cs : Cells) (x : ℕ) → x < q → hasAt n v q cs x ≡ false
     has-before q [] x l = refl
     has-before q (c ∷ cs) x l =
-        rw (and-none (hasCell n v c) (eqb q x) (ne-eqb q x (λ z. omega arith))) (has-before (q + 1) cs x (omega arith))
+        rw (and-not-right (hasCell n v c) (eqb q x) (ne-eqb q x (λ z. omega arith))) (has-before (q + 1) cs x (omega arith))
 
     has-here : (q : ℕ) (cs : Cells) (x k : ℕ) → k ≡ q + x → hasAt n v q cs k ≡ hasCell n v (getD cs x none)
     has-here q [] x k e = refl
     has-here q (c ∷ cs) zero k e =
         rw (eq-eqb q k (omega arith), has-before (q + 1) cs k (omega arith)) (or-false (hasCell n v c && true) ∙ and-true (hasCell n v c))
     has-here q (c ∷ cs) (suc x) k e =
-        rw (and-none (hasCell n v c) (eqb q k) (ne-eqb q k (λ z. omega arith))) (has-here (q + 1) cs x k (omega arith))
+        rw (and-not-right (hasCell n v c) (eqb q k) (ne-eqb q k (λ z. omega arith))) (has-here (q + 1) cs x k (omega arith))
 
   -- ---- the version and the mode
   module _ (P : ℕ → Mode → Type 0) where

@@ -10,7 +10,7 @@ use lib.Dec.{leb}
 use lib.ListN.{length}
 use Rattle.laws.specs.Tests.{and-left}
 use Rattle.laws.specs.Order.{Tri, less, same, more, tri}
-use Rattle.laws.specs.Counts.{bit, count, count-append, tally, tally-mono}
+use Rattle.laws.specs.Counts.{bit, count, count-append, tally, tally-mono, tally-apart}
 use Rattle.page.specs.Page.{Page, sequence}
 use Rattle.store.specs.Item.{piecesIn}
 use Rattle.store.specs.View.{sumTo, some?, greatest, pages}
@@ -43,15 +43,6 @@ count-cells f (b ∷ bs) most =
       count-block f 32 b (most 0),
       count-cells f bs (λ i. most (suc i)),
     )
-
--- Two tests that never pass together, and each only where a third does.
-count-sum : (f g h : Page → Bool) (b : List Page) → ((p : Page) → bit (f p) + bit (g p) ≤ bit (h p)) → count f b + count g b ≤ count h b
-count-sum f g h [] e = omega arith
-count-sum f g h (p ∷ b) e = omega (arith, e p, count-sum f g h b e)
-
-tally-sum : (f g h : Page → Bool) (bs : Blocks) → ((p : Page) → bit (f p) + bit (g p) ≤ bit (h p)) → tally f bs + tally g bs ≤ tally h bs
-tally-sum f g h [] e = omega arith
-tally-sum f g h (b ∷ bs) e = omega (arith, count-sum f g h b e, tally-sum f g h bs e)
 
 -- The pages up to a number.
 abbrev upTo : ℕ → Page → Bool
@@ -90,7 +81,7 @@ module _ (f : Page → Bool) (bs : Blocks) where
         arith,
         numbers-counted k,
         found-counted (suc k),
-        tally-sum (λ p. f p && upTo k p) (λ p. f p && numbered (suc k) p) (λ p. f p && upTo (suc k) p) bs (one-more k),
+        tally-apart (λ p. f p && upTo k p) (λ p. f p && numbered (suc k) p) (λ p. f p && upTo (suc k) p) bs (one-more k),
       )
 
   pub found-few : (k : ℕ) → sumTo (λ s. bit (test f (find s bs))) k ≤ tally f bs

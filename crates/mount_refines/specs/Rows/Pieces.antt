@@ -7,7 +7,7 @@ use Prim.Native.Nat.{ℕ, _+_, _-_, _≤_, _<_, max}
 use native.Mathlib.Omega.{arith}
 use borrow.Author.Tests.{eq-eqb, ne-eqb, lt-ltb, le-ltb, eqb-true}
 use lib.Dec.{eqb}
-use Rattle.laws.specs.Tests.{choose}
+use Rattle.laws.specs.Tests.{choose, or-absorb}
 use Rattle.laws.specs.Order.{eq-or, le-or, Tri, less, same, more, tri}
 use Rattle.laws.specs.Counts.{bit}
 use Rattle.account.specs.declared.Mode.{Mode}
@@ -57,11 +57,6 @@ pub record Goes (u : ℕ) (r r′ : Row) : Type 0 where
 pub record Adds (has : Bool) (q v : ℕ) (r r′ : Row) : Type 0 where
   pub pages : pagesAt v r′ ≡ cap (pagesAt v r + bit (has && not (namesAt v q r)))
   pub names : pagesAt v r′ ≤ 3 → (x : ℕ) → namesAt v x r′ ≡ (namesAt v x r || (has && eqb q x))
-
-or-same : (a b : Bool) → (b ≡ true → a ≡ true) → a ≡ (a || b)
-or-same true b h = refl
-or-same false true h = h refl
-or-same false false h = refl
 
 -- Nothing new.
 pub adds-none : (q v : ℕ) (r : Row) → r .pages ≤ 4 → Adds false q v r r
@@ -148,7 +143,7 @@ module _ (u : ℕ) (m : Mode) (q : ℕ) (r : Row) (few : r .pages ≤ 4) where
           record {
             pages = omega (arith, pages-same r v e, ap (λ (t : Bool). bit (not t)) (names-same r v e q ∙ n));
             names =
-                λ h x. or-same (namesAt v x r) (eqb q x) (λ t. names-same r v e x ∙ ap (λ (y : ℕ). names y r) (sym (eqb-true q x t)) ∙ n);
+                λ h x. or-absorb (namesAt v x r) (eqb q x) (λ t. names-same r v e x ∙ ap (λ (y : ℕ). names y r) (sym (eqb-true q x t)) ∙ n);
           }
 
       adds-more : names q r ≡ false → r .pages < 3 → Adds true q v r (noted q r)

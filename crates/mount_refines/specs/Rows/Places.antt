@@ -11,7 +11,8 @@ use lib.ListN.{length, getElem?}
 use Rattle.laws.specs.Tests.{choose}
 use Rattle.laws.specs.Counts.{bit, count, tally, tally-at}
 use Rattle.laws.specs.Every.{Every, none, both, every-append}
-use Rattle.laws.specs.Options.{some-same, none-some}
+use Rattle.laws.specs.Options.{some-same}
+use Rattle.laws.specs.Elements.{count-get, tally-get}
 use Rattle.page.specs.Page.{Page, sequence}
 use Rattle.store.specs.Pool.{Blocks, block, numbered, pageIn, find}
 use Rattle.store.specs.Reopen.{cellsIn, cells}
@@ -24,13 +25,8 @@ pub record Orderly (bs : Blocks) : Type 0 where
   pub once : (s : ℕ) → tally (numbered s) bs ≤ 1
 
 -- A page that passes a test is counted.
-count-here : (f : Page → Bool) (b : List Page) (q : ℕ) (p : Page) → getElem? b q ≡ some p → f p ≡ true → 1 ≤ count f b
-count-here f [] q p e t = absurd (none-some e)
-count-here f (x ∷ b) zero p e t = omega (arith, ap bit (ap f (some-same e) ∙ t))
-count-here f (x ∷ b) (suc q) p e t = omega (arith, count-here f b q p e t)
-
 pub tally-here : (f : Page → Bool) (bs : Blocks) (i q : ℕ) (p : Page) → getElem? (block bs i) q ≡ some p → f p ≡ true → 1 ≤ tally f bs
-tally-here f bs i q p e t = omega (arith, count-here f (block bs i) q p e t, tally-at f bs i)
+tally-here f bs i q p e t = omega (arith, tally-get f bs i q p e, ap bit t)
 
 own-number : (p : Page) → numbered (sequence p) p ≡ true
 own-number p = eq-eqb (sequence p) (sequence p) refl
@@ -42,7 +38,7 @@ pageIn-here (x ∷ b) (suc q) p e l = go (numbered (sequence p) x) refl (λ h. p
   where
     go : (t : Bool) → numbered (sequence p) x ≡ t → (count (numbered (sequence p)) b ≤ 1 → pageIn (sequence p) b ≡ some p) →
         choose (numbered (sequence p) x) (some x) (pageIn (sequence p) b) ≡ some p
-    go true t r = absurd (omega (arith, ap bit t, count-here (numbered (sequence p)) b q p e (own-number p)))
+    go true t r = absurd (omega (arith, ap bit t, count-get (numbered (sequence p)) b q p e, ap bit (own-number p)))
     go false t r = rw t (r (omega (arith, ap bit t)))
 
 -- A PAGE THAT LIES IN A BLOCK is found by its number.
@@ -50,8 +46,8 @@ module _ {bs : Blocks} (o : Orderly bs) (i q : ℕ) (p : Page) (e : getElem? (bl
   pub find-here : find (sequence p) bs ≡ some p
   find-here =
       let s = sequence p in
-      let here = count-here (numbered s) (block bs i) q p e (own-number p) in
-      find-block s bs i (omega (arith, o .once s, here)) ∙ pageIn-here (block bs i) q p e (omega (arith, o .once s, tally-at (numbered s) bs i))
+      find-block s bs i (omega (arith, o .once s, count-get (numbered s) (block bs i) q p e, ap bit (own-number p))) ∙
+      pageIn-here (block bs i) q p e (omega (arith, o .once s, tally-at (numbered s) bs i))
 
   pub number-here : 1 ≤ tally (numbered (sequence p)) bs
   number-here = tally-here (numbered (sequence p)) bs i q p e (own-number p)

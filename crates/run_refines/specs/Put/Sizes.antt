@@ -1,19 +1,18 @@
 -- The code's question whether a pair fits is the tree's question whether at most 24 keys come of it. Assumes nothing.
 use mathlib.Core.Path.{_≡_, refl, sym, ap, _∙_, subst}
 use mathlib.Core.Logic.{_⊎_, inl, inr}
-use mathlib.Core.List.{List, [], _∷_}
-use mathlib.Core.Option.{some}
+use mathlib.Core.List.{List}
 use Prim.Native.Nat.{ℕ, _≤_, _<_}
 use native.Mathlib.Omega.{arith}
 use borrow.Author.Tests.{lt-ltb, le-ltb}
 use lib.ListN.{length, length-set}
-use Rattle.laws.specs.Order.{Tri, less, same, more, tri, eq-or, le-or}
+use Rattle.laws.specs.Order.{eq-or, le-or}
 use Rattle.laws.specs.Options.{none-some}
 use Rattle.layout.specs.Layout.{mostKeys, bound32}
-use Rattle.pairs.specs.Pairs.{Pair, lookup, insert, Within}
-use Rattle.pairs.specs.Clauses.{lookup-same, lookup-other, insert-before, insert-same, insert-behind}
+use Rattle.pairs.specs.Pairs.{Pair, insert, Within}
 use Rattle.pairs.specs.Sizes.{length-insert}
 use Rattle.pairs.specs.Bounds.{within-insert}
+use Rattle.pairs.specs.MapLaws.{lookup-insert}
 use Rattle.node.specs.declared.Shape.the-variants.{Branch}
 use Rattle.node.specs.Node.{Node, node, pairsOf}
 use Rattle.node.specs.Change.{put, change}
@@ -50,17 +49,6 @@ module _ (key value : ℕ) (ps : List Pair) where
       go : Present key ps ⊎ Absent key ps → length (insert key value ps) ≤ mostKeys
       go (inl p) = omega (arith, length-present p)
       go (inr a) = below a (le-or mostKeys (length ps))
-
--- A key that was just put is there.
-lookup-insert : (k v : ℕ) (ps : List Pair) → lookup k (insert k v ps) ≡ some v
-unfolding insert
-lookup-insert k v [] = lookup-same k (k, v) [] refl
-lookup-insert k v (p ∷ ps) = go (tri k (p .0)) (lookup-insert k v ps)
-  where
-    go : Tri k (p .0) → lookup k (insert k v ps) ≡ some v → lookup k (insert k v (p ∷ ps)) ≡ some v
-    go (less l) r = ap (lookup k) (insert-before k v p ps l) ∙ lookup-same k (k, v) (p ∷ ps) refl
-    go (same l) r = ap (lookup k) (insert-same k v p ps l) ∙ lookup-same k (k, v) ps refl
-    go (more l) r = ap (lookup k) (insert-behind k v p ps l) ∙ lookup-other k p (insert k v ps) (omega arith) ∙ r
 
 module _ (key value : ℕ) (ps : List Pair) (low high : ℕ) (w : Within low high (insert key value ps)) where
   put-present : Present key (insert key value ps)

@@ -3,9 +3,9 @@
 use mathlib.Core.Path.{sym, ap, _∙_}
 use lib.ListN.{length}
 use borrow.Author.Needs.{needs}
-use Rattle.laws.specs.BigEndian.{number}
+use Rattle.laws.specs.BigEndian.{number, numberAt-whole}
 use Rattle.page.specs.Tags.{only-10}
-use Rattle.page_read.specs.Payload.{payload-empty, number-whole}
+use Rattle.page_read.specs.Payload.{payload-empty}
 use Rattle.page_read.proofs.seal.sequence.Statement.{statement}
 use Rattle.page_read.proofs.seal.sequence.Tie as tie
 
@@ -20,7 +20,7 @@ read32-requires : tie.Need-read32-requires
 read32-requires c κs = search needs
 
 returns-2 : tie.Need-returns-2
-returns-2 c = c .read32 .ensures .is ∙ number-whole (c .before .before .payload .result .now) 4
+returns-2 c = c .read32 .ensures .is ∙ numberAt-whole 4 (c .before .before .payload .result .now)
     (c .before .if1 .left) ∙ ap number (c .before .before .payload .ensures)
 
 pub sequence-spec : {M : Type 1} → statement M

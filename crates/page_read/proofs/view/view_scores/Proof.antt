@@ -8,7 +8,7 @@ use lib.Dec.{eqb}
 use lib.ListN.{length}
 use borrow.Author.Tests.{eq-eqb}
 use borrow.Author.Needs.{needs}
-use Rattle.laws.specs.BigEndian.{number}
+use Rattle.laws.specs.BigEndian.{number, numberAt-whole}
 use Rattle.wire.specs.Field.{payloadAt}
 use Rattle.page.specs.Decode.{sealedAt, taken, found, mostScores, decodeCounted}
 use Rattle.page.specs.Tags.{only-15}
@@ -17,7 +17,7 @@ use Rattle.page.specs.Exact.{found-given}
 use Rattle.page_read.specs.declared.view.Nodes.{Nodes}
 use Rattle.page_read.specs.declared.view.Nodes.the-variants.{Count}
 use Rattle.page_read.specs.declared.view.PageView.the-variants.{Checkpoint}
-use Rattle.page_read.specs.Payload.{payload-empty, found-true, number-whole}
+use Rattle.page_read.specs.Payload.{payload-empty, found-true}
 use Rattle.page_read.specs.Steps.{scores-none, scores-unfilled, scores-unsealed, scores-sealed, nodes-none, nodes-some}
 use Rattle.page_read.proofs.view.view_scores.Statement.{statement}
 use Rattle.page_read.proofs.view.view_scores.Tie as tie
@@ -114,8 +114,8 @@ returns-5 c = let a = c .before .before .before .before .before .before .before 
     let f : found count ≡ true = found-true count l in
     let m : (found count || eqb (a .n) (mostScores (found t))) ≡ true = ap (λ (x : Bool). x || eqb (a .n) (mostScores (found t))) f in
     let e : a .at + 9 * a .n + 5 ≡ a .at + 9 * a .n + taken count = omega (arith, taken-found count l) in
-    let v : c .read16 .result ≡ number count = c .read16 .ensures .is ∙ number-whole
-    (c .before .before .before .before .payload .result .now) 2 (c .before .before .before .if2 .left) ∙ ap number
+    let v : c .read16 .result ≡ number count = c .read16 .ensures .is ∙ numberAt-whole 2
+    (c .before .before .before .before .payload .result .now) (c .before .before .before .if2 .left) ∙ ap number
     q in
     ap₂ (λ (x : Bool) (y : Nodes). Checkpoint (a .sequence) x (a .n) y)
     (c .before .before .before .before .before .before .before .pre .tariff ∙ found-given t)

@@ -4,9 +4,7 @@ use mathlib.Core.Path.{_≡_, refl, sym, _∙_}
 use Prim.Native.Nat.{_+_, _-_, _*_, _≤_}
 use native.Mathlib.Omega.{arith}
 use lib.ListN.{length}
-use Rattle.page_write.specs.Chunks.{lent-part}
-use Rattle.laws.specs.Lay.{length-part}
-use Rattle.laws.specs.Lay.{lay}
+use Rattle.laws.specs.Lay.{lay, length-part, part-lent}
 use Rattle.page.specs.Image.{fields}
 use Rattle.page_write.specs.Chunks.{chunks, run-next, run-end, mul-split}
 use Rattle.page_write.proofs.frame.lay_run.Statement.{statement}
@@ -44,28 +42,28 @@ lay-field-requires c κs = let l = c .before .before .before .loop in
     let a = c .before .before .before .before .before .before .args in
     let m = mul-split (a .size) (l .left) (c .before .before .loop-test .taken) in
     let w : l .from + a .size ≤ length (a .records .now) = omega arith in
-    rw (lent-part (a .records .now) (l .from) (a .size), length-part (a .records .now) (l .from) (a .size) w) (omega arith)
+    rw (part-lent (a .records .now) (l .from) (l .from + a .size) (a .size) refl, length-part (a .records .now) (l .from) (a .size) w) (omega arith)
 
 add-place : tie.Need-add-place Inv-loop μ-loop
 add-place c =
-    let c5 = c .before .before .before .before .before in
-    let c6 = c5 .before in
-    let c9 = c6 .before .before .before in
-    omega (arith, mul-split (c9 .args .size) (c6 .loop .left) (c5 .loop-test .taken))
+    let tested = c .before .before .before .before .before in
+    let turning = tested .before in
+    let entry = turning .before .before .before in
+    omega (arith, mul-split (entry .args .size) (turning .loop .left) (tested .loop-test .taken))
 
 add-place-2 : tie.Need-add-place-2 Inv-loop μ-loop
 add-place-2 c =
-    let c5 = c .before .before .before .before .before in
-    let c6 = c5 .before in
-    let c9 = c6 .before .before .before in
-    omega (arith, mul-split (c9 .args .size) (c6 .loop .left) (c5 .loop-test .taken))
+    let tested = c .before .before .before .before .before in
+    let turning = tested .before in
+    let entry = turning .before .before .before in
+    omega (arith, mul-split (entry .args .size) (turning .loop .left) (tested .loop-test .taken))
 
 add-from : tie.Need-add-from Inv-loop μ-loop
 add-from c =
-    let c5 = c .before .before .before .before .before in
-    let c6 = c5 .before in
-    let c9 = c6 .before .before .before in
-    omega (arith, mul-split (c9 .args .size) (c6 .loop .left) (c5 .loop-test .taken))
+    let tested = c .before .before .before .before .before in
+    let turning = tested .before in
+    let entry = turning .before .before .before in
+    omega (arith, mul-split (entry .args .size) (turning .loop .left) (tested .loop-test .taken))
 
 sub-left : tie.Need-sub-left Inv-loop μ-loop
 sub-left c = omega arith
@@ -79,7 +77,7 @@ loop-again c = let l = c .before .before .before .before .before .before .loop i
     let m = mul-split (a .size) (l .left) (c .before .before .before .before .before .loop-test .taken) in
     let w : l .from + a .size ≤ length (a .records .now) = omega arith in (
       omega (arith, c .before .before .lay-field .kept .0),
-      rw (c .before .before .lay-field .ensures, lent-part (a .records .now) (l .from) (a .size))
+      rw (c .before .before .lay-field .ensures, part-lent (a .records .now) (l .from) (l .from + a .size) (a .size) refl)
           (run-next (a .tag) (a .size) (l .left) (l .p) (a .records .now) (l .place) (l .from)
           (c .before .before .before .before .before .loop-test .taken) (omega arith) w ∙ l .inv .1),
     )
