@@ -18,7 +18,7 @@ use Rattle.store_laws.specs.Numbers.{last}
 use Rattle.model.specs.State.{State, bookOf, charges}
 use Rattle.model.specs.Batch.{done, run, chargeOf, answers}
 use Rattle.command.specs.Command.{Valid}
-use Rattle.demands.specs.Commands.{ValidAll}
+use Rattle.command.specs.Batch.{ValidAll}
 use Rattle.demands.specs.Run.{Holds, batch-batched}
 use Rattle.demands.specs.RequestCount.{command-length}
 use Rattle.demands.specs.BatchFits.{mostNumbers}

@@ -11,7 +11,7 @@ use Rattle.command.specs.declared.Command.the-variants.{Get, Put, Delete
 use Rattle.command.specs.declared.Step.the-variants.{Next, Invalid}
 use Rattle.command.specs.declared.Asked.{Asked}
 use Rattle.command.specs.declared.Asked.the-variants as asked
-use Rattle.command.specs.Command.{commandAt, roomFor}
+use Rattle.command.specs.Command.{commandAt, Valid, roomFor}
 
 -- a command in front of those behind it, if these are valid
 abbrev pub before : Command → Option (List Command) → Option (List Command)
@@ -33,6 +33,11 @@ commandsFrom s at = run (suc (length s)) s at
 -- Question 3: the commands of a batch within its length and made wholly of valid commands.
 unfoldable pub commandsOf : List ℕ → Option (List Command)
 commandsOf s = elim (leb (length s) mostBatchBytes) [ true ↦ commandsFrom s 0 | false ↦ none ]
+
+-- Commands that are all valid.
+abbrev pub ValidAll : List Command → Type 0
+ValidAll [] = Unit {0}
+ValidAll (c ∷ cs) = Valid c × ValidAll cs
 
 -- Question 4: the room that all commands ask for.
 abbrev pub roomForAll : List Command → ℕ

@@ -1,16 +1,18 @@
 -- The commands of a batch one after the other: what is left from each place, how many there are, and what all ask for. Assumes nothing.
-use mathlib.Core.Path.{_≡_, refl, sym, ap, _∙_}
+use mathlib.Core.Path.{_≡_, refl, sym, ap, _∙_, subst}
 use mathlib.Core.Bool.{Bool, true, false}
 use mathlib.Core.List.{List, [], _∷_}
 use mathlib.Core.Logic.{_⊎_, inl, inr}
 use mathlib.Core.Option.{Option, none, some}
-use Prim.Native.Nat.{ℕ, zero, suc, _+_, _-_, _≤_, _<_}
+use Prim.Native.Nat.{ℕ, zero, suc, _+_, _-_, _≤_, _<_, _*_}
 use native.Mathlib.Omega.{arith}
 use borrow.Author.Tests.{le-leb, lt-leb, leb-true, leb-false}
 use lib.Dec.{leb}
 use lib.ListN.{length}
 use Rattle.laws.specs.Options.{none-some, some-same}
 use Rattle.laws.specs.Order.{le-or}
+use Rattle.laws.specs.BigEndian.{Bytes}
+use Rattle.laws.specs.Every.{Every, none as every-none, both}
 use Rattle.layout.specs.Layout.{mostBatchBytes}
 use Rattle.command.specs.declared.Command.{Command}
 use Rattle.command.specs.declared.Command.the-variants.{Get, Put, Delete, Scan, Panel, Ceiling}
@@ -18,9 +20,9 @@ use Rattle.command.specs.declared.Step.{Step}
 use Rattle.command.specs.declared.Step.the-variants.{Next, Invalid}
 use Rattle.command.specs.declared.Asked.{Asked}
 use Rattle.command.specs.declared.Asked.the-variants as asked
-use Rattle.command.specs.Command.{commandAt, roomFor, Onward}
-use Rattle.command.specs.CommandLaws.{commandAt-onward}
-use Rattle.command.specs.Batch.{before, run, commandsFrom, commandsOf, roomForAll, named, namedIn, askedAs, askedOf}
+use Rattle.command.specs.Command.{commandAt, roomFor, Onward, Valid}
+use Rattle.command.specs.CommandLaws.{commandAt-onward, commandAt-long, commandAt-valid, roomFor-le}
+use Rattle.command.specs.Batch.{before, run, commandsFrom, commandsOf, roomForAll, named, namedIn, askedAs, askedOf, ValidAll}
 
 -- what a step leaves to run
 abbrev runOn : ℕ → List ℕ → Step → Option (List Command)
@@ -77,30 +79,53 @@ module _ (s : List ℕ) (at : ℕ) where
   unfolding commandsFrom
   commandsFrom-invalid h e = run-inside (length s) s at h ∙ ap (runOn (length s) s) e
 
--- Each takes a byte or more.
-run-few : (fuel : ℕ) (s : List ℕ) (at : ℕ) (cs : List Command) → run fuel s at ≡ some cs → length cs ≤ length s - at
-unfolding run
-run-few zero s at cs e = absurd (none-some e)
-run-few (suc fuel) s at cs e = go (le-or (length s) at) (λ next ds. run-few fuel s next ds)
-  where
-    on : (r : Step) → Onward s at r → at < length s → ((next : ℕ) (ds : List Command) → run fuel s next ≡ some ds → length ds ≤ length s - next) →
-        runOn fuel s r ≡ some cs → length cs ≤ length s - at
-    on (Next c next) w l few f = behind (run fuel s next) (few next) f
-      where
-        behind : (o : Option (List Command)) → ((ds : List Command) → o ≡ some ds → length ds ≤ length s - next) → before c o ≡ some cs →
-            length cs ≤ length s - at
-        behind none h g = absurd (none-some g)
-        behind (some ds) h g = omega (arith, ap length (some-same g), h ds refl, w .0, w .1)
-    on Invalid w l few f = absurd (none-some f)
+-- WHAT HOLDS OF ALL COMMANDS READ: of none at the end, and of one more where it holds of those behind it.
+module _ (s : List ℕ) (P : ℕ → List Command → Type 0) (end : (at : ℕ) → length s ≤ at → P at [])
+    (more : (at next : ℕ) (c : Command) (cs : List Command) → commandAt s at ≡ Next c next → P next cs → P at (c ∷ cs)) where
+  run-all : (fuel at : ℕ) (cs : List Command) → run fuel s at ≡ some cs → P at cs
+  unfolding run
+  run-all zero at cs e = absurd (none-some e)
+  run-all (suc fuel) at cs e = go (le-or (length s) at) (λ next ds. run-all fuel next ds)
+    where
+      Rest : Type 0
+      Rest = (next : ℕ) (ds : List Command) → run fuel s next ≡ some ds → P next ds
 
-    go : (length s ≤ at) ⊎ (at < length s) → ((next : ℕ) (ds : List Command) → run fuel s next ≡ some ds → length ds ≤ length s - next) →
-        length cs ≤ length s - at
-    go (inl l) few = omega (arith, ap length (some-same (sym (run-end fuel s at l) ∙ e)))
-    go (inr l) few = on (commandAt s at) (commandAt-onward s at) l few (sym (run-inside fuel s at l) ∙ e)
+      on : (r : Step) → commandAt s at ≡ r → Rest → runOn fuel s r ≡ some cs → P at cs
+      on (Next c next) g rest f = behind (run fuel s next) (rest next) f
+        where
+          behind : (o : Option (List Command)) → ((ds : List Command) → o ≡ some ds → P next ds) → before c o ≡ some cs → P at cs
+          behind none h k = absurd (none-some k)
+          behind (some ds) h k = subst (P at) (some-same k) (more at next c ds g (h ds refl))
+      on Invalid g rest f = absurd (none-some f)
 
-pub commandsFrom-few : (s : List ℕ) (at : ℕ) (cs : List Command) → commandsFrom s at ≡ some cs → length cs ≤ length s - at
-unfolding commandsFrom
-commandsFrom-few s at cs e = run-few (suc (length s)) s at cs e
+      go : (length s ≤ at) ⊎ (at < length s) → Rest → P at cs
+      go (inl l) rest = subst (P at) (some-same (sym (run-end fuel s at l) ∙ e)) (end at l)
+      go (inr l) rest = on (commandAt s at) refl rest (sym (run-inside fuel s at l) ∙ e)
+
+  pub commandsFrom-all : (at : ℕ) (cs : List Command) → commandsFrom s at ≡ some cs → P at cs
+  unfolding commandsFrom
+  commandsFrom-all at cs e = run-all (suc (length s)) at cs e
+
+module _ (s : List ℕ) where
+  onward-next : (at next : ℕ) (c : Command) → commandAt s at ≡ Next c next → Onward s at (Next c next)
+  onward-next at next c e = rw e at (commandAt-onward s at)
+
+  -- Each takes three bytes or more,
+  pub commandsFrom-few : (at : ℕ) (cs : List Command) → commandsFrom s at ≡ some cs → 3 * length cs ≤ length s - at
+  commandsFrom-few =
+      commandsFrom-all s (λ at cs. 3 * length cs ≤ length s - at) (λ at l. omega arith)
+      (λ at next c cs e h. let long : at + 3 ≤ next = rw e at (commandAt-long s at) in omega (arith, h, onward-next at next c e .1))
+
+  -- asks for 3 + 8 × 32 bytes of answers or fewer,
+  pub commandsFrom-room : (at : ℕ) (cs : List Command) → commandsFrom s at ≡ some cs → roomForAll cs ≤ 259 * length cs
+  commandsFrom-room =
+      commandsFrom-all s (λ at cs. roomForAll cs ≤ 259 * length cs) (λ at l. omega arith)
+      (λ at next c cs e h. omega (arith, h, roomFor-le c (onward-next at next c e .2)))
+
+  -- and is valid where it is read from bytes.
+  pub commandsFrom-valid : Bytes s → (at : ℕ) (cs : List Command) → commandsFrom s at ≡ some cs → Every Valid cs
+  commandsFrom-valid bytes =
+      commandsFrom-all s (λ at cs. Every Valid cs) (λ at l. every-none) (λ at next c cs e h. both (rw e at (commandAt-valid s bytes at)) h)
 
 pub named-le : (c : Command) → named c ≤ 1
 named-le (Get k) = omega arith
@@ -109,6 +134,11 @@ named-le (Delete k) = omega arith
 named-le (Scan low high most) = omega arith
 named-le (Panel panel) = omega arith
 named-le (Ceiling k) = omega arith
+
+-- Every one valid, said one by one.
+pub valid-all : (cs : List Command) → Every Valid cs → ValidAll cs
+valid-all [] every-none = tt
+valid-all (c ∷ cs) (both v vs) = (v, valid-all cs vs)
 
 -- What is asked for, with what the commands passed ask for.
 abbrev pub askedWith : ℕ → ℕ → ℕ → Option (List Command) → Asked
@@ -136,6 +166,17 @@ module _ (s : List ℕ) where
   pub commandsOf-short : length s ≤ mostBatchBytes → commandsOf s ≡ commandsFrom s 0
   unfolding commandsOf
   commandsOf-short h = rw (le-leb (length s) mostBatchBytes h, commandsOf)
+
+  -- a batch that is read is within its length, and read from its start
+  pub commandsOf-read : (cs : List Command) → commandsOf s ≡ some cs → (length s ≤ mostBatchBytes) × (commandsFrom s 0 ≡ some cs)
+  commandsOf-read cs e = go (le-or (length s) mostBatchBytes)
+    where
+      go : (length s ≤ mostBatchBytes) ⊎ (mostBatchBytes < length s) → (length s ≤ mostBatchBytes) × (commandsFrom s 0 ≡ some cs)
+      go (inl l) = (l, sym (commandsOf-short l) ∙ e)
+      go (inr l) = absurd (none-some (sym (commandsOf-long l) ∙ e))
+
+  pub commandsOf-valid : Bytes s → (cs : List Command) → commandsOf s ≡ some cs → Every Valid cs
+  commandsOf-valid bytes cs e = commandsFrom-valid s bytes 0 cs (commandsOf-read cs e .1)
 
   pub asked-long : mostBatchBytes < length s → asked.Invalid ≡ askedOf s
   unfolding askedOf

@@ -1,4 +1,4 @@
--- The cases of the command at a place, by its tag, and that each goes on within the bytes. Assumes nothing.
+-- The command at a place: its cases by tag; that it goes on within the bytes, takes three of them or more, and, read from bytes, is valid. Assumes nothing.
 use mathlib.Core.Path.{_≡_, refl, sym, ap, _∙_}
 use mathlib.Core.Bool.{Bool, true, false, _&&_}
 use mathlib.Core.List.{List}
@@ -10,7 +10,7 @@ use lib.Dec.{eqb, leb, ltb}
 use lib.ListN.{length, getD}
 use Rattle.laws.specs.Tests.{choose, and-left, and-right, test-clash}
 use Rattle.laws.specs.Lay.{part, length-part}
-use Rattle.laws.specs.BigEndian.{Bytes, numberAt, numberAt-lt}
+use Rattle.laws.specs.BigEndian.{Bytes, numberAt, numberAt-lt, bytes-part}
 use Rattle.wire.specs.Tag.{lengthOf, allowed, find, rows}
 use Rattle.wire.specs.Field.{fieldAt, lengthAt, isPayload, standsAt}
 use Rattle.wire.specs.FieldLaws.{Stands, stands-is}
@@ -20,6 +20,7 @@ use Rattle.wire.specs.declared.field.Field.{Field}
 use Rattle.wire.specs.declared.field.Field.the-variants.{Payload, Missing, Foreign, Overlong}
 use Rattle.command.specs.declared.Command.{Command}
 use Rattle.command.specs.declared.Command.the-variants.{Get, Put, Delete, Scan, Panel, Ceiling}
+use Rattle.command.specs.declared.Step.{Step}
 use Rattle.command.specs.declared.Step.the-variants.{Next, Invalid}
 use Rattle.layout.specs.Layout.{mostPairs, panels, bound32}
 use Rattle.command.specs.Command.{inRange, commandOf, stepAs, fieldStep, commandAt, InRange, Valid, roomFor, Onward}
@@ -217,7 +218,20 @@ commandOf-valid tag n p bytes size may =
     small : (i : ℕ) → i + 4 ≤ n → numberAt 4 p i < bound32
     small i l = numberAt-lt 4 p i bytes (omega arith)
 
--- The command at a place ends further on, within the bytes.
+-- THE COMMAND AT A PLACE is that of the payload that lies there, or an invalid one.
+pub commandAt-each : (P : Step → Type 0) (s : List ℕ) (at : ℕ) → P Invalid →
+    ((start end : ℕ) → fieldAt s at (getD s at 0) ≡ Payload start end → P (stepAs end (commandOf (getD s at 0) (part s start (end - start))))) →
+    P (commandAt s at)
+unfolding commandAt
+commandAt-each P s at nothing found = go (fieldAt s at (getD s at 0)) refl
+  where
+    go : (f : Field) → fieldAt s at (getD s at 0) ≡ f → P (fieldStep s (getD s at 0) f)
+    go (Payload start end) e = found start end e
+    go Missing e = nothing
+    go Foreign e = nothing
+    go Overlong e = nothing
+
+-- It ends further on, within the bytes.
 onward-commandOf :
     (s : List ℕ) (at end tag : ℕ) (p : List ℕ) → at < end → end ≤ length s → Onward s at (stepAs end (commandOf tag p))
 onward-commandOf s at end tag p h k =
@@ -225,16 +239,42 @@ onward-commandOf s at end tag p h k =
     (λ e r. (h, k, r)) (λ e. (h, k, tt))
 
 pub commandAt-onward : (s : List ℕ) (at : ℕ) → Onward s at (commandAt s at)
-unfolding commandAt
-commandAt-onward s at = go (fieldAt s at (getD s at 0)) refl
+commandAt-onward s at =
+    commandAt-each (Onward s at) s at tt
+    (λ start end e.
+    let b = field-bounds s at (getD s at 0) start end e in
+    onward-commandOf s at end (getD s at 0) (part s start (end - start)) (omega (arith, b .last)) (omega (arith, b .last, b .within)))
+
+-- It takes three bytes or more.
+abbrev Long : ℕ → Step → Type 0
+Long at (Next c next) = at + 3 ≤ next
+Long at Invalid = Unit {0}
+
+pub commandAt-long : (s : List ℕ) (at : ℕ) → Long at (commandAt s at)
+commandAt-long s at =
+    commandAt-each (Long at) s at tt
+    (λ start end e. step end (commandOf (getD s at 0) (part s start (end - start))) (omega (arith, field-bounds s at (getD s at 0) start end e .last)))
   where
-    go : (f : Field) → fieldAt s at (getD s at 0) ≡ f → Onward s at (fieldStep s (getD s at 0) f)
-    go (Payload start end) e =
-        let b = field-bounds s at (getD s at 0) start end e in
-        onward-commandOf s at end (getD s at 0) (part s start (end - start)) (omega (arith, b .last)) (omega (arith, b .last, b .within))
-    go Missing e = tt
-    go Foreign e = tt
-    go Overlong e = tt
+    step : (end : ℕ) (o : Option Command) → at + 3 ≤ end → Long at (stepAs end o)
+    step end none l = tt
+    step end (some c) l = l
+
+-- Read from bytes, it is valid.
+abbrev ValidStep : Step → Type 0
+ValidStep (Next c next) = Valid c
+ValidStep Invalid = Unit {0}
+
+pub commandAt-valid : (s : List ℕ) → Bytes s → (at : ℕ) → ValidStep (commandAt s at)
+commandAt-valid s bytes at =
+    commandAt-each ValidStep s at tt
+    (λ start end e.
+    let tag = getD s at 0 in
+    let p = part s start (end - start) in
+    step end (commandOf tag p) (commandOf-valid tag (length p) p (bytes-part start (end - start) bytes) refl (payload-may s at tag start end e)))
+  where
+    step : (end : ℕ) (o : Option Command) → ValidOr o → ValidStep (stepAs end o)
+    step end none v = tt
+    step end (some c) v = v
 
 -- The command at a place, from what the field reader found there.
 module _ (s : List ℕ) (at : ℕ) where

@@ -3,7 +3,7 @@
 -- answers as the map does. Assumes nothing.
 use mathlib.Core.Path.{_≡_, refl, sym, ap, _∙_}
 use mathlib.Core.Bool.{Bool, true, false}
-use mathlib.Core.List.{List, [], _∷_}
+use mathlib.Core.List.{List}
 use Prim.Native.Nat.{ℕ, _≤_, _<_}
 use native.Mathlib.Omega.{arith}
 use lib.ListN.{length}
@@ -25,10 +25,6 @@ use Rattle.book.specs.Command.{Reply, listed, silent, getReply, putReply, delet
 use Rattle.book.specs.Command.{Look, Task, looks, puts, deletes, names, taskOf, requestsOf, refusesOf, answerOf}
 use Rattle.book.specs.Session.{Session}
 use Rattle.book.specs.OrderedMap.{mapAnswer, mapAfter, changed}
-
-abbrev pub ValidAll : List Command → Type 0
-ValidAll [] = Unit {0}
-ValidAll (c ∷ cs) = Valid c × ValidAll cs
 
 -- A LOOK on a book: it reads nodes that are there, no more than there are, and is answered so.
 pub record Looks (b : Book) (l : Look) (said : Reply) : Type 0 where

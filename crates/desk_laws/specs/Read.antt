@@ -18,11 +18,11 @@ use Rattle.command.specs.Command.{commandBytes, Valid}
 use Rattle.command.specs.Batch.{commandsOf, namedIn}
 use Rattle.command.specs.Spelled.{batchBytes}
 use Rattle.command.specs.OneSpelling.{batchBytes-commandsOf}
+use Rattle.command.specs.BatchLaws.{commandsOf-valid}
 use Rattle.desk_order.specs.Turns.{turns, picks}
 use Rattle.desk_order.specs.OwnOrder.{own-order}
 use Rattle.desk_order.specs.Weigh.{weigh, weighAll}
 use Rattle.desk_queues.specs.Joined.{ownCommands, queueCommands, beside, allCommands}
-use Rattle.desk_laws.specs.ValidBytes.{commandsOf-valid}
 
 -- A QUEUE that was read is a batch by itself, without a command 05.
 pub record Own (queue : List ℕ) (cs : List Command) : Type 0 where

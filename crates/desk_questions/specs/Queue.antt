@@ -1,41 +1,21 @@
 -- What is known of a queue by what it asks for as a batch: whether it may stand at a desk, its commands, and how many and how much these are at most.
 -- Assumes nothing.
 use mathlib.Core.Path.{_≡_, refl, sym, ap, _∙_}
-use mathlib.Core.List.{List, [], _∷_}
-use mathlib.Core.Logic.{_⊎_, inl, inr}
+use mathlib.Core.List.{List}
 use mathlib.Core.Option.{Option, none, some}
 use Prim.Native.Nat.{ℕ, _*_, _≤_, _<_}
 use native.Mathlib.Omega.{arith}
 use borrow.Author.Tests.{eq-eqb, ne-eqb}
 use lib.ListN.{length}
 use Rattle.laws.specs.BigEndian.{Bytes}
-use Rattle.laws.specs.Every.{Every, none as every-none, both}
-use Rattle.laws.specs.Options.{none-some}
-use Rattle.laws.specs.Order.{le-or}
 use Rattle.layout.specs.Layout.{mostBatchBytes}
 use Rattle.command.specs.declared.Command.{Command}
-use Rattle.command.specs.declared.Command.the-variants.{Get, Put, Delete, Scan, Panel, Ceiling}
 use Rattle.command.specs.declared.Asked.the-variants as asked
-use Rattle.command.specs.Command.{roomFor, Valid}
 use Rattle.command.specs.Batch.{commandsOf, roomForAll, namedIn, askedAs, askedOf}
-use Rattle.command.specs.BatchLaws.{commandsOf-long, commandsOf-short, commandsFrom-few}
+use Rattle.command.specs.BatchLaws.{commandsFrom-few, commandsOf-read, commandsFrom-room}
 use Rattle.desk_queues.specs.Joined.{ownCommands, queueCommands}
-use Rattle.desk_laws.specs.ValidBytes.{commandsOf-valid}
 
--- A valid command asks for 3 + 8 × 32 bytes at most.
-room-few : (c : Command) → Valid c → roomFor c ≤ 259
-room-few (Get k) v = omega arith
-room-few (Put k w) v = omega arith
-room-few (Delete k) v = omega arith
-room-few (Scan low high most) v = omega (arith, v .3)
-room-few (Panel panel) v = omega arith
-room-few (Ceiling k) v = omega arith
-
-rooms-few : (cs : List Command) → Every Valid cs → roomForAll cs ≤ 259 * length cs
-rooms-few [] every-none = omega arith
-rooms-few (c ∷ cs) (both v vs) = omega (arith, room-few c v, rooms-few cs vs)
-
--- The most room that the commands of one queue can ask for: each has a byte or more.
+-- More room than the commands of one queue can ask for: 3 + 8 × 32 bytes for each of its bytes.
 abbrev pub mostRoom : ℕ
 mostRoom = 259 * mostBatchBytes
 
@@ -72,25 +52,24 @@ module _ (queue : List ℕ) where
             rw (ne-eqb (namedIn cs) 0 (λ z. omega arith)) refl
 
     -- one that holds none
-    pub queue-admitted : m ≤ 0 → Bytes queue → Admitted queue room n
+    pub queue-admitted : m ≤ 0 → Admitted queue room n
     unfolding queueCommands askedOf
-    queue-admitted l bytes = go (commandsOf queue) refl e (le-or (length queue) mostBatchBytes)
+    queue-admitted l = go (commandsOf queue) refl e
       where
-        go : (o : Option (List Command)) → commandsOf queue ≡ o → askedAs o ≡ asked.Bytes room n m →
-            (length queue ≤ mostBatchBytes) ⊎ (mostBatchBytes < length queue) → Admitted queue room n
-        go none h f w = absurd (let z : _≡_ {A = ℕ} 0 1 = cc in omega arith)
-        go (some cs) h f (inr k) = absurd (none-some (sym (commandsOf-long queue k) ∙ h))
-        go (some cs) h f (inl k) =
+        go : (o : Option (List Command)) → commandsOf queue ≡ o → askedAs o ≡ asked.Bytes room n m → Admitted queue room n
+        go none h f = absurd (let z : _≡_ {A = ℕ} 0 1 = cc in omega arith)
+        go (some cs) h f =
             let named : namedIn cs ≡ m = cc in
             let rooms : roomForAll cs ≡ room = cc in
             let count : length cs ≡ n = cc in
-            let few = commandsFrom-few queue 0 cs (sym (commandsOf-short queue k) ∙ h) in
+            let read = commandsOf-read queue cs h in
+            let few = commandsFrom-few queue 0 cs (read .1) in
             record {
               commands = cs;
               are = ap ownCommands h ∙ rw (eq-eqb (namedIn cs) 0 (omega arith)) refl;
               room-is = sym rooms;
               count-is = sym count;
-              short = k;
-              few = omega (arith, few);
-              small = omega (arith, few, rooms-few cs (commandsOf-valid queue bytes cs h));
+              short = read .0;
+              few = omega (arith, few, read .0);
+              small = omega (arith, few, read .0, commandsFrom-room queue 0 cs (read .1));
             }

@@ -2,19 +2,16 @@
 use mathlib.Core.Path.{_≡_, sym, ap, _∙_}
 use mathlib.Core.Bool.{true}
 use mathlib.Core.List.{List, []}
-use mathlib.Core.Logic.{_⊎_, inl, inr}
 use mathlib.Core.Option.{Option, none, some}
 use Prim.Native.Nat.{ℕ, zero, suc, _≤_, _<_}
 use native.Mathlib.Omega.{arith}
 use lib.ListN.{length, getD, replicate, length-replicate}
-use Rattle.laws.specs.Options.{none-some}
-use Rattle.laws.specs.Order.{le-or}
 use Rattle.laws.specs.Update.{length-below, below-at, below-is}
 use Rattle.laws.specs.Lists.{getD-replicate-same}
 use Rattle.layout.specs.Layout.{mostBatchBytes, panels}
 use Rattle.command.specs.declared.Command.{Command}
 use Rattle.command.specs.Batch.{commandsFrom, commandsOf, roomForAll}
-use Rattle.command.specs.BatchLaws.{commandsOf-long, commandsOf-short}
+use Rattle.command.specs.BatchLaws.{commandsOf-read}
 use Rattle.desk_order.specs.Turns.{longest}
 use Rattle.desk_queues.specs.Queues.{queueCount, queueAt, queuesIn, fills}
 use Rattle.desk_queues.specs.Joined.{allCommands, joined}
@@ -37,14 +34,6 @@ pub record Serves (lengths queues : List ℕ) (rounds bytes : ℕ) : Type 0 wher
   pub room : roomForAll (joined (listsIn lengths queues)) ≤ bytes
   pub few : length (joined (listsIn lengths queues)) ≤ mostBatchBytes
 
--- A batch that is read is read from its start.
-read-start : (s : List ℕ) (cs : List Command) → commandsOf s ≡ some cs → commandsFrom s 0 ≡ some cs
-read-start s cs e = go (le-or (length s) mostBatchBytes)
-  where
-    go : (length s ≤ mostBatchBytes) ⊎ (mostBatchBytes < length s) → commandsFrom s 0 ≡ some cs
-    go (inl l) = sym (commandsOf-short s l) ∙ e
-    go (inr l) = absurd (none-some (sym (commandsOf-long s l) ∙ e))
-
 -- Each queue, with its commands.
 read-at : {qs : List (List ℕ)} {css : List (List Command)} → Read qs css → (p : ℕ) → p < length qs → Own (getD qs p []) (getD css p [])
 read-at nothing p l = absurd (omega arith)
@@ -65,8 +54,8 @@ module _ (lengths queues : List ℕ) (valid : allCommands (queuesIn lengths queu
   whole : (p : ℕ) → p < queueCount lengths → commandsFrom (queueAt lengths queues p) (getD zeros p 0) ≡ some (getD (listsIn lengths queues) p [])
   whole p l =
       ap (commandsFrom (queueAt lengths queues p)) (getD-replicate-same panels p 0) ∙
-      read-start (queueAt lengths queues p) (getD (listsIn lengths queues) p [])
-      (ap commandsOf (sym (below-at (queueCount lengths) (queueAt lengths queues) p [] l)) ∙ read-at all p (omega (arith, count)) .commands)
+      commandsOf-read (queueAt lengths queues p) (getD (listsIn lengths queues) p [])
+      (ap commandsOf (sym (below-at (queueCount lengths) (queueAt lengths queues) p [] l)) ∙ read-at all p (omega (arith, count)) .commands) .1
 
   pub rests-start : rests lengths queues zeros ≡ listsIn lengths queues
   rests-start =

@@ -1,17 +1,14 @@
 -- The commands of a batch that questions 3 and 4 let through: it is short and has room for its answers. Assumes nothing.
 use mathlib.Core.Path.{_≡_, sym, ap, _∙_}
 use mathlib.Core.List.{List, []}
-use mathlib.Core.Logic.{_⊎_, inl, inr}
 use mathlib.Core.Option.{Option, none, some}
-use Prim.Native.Nat.{ℕ, _≤_, _<_}
+use Prim.Native.Nat.{ℕ, _≤_}
 use native.Mathlib.Omega.{arith}
 use lib.ListN.{length}
-use Rattle.laws.specs.Order.{le-or}
-use Rattle.laws.specs.Options.{none-some}
 use Rattle.layout.specs.Layout.{mostBatchBytes}
 use Rattle.command.specs.declared.Command.{Command}
 use Rattle.command.specs.Batch.{commandsFrom, commandsOf, roomForAll}
-use Rattle.command.specs.BatchLaws.{commandsOf-long, commandsOf-short}
+use Rattle.command.specs.BatchLaws.{commandsOf-read}
 
 -- The commands of a batch; none are said of one that is not valid.
 abbrev pub listOr : Option (List Command) → List Command
@@ -30,21 +27,14 @@ pub record Fits (batch : List ℕ) (bytes : ℕ) : Type 0 where
 module _ (batch : List ℕ) where
   -- by question 3: commands that are valid are those here
   module _ (cs : List Command) (e : commandsOf batch ≡ some cs) where
-    short : length batch ≤ mostBatchBytes
-    short = go (le-or (length batch) mostBatchBytes)
-      where
-        go : (length batch ≤ mostBatchBytes) ⊎ (mostBatchBytes < length batch) → length batch ≤ mostBatchBytes
-        go (inl l) = l
-        go (inr l) = absurd (none-some (sym (commandsOf-long batch l) ∙ e))
-
     pub commandsIn-is : commandsIn batch ≡ cs
     unfolding commandsIn
-    commandsIn-is = ap listOr (sym (commandsOf-short batch short) ∙ e)
+    commandsIn-is = ap listOr (commandsOf-read batch cs e .1)
 
     pub valid-fits : (bytes : ℕ) → roomForAll cs ≤ bytes → Fits batch bytes
     valid-fits bytes r =
         record {
-          short = short;
-          valid = sym (commandsOf-short batch short) ∙ e ∙ ap some (sym commandsIn-is);
+          short = commandsOf-read batch cs e .0;
+          valid = commandsOf-read batch cs e .1 ∙ ap some (sym commandsIn-is);
           room = omega (arith, r, ap roomForAll commandsIn-is);
         }

@@ -5,10 +5,10 @@ use Prim.Native.Nat.{ℕ, _+_, _-_, _≤_}
 use native.Mathlib.Omega.{arith}
 use borrow.Author.Needs.{needs}
 use lib.ListN.{length}
-use Rattle.laws.specs.BigEndian.{bytes-getD, bytes-part}
+use Rattle.laws.specs.BigEndian.{bytes-getD}
 use Rattle.laws.specs.Lay.{part}
 use Rattle.command.specs.Batch.{askedOf}
-use Rattle.desk_queues.specs.Queues.{lengthAt, startAt, queueAt}
+use Rattle.desk_queues.specs.Queues.{lengthAt, queueAt}
 use Rattle.desk_laws.specs.QueueLaws.{Filled, filled}
 use Rattle.desk_questions.specs.Queue.{Admitted, queue-invalid, queue-named, queue-admitted}
 use Rattle.desk_questions.specs.Passed.{
@@ -54,32 +54,29 @@ reach c =
 found : (c : tie.After-asked Inv-loop μ-loop) → askedOf (queue (c .before .before)) ≡ c .asked .result
 unfolding part
 found c =
-    let c2 = c .before .before in
-    let l = c2 .before .before .loop in
-    let size : l .start + c2 .read32 .result - l .start ≡ lengthAt (lengths c2) (l .p) = omega (arith, c2 .read32 .ensures .is) in
-    sym (c .asked .ensures ∙ ap askedOf (ap₂ (part (queues c2)) (l .inv .starts) size))
+    let read = c .before .before in
+    let l = read .before .before .loop in
+    let size : l .start + read .read32 .result - l .start ≡ lengthAt (lengths read) (l .p) = omega (arith, read .read32 .ensures .is) in
+    sym (c .asked .ensures ∙ ap askedOf (ap₂ (part (queues read)) (l .inv .starts) size))
 
 -- Where it passed both tests: it may stand at the desk.
 admitted : (c : tie.Else1 Inv-loop μ-loop) →
     Admitted (queue (c .before .before .before .before .before .before)) (c .before .before .room .given .0 .0)
     (c .before .before .room .given .0 .1 .0)
 admitted c =
-    let c2 = c .before .before in
-    let c4 = c2 .before .before in
-    let c6 = c4 .before .before in
-    let c10 = c6 .before .before .before .before in
-    let p = c6 .before .before .loop .p in
-    queue-admitted (queue c6) _ _ (c2 .room .given .0 .1 .1 .0) (found c4 ∙ c2 .room .given .1) (omega (arith, c .if1 .left))
-    (bytes-part (startAt (lengths c6) p) (lengthAt (lengths c6) p) (bytes-getD (queues c6) (λ i. c10 .shared-slice-known2 .given i .fits)))
+    let told = c .before .before in
+    let asked = told .before .before in
+    let read = asked .before .before in
+    queue-admitted (queue read) _ _ (told .room .given .0 .1 .1 .0) (found asked ∙ told .room .given .1) (omega (arith, c .if1 .left))
 
 no-sums-requires : tie.Need-no-sums-requires Inv-loop μ-loop
 no-sums-requires c κs = search needs
 
 loop-holds : tie.Need-loop-holds Inv-loop μ-loop
 loop-holds c =
-    let c3 = c .before .before .before in
-    let a = c3 .args in
-    passed-none (a .lengths .now) (a .queues .now) (filled (a .lengths .now) (a .queues .now) (c3 .pre))
+    let entry = c .before .before .before in
+    let a = entry .args in
+    passed-none (a .lengths .now) (a .queues .now) (filled (a .lengths .now) (a .queues .now) (entry .pre))
     (bytes-getD (a .queues .now) (λ i. c .before .shared-slice-known2 .given i .fits)) (c .no-sums .result) (c .no-sums .ensures)
 
 mul-read32 : tie.Need-mul-read32 Inv-loop μ-loop
@@ -114,28 +111,28 @@ enum-told c = search needs
 
 returns : tie.Need-returns Inv-loop μ-loop
 returns c =
-    let c2 = c .before .before in
-    let c4 = c2 .before .before in
-    let l = c4 .before .before .loop in
-    next-invalid (lengths c4) (queues c4) (full c4) (l .p) (l .start) (l .sums) (l .inv) (c4 .before .loop-test .taken)
-    (queue-invalid (queue c4) (found c2 ∙ c .enum-told .given .1))
+    let asked = c .before .before in
+    let read = asked .before .before in
+    let l = read .before .before .loop in
+    next-invalid (lengths read) (queues read) (full read) (l .p) (l .start) (l .sums) (l .inv) (read .before .loop-test .taken)
+    (queue-invalid (queue read) (found asked ∙ c .enum-told .given .1))
 
 returns-2 : tie.Need-returns-2 Inv-loop μ-loop
 returns-2 c =
-    let c2 = c .before .before in
-    let c4 = c2 .before .before in
-    let c6 = c4 .before .before in
-    let l = c6 .before .before .loop in
-    next-invalid (lengths c6) (queues c6) (full c6) (l .p) (l .start) (l .sums) (l .inv) (c6 .before .loop-test .taken)
-    (queue-named (queue c6) _ _ (c2 .room .given .0 .1 .1 .0) (found c4 ∙ c2 .room .given .1) (omega (arith, c .if1 .taken)))
+    let told = c .before .before in
+    let asked = told .before .before in
+    let read = asked .before .before in
+    let l = read .before .before .loop in
+    next-invalid (lengths read) (queues read) (full read) (l .p) (l .start) (l .sums) (l .inv) (read .before .loop-test .taken)
+    (queue-named (queue read) _ _ (told .room .given .0 .1 .1 .0) (found asked ∙ told .room .given .1) (omega (arith, c .if1 .taken)))
 
 with-queue-requires : tie.Need-with-queue-requires Inv-loop μ-loop
 with-queue-requires c κs =
-    let c6 = c .before .before .before .before .before .before in
-    let l = c6 .before .before .loop in
-    let taken = c6 .before .loop-test .taken in (
-      next-room (lengths c6) (queues c6) (full c6) (l .p) (l .start) (l .sums) (l .inv) taken _ _ (admitted c),
-      next-commands (lengths c6) (queues c6) (full c6) (l .p) (l .start) (l .sums) (l .inv) taken _ _ (admitted c),
+    let read = c .before .before .before .before .before .before in
+    let l = read .before .before .loop in
+    let taken = read .before .loop-test .taken in (
+      next-room (lengths read) (queues read) (full read) (l .p) (l .start) (l .sums) (l .inv) taken _ _ (admitted c),
+      next-commands (lengths read) (queues read) (full read) (l .p) (l .start) (l .sums) (l .inv) taken _ _ (admitted c),
     )
 
 add-p : tie.Need-add-p Inv-loop μ-loop
@@ -146,28 +143,28 @@ loop-less c = omega arith
 
 loop-again : tie.Need-loop-again Inv-loop μ-loop
 loop-again c =
-    let c1 = c .before in
-    let c7 = c1 .before .before .before .before .before .before in
-    let l = c7 .before .before .loop in
-    next-passed (lengths c7) (queues c7) (full c7) (l .p) (l .start) (l .sums) (l .inv) (c7 .before .loop-test .taken) _ _ (admitted c1)
-    (c7 .read32 .result) (c7 .read32 .ensures .is) (c .with-queue .result) (c .with-queue .ensures)
+    let tested = c .before in
+    let read = tested .before .before .before .before .before .before in
+    let l = read .before .before .loop in
+    next-passed (lengths read) (queues read) (full read) (l .p) (l .start) (l .sums) (l .inv) (read .before .loop-test .taken) _ _ (admitted tested)
+    (read .read32 .result) (read .read32 .ensures .is) (c .with-queue .result) (c .with-queue .ensures)
 
 within-limit-requires : tie.Need-within-limit-requires Inv-loop μ-loop
 within-limit-requires c κs =
-    let c5 = c .before .before .before .before .before in
-    let a = c5 .args in
+    let entry = c .before .before .before .before .before in
+    let a = entry .args in
     let l = c .before .loop in
-    let f = filled (a .lengths .now) (a .queues .now) (c5 .pre) in (
+    let f = filled (a .lengths .now) (a .queues .now) (entry .pre) in (
       all-short (a .lengths .now) (a .queues .now) f (l .p) (l .start) (l .sums) (l .inv) (c .loop-test .left),
       all-few (a .lengths .now) (a .queues .now) f (l .p) (l .start) (l .sums) (l .inv) (c .loop-test .left),
     )
 
 returns-3 : tie.Need-returns-3 Inv-loop μ-loop
 returns-3 c =
-    let c6 = c .before .before .before .before .before .before in
-    let a = c6 .args in
+    let entry = c .before .before .before .before .before .before in
+    let a = entry .args in
     let l = c .before .before .loop in
-    let f = filled (a .lengths .now) (a .queues .now) (c6 .pre) in
+    let f = filled (a .lengths .now) (a .queues .now) (entry .pre) in
     c .within-limit .ensures ∙
     all-passed (a .lengths .now) (a .queues .now) f (l .p) (l .start) (l .sums) (l .inv) (c .before .loop-test .left)
 
