@@ -27,7 +27,8 @@ use Rattle.model.specs.State.{State, bookOf}
 use Rattle.model.specs.Batch.{replyOf, done, run, closed}
 use Rattle.demands.specs.Says.{Sound, bookOf-count, score-is}
 use Rattle.command.specs.Command.{Valid}
-use Rattle.demands.specs.Commands.{ValidAll, does}
+use Rattle.command.specs.Batch.{ValidAll}
+use Rattle.demands.specs.Commands.{does}
 use Rattle.demands.specs.Run.{Holds, runBook-requests, Batched, batch-batched}
 use Rattle.demands.specs.Mount.{Ready}
 use Rattle.store_laws.specs.StoreFits.{RunFits}

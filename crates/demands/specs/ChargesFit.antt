@@ -11,6 +11,7 @@ use Rattle.account.specs.Range.{Ranged}
 use Rattle.account.specs.ServeLaws.{mostCharge, serve-most}
 use Rattle.pairs.specs.Pairs.{Pair}
 use Rattle.command.specs.declared.Command.{Command}
+use Rattle.command.specs.Batch.{ValidAll}
 use Rattle.tree.specs.NodeRequest.{NodeRequest, read, edit, rewrite, create}
 use Rattle.book.specs.Book.{Book, serve, charge, charges}
 use Rattle.book.specs.Command.{mostRequests, requests, refuses, answer}
@@ -18,7 +19,6 @@ use Rattle.book.specs.Session.{Session}
 use Rattle.book.specs.SessionAfter.{sessionAfter}
 use Rattle.book.specs.Batch.{doneBook, requestsBook}
 use Rattle.book.specs.OrderedMap.{mapAfter}
-use Rattle.demands.specs.Commands.{ValidAll}
 use Rattle.demands.specs.Run.{Holds, command-holds}
 use Rattle.demands.specs.RequestCount.{command-length}
 use Rattle.demands.specs.BatchFits.{mostCommands}

@@ -7,7 +7,7 @@ use Prim.Native.Nat.{ℕ, _<_}
 use Rattle.layout.specs.Layout.{noLeaf, bound32}
 use Rattle.pairs.specs.Pairs.{Pair, Within}
 use Rattle.command.specs.declared.Command.{Command}
-use Rattle.command.specs.Batch.{commandsOf}
+use Rattle.command.specs.Batch.{commandsOf, ValidAll}
 use Rattle.tree_laws.specs.GetLaws.{pairs-within}
 use Rattle.book.specs.Book.{Book}
 use Rattle.book.specs.Command.{refuses}
@@ -18,7 +18,6 @@ use Rattle.book.specs.OrderedMap.{mapAnswer, mapAfter, mapRun}
 use Rattle.model.specs.Outcome.{accepted}
 use Rattle.model.specs.Call.{Call, bytesRun, outcome}
 use Rattle.model.specs.Calls.{fedOf, commandsBy, commandsIn}
-use Rattle.demands.specs.Commands.{ValidAll}
 use Rattle.demands.specs.Run.{Holds, command-holds}
 use Rattle.demands.specs.CommandBytes.{commandsOf-batch}
 use Rattle.demands.specs.CallBytes.{CallBytes, run-bytes}

@@ -13,7 +13,7 @@ use Rattle.account.specs.declared.Tariff.{Tariff}
 use Rattle.command.specs.declared.Command.{Command}
 use Rattle.command.specs.declared.Command.the-variants.{Panel}
 use Rattle.command.specs.Command.{Valid, roomFor}
-use Rattle.command.specs.Batch.{commandsOf, roomForAll, named}
+use Rattle.command.specs.Batch.{commandsOf, roomForAll, named, ValidAll}
 use Rattle.tree.specs.NodeRequest.{NodeRequest}
 use Rattle.store.specs.Reopen.{poolOf}
 use Rattle.book.specs.Command.{Reply, replyBytes, repliesBytes, requests, answer}
@@ -28,7 +28,6 @@ use Rattle.model.specs.Bytes.{bytesOf}
 use Rattle.model.specs.Pool.{blocksOf}
 use Rattle.model.specs.Outcome.{Outcome, charge, accept}
 use Rattle.model.specs.Call.{batchOf}
-use Rattle.demands.specs.Commands.{ValidAll}
 use Rattle.demands.specs.TwoBatches.{both-end}
 
 -- THE SUM, of any kind of book.

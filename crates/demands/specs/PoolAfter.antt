@@ -10,6 +10,7 @@ use Rattle.laws.specs.BigEndian.{Bytes}
 use Rattle.layout.specs.Layout.{blockBytes, pagesInBlock, fewestBlocks, mostBlocks, nodeLimit}
 use Rattle.account.specs.declared.Tariff.{Tariff}
 use Rattle.command.specs.declared.Command.{Command}
+use Rattle.command.specs.Batch.{ValidAll}
 use Rattle.tree.specs.Spells.{mapOf}
 use Rattle.store.specs.Store.{Store}
 use Rattle.store_laws.specs.CellLaws.{length-cells}
@@ -21,7 +22,6 @@ use Rattle.model.specs.Batch.{run, closed}
 use Rattle.model.specs.Mount.{opened, mountCells}
 use Rattle.model.specs.Bytes.{bytesOf, cellsOf}
 use Rattle.demands.specs.Says.{Sound}
-use Rattle.demands.specs.Commands.{ValidAll}
 use Rattle.demands.specs.Mount.{Ready, opened-mounts, mounts-ready}
 use Rattle.store_laws.specs.StoreFits.{StoreFits}
 use Rattle.demands.specs.BatchFits.{mostCommands, AfterBatch, sound-after, closed-after}

@@ -27,7 +27,8 @@ use Rattle.model.specs.Batch.{done, run, statesPassed, chargeOf, answers}
 use Rattle.demands.specs.Says.{Sound, Says}
 use Rattle.demands.specs.Step.{serve-says}
 use Rattle.command.specs.Command.{Valid}
-use Rattle.demands.specs.Commands.{ValidAll, does}
+use Rattle.command.specs.Batch.{ValidAll}
+use Rattle.demands.specs.Commands.{does}
 
 -- The reference model's table and count change as the tree's requests say.
 pub serveAll-table : (t : Tariff) (rs : List NodeRequest) (b : Book) → Book.serveAll t rs b .table ≡ applyAll rs (b .table)

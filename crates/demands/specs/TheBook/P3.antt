@@ -12,7 +12,7 @@ use Rattle.pairs.specs.Ceiling.{CeilingIs}
 use Rattle.pairs.specs.Ceiling.{ceiling-is as nearest-is, ceiling-none as none-above}
 use Rattle.command.specs.declared.Command.{Command}
 use Rattle.command.specs.declared.Command.the-variants.{Scan, Ceiling}
-use Rattle.command.specs.Batch.{commandsOf}
+use Rattle.command.specs.Batch.{commandsOf, ValidAll}
 use Rattle.book.specs.Book.{Book}
 use Rattle.book.specs.Command.{ceilingReply}
 use Rattle.book.specs.Command.{requests as requestsFor}
@@ -23,7 +23,6 @@ use Rattle.model.specs.Pool.{blocksOf}
 use Rattle.model.specs.PoolLaws.{is-pool}
 use Rattle.model.specs.Call.{Call, bufferOf, outcome, batchOf}
 use Rattle.model.specs.Calls.{answered, laidOver, fedOf, commandsIn}
-use Rattle.demands.specs.Commands.{ValidAll}
 use Rattle.demands.specs.Ceilings.{ScansFor, SameReads, scans-same}
 use Rattle.demands.specs.CallBytes.{CallBytes, run-bytes}
 use Rattle.demands.specs.OneCall.{called}
