@@ -12,6 +12,7 @@ use lib.Dec.{leb}
 use Rattle.laws.specs.Tests.{choose, and-right, or-left, or-right}
 use Rattle.laws.specs.Order.{eq-or, le-or, le-suc-or}
 use Rattle.laws.specs.Counts.{bit, count, count-mono, tally, tally-mono, tally-or, empty, empty-nil}
+use Rattle.laws.specs.Options.{test}
 use Rattle.page.specs.Page.{Entry, Page, sequence}
 use Rattle.store.specs.Item.{itemsOf, piecesIn}
 use Rattle.store.specs.View.{View, sumTo, some?, greatest, pages}
@@ -68,11 +69,6 @@ compact-pruned closing N {bs} buffer last {i} {j} m once =
     go s (stays e) = Steps.stays (ap itemsAt e)
     go s (goes p e a d) =
         Steps.goes (ap itemsAt e) (λ n l. ap (λ o. piecesIn n (greatest w n) (itemsAt o)) a ∙ live-dead w closing N p d n l)
-
--- a test of the page that was found
-abbrev test : (Page → Bool) → Option Page → Bool
-test f none = false
-test f (some p) = f p
 
 count-number : (f : Page → Bool) (s : ℕ) (b : List Page) → count (numbered s) b ≤ 1 →
     count (λ p. f p && numbered s p) b ≤ bit (test f (pageIn s b))

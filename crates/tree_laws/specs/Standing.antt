@@ -118,7 +118,7 @@ pub record Proper (n : Node) : Type 0 where
   pub neat : Neat n
   pub keyed : shapeOf n ≡ Branch → 1 ≤ length (pairsOf n)
 
-leaf-no-branch : Leaf ≡ Branch → ⊥
+pub leaf-no-branch : Leaf ≡ Branch → ⊥
 leaf-no-branch e = let z : _≡_ {A = ℕ} 0 1 = cc in omega arith
 
 pub stands-proper : (d : ℕ) (table : Table) (t : Tree d) (low high next : ℕ) → high ≤ bound32 → Stands d table t low high next →

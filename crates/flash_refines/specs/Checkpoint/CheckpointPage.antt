@@ -13,6 +13,7 @@ use lib.ListN.{length, set, getElem?, length-set}
 use lib.Seq.{getD-set-same, getD-set-other}
 use Rattle.laws.specs.Tests.{choose, and-left, and-right, and-both}
 use Rattle.laws.specs.Order.{eq-or, le-or}
+use Rattle.laws.specs.Options.{test}
 use Rattle.layout.specs.Layout.{mostBlocks}
 use Rattle.account.specs.declared.Mode.the-variants.{Disk}
 use Rattle.page.specs.Page.{Page, sequence}
@@ -34,7 +35,7 @@ use Rattle.flash_allocate.specs.declared.state.State.{State}
 use Rattle.flash_allocate.specs.World.{World, world, used, spot}
 use Rattle.flash_allocate.specs.Allocate.{allocate}
 use Rattle.flash_checkpoint.specs.CheckpointPages.{checkpointRow}
-use Rattle.flash_refines.specs.Store.Mirror.{rowAt, test, RowMode, RowsSay, Owners, Mirrors}
+use Rattle.flash_refines.specs.Store.Mirror.{rowAt, RowMode, RowsSay, Owners, Mirrors}
 use Rattle.flash_refines.specs.Store.RowModes.{place-rowMode}
 use Rattle.flash_refines.specs.Store.Ownership.{page-within, carries-same}
 use Rattle.flash_refines.specs.Store.Names.{mapped}

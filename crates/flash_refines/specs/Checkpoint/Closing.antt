@@ -11,6 +11,7 @@ use lib.Dec.{eqb}
 use lib.ListN.{length, set, getElem?, length-set}
 use Rattle.laws.specs.Loops.{steps}
 use Rattle.laws.specs.Counts.{bit-le-one, tally}
+use Rattle.laws.specs.Options.{test}
 use Rattle.layout.specs.Layout.{mostBlocks, bound32}
 use Rattle.account.specs.declared.Tariff.{Tariff}
 use Rattle.page.specs.Page.{Entry, Score, Page, page}
@@ -36,7 +37,7 @@ use Rattle.flash_allocate.specs.Allocate.{allocate}
 use Rattle.page_checkpoint.specs.Checkpoint.{onlyIf}
 use Rattle.flash_checkpoint.specs.CheckpointPages.{scoresBefore, scoresOfPage, pageCount, checkpointImage, checkpointRow}
 use Rattle.flash_checkpoint.specs.CheckpointPages.{writeCheckpointPage, checkpointPage, checkpointPages, drain, checkpoint}
-use Rattle.flash_refines.specs.Store.Mirror.{rowAt, test, PagesAre, Owners, Mirrors}
+use Rattle.flash_refines.specs.Store.Mirror.{rowAt, PagesAre, Owners, Mirrors}
 use Rattle.flash_refines.specs.Store.Allocate.{Kept}
 use Rattle.flash_refines.specs.Store.Follows.{Follows, Writable}
 use Rattle.flash_refines.specs.Store.Followed.{few-blocks, invariant-here}

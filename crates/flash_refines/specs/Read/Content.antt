@@ -10,6 +10,7 @@ use lib.ListN.{length}
 use Rattle.laws.specs.Tests.{test-clash}
 use Rattle.laws.specs.BigEndian.{number}
 use Rattle.laws.specs.Counts.{empty}
+use Rattle.laws.specs.Options.{test}
 use Rattle.layout.specs.Layout.{mostEntries}
 use Rattle.account.specs.declared.Mode.{Mode}
 use Rattle.account.specs.declared.Mode.the-variants.{Log, Disk}
@@ -33,7 +34,7 @@ use Rattle.flash_read.specs.Replay.{redoRun, redoBuffer}
 use Rattle.flash_read.specs.Slots.{sequenceAt, slotAt, redoAt}
 use Rattle.flash_read.specs.NodePage.{nodeOfPayload, nodePageAt}
 use Rattle.flash_read.specs.Content.{redoPages, logContent, contentBy, content}
-use Rattle.flash_refines.specs.Store.Mirror.{rowAt, test, RowMode}
+use Rattle.flash_refines.specs.Store.Mirror.{rowAt, RowMode}
 use Rattle.flash_refines.specs.Store.Follows.{Follows, Writable}
 use Rattle.flash_refines.specs.Read.EntriesRead.{buffer-redone}
 use Rattle.flash_refines.specs.Read.PageRead.{sequence-read, node-read}

@@ -10,6 +10,7 @@ use lib.Dec.{leb, ltb}
 use lib.ListN.{length, getD, getElem?}
 use Rattle.laws.specs.Order.{le-or}
 use Rattle.laws.specs.Counts.{count, tally, empty}
+use Rattle.laws.specs.Options.{test}
 use Rattle.page.specs.Page.{Page, sequence}
 use Rattle.store.specs.Item.{itemsOf, piecesIn}
 use Rattle.store.specs.View.{View, greatest}
@@ -34,7 +35,7 @@ use Rattle.flash_allocate.specs.Compact.{Compacted, moveBlock, compact}
 use Rattle.flash_allocate.specs.World.{World, world, used}
 use Rattle.flash_allocate.specs.Allocate.{allocate}
 use Rattle.flash_allocate.proofs.Laws.{allocate-room, allocate-next, allocate-compact}
-use Rattle.flash_refines.specs.Store.Mirror.{rowAt, test, Images, PagesAre, RowsName, RowMode, RowsSay, Owners, Mirrors}
+use Rattle.flash_refines.specs.Store.Mirror.{rowAt, Images, PagesAre, RowsName, RowMode, RowsSay, Owners, Mirrors}
 use Rattle.flash_refines.specs.Store.RowModes.{found-rowMode}
 use Rattle.flash_refines.specs.Store.Pages.{blank-block}
 use Rattle.flash_refines.specs.Store.Ownership.{page-within}

@@ -17,13 +17,14 @@ use Rattle.laws.specs.Order.{eq-or}
 use Rattle.laws.specs.Counts.{bit, count, count-append, count-le-length, consIf, filter, length-filter, filter-append}
 use Rattle.laws.specs.Loops.{steps-keep}
 use Rattle.laws.specs.Elements.{take-get, take-get-none}
+use Rattle.laws.specs.Options.{test}
 use Rattle.page.specs.Page.{Page}
 use Rattle.store.specs.Pool.{Blocks, block}
 use Rattle.store_laws.specs.PoolLaws.{Moves}
 use Rattle.flash_blocks.specs.Pages.{pageAt, copied}
 use Rattle.flash_live.specs.Live.{marked}
 use Rattle.flash_allocate.specs.Compact.{Copying, copying, copyPage, copyLive, copyBlock}
-use Rattle.flash_refines.specs.Store.Mirror.{test, imageAt, PagesAre}
+use Rattle.flash_refines.specs.Store.Mirror.{imageAt, PagesAre}
 use Rattle.flash_refines.specs.Store.Pages.{pages-add}
 
 module _ (f : Page → Bool) where

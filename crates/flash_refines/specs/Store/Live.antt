@@ -16,12 +16,13 @@ use Rattle.laws.specs.Tests.{choose, test-same}
 use Rattle.laws.specs.Order.{eq-or}
 use Rattle.laws.specs.Counts.{bit, count}
 use Rattle.laws.specs.Loops.{steps-keep, sumFrom}
+use Rattle.laws.specs.Options.{test}
 use Rattle.page.specs.Page.{Page}
 use Rattle.store.specs.Pool.{Blocks, block}
 use Rattle.flash_rows.specs.Step.{holds, names}
 use Rattle.flash_rows.specs.declared.Row.{Row}
 use Rattle.flash_live.specs.Live.{markSlot, markRow, markNth, liveMap, marked, liveBit, liveIn}
-use Rattle.flash_refines.specs.Store.Mirror.{rowAt, test, RowsName}
+use Rattle.flash_refines.specs.Store.Mirror.{rowAt, RowsName}
 
 -- One of the first k rows names the page.
 abbrev pub anyNames : ℕ → ℕ → List Row → Bool

@@ -7,6 +7,7 @@ use mathlib.Core.List.{List}
 use Prim.Native.Nat.{ℕ, _+_, _*_, _≤_, _<_}
 use lib.ListN.{length, getD, getElem?}
 use Rattle.laws.specs.Counts.{tally}
+use Rattle.laws.specs.Options.{test}
 use Rattle.account.specs.declared.Mode.{Mode}
 use Rattle.account.specs.declared.Mode.the-variants.{Log, Disk}
 use Rattle.page.specs.Page.{Page, sequence}
@@ -21,13 +22,9 @@ use Rattle.flash_rows.specs.declared.Row.{Row}
 use Rattle.flash_blocks.specs.Pages.{blankPage, pageAt, isBlank}
 use Rattle.flash_allocate.specs.World.{World, used}
 
--- The row of a number, and what a test says of a place of a block: no where nothing is written.
+-- The row of a number.
 abbrev pub rowAt : List Row → ℕ → Row
 rowAt rows n = getD rows n noRow
-
-abbrev pub test : (Page → Bool) → Option Page → Bool
-test f none = false
-test f (some p) = f p
 
 -- The bytes of a place: those of the page written there, or blank.
 abbrev pub imageAt : (Page → List ℕ) → Option Page → List ℕ

@@ -14,6 +14,7 @@ use Rattle.laws.specs.Tests.{test-clash, test-same}
 use Rattle.laws.specs.Order.{eq-or, le-or}
 use Rattle.laws.specs.Counts.{count, count-le-length, filter, length-filter}
 use Rattle.laws.specs.Elements.{get-below}
+use Rattle.laws.specs.Options.{test}
 use Rattle.page.specs.Page.{Page}
 use Rattle.store.specs.Pool.{Blocks, block}
 use Rattle.store.specs.Allocate as Model
@@ -22,7 +23,7 @@ use Rattle.flash_rows.specs.Step.{names, newPlace}
 use Rattle.flash_rows.specs.declared.Row.{Row}
 use Rattle.flash_live.specs.Live.{marked}
 use Rattle.flash_allocate.specs.Compact.{Copying, copying, copyBlock, renameRows, Compacted, emptied, moveBlock}
-use Rattle.flash_refines.specs.Store.Mirror.{rowAt, test, PagesAre, RowsName}
+use Rattle.flash_refines.specs.Store.Mirror.{rowAt, PagesAre, RowsName}
 use Rattle.flash_refines.specs.Store.Pages.{place-apart, pages-erased}
 use Rattle.flash_refines.specs.Store.Names.{mapped, names-mapped, names-unmapped, length-renameRows, rowAt-renameRows}
 use Rattle.flash_refines.specs.Store.Live.{Owned}

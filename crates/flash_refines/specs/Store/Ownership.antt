@@ -10,6 +10,7 @@ use native.Mathlib.Omega.{arith}
 use borrow.Author.Tests.{ltb-false}
 use lib.ListN.{getElem?}
 use Rattle.laws.specs.Counts.{bit, count, tally, tally-at, empty}
+use Rattle.laws.specs.Options.{test}
 use Rattle.page.specs.Page.{Page, sequence}
 use Rattle.store.specs.Item.{itemsOf, piecesIn}
 use Rattle.store.specs.View.{View, greatest, pages}
@@ -18,7 +19,6 @@ use Rattle.store.specs.Store.{Store, view}
 use Rattle.store.specs.Live.{carries}
 use Rattle.store_laws.specs.BlockRules.{BlockRules}
 use Rattle.store_laws.specs.LiveLaws.{carries-pages}
-use Rattle.flash_refines.specs.Store.Mirror.{test}
 
 none-in : (f : Page → Bool) (b : List Page) → count f b ≡ 0 → (q : ℕ) → test f (getElem? b q) ≡ false
 none-in f [] e q = refl

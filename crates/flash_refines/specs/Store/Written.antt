@@ -10,6 +10,7 @@ use lib.ListN.{length, set, getElem?, length-append}
 use lib.Seq.{getD-set-same, getD-set-other}
 use Rattle.laws.specs.Order.{eq-or}
 use Rattle.laws.specs.Elements.{get-past, get-snoc-old, get-snoc-new}
+use Rattle.laws.specs.Options.{test}
 use Rattle.page.specs.Page.{Page}
 use Rattle.store.specs.Pool.{Blocks, block, addTo}
 use Rattle.flash_rows.specs.Step.{names}
@@ -17,7 +18,7 @@ use Rattle.flash_rows.specs.declared.Row.{Row}
 use Rattle.flash_rows.specs.Worktable.{Worktable}
 use Rattle.flash_allocate.specs.declared.state.State.{State}
 use Rattle.flash_allocate.specs.World.{World, world, used, spot}
-use Rattle.flash_refines.specs.Store.Mirror.{rowAt, test, PagesAre, RowsName}
+use Rattle.flash_refines.specs.Store.Mirror.{rowAt, PagesAre, RowsName}
 use Rattle.flash_refines.specs.Store.Pages.{place-apart, pages-add}
 use Rattle.flash_refines.specs.Store.Allocate.{Stands}
 

@@ -11,6 +11,7 @@ use lib.ListN.{getElem?, set, length-set}
 use lib.Seq.{getD-set-same, getD-set-other}
 use Rattle.laws.specs.Order.{eq-or}
 use Rattle.laws.specs.Counts.{bit, tally}
+use Rattle.laws.specs.Options.{test}
 use Rattle.layout.specs.Layout.{bound32}
 use Rattle.account.specs.declared.Mode.{Mode}
 use Rattle.account.specs.declared.Mode.the-variants.{Disk}
@@ -37,7 +38,7 @@ use Rattle.flash_allocate.specs.World.{World, world, used, spot}
 use Rattle.flash_allocate.specs.Allocate.{allocate}
 use Rattle.flash_write.specs.NodePage.{diskRow, onPage}
 use Rattle.flash_write.specs.NodePage as Code
-use Rattle.flash_refines.specs.Store.Mirror.{rowAt, test, RowMode, RowsSay, Mirrors}
+use Rattle.flash_refines.specs.Store.Mirror.{rowAt, RowMode, RowsSay, Mirrors}
 use Rattle.flash_refines.specs.Store.RowModes.{place-rowMode}
 use Rattle.flash_refines.specs.Store.Names.{mapped}
 use Rattle.flash_refines.specs.Store.Allocate.{Kept}

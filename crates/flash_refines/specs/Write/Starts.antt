@@ -11,6 +11,7 @@ use Rattle.laws.specs.Counts.{tally}
 use Rattle.laws.specs.Lay.{part}
 use Rattle.laws.specs.BigEndian.{numberAt}
 use Rattle.laws.specs.Update.{update, update-same, update-other}
+use Rattle.laws.specs.Options.{test}
 use Rattle.layout.specs.Layout.{mostEntries, nodeLimit, bound32}
 use Rattle.account.specs.declared.Mode.{Mode}
 use Rattle.account.specs.declared.Mode.the-variants.{Log}
@@ -37,7 +38,7 @@ use Rattle.flash_allocate.specs.World.{World, world}
 use Rattle.flash_log.specs.Entry.{Logged, besides, appendAll}
 use Rattle.flash_write.specs.Group.{begun, started, restart, startNext}
 use Rattle.flash_write.specs.Group as Code
-use Rattle.flash_refines.specs.Store.Mirror.{rowAt, test, RowsName, RowMode, RowsSay, Mirrors}
+use Rattle.flash_refines.specs.Store.Mirror.{rowAt, RowsName, RowMode, RowsSay, Mirrors}
 use Rattle.flash_refines.specs.Store.RowModes.{same-rowMode}
 use Rattle.flash_refines.specs.Store.Notes.{names-fresh}
 use Rattle.flash_refines.specs.Store.Placed.{nextNumber-is}

@@ -11,6 +11,7 @@ use lib.ListN.{length}
 use Rattle.laws.specs.Tests.{and-left}
 use Rattle.laws.specs.Order.{Tri, less, same, more, tri}
 use Rattle.laws.specs.Counts.{bit, count, count-append, tally, tally-mono, tally-apart}
+use Rattle.laws.specs.Options.{test}
 use Rattle.page.specs.Page.{Page, sequence}
 use Rattle.store.specs.Item.{piecesIn}
 use Rattle.store.specs.View.{sumTo, some?, greatest, pages}
@@ -21,7 +22,6 @@ use Rattle.store.specs.Reopen.{Cells, cellsIn, cells, newest, storeOf}
 use Rattle.store_laws.specs.ViewLaws.{sumTo-ext}
 use Rattle.store_laws.specs.LiveLaws.{carries-pages}
 use Rattle.store_laws.specs.BlockTests.{newest-above}
-use Rattle.flash_refines.specs.Store.Mirror.{test}
 use Rattle.flash_refines.specs.Read.Lies.{find-lies}
 use Rattle.mount_refines.specs.Rows.Cells.{hasCell}
 use Rattle.mount_refines.specs.Rows.Places.{Orderly, tally-here}

@@ -7,6 +7,7 @@ use native.Mathlib.Omega.{arith}
 use lib.ListN.{getD, getElem?}
 use Rattle.laws.specs.Counts.{count}
 use Rattle.laws.specs.Every.{Every}
+use Rattle.laws.specs.Options.{test}
 use Rattle.layout.specs.Layout.{pagesInBlock}
 use Rattle.account.specs.declared.Mode.{Mode}
 use Rattle.account.specs.declared.Mode.the-variants.{Log, Disk}
@@ -18,7 +19,7 @@ use Rattle.store.specs.Reopen.{Cells, blocksIn, storeOf}
 use Rattle.flash_rows.specs.declared.Row.{Row}
 use Rattle.flash_rows.specs.Step.{names}
 use Rattle.flash_blocks.specs.Pages.{pagesOf}
-use Rattle.flash_refines.specs.Store.Mirror.{rowAt, test, RowMode}
+use Rattle.flash_refines.specs.Store.Mirror.{rowAt, RowMode}
 use Rattle.flash_refines.specs.Store.Cells.{cell-at}
 use Rattle.mount_rows.specs.Fill.{filled}
 use Rattle.mount_refines.specs.Rows.Given.{Given, sized, checked, orderly, same-cells, count-blocks, is-pool}

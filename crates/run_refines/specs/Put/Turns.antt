@@ -16,6 +16,7 @@ use Rattle.node.specs.Repoint.{repoint}
 use Rattle.tree.specs.Table.{slot}
 use Rattle.tree.specs.NodeRequest.{edit, changeAll}
 use Rattle.tree.specs.Put.{renamed, parentEdits}
+use Rattle.tree_laws.specs.Standing.{leaf-no-branch}
 use Rattle.flash_allocate.specs.World.{World}
 use Rattle.run_path.specs.Steps.{slot-place}
 use Rattle.run_split.specs.declared.Pending.{Pending}
@@ -108,14 +109,11 @@ module _ (t : Tariff) (k : ℕ) (root : Bool) (id : ℕ) (w : World) where
           over = λ l. halves-by (Full at) r ∙ ap (λ (x : Node). split t root id x w) (h .0);
         }
 
-  no-leaf : {A : Type 0} → Leaf ≡ Branch → A
-  no-leaf e = let z : _≡_ {A = ℕ} 0 1 = cc in absurd (omega arith)
-
   -- THE TURN
   pub turned : (n : Node) → Neat n → nodeAt id w ≡ n → (p : Pending) (edits : List Change) → Waits k n p edits → Turned t k root id n p edits w
   turned n neat e Nothing edits a = absurd a
   turned n neat e (Pair key value) edits a = rw a (pair-turned n neat e key value (fitOf key (pairsOf n)) refl)
-  turned (node Leaf ps last) neat e (Halves middle left right) edits a = no-leaf (a .1)
+  turned (node Leaf ps last) neat e (Halves middle left right) edits a = absurd (leaf-no-branch (a .1))
   turned (node Branch ps last) neat e (Halves middle left right) edits a =
       rw (a .0, renamed-is k right ps last)
       (halves-turned ps last neat e middle left right
