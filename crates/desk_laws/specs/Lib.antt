@@ -2,3 +2,4 @@ pub mod ValidBytes
 pub mod Read
 pub mod JoinedLaws
 pub mod QueueLaws
+pub mod Gets

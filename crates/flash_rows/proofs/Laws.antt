@@ -1,17 +1,17 @@
 -- The cases of a claim, and a row stored in bytes as a row set. Assumes nothing.
 use mathlib.Core.Path.{_≡_, refl, sym, ap, _∙_}
 use mathlib.Core.Bool.{true, false}
-use mathlib.Core.List.{List, map}
+use mathlib.Core.List.{List, map, [], _∷_, _++_}
 use Prim.Native.Nat.{ℕ, _+_, _*_, _/_, _≤_}
 use native.Mathlib.Omega.{arith}
 use lib.Dec.{eqb}
 use lib.ListN.{length, getD, set, take, drop, length-map, List·getD-map}
-use Rattle.laws.specs.Lay.{lay, part}
-use Rattle.laws.specs.BigEndian.{numberAt, number-bigEndian}
+use Rattle.laws.specs.Lay.{lay, part, lay-next, lay-whole}
+use Rattle.laws.specs.BigEndian.{numberAt, number-bigEndian, bigEndian}
 use Rattle.laws.specs.Chunks.{chunks, length-chunks, get-chunks, lay-chunks, map-set}
 use Rattle.account.specs.declared.Mode.{Mode}
 use Rattle.account.specs.declared.Mode.the-variants.{Log, Disk}
-use Rattle.flash_rows.specs.Row.{modeByte, modeFrom, decode, encode, rowsOf, noRow, Fits}
+use Rattle.flash_rows.specs.Row.{modeByte, modeFrom, decode, encode, rowsOf, noRow, Fits, rowBytes}
 use Rattle.flash_rows.specs.Step.{names, noted, byMode, claim}
 use Rattle.flash_rows.specs.declared.Row.{Row}
 use Rattle.flash_rows.specs.declared.Claim.the-variants.{Same, Noted}
@@ -34,6 +34,30 @@ module _ (version page : ℕ) (r : Row) where
       pub claim-new : (x : Row) → x ≡ noted page r → names page r ≡ false → Noted x ≡ claim version page r
       unfolding claim
       claim-new x e n = rw (v, n) (ap Noted e ∙ ap (λ (k : Mode). byMode k (Noted (noted page r)) Same) (sym m))
+
+-- A row's numbers laid one behind another are its bytes.
+pub row-laid : (s : List ℕ) (r : Row) → length s ≡ rowBytes →
+    lay
+    (lay
+    (lay
+    (lay (lay (lay (lay s 0 (bigEndian 4 (r .version))) 4 (bigEndian 4 (r .score))) 8 (modeByte (r .mode) ∷ [])) 9 (r .pages ∷ []))
+    10 (bigEndian 2 (r .first))) 12 (bigEndian 2 (r .second))) 14 (bigEndian 2 (r .third)) ≡ encode r
+unfolding encode
+row-laid s r e =
+    let a = bigEndian 4 (r .version) ++ bigEndian 4 (r .score) in
+    let b = a ++ (modeByte (r .mode) ∷ []) in
+    let c = b ++ (r .pages ∷ []) in
+    let d = c ++ bigEndian 2 (r .first) in
+    let f = d ++ bigEndian 2 (r .second) in
+    rw (
+      lay-next s 0 (bigEndian 4 (r .version)) (bigEndian 4 (r .score)) 4 (omega arith) refl,
+      lay-next s 0 a (modeByte (r .mode) ∷ []) 8 (omega arith) refl,
+      lay-next s 0 b (r .pages ∷ []) 9 (omega arith) refl,
+      lay-next s 0 c (bigEndian 2 (r .first)) 10 (omega arith) refl,
+      lay-next s 0 d (bigEndian 2 (r .second)) 12 (omega arith) refl,
+      lay-next s 0 f (bigEndian 2 (r .third)) 14 (omega arith) refl,
+    )
+    (lay-whole s (encode r) (sym e))
 
 -- Rows in bytes: what was encoded is decoded, and a row stored is a row set.
 mode-back : (m : Mode) → modeFrom (modeByte m) ≡ m

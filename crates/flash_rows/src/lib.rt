@@ -12,9 +12,12 @@ pub mod table;
 use account::Mode;
 use layout::PAGES_IN_BLOCK;
 use layout::ROW_BYTES;
+use wire::bytes::lay_byte;
 use wire::bytes::lay_bytes;
 use wire::number::read16;
 use wire::number::read32;
+use wire::number::write16;
+use wire::number::write32;
 
 // A node's row: its version, score and mode, and the one to three pages that it lies on.
 pub struct Row {
@@ -104,25 +107,15 @@ fn encode(r: Row) -> [u8; ROW_BYTES]
     ensures { λ b. ⌜ b ≡ def.encode r ⌝ }
 {
     let mode = r.mode;
-    let m = mode_byte(mode);
-    [
-        (r.version / 256 / 256 / 256 % 256) as u8,
-        (r.version / 256 / 256 % 256) as u8,
-        (r.version / 256 % 256) as u8,
-        (r.version % 256) as u8,
-        (r.score / 256 / 256 / 256 % 256) as u8,
-        (r.score / 256 / 256 % 256) as u8,
-        (r.score / 256 % 256) as u8,
-        (r.score % 256) as u8,
-        m,
-        r.pages,
-        (r.first / 256 % 256) as u8,
-        (r.first % 256) as u8,
-        (r.second / 256 % 256) as u8,
-        (r.second % 256) as u8,
-        (r.third / 256 % 256) as u8,
-        (r.third % 256) as u8,
-    ]
+    let mut bytes = [0; ROW_BYTES];
+    write32(&mut bytes, 0, r.version);
+    write32(&mut bytes, 4, r.score);
+    lay_byte(&mut bytes, 8, mode_byte(mode));
+    lay_byte(&mut bytes, 9, r.pages);
+    write16(&mut bytes, 10, r.first as u32);
+    write16(&mut bytes, 12, r.second as u32);
+    write16(&mut bytes, 14, r.third as u32);
+    bytes
 }
 
 // The row of a node, or of a checkpoint page being written.

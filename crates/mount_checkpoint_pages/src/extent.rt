@@ -1,6 +1,6 @@
 // How far the checkpoint reaches: from the newest page that has the tariff to the newest of all.
 ghost use mathlib.Core.Path.{_≡_};
-ghost use Prim.Native.Nat.{_+_, _*_, _≤_, _<_, max};
+ghost use Prim.Native.Nat.{_*_, _≤_};
 ghost use lib.ListN.{length};
 ghost use Rattle.flash_blocks.specs.Pages.{pagesOf};
 ghost use Rattle.mount_checkpoint_pages.specs.Extent as def;
@@ -10,22 +10,13 @@ use flash_blocks::page::page_part;
 use layout::TARIFF_BYTES;
 use page_read::seal::sequence;
 use wire::field::payload;
+use wire::number::greater;
 
 // The greatest sequence number, the greatest of a page with the tariff, and where that page lies.
 pub struct Extent {
     pub newest: u32,
     pub since: u32,
     pub place: usize,
-}
-
-// The greater of two numbers.
-fn greater(a: u32, b: u32) -> u32
-    ensures { λ r. ⌜ r ≡ max a b ⌝ }
-{
-    if a < b {
-        return b;
-    }
-    a
 }
 
 // The extent with one page more.

@@ -1,6 +1,5 @@
 // A mark for each number of a row, in the second half of the table, so that one look tells of most numbers that the row has not got them.
 ghost use mathlib.Core.Path.{_≡_};
-ghost use mathlib.Core.List.{[], _∷_};
 ghost use Prim.Native.Nat.{_*_, _≤_, _<_};
 ghost use lib.ListN.{length, replicate};
 ghost use Rattle.laws.specs.Lay.{lay};
@@ -13,6 +12,7 @@ ghost use Rattle.mount_filter.specs.Marks.{markOf, fingerprint, excludes
 use layout::TABLE_BYTES;
 use mount_sequences::find::has;
 use wire::bytes::fill_part;
+use wire::bytes::lay_byte;
 use wire::number::read8;
 use wire::number::read32;
 
@@ -76,14 +76,6 @@ fn excludes(mark: u32, v: u32) -> bool
     true
 }
 
-// Lays one byte.
-fn put(table: &mut [u8], at: usize, byte: u32)
-    requires { ⌜ (at < length (now table)) × (byte < 256) ⌝ }
-    ensures { λ _. ⌜ now (table .exit) ≡ lay (now (table .entry)) at (byte ∷ []) ⌝ }
-{
-    table[at] = byte as u8;
-}
-
 // Takes all marks away: for speed alone, the row stays as it is.
 fn clear(table: &mut [u8], blocks: usize)
     requires { ⌜ length (now table) ≡ tableBytes blocks ⌝ }
@@ -103,7 +95,7 @@ fn set_marks(table: &mut [u8], n: usize, blocks: usize)
         let v = read32(table, 4 * i);
         let at = MARK_BYTES * blocks + mark_of(blocks, v);
         let mark = with_fingerprint(read8(table, at), fingerprint(v));
-        put(table, at, mark);
+        lay_byte(table, at, mark as u8);
         i += 1;
     }
 }

@@ -5,8 +5,8 @@ use Prim.Native.Nat.{ℕ, zero, suc, _+_, _*_, _/_, _%_, _≤_, _<_}
 use native.Mathlib.Omega.{arith}
 use lib.ListN.{length, getD, set, take, drop, length-map, List·getD-map, length-set, drop-of-length-le}
 use lib.Seq.{drop-cons, drop-set-lt, getD-set-same}
-use Rattle.laws.specs.Lay.{lay, part}
-use Rattle.laws.specs.BigEndian.{numberAt, number-bigEndian}
+use Rattle.laws.specs.Lay.{lay, part, lay-next, lay-whole}
+use Rattle.laws.specs.BigEndian.{numberAt, number-bigEndian, bigEndian}
 use Rattle.laws.specs.Chunks.{chunks, length-chunks, get-chunks, lay-chunks, map-set}
 use Rattle.layout.specs.Layout.{bound32, dueBytes}
 use Rattle.pairs.specs.Pairs.{Pair}
@@ -36,6 +36,21 @@ decode-encode d f =
     (halves (d .high) _ _
     (number-bigEndian 4 (d .high / bound32) (f .high))
     (number-bigEndian 4 (d .high % bound32) (omega arith)))
+
+-- Its numbers laid one behind another are its bytes.
+pub due-laid : (s : List ℕ) (d : Due) → length s ≡ dueBytes →
+    lay (lay (lay (lay s 0 (bigEndian 4 (d .id))) 4 (bigEndian 4 (d .depth))) 8 (bigEndian 4 (d .high / bound32))) 12 (bigEndian 4 (d .high % bound32)) ≡
+    encode d
+unfolding encode
+due-laid s d e =
+    let a = bigEndian 4 (d .id) ++ bigEndian 4 (d .depth) in
+    let b = a ++ bigEndian 4 (d .high / bound32) in
+    rw (
+      lay-next s 0 (bigEndian 4 (d .id)) (bigEndian 4 (d .depth)) 4 (omega arith) refl,
+      lay-next s 0 a (bigEndian 4 (d .high / bound32)) 8 (omega arith) refl,
+      lay-next s 0 b (bigEndian 4 (d .high % bound32)) 12 (omega arith) refl,
+    )
+    (lay-whole s (encode d) (sym e))
 
 length-encode : (d : Due) → length (encode d) ≡ dueBytes
 unfolding encode

@@ -13,6 +13,7 @@ use node::search::key;
 use node::search::pointer;
 use wire::bytes::lay_bytes;
 use wire::number::read32;
+use wire::number::write32;
 
 // A node due: its id, how deep the leaves stand below it, and the bound that its keys stay below.
 pub struct Due {
@@ -41,26 +42,12 @@ fn decode(part: &[u8]) -> Due
 fn encode(due: Due) -> [u8; DUE_BYTES]
     ensures { λ r. ⌜ r ≡ def.encode due ⌝ }
 {
-    let upper = due.high / 4294967296;
-    let lower = due.high % 4294967296;
-    [
-        (due.id / 256 / 256 / 256 % 256) as u8,
-        (due.id / 256 / 256 % 256) as u8,
-        (due.id / 256 % 256) as u8,
-        (due.id % 256) as u8,
-        (due.depth / 256 / 256 / 256 % 256) as u8,
-        (due.depth / 256 / 256 % 256) as u8,
-        (due.depth / 256 % 256) as u8,
-        (due.depth % 256) as u8,
-        (upper / 256 / 256 / 256 % 256) as u8,
-        (upper / 256 / 256 % 256) as u8,
-        (upper / 256 % 256) as u8,
-        (upper % 256) as u8,
-        (lower / 256 / 256 / 256 % 256) as u8,
-        (lower / 256 / 256 % 256) as u8,
-        (lower / 256 % 256) as u8,
-        (lower % 256) as u8,
-    ]
+    let mut bytes = [0; DUE_BYTES];
+    write32(&mut bytes, 0, due.id);
+    write32(&mut bytes, 4, due.depth);
+    write32(&mut bytes, 8, (due.high / 4294967296) as u32);
+    write32(&mut bytes, 12, (due.high % 4294967296) as u32);
+    bytes
 }
 
 // The node due in a slot.

@@ -1,6 +1,5 @@
 // What every page has around its content: field 10 before it, field 1F behind it.
 ghost use mathlib.Core.Path.{_≡_};
-ghost use mathlib.Core.List.{[], _∷_};
 ghost use Prim.Native.Nat.{_+_, _*_, _≤_, _<_};
 ghost use lib.ListN.{length, take};
 ghost use Rattle.laws.specs.Lay.{lay};
@@ -14,14 +13,6 @@ use wire::field::lay_head;
 use wire::number::write16;
 use wire::number::write32;
 use wire::sum::sum_bytes;
-
-// Lays one byte at a place.
-pub fn lay_byte(p: &mut [u8], at: usize, byte: u8)
-    requires { ⌜ at < length (now p) ⌝ }
-    ensures { λ _. ⌜ now (p .exit) ≡ lay (now (p .entry)) at (byte ∷ []) ⌝ }
-{
-    p[at] = byte;
-}
 
 // Lays field 10.
 pub fn lay_sequence(p: &mut [u8], sequence: u32)

@@ -6,12 +6,12 @@ ghost use Rattle.laws.specs.Lay.{lay};
 ghost use Rattle.layout.specs.Layout.{pageBytes, mostEntries, entrySize};
 ghost use Rattle.page_write.specs.Laid.{summed};
 ghost use Rattle.page_write.specs.Pages.{entryRecord, logBody, logImage};
-use super::frame::lay_byte;
 use super::frame::lay_run;
 use super::frame::lay_sequence;
 use super::frame::lay_sums;
 use layout::ENTRY_BYTES;
 use layout::PAGE_BYTES;
+use wire::bytes::lay_byte;
 use wire::number::write16;
 use wire::number::write32;
 

@@ -27,9 +27,9 @@ use Rattle.run_scan.specs.Pairs.{listed, pairsOf, Sized, listed-none, length-li
 use Rattle.run_scan.specs.Scan.{ScannedAs}
 use Rattle.run_split.specs.Growing.{Growing, Grew, grew-same, grew-charged}
 use Rattle.run_put.specs.Put as Put
-use Rattle.run_put.specs.Put.{DoneAs}
+use Rattle.run_put.specs.Put.{DoneAs, mostServed}
 use Rattle.run.specs.declared.Progress.{Progress}
-use Rattle.run.specs.Run.{commandWorld, commandCharge, commandReply, mostServed, CommandAs}
+use Rattle.run.specs.Run.{commandWorld, commandCharge, commandReply, CommandAs}
 
 -- What the code of a reply leaves: these bytes at a place, and what was charged as it was.
 pub record RepliedAs (before after : List ℕ) (r : Progress) (c : Charged) (at : ℕ) (bytes : List ℕ) : Type 0 where

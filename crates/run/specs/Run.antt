@@ -2,10 +2,10 @@
 -- and answers"; document 02, P2 and P3).
 use mathlib.Core.Path.{_≡_}
 use mathlib.Core.List.{List}
-use Prim.Native.Nat.{ℕ, _+_, _*_}
+use Prim.Native.Nat.{ℕ, _+_}
 use lib.ListN.{length}
 use Rattle.laws.specs.Lay.{lay}
-use Rattle.layout.specs.Layout.{mostNodes, lastKey}
+use Rattle.layout.specs.Layout.{lastKey}
 use Rattle.pairs.specs.Pairs.{first}
 use Rattle.account.specs.declared.Tariff.{Tariff}
 use Rattle.command.specs.declared.Answer.the-variants.{Got, Deleted}
@@ -23,7 +23,7 @@ use Rattle.run_lookup.specs.Value.{valueIn}
 use Rattle.run_lookup.specs.Delete.{delete, deleteCharge}
 use Rattle.run_scan.specs.Scan.{scanWorld, scanCharge, scanPairs}
 use Rattle.run_split.specs.Growing.{Grew}
-use Rattle.run_put.specs.Put.{put}
+use Rattle.run_put.specs.Put.{put, mostServed}
 use Rattle.run.specs.declared.Progress.{Progress}
 use Rattle.run.specs.declared.Ran.{Ran}
 
@@ -64,11 +64,6 @@ runCharge = chargeOn commandReply commandWorld commandCharge
 
 abbrev pub runCharges : List Command → Session → World → List ℕ
 runCharges cs n w = eachPanel (λ q. runCharge q cs n w)
-
--- At most so many requests are charged for one command: three a node, of a put whose path has them all and splits every one. It keeps the sum of a
--- batch within 64 bits; how many a sound tree takes is counted in `demands`.
-abbrev pub mostServed : ℕ
-mostServed = 3 * mostNodes
 
 -- What the code of one command leaves: this world, this charge, and its reply laid at a place of the answer buffer.
 pub record CommandAs (poolLength tableLength : ℕ) (pages : List (List ℕ)) (table : Worktable) (before after : List ℕ) (r : Progress) (n : Session)

@@ -24,12 +24,13 @@ use Rattle.flash_allocate.specs.declared.state.State.{State}
 use Rattle.flash_allocate.specs.World.{World, world}
 use Rattle.run_serve.specs.Step.{ChargedAs}
 use Rattle.run_split.specs.Growing.{Growing, Grew}
+use Rattle.run_put.specs.Put.{mostServed}
 use Rattle.run.specs.declared.Progress.{Progress}
 use Rattle.run.specs.declared.Ran.{Ran}
 use Rattle.run.specs.declared.Session.{Session as Held}
 use Rattle.run.specs.Session.{sessionOf, heldFirst, heldAfter, sessionAt}
 use Rattle.run.specs.Charges.{most64, added, added-at}
-use Rattle.run.specs.Run.{commandWorld, commandCharge, commandReply, mostServed, runWorld, runCharge, runReplies, CommandAs, RunAs}
+use Rattle.run.specs.Run.{commandWorld, commandCharge, commandReply, runWorld, runCharge, runReplies, CommandAs, RunAs}
 use Rattle.run.specs.Room.{reply-room}
 
 -- Where every batch begins: "at panel 0", with the tariff of its pool.

@@ -5,7 +5,7 @@ use Prim.Native.Nat.{ℕ, _+_, _*_, _-_}
 use lib.Dec.{ltb}
 use lib.ListN.{length, getD}
 use Rattle.laws.specs.Tests.{choose}
-use Rattle.layout.specs.Layout.{nodeLimit, mostBlocks}
+use Rattle.layout.specs.Layout.{nodeLimit, mostNodes}
 use Rattle.account.specs.declared.Tariff.{Tariff}
 use Rattle.command.specs.declared.Answer.{Answer}
 use Rattle.command.specs.declared.Answer.the-variants.{Absent, Replaced, Refused}
@@ -86,15 +86,16 @@ putIn table t key value w =
 abbrev pub put : Tariff → ℕ → ℕ → World → Doing
 put t key value w = putIn (tableIn w) t key value w
 
--- A node of the path is read, and edited twice at most; a path has no more nodes than there are.
-abbrev pub mostPut : ℕ
-mostPut = 3 * nodeLimit mostBlocks
+-- At most so many requests are charged for one command: a node of a path is read, and edited twice at most, and a path has no more nodes than there
+-- are. It keeps the sum of a batch within 64 bits; how many a sound tree takes is counted in `demands`.
+abbrev pub mostServed : ℕ
+mostServed = 3 * mostNodes
 
 -- What the code of the requests leaves.
 abbrev pub RequestsAs : ℕ → ℕ → List (List ℕ) → Worktable → Charged → State → Requests → Type 0
-RequestsAs poolLength tableLength pages table r before right = ChargedAs Grew poolLength tableLength pages table r before mostPut (right .now) (right .charge)
+RequestsAs poolLength tableLength pages table r before right = ChargedAs Grew poolLength tableLength pages table r before mostServed (right .now) (right .charge)
 
 -- What the code of a command leaves: the world, the charge and the answer of the definition.
 abbrev pub DoneAs : ℕ → ℕ → List (List ℕ) → Worktable → Answered → State → Doing → Type 0
 DoneAs poolLength tableLength pages table r before right =
-    AnsweredAs Grew poolLength tableLength pages table r before mostPut (right .now) (right .charge) (right .answer)
+    AnsweredAs Grew poolLength tableLength pages table r before mostServed (right .now) (right .charge) (right .answer)

@@ -1,8 +1,17 @@
 // Bytes laid over buffers.
 ghost use mathlib.Core.Path.{_≡_};
+ghost use mathlib.Core.List.{[], _∷_};
 ghost use Prim.Native.Nat.{_+_, _-_, _≤_, _<_};
 ghost use lib.ListN.{length, replicate};
 ghost use Rattle.laws.specs.Lay.{lay};
+
+// Lays one byte over a buffer at a place.
+pub fn lay_byte(dst: &mut [u8], at: usize, byte: u8)
+    requires { ⌜ at < length (now dst) ⌝ }
+    ensures { λ _. ⌜ now (dst .exit) ≡ lay (now (dst .entry)) at (byte ∷ []) ⌝ }
+{
+    dst[at] = byte;
+}
 
 // Lays bytes over a buffer at a place.
 pub fn lay_bytes(dst: &mut [u8], at: usize, src: &[u8])

@@ -1,10 +1,20 @@
-// Numbers in buffers, most significant byte first.
+// The greater of two numbers; numbers in buffers, most significant byte first.
 ghost use mathlib.Core.Path.{_≡_};
-ghost use Prim.Native.Nat.{_+_, _≤_, _<_};
+ghost use Prim.Native.Nat.{_+_, _≤_, _<_, max};
 ghost use lib.ListN.{length, getD};
 ghost use Rattle.laws.specs.Lay.{lay};
 ghost use Rattle.laws.specs.BigEndian.{bigEndian};
 ghost use Rattle.wire.specs.Read.{Read};
+
+// The greater of two numbers.
+pub fn greater(a: u32, b: u32) -> u32
+    ensures { λ r. ⌜ r ≡ max a b ⌝ }
+{
+    if a < b {
+        return b;
+    }
+    a
+}
 
 // The byte at a place.
 pub fn read8(s: &[u8], at: usize) -> u32

@@ -25,8 +25,8 @@ mul-read32 c = omega (arith, c .before .before .before .before .pre .few)
 
 read32-requires : tie.Need-read32-requires Inv-loop μ-loop
 read32-requires c κs =
-    let c4 = c .before .before .before .before in
-    omega (arith, c4 .pre .few, c4 .pre .size)
+    let entry = c .before .before .before .before in
+    omega (arith, entry .pre .few, entry .pre .size)
 
 mul-at : tie.Need-mul-at Inv-loop μ-loop
 mul-at c = omega (arith, c .before .before .before .before .before .pre .size)
@@ -46,12 +46,14 @@ fingerprint-requires c κs = search needs
 with-fingerprint-requires : tie.Need-with-fingerprint-requires Inv-loop μ-loop
 with-fingerprint-requires c κs = search needs
 
-put-requires : tie.Need-put-requires Inv-loop μ-loop
-put-requires c κs =
-    let c1 = c .before in
-    let c5 = c1 .before .before .before .before in
-    let c11 = c5 .before .before .before .before .before .before in
-    (omega (arith, c11 .pre .size, c5 .mark-of .ensures .1), c1 .with-fingerprint .ensures .1)
+cast-lay-byte : tie.Need-cast-lay-byte Inv-loop μ-loop
+cast-lay-byte c = omega (arith, c .before .with-fingerprint .ensures .1)
+
+lay-byte-requires : tie.Need-lay-byte-requires Inv-loop μ-loop
+lay-byte-requires c κs =
+    let placed = c .before .before .before .before .before in
+    let entry = placed .before .before .before .before .before .before in
+    omega (arith, entry .pre .size, placed .mark-of .ensures .1)
 
 add-i : tie.Need-add-i Inv-loop μ-loop
 add-i c = search needs
@@ -71,7 +73,7 @@ loop-again c = let a = c .before .before .before .before .before .before .before
     let byte = r .ensures .0 ∙ ap₂ withFingerprint (c .before .before .before .before .before .before .read8 .ensures .0)
     (c .before .before .before .before .before .fingerprint .ensures .0) in (
       omega arith,
-      rw (c .before .before .put .ensures) (
+      rw (c .before .before .lay-byte .ensures) (
         row-marked (l .table) (a .n) (a .blocks) (l .i) (v .result) (m .result) (r .result) room
             (c .before .before .before .before .before .before .before .before .before .before .before .loop-test .taken)
             (v .ensures .is) (m .ensures .0) (m .ensures .1) byte (a .n) (omega arith) ∙ l .inv .1 .0,
@@ -112,7 +114,8 @@ set-marks-spec =
     read8-requires
     fingerprint-requires
     with-fingerprint-requires
-    put-requires
+    cast-lay-byte
+    lay-byte-requires
     add-i
     loop-less
     loop-again

@@ -1,79 +1,63 @@
--- `due::encode` meets its contract: the bytes are written as the definition computes them. Assumes nothing.
-use mathlib.Core.Path.{refl}
+-- `due::encode` meets its contract: four numbers laid one behind another are the bytes of the definition. Assumes nothing.
+use mathlib.Core.Path.{refl, _∙_}
+use lib.ListN.{replicate}
+use Rattle.mount_tree.specs.Stack.{due-laid}
 use borrow.Author.Needs.{needs}
 use Rattle.mount_tree.proofs.due.encode.Statement.{statement}
 use Rattle.mount_tree.proofs.due.encode.Tie as tie
 
-cast-t8 : tie.Need-cast-t8
-cast-t8 c = search needs
+slice-aggregate-write32 : tie.Need-slice-aggregate-write32
+slice-aggregate-write32 c = search needs
 
-cast-t12 : tie.Need-cast-t12
-cast-t12 c = search needs
+write32-requires : tie.Need-write32-requires
+write32-requires c κs = search needs
 
-cast-t15 : tie.Need-cast-t15
-cast-t15 c = search needs
+slice-aggregate-write32-2 : tie.Need-slice-aggregate-write32-2
+slice-aggregate-write32-2 c = search needs
 
-cast-t17 : tie.Need-cast-t17
-cast-t17 c = search needs
+write32-requires-2 : tie.Need-write32-requires-2
+write32-requires-2 c κs = search needs
 
-cast-t22 : tie.Need-cast-t22
-cast-t22 c = search needs
+slice-aggregate-write32-3 : tie.Need-slice-aggregate-write32-3
+slice-aggregate-write32-3 c = search needs
 
-cast-t26 : tie.Need-cast-t26
-cast-t26 c = search needs
+cast-write32 : tie.Need-cast-write32
+cast-write32 c = search needs
 
-cast-t29 : tie.Need-cast-t29
-cast-t29 c = search needs
+write32-requires-3 : tie.Need-write32-requires-3
+write32-requires-3 c κs = search needs
 
-cast-t31 : tie.Need-cast-t31
-cast-t31 c = search needs
+slice-aggregate-write32-4 : tie.Need-slice-aggregate-write32-4
+slice-aggregate-write32-4 c = search needs
 
-cast-t36 : tie.Need-cast-t36
-cast-t36 c = search needs
+cast-write32-2 : tie.Need-cast-write32-2
+cast-write32-2 c = search needs
 
-cast-t40 : tie.Need-cast-t40
-cast-t40 c = search needs
-
-cast-t43 : tie.Need-cast-t43
-cast-t43 c = search needs
-
-cast-t45 : tie.Need-cast-t45
-cast-t45 c = search needs
-
-cast-t50 : tie.Need-cast-t50
-cast-t50 c = search needs
-
-cast-t54 : tie.Need-cast-t54
-cast-t54 c = search needs
-
-cast-t57 : tie.Need-cast-t57
-cast-t57 c = search needs
-
-cast-t59 : tie.Need-cast-t59
-cast-t59 c = search needs
+write32-requires-4 : tie.Need-write32-requires-4
+write32-requires-4 c κs = search needs
 
 returns : tie.Need-returns
-unfolding Rattle.mount_tree.specs.Due.encode
-returns c = refl
+returns c =
+    let lower = c .before in
+    let upper = lower .before .before .before .before in
+    let deep = upper .before .before .before .before in
+    let named = deep .before .before .before in
+    let entry = named .before .before in
+    lower .write324 .ensures ∙
+    rw (upper .write323 .ensures, deep .write322 .ensures, named .write32 .ensures) (due-laid (replicate 16 0) (entry .args .due) refl)
 
 pub encode-spec : {M : Type 1} → statement M
 encode-spec =
     tie.close
     (tie.spec
-    cast-t8
-    cast-t12
-    cast-t15
-    cast-t17
-    cast-t22
-    cast-t26
-    cast-t29
-    cast-t31
-    cast-t36
-    cast-t40
-    cast-t43
-    cast-t45
-    cast-t50
-    cast-t54
-    cast-t57
-    cast-t59
+    slice-aggregate-write32
+    write32-requires
+    slice-aggregate-write32-2
+    write32-requires-2
+    slice-aggregate-write32-3
+    cast-write32
+    write32-requires-3
+    slice-aggregate-write32-4
+    cast-write32-2
+    write32-requires-4
     returns)
