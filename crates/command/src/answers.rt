@@ -8,7 +8,7 @@ ghost use Rattle.laws.specs.BigEndian.{bigEndian};
 ghost use Rattle.command.specs.Answer.{answerBytes, pairBytes, scanTag, ceilingBytes};
 ghost use Rattle.layout.specs.Layout.{mostPairs};
 use crate::Answer;
-use wire::bytes::lay_bytes;
+use wire::bytes::lay_byte;
 use wire::field::lay_head;
 use wire::number::write32;
 
@@ -28,7 +28,7 @@ fn lay_absent(buffer: &mut [u8], at: usize) -> usize
     requires { ⌜ at + 3 ≤ length (now buffer) ⌝ }
     ensures { λ r. ⌜ (now (buffer .exit) ≡ lay (now (buffer .entry)) at (answerBytes Answer.Absent)) × (r ≡ at + 3) ⌝ }
 {
-    lay_head(buffer, at, 128, 0);
+    lay_head(buffer, at, 0x80, 0);
     at + 3
 }
 
@@ -38,8 +38,8 @@ fn lay_refused(buffer: &mut [u8], at: usize, number: u8) -> usize
     ensures { λ r. ⌜ (now (buffer .exit) ≡ lay (now (buffer .entry)) at (answerBytes (Answer.Refused number)))
         × (r ≡ at + 4) ⌝ }
 {
-    lay_head(buffer, at, 143, 1);
-    lay_bytes(buffer, at + 3, &[number]);
+    lay_head(buffer, at, 0x8F, 1);
+    lay_byte(buffer, at + 3, number);
     at + 4
 }
 
@@ -51,9 +51,9 @@ pub fn lay_answer(buffer: &mut [u8], at: usize, answer: Answer) -> usize
 {
     match answer {
         Answer::Absent => lay_absent(buffer, at),
-        Answer::Got(value) => lay_value(buffer, at, 129, value),
-        Answer::Replaced(value) => lay_value(buffer, at, 130, value),
-        Answer::Deleted(value) => lay_value(buffer, at, 131, value),
+        Answer::Got(value) => lay_value(buffer, at, 0x81, value),
+        Answer::Replaced(value) => lay_value(buffer, at, 0x82, value),
+        Answer::Deleted(value) => lay_value(buffer, at, 0x83, value),
         Answer::Refused(number) => lay_refused(buffer, at, number),
     }
 }
@@ -73,7 +73,7 @@ pub fn lay_scan_head(buffer: &mut [u8], at: usize, pairs: usize)
     ensures { λ _. ⌜ now (buffer .exit) ≡ lay (now (buffer .entry)) at (head scanTag (8 * pairs)) ⌝ }
 {
     let bytes = (8 * pairs) as u32;
-    lay_head(buffer, at, 132, bytes);
+    lay_head(buffer, at, 0x84, bytes);
 }
 
 // Lays the answer of a ceiling, the pair that it found, and says where the next answer goes.
@@ -81,7 +81,7 @@ pub fn lay_ceiling(buffer: &mut [u8], at: usize, key: u32, value: u32) -> usize
     requires { ⌜ at + 11 ≤ length (now buffer) ⌝ }
     ensures { λ r. ⌜ (now (buffer .exit) ≡ lay (now (buffer .entry)) at (ceilingBytes (key, value))) × (r ≡ at + 11) ⌝ }
 {
-    lay_head(buffer, at, 135, 8);
+    lay_head(buffer, at, 0x87, 8);
     lay_pair(buffer, at + 3, key, value);
     at + 11
 }
