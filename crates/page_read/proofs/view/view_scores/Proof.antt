@@ -39,15 +39,15 @@ payload-requires c κs = search needs
 returns-2 : tie.Need-returns-2
 unfolding decodeCounted
 returns-2 c =
-    let c1 = c .before in
-    let c2 = c1 .before in
-    let c3 = c2 .before in
-    let c5 = c3 .before .before in
-    let a = c5 .args in
+    let uncounted = c .before in
+    let read = uncounted .before in
+    let scored = read .before in
+    let entry = scored .before .before in
+    let a = entry .args in
     let b = a .page .now in
-    let z = payload-empty b (a .at + 9 * a .n) 0x15 2 only-15 (λ y. c1 .if2 .taken (ap length (c2 .payload .ensures) ∙ y)) in
-    scores-unfilled (a .sequence) (payloadAt b 7 0x13) (a .at) (a .n) (payloadAt b (a .at + 9 * a .n) 0x15) b (c3 .if1 .left) (ap found z)
-    (λ y. c .if3 .taken (y ∙ sym (c5 .pre .limit)))
+    let z = payload-empty b (a .at + 9 * a .n) 0x15 2 only-15 (λ y. uncounted .if2 .taken (ap length (read .payload .ensures) ∙ y)) in
+    scores-unfilled (a .sequence) (payloadAt b 7 0x13) (a .at) (a .n) (payloadAt b (a .at + 9 * a .n) 0x15) b (scored .if1 .left) (ap found z)
+    (λ y. c .if3 .taken (y ∙ sym (entry .pre .limit)))
 
 is-sealed-requires : tie.Need-is-sealed-requires
 is-sealed-requires c κs = search needs
@@ -55,43 +55,43 @@ is-sealed-requires c κs = search needs
 returns-3 : tie.Need-returns-3
 unfolding decodeCounted
 returns-3 c =
-    let c1 = c .before in
-    let c2 = c1 .before in
-    let c3 = c2 .before in
-    let c4 = c3 .before in
-    let c5 = c4 .before in
-    let c7 = c5 .before .before in
-    let a = c7 .args in
+    let sealed = c .before in
+    let filled = sealed .before in
+    let uncounted = filled .before in
+    let read = uncounted .before in
+    let scored = read .before in
+    let entry = scored .before .before in
+    let a = entry .args in
     let b = a .page .now in
     let t = payloadAt b 7 0x13 in
     let count = payloadAt b (a .at + 9 * a .n) 0x15 in
-    let z = payload-empty b (a .at + 9 * a .n) 0x15 2 only-15 (λ y. c3 .if2 .taken (ap length (c4 .payload .ensures) ∙ y)) in
+    let z = payload-empty b (a .at + 9 * a .n) 0x15 2 only-15 (λ y. uncounted .if2 .taken (ap length (read .payload .ensures) ∙ y)) in
     let f : found count ≡ false = ap found z in
     let m : (found count || eqb (a .n) (mostScores (found t))) ≡ true =
-    ap (λ (x : Bool). x || eqb (a .n) (mostScores (found t))) f ∙ eq-eqb (a .n) (mostScores (found t)) (c2 .if3 .left ∙ c7 .pre .limit) in
+    ap (λ (x : Bool). x || eqb (a .n) (mostScores (found t))) f ∙ eq-eqb (a .n) (mostScores (found t)) (filled .if3 .left ∙ entry .pre .limit) in
     let e : a .at + 9 * a .n ≡ a .at + 9 * a .n + taken count = omega (arith, ap taken z) in
-    ap₂ (λ (x : Bool) (y : Nodes). Checkpoint (a .sequence) x (a .n) y) (c7 .pre .tariff ∙ found-given t) (nodes-none count f) ∙
-    scores-sealed (a .sequence) t (a .at) (a .n) count b (c5 .if1 .left) m (ap (sealedAt b) (sym e) ∙ sym (c1 .is-sealed .ensures) ∙ c .if4 .taken)
+    ap₂ (λ (x : Bool) (y : Nodes). Checkpoint (a .sequence) x (a .n) y) (entry .pre .tariff ∙ found-given t) (nodes-none count f) ∙
+    scores-sealed (a .sequence) t (a .at) (a .n) count b (scored .if1 .left) m (ap (sealedAt b) (sym e) ∙ sym (sealed .is-sealed .ensures) ∙ c .if4 .taken)
 
 returns-4 : tie.Need-returns-4
 unfolding decodeCounted
 returns-4 c =
-    let c1 = c .before in
-    let c2 = c1 .before in
-    let c3 = c2 .before in
-    let c4 = c3 .before in
-    let c5 = c4 .before in
-    let c7 = c5 .before .before in
-    let a = c7 .args in
+    let sealed = c .before in
+    let filled = sealed .before in
+    let uncounted = filled .before in
+    let read = uncounted .before in
+    let scored = read .before in
+    let entry = scored .before .before in
+    let a = entry .args in
     let b = a .page .now in
     let t = payloadAt b 7 0x13 in
     let count = payloadAt b (a .at + 9 * a .n) 0x15 in
-    let z = payload-empty b (a .at + 9 * a .n) 0x15 2 only-15 (λ y. c3 .if2 .taken (ap length (c4 .payload .ensures) ∙ y)) in
+    let z = payload-empty b (a .at + 9 * a .n) 0x15 2 only-15 (λ y. uncounted .if2 .taken (ap length (read .payload .ensures) ∙ y)) in
     let f : found count ≡ false = ap found z in
     let m : (found count || eqb (a .n) (mostScores (found t))) ≡ true =
-    ap (λ (x : Bool). x || eqb (a .n) (mostScores (found t))) f ∙ eq-eqb (a .n) (mostScores (found t)) (c2 .if3 .left ∙ c7 .pre .limit) in
+    ap (λ (x : Bool). x || eqb (a .n) (mostScores (found t))) f ∙ eq-eqb (a .n) (mostScores (found t)) (filled .if3 .left ∙ entry .pre .limit) in
     let e : a .at + 9 * a .n ≡ a .at + 9 * a .n + taken count = omega (arith, ap taken z) in
-    scores-unsealed (a .sequence) t (a .at) (a .n) count b (c5 .if1 .left) m (ap (sealedAt b) (sym e) ∙ sym (c1 .is-sealed .ensures) ∙ c .if4 .left)
+    scores-unsealed (a .sequence) t (a .at) (a .n) count b (scored .if1 .left) m (ap (sealedAt b) (sym e) ∙ sym (sealed .is-sealed .ensures) ∙ c .if4 .left)
 
 add-is-sealed : tie.Need-add-is-sealed
 add-is-sealed c = search needs
