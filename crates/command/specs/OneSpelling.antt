@@ -16,8 +16,8 @@ use Rattle.command.specs.declared.Command.{Command}
 use Rattle.command.specs.declared.Step.{Step}
 use Rattle.command.specs.declared.Step.the-variants.{Next, Invalid}
 use Rattle.command.specs.Command.{commandTag, commandValues, commandBytes, commandOf, stepAs, commandAt, Onward}
-use Rattle.command.specs.CommandLaws.{payload-get, payload-put, payload-delete, payload-scan, payload-panel, payload-ceiling, commandOf-each, commandAt-each}
-use Rattle.command.specs.CommandLaws.{field-bounds, payload-may, commandAt-onward}
+use Rattle.command.specs.CommandLaws.{payload-get, payload-put, payload-delete, payload-scan, payload-panel, payload-ceiling, commandOf-each}
+use Rattle.command.specs.CommandLaws.{field-bounds, payload-may, commandAt-each, commandAt-onward}
 use Rattle.command.specs.Batch.{commandsFrom, commandsOf}
 use Rattle.command.specs.BatchLaws.{commandsFrom-all, commandsOf-read}
 use Rattle.command.specs.Spelled.{batchBytes}

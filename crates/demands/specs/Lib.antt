@@ -30,6 +30,7 @@ pub mod CommandBytes
 pub mod CallBytes
 pub mod OneCall
 pub mod AllCalls
+pub mod Standing
 pub mod InCall
 pub mod CallCharge
 pub mod AgainstSchedules

@@ -5,7 +5,7 @@ use mathlib.Core.Option.{Option, none}
 use Prim.Native.Nat.{ℕ, _≤_, _<_}
 use native.Mathlib.Omega.{arith}
 use Rattle.laws.specs.Order.{eq-or}
-use Rattle.laws.specs.Update.{update, update-same, update-other}
+use Rattle.laws.specs.Update.{update, update-same, update-other, update-self}
 use Rattle.layout.specs.Layout.{nodeLimit}
 use Rattle.account.specs.declared.Mode.{Mode}
 use Rattle.account.specs.declared.Request.{Request}
@@ -32,19 +32,12 @@ update-mode f n a = fun-ext (λ k. go k (eq-or k n))
     go k (inl q) = update-same (λ k. f k .mode) n (a .mode) k q ∙ ap (λ (z : Account). z .mode) (sym (update-same f n a k q))
     go k (inr q) = update-other (λ k. f k .mode) n (a .mode) k q ∙ ap (λ (z : Account). z .mode) (sym (update-other f n a k q))
 
-update-self : {A : Type 0} (f : ℕ → A) (n : ℕ) → update f n (f n) ≡ f
-update-self f n = fun-ext (λ k. go k (eq-or k n))
-  where
-    go : (k : ℕ) → (k ≡ n) ⊎ (k ≡ n → ⊥) → update f n (f n) k ≡ f k
-    go k (inl q) = update-same f n (f n) k q ∙ ap f (sym q)
-    go k (inr q) = update-other f n (f n) k q
-
 module _ {blocks : ℕ} {table : Table} {count : ℕ} {m : ℕ → Mode} {run : Run} (v : Keeps blocks count table m run) where
   -- What a request writes leaves the store with the request's table, count and mode.
   write-keeps : (r : NodeRequest) (mode : Mode) → (requestOf r ≡ none → mode ≡ fresh .mode) → Fit (nodeLimit blocks) r table count →
       Keeps blocks (countAfter r count) (apply r table) (update m (idOf r) mode) (write mode r run)
   write-keeps (read n) mode h f =
-      subst (λ (z : Table). Keeps blocks count z (update m n mode) (Store.serve mode n Store.read run)) (update-self table n)
+      subst (λ (z : Table). Keeps blocks count z (update m n mode) (Store.serve mode n Store.read run)) (update-self table n (table n) refl)
       (serve-keeps v n f mode Store.read tt)
   write-keeps (edit n c) mode h f = serve-keeps v n (f .0) mode (Store.edit c) (f .2, f .1)
   write-keeps (rewrite n x) mode h f = serve-keeps v n (f .0) mode (Store.rewrite x) (f .1)

@@ -1,4 +1,4 @@
--- The cases of a claim, and a row stored in bytes as a row set. Assumes nothing.
+-- The cases of a claim, a row's bytes as they are laid, and a row stored in bytes as a row set. Assumes nothing.
 use mathlib.Core.Path.{_≡_, refl, sym, ap, _∙_}
 use mathlib.Core.Bool.{true, false}
 use mathlib.Core.List.{List, map, [], _∷_, _++_}

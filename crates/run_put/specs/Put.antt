@@ -93,7 +93,8 @@ mostServed = 3 * mostNodes
 
 -- What the code of the requests leaves.
 abbrev pub RequestsAs : ℕ → ℕ → List (List ℕ) → Worktable → Charged → State → Requests → Type 0
-RequestsAs poolLength tableLength pages table r before right = ChargedAs Grew poolLength tableLength pages table r before mostServed (right .now) (right .charge)
+RequestsAs poolLength tableLength pages table r before right =
+    ChargedAs Grew poolLength tableLength pages table r before mostServed (right .now) (right .charge)
 
 -- What the code of a command leaves: the world, the charge and the answer of the definition.
 abbrev pub DoneAs : ℕ → ℕ → List (List ℕ) → Worktable → Answered → State → Doing → Type 0

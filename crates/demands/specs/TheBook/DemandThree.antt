@@ -25,7 +25,8 @@ use Rattle.demands.specs.OneCall.{Thin}
 use Rattle.demands.specs.AllCalls.{ThinPool, all-called}
 use Rattle.demands.specs.AgainstSchedules.{bound}
 use Rattle.demands.specs.PreparedPool.{prepare-stands}
-use Rattle.demands.specs.TheBook.Stands.{Stands, stands-open}
+use Rattle.demands.specs.Standing.{stands-open}
+use Rattle.demands.specs.TheBook.Stands.{Stands}
 
 pub record DemandThree (t : Tariff) (pool : List ℕ) (b : Book) (cs : List Call) : Type 0 where
   -- "Each charge returned is the paper book's for that batch": each of the sixteen.

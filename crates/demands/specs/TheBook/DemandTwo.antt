@@ -20,7 +20,8 @@ use Rattle.demands.specs.Ends.{opened-done, accepted-ends}
 use Rattle.demands.specs.CallBytes.{CallBytes}
 use Rattle.demands.specs.Obeys.{Obeys, obeys-opens, opens-obeys}
 use Rattle.demands.specs.AllCalls.{Spelled, all-called}
-use Rattle.demands.specs.TheBook.Stands.{Stands, stands-open}
+use Rattle.demands.specs.Standing.{stands-open}
+use Rattle.demands.specs.TheBook.Stands.{Stands}
 
 -- Of any list of calls, batches and desks in any order, each on the pool as the last left it.
 pub record DemandTwo (t : Tariff) (pool : List ℕ) (b : Book) (ps : List Pair) (cs : List Call) : Type 0 where

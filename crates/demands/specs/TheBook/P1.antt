@@ -16,7 +16,8 @@ use Rattle.demands.specs.Obeys.{obeys-spelled, obeys-stands}
 use Rattle.demands.specs.PreparedPool.{prepare-ordered}
 use Rattle.demands.specs.Reordered.{ReorderedPool, reordered-stands}
 use Rattle.demands.specs.AnyOrder.{same-number, same-answers, same-charges}
-use Rattle.demands.specs.TheBook.Stands.{Stands, stands-open, open-stands}
+use Rattle.demands.specs.Standing.{stands-open, open-stands}
+use Rattle.demands.specs.TheBook.Stands.{Stands}
 use Rattle.demands.specs.TheBook.DemandTwo.{done-lawful}
 
 -- After every accepted call, the empty batch too, whoever wrote the pool before it; and after every accepted prepare.

@@ -24,8 +24,9 @@ use Rattle.demands.specs.Panels.{unnamed, SameBut, unnamed-leaves}
 use Rattle.demands.specs.CallBytes.{CallBytes, run-bytes}
 use Rattle.demands.specs.OneCall.{called}
 use Rattle.demands.specs.CallCharge.{call-charge-fits}
+use Rattle.demands.specs.Standing.{stands-open}
 use Rattle.demands.specs.TheBook.DemandOne.{demand-one}
-use Rattle.demands.specs.TheBook.Stands.{Stands, stands-open}
+use Rattle.demands.specs.TheBook.Stands.{Stands}
 
 -- A refused call returns sixteen zeros, after 1 and 2 too.
 pub refused-zero : (pool : List ℕ) (c : Call) → 1 ≤ outcome pool c .number → outcome pool c .charges ≡ noCharges

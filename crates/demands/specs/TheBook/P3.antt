@@ -27,7 +27,8 @@ use Rattle.demands.specs.Ceilings.{ScansFor, SameReads, scans-same}
 use Rattle.demands.specs.CallBytes.{CallBytes, run-bytes}
 use Rattle.demands.specs.OneCall.{called}
 use Rattle.demands.specs.InCall.{before-valid, run-within}
-use Rattle.demands.specs.TheBook.Stands.{Stands, stands-open}
+use Rattle.demands.specs.Standing.{stands-open}
+use Rattle.demands.specs.TheBook.Stands.{Stands}
 
 -- The map at a moment of a call, behind its first commands; behind none it is the map that the pool spells.
 abbrev pub mapThen : Tariff → List ℕ → Book → List Pair → List Command → List Pair

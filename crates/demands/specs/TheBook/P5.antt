@@ -36,7 +36,8 @@ use Rattle.demands.specs.OneCall.{called}
 use Rattle.demands.specs.Desk.{DeskRefused, too-long}
 use Rattle.demands.specs.Desk.{desk-is-batch as joined-batch, desk-ends as refused-before}
 use Rattle.demands.specs.DeskServes.{desk-reads, billed-own, billed-none, desk-charge}
-use Rattle.demands.specs.TheBook.Stands.{Stands, stands-open}
+use Rattle.demands.specs.Standing.{stands-open}
+use Rattle.demands.specs.TheBook.Stands.{Stands}
 
 -- "The joined bytes run as one batch, with its length limit and all its questions": where the lengths fill the queue buffer and every queue is wholly
 -- valid commands, none of them an 05, the call is the batch of the joined bytes, in number, pool, table, answers, length and sixteen charges.

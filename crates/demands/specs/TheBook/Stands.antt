@@ -15,8 +15,8 @@ use Rattle.model.specs.Prepare.{firstBook}
 use Rattle.model.specs.Pool.{poolLength, mountOf}
 use Rattle.model.specs.Call.{prepareOf}
 use Rattle.model.specs.Calls.{bookIn}
-use Rattle.demands.specs.OneCall.{OpenPool, bookIn-is}
-use Rattle.demands.specs.Obeys.{Obeys, obeys-stands, stands-obeys, opens-obeys}
+use Rattle.demands.specs.OneCall.{bookIn-is}
+use Rattle.demands.specs.Obeys.{Obeys, stands-obeys, opens-obeys}
 use Rattle.demands.specs.PreparedPool.{prepare-stands}
 
 pub record Stands (t : Tariff) (pool : List ℕ) (b : Book) (ps : List Pair) : Type 0 where
@@ -28,13 +28,6 @@ pub any-pool : (pool : List ℕ) → Bytes pool → poolLength pool ≡ true →
     Stands t pool (bookOf s) (mapOf (bookOf s .count) (bookOf s .table))
 any-pool pool bytes size t s e = let x = opens-obeys pool bytes t s size e in record { obeys = x .obeys; book = x .book }
 
--- The links speak of a pool that stands as an `OpenPool`.
-pub stands-open : {t : Tariff} {pool : List ℕ} {b : Book} {ps : List Pair} → Stands t pool b ps → OpenPool t pool b ps
-stands-open {b = b} s = obeys-stands (s .obeys) b (s .book)
-
-pub open-stands : {t : Tariff} {pool : List ℕ} {b : Book} {ps : List Pair} → OpenPool t pool b ps → Stands t pool b ps
-open-stands o = record { obeys = stands-obeys o; book = bookIn-is o }
-
 -- ".. after a prepare, node 0 alone, an empty leaf in log mode with score 0", and the empty map.
 pub prepared : (pool : List ℕ) (t : Tariff) → prepareOf pool t .number ≡ 0 → Stands t (prepareOf pool t .pool) firstBook []
-prepared pool t e = open-stands (prepare-stands pool t e)
+prepared pool t e = let o = prepare-stands pool t e in record { obeys = stands-obeys o; book = bookIn-is o }
