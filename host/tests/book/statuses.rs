@@ -96,12 +96,26 @@ fn the_shell_tells_its_lines_and_ends_when_asked() {
     assert_eq!(last, ["number 0 pool e5938a6f1717e51f", "error the line is not UTF-8"], "and nothing behind quit");
 }
 
-/// Runs a copy of a tool in a repository that has nothing but an edit.
-fn tool(folder: &Folder, name: &str, words: &[&str]) -> (Option<i32>, String, String) {
-    for place in ["tools", "crates/tree/must-fail"] {
+/// A repository that has nothing but a promise and an edit that begins with a line.
+fn repository(name: &str, line: &str) -> Folder {
+    let folder = Folder::new(name);
+    for place in ["tools", "docs", "crates/tree/must-fail"] {
         fs::create_dir_all(folder.path(place)).expect("a folder");
     }
-    fs::write(folder.path("crates/tree/must-fail/wrong.edit"), "# a wrong tree\n").expect("is written");
+    fs::write(folder.path("docs/PROMISES.md"), "## Document 02, P4: a smaller tag table\n").expect("is written");
+    fs::write(folder.path("crates/tree/must-fail/wrong.edit"), format!("{line}\n")).expect("is written");
+    folder
+}
+
+/// Leaves a log of a gate in which the edit was refused for a fact.
+fn refused(folder: &Folder) {
+    let log = folder.path("target/must-fail/tree/wrong");
+    fs::create_dir_all(&log).expect("a folder");
+    fs::write(log.join(".log"), "src/tree.rt:1: error: 1 is not 2\n").expect("is written");
+}
+
+/// Runs a copy of a tool in a repository.
+fn tool(folder: &Folder, name: &str, words: &[&str]) -> (Option<i32>, String, String) {
     let source = Path::new(env!("CARGO_MANIFEST_DIR")).join("../tools").join(name);
     let copy = folder.path("tools").join(name);
     fs::copy(source, &copy).expect("is copied");
@@ -113,8 +127,8 @@ fn tool(folder: &Folder, name: &str, words: &[&str]) -> (Option<i32>, String, St
 
 #[test]
 fn the_tools_help() {
-    let folder = Folder::new("tools");
-    for name in ["guards", "firmware", "firmware-trial"] {
+    let folder = repository("tools", "# P4: a wrong tree");
+    for name in ["guards", "contents", "believed", "firmware", "firmware-trial"] {
         let (status, text, said) = tool(&folder, name, &["--help"]);
         assert_eq!((status, said.as_str()), (Some(0), ""), "{name}");
         assert!(text.contains(&format!("  tools/{name}")) && text.contains("Exit status: 0 "), "{text}");
@@ -126,15 +140,27 @@ fn the_tools_help() {
 
 #[test]
 fn guards_without_a_gate_say_so() {
-    let folder = Folder::new("guards");
+    let folder = repository("guards", "# P4: a wrong tree");
     for words in [&[][..], &["--list"]] {
         let (status, text, said) = tool(&folder, "guards", words);
         assert_eq!((status, text.as_str()), (Some(2), ""), "{words:?}");
         assert_eq!(said, "guards: no gate has left its logs in target/must-fail; .ci/run makes them\n");
     }
-    let log = folder.path("target/must-fail/tree/wrong");
-    fs::create_dir_all(&log).expect("a folder");
-    fs::write(log.join(".log"), "src/tree.rt:1: error: 1 is not 2\n").expect("is written");
+    refused(&folder);
     let (status, text, _) = tool(&folder, "guards", &[]);
-    assert_eq!((status, text.as_str()), (Some(0), "guards: 1 edits, 0 of them not refused for a fact\n"));
+    assert_eq!(
+        (status, text.as_str()),
+        (Some(0), "guards: 1 edits, 0 of them without a promise or not refused for a fact\n")
+    );
+}
+
+#[test]
+fn guards_name_a_promise() {
+    for line in ["# a wrong tree", "# P5: a wrong tree"] {
+        let folder = repository("unnamed", line);
+        refused(&folder);
+        let (status, text, _) = tool(&folder, "guards", &[]);
+        assert_eq!(status, Some(1), "{line}");
+        assert!(text.starts_with("guards: tree/wrong names no promise of docs/PROMISES.md: "), "{text}");
+    }
 }
