@@ -136,4 +136,8 @@ pub grows : {pool : List ℕ} {tableLength blocks : ℕ} {held : Worktable} {t :
     (length pool) tableLength st
 grows {pool} {tableLength} {blocks} {held} {t} {st} o =
     let here : st .blocks ≡ blocks = sym (o .runs .agrees .mirrors .pages .size) ∙ o .runs .sound .good .invariant .rules .size in
-    record { good = o .good; limited = omega (arith, here, o .runs .agrees .nodes, o .runs .sound .good .invariant .nodes); noCheckpointPage = o .noCheckpointPage }
+    record {
+      good = o .good;
+      limited = omega (arith, here, o .runs .agrees .nodes, o .runs .sound .good .invariant .nodes);
+      noCheckpointPage = o .noCheckpointPage;
+    }

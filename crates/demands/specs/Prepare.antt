@@ -177,7 +177,8 @@ module _ (blocks : ℕ) (t : Tariff) (four : fewestBlocks ≤ blocks) where
 
   module _ (r : Ranged t) where
     tree : treeSound blocks t st ≡ true
-    unfolding treeSound stateOf threePages scoresBelow Sound.sound Sound.complete Sound.walkFrom Sound.visit Sound.visitLeaf Sound.leftmost Sound.inOrder ascends Sound.allMarked
+    unfolding treeSound stateOf threePages scoresBelow Sound.sound Sound.complete Sound.walkFrom Sound.visit Sound.visitLeaf Sound.leftmost
+        Sound.inOrder ascends Sound.allMarked
     tree =
         rw (book-is, set-is, le-leb 1 (nodeLimit blocks) (omega arith), one-page, ranged-inRange t r, lt-ltb 0 (limit t) (limit-some r)) refl
 

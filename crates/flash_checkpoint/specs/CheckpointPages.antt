@@ -1,5 +1,6 @@
 -- The checkpoint (document 01: closing set): "the first begins with field 13, the tariff; then fields 14, one for every node; the last ends with
--- field 15, the node count. 1 to 50 fields 14 on the first page, 1 to 54 on others; a page is filled before the next." A checkpoint page is what one page holds.
+-- field 15, the node count. 1 to 50 fields 14 on the first page, 1 to 54 on others; a page is filled before the next." A checkpoint page is what one
+-- page holds.
 use mathlib.Core.Path.{_≡_}
 use mathlib.Core.List.{List}
 use Prim.Native.Nat.{ℕ, _+_, _-_, _*_, _/_, _≤_, _<_}
@@ -81,7 +82,8 @@ drain w = choose (eqb (w .state .entries) 0) w (flush w)
 unfoldable pub checkpoint : Tariff → World → World
 checkpoint tariff w = checkpointPages tariff (drain w)
 
--- What is known when checkpoint page k is written: there are no more nodes than the limit, the checkpoint page is one of those needed, and no more than k were written.
+-- What is known when checkpoint page k is written: there are no more nodes than the limit, the checkpoint page is one of those needed, and no more
+-- than k were written.
 pub record Closing (k : ℕ) (s : State) : Type 0 where
   pub limit : s .nodes ≤ nodeLimit (s .blocks)
   pub needed : k < pageCount (s .nodes)

@@ -40,7 +40,8 @@ decode s =
 -- The 16 bytes of a row.
 unfoldable pub encode : Row → List ℕ
 encode r =
-    bigEndian 4 (r .version) ++ (bigEndian 4 (r .score) ++ (modeByte (r .mode) ∷ r .pages ∷ (bigEndian 2 (r .first) ++ (bigEndian 2 (r .second) ++ bigEndian 2 (r .third)))))
+    bigEndian 4 (r .version) ++ (bigEndian 4 (r .score) ++ (modeByte (r .mode) ∷ r .pages ∷
+    (bigEndian 2 (r .first) ++ (bigEndian 2 (r .second) ++ bigEndian 2 (r .third)))))
 
 -- The rows of a table.
 unfoldable pub rowsOf : List ℕ → List Row

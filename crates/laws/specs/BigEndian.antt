@@ -131,7 +131,15 @@ unfolding numberAt part
 numberAt-4 s at h =
     let e₂ : at + 1 + 1 ≡ at + 2 = omega arith in
     let e₃ : at + 2 + 1 ≡ at + 3 = omega arith in
-    rw (part-cons s at 3 (omega arith), part-cons s (at + 1) 2 (omega arith), e₂, part-cons s (at + 2) 1 (omega arith), e₃, part-cons s (at + 3) 0 (omega arith))
+    rw (
+      part-cons s at 3 (omega arith),
+      part-cons s (at + 1) 2 (omega arith),
+      e₂,
+      part-cons s (at + 2) 1 (omega arith),
+      e₃,
+      part-cons s (at + 3) 0
+          (omega arith),
+    )
     (omega arith)
 
 -- A number's place counted from a part of the buffer.

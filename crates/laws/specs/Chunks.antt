@@ -115,7 +115,8 @@ module _ (size : ℕ) where
   unfolding setRun
   lay-run zero s i a h l = ap (λ (n : ℕ). chunks size (lay s (size * i) (replicate n a))) (mul-zero size) ∙ ap (chunks size) (lay-nil s (size * i))
   lay-run (suc k) s i a h l =
-      ap (chunks size) (ap (lay s (size * i)) run ∙ sym (lay-next s (size * i) one (replicate (size * k) a) (size * (i + 1)) (omega arith) (omega (arith, next, len)))) ∙
+      ap (chunks size) (ap (lay s (size * i)) run ∙ sym (lay-next s (size * i) one (replicate (size * k) a) (size * (i + 1)) (omega arith)
+      (omega (arith, next, len)))) ∙
       lay-run k (lay s (size * i) one) (i + 1) a (rw same (omega arith)) (rw same (omega (arith, mul-front size k, next))) ∙
       ap (setRun k (i + 1) one) (lay-chunks s i one len (omega arith) (omega (arith, mul-front size k)))
     where

@@ -1,5 +1,5 @@
 -- The calls: what each is lent, what it asks, in its order, and what it runs; so, from the entry bytes of every buffer, everything that it leaves.
--- The contracts of the entry points cite `batchOf`, `deskOf` and `prepareOf`. A call more is a case of `Call` and of the six functions below it.
+-- The contracts of the entry points cite `batchOf`, `deskOf` and `prepareOf`. A call more is a case of `Call` and of the five functions below it.
 -- Assumes nothing.
 use mathlib.Core.List.{List, [], _∷_, _++_}
 use mathlib.Core.Option.{Option, none, some}

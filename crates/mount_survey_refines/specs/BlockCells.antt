@@ -87,11 +87,14 @@ module _ (pages : List (List ℕ)) where
   number-held s [] at r = le-ltb at (at + 0) (omega arith)
   number-held s (none ∷ d) at r = le-ltb at (at + 0) (omega arith)
   number-held s (some p ∷ d) at r =
-      ap (λ (t : Bool). ltb (choose t at (firstFrom (numberedAt pages s) (length (blockIn d)) (at + 1))) (at + suc (length (blockIn d)))) (first-number s at p d r) ∙
+      ap (λ (t : Bool). ltb (choose t at (firstFrom (numberedAt pages s) (length (blockIn d)) (at + 1))) (at + suc (length (blockIn d))))
+      (first-number s at p d r) ∙
       go (numbered s p) (number-held s d (at + 1) (rest-stretch at (some p) d r))
     where
-      go : (t : Bool) → ltb (firstFrom (numberedAt pages s) (length (blockIn d)) (at + 1)) (at + 1 + length (blockIn d)) ≡ ltb 0 (count (numbered s) (blockIn d)) →
-          ltb (choose t at (firstFrom (numberedAt pages s) (length (blockIn d)) (at + 1))) (at + suc (length (blockIn d))) ≡ ltb 0 (bit t + count (numbered s) (blockIn d))
+      go : (t : Bool) → ltb (firstFrom (numberedAt pages s) (length (blockIn d)) (at + 1)) (at + 1 + length (blockIn d)) ≡ ltb 0
+          (count (numbered s) (blockIn d)) →
+          ltb (choose t at (firstFrom (numberedAt pages s) (length (blockIn d)) (at + 1))) (at + suc (length (blockIn d))) ≡ ltb 0
+          (bit t + count (numbered s) (blockIn d))
       go true ih = lt-ltb at (at + suc (length (blockIn d))) (omega arith) ∙ sym (lt-ltb 0 (1 + count (numbered s) (blockIn d)) (omega arith))
       go false ih =
           let e : at + suc (length (blockIn d)) ≡ at + 1 + length (blockIn d) = omega arith in
@@ -191,7 +194,8 @@ module _ (pages : List (List ℕ)) (c : Cells) (B : ℕ) (size : length c ≡ 32
       let rest = drop (32 * (i + 1)) c in
       ap₂ _&&_ (passes-is i (omega arith) newest) (each-is newest k (i + 1) (omega arith)) ∙
       and-swap (filled (cellsAt c i)) (fullOr 32 newest (blockIn (cellsAt c i))) (allFilled 32 k rest) (fullOrAll 32 newest (blocksIn 32 k rest)) ∙
-      ap (λ (d : Cells). (filled (cellsAt c i) && allFilled 32 k d) && (fullOr 32 newest (blockIn (cellsAt c i)) && fullOrAll 32 newest (blocksIn 32 k d))) (sym (drop-next c i))
+      ap (λ (d : Cells). (filled (cellsAt c i) && allFilled 32 k d) &&
+      (fullOr 32 newest (blockIn (cellsAt c i)) && fullOrAll 32 newest (blocksIn 32 k d))) (sym (drop-next c i))
 
   of-number : (s k i : ℕ) → i + k ≡ B → firstFrom (holds pages s) k i ≡ i + Model.blockOf s (blocksIn 32 k (drop (32 * i) c))
   unfolding firstFrom

@@ -146,7 +146,8 @@ module _ (pool : List ℕ) (bytes : Bytes pool) (blocks : ℕ) (size : length po
     where
       go : (t : Bool) → allFilled 32 blocks c ≡ t →
           ((differs (sequencesIn c) && pagesApart (sequencesIn c) (32 * blocks) pages) && blocksPass blocks pages (greatest (sequencesIn c))) ≡
-          ((eqb (length c) (32 * blocks) && (allFilled 32 blocks c && (differ bs && (leb 1 (blanks bs) && fullOrAll 32 (newest bs) bs)))) && everyPage (pagePasses bs) bs)
+          ((eqb (length c) (32 * blocks) && (allFilled 32 blocks c &&
+          (differ bs && (leb 1 (blanks bs) && fullOrAll 32 (newest bs) bs)))) && everyPage (pagePasses bs) bs)
       go true t =
           rw (
             blocks-pass pages c blocks length-cells stretch (greatest (sequencesIn c)),

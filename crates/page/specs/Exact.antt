@@ -90,7 +90,8 @@ found-given [] = refl
 found-given (x ∷ p) = refl
 
 -- Behind field 10.
-module _ (s : ℕ) (b : List ℕ) (bs : Bytes b) (h : 1 ≤ s) (l : s < bound32) (no : s ≡ number (payloadAt b 0 0x10)) (ten : part b 0 7 ≡ field 0x10 (bigEndian 4 s)) where
+module _ (s : ℕ) (b : List ℕ) (bs : Bytes b) (h : 1 ≤ s) (l : s < bound32) (no : s ≡ number (payloadAt b 0 0x10))
+    (ten : part b 0 7 ≡ field 0x10 (bigEndian 4 s)) where
   body-is : (end n : ℕ) (content : List ℕ) → end ≡ 7 + n → part b 7 n ≡ content → take end b ≡ numbered s content
   unfolding numbered part
   body-is end n content e c = ap (λ (k : ℕ). take k b) e ∙ part-add b 0 7 n ∙ ap₂ _++_ ten c
@@ -163,7 +164,8 @@ module _ (s : ℕ) (b : List ℕ) (bs : Bytes b) (h : 1 ≤ s) (l : s < bound32)
 
   module _
       (n : ℕ) (r : Ran scoreOk 0x14 9 (mostScores (found tariff)) b start n)
-      (t : (leb 1 n && ((found (payloadAt b (start + 9 * n) 0x15) || eqb n (mostScores (found tariff))) && sealedAt b (start + 9 * n + taken (payloadAt b (start + 9 * n) 0x15)))) ≡ true)
+      (t : (leb 1 n && ((found (payloadAt b (start + 9 * n) 0x15) || eqb n (mostScores (found tariff))) && sealedAt b
+      (start + 9 * n + taken (payloadAt b (start + 9 * n) 0x15)))) ≡ true)
     where
       abbrev scores : List (List ℕ)
       scores = payloads 0x14 9 n b start

@@ -232,7 +232,8 @@ unfolding tariffOf tariffBytes numberAt part
 tariffOf-bytes t h =
     let n : (v : ℕ) → v < bound32 → number (bigEndian 4 v) ≡ v = λ v l. number-bigEndian 4 v l in
     ap₂ tariff-of
-    (costs-eq _ _ _ _ _ _ _ _ (n (t .log .read) (h .log .read)) (n (t .log .edit) (h .log .edit)) (n (t .log .rewrite) (h .log .rewrite)) (n (t .log .enter) (h .log .enter)))
+    (costs-eq _ _ _ _ _ _ _ _ (n (t .log .read) (h .log .read)) (n (t .log .edit) (h .log .edit)) (n (t .log .rewrite) (h .log .rewrite))
+    (n (t .log .enter) (h .log .enter)))
     (costs-eq _ _ _ _ _ _ _ _ (n (t .disk .read) (h .disk .read)) (n (t .disk .edit) (h .disk .edit)) (n (t .disk .rewrite) (h .disk .rewrite))
     (n (t .disk .enter) (h .disk .enter)))
 

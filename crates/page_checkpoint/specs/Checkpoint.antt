@@ -70,7 +70,8 @@ module _ (s : List ℕ) (at : ℕ) (t : Tariff) (h : at + 35 ≤ length s) where
   enters = bigEndian 4 (t .disk .enter) ++ bigEndian 4 (t .log .enter)
 
   pub tariff-laid :
-      lay (lay (lay (lay (lay s at (head 0x13 32)) (at + 3) logs) (at + 15) disks) (at + 27) (bigEndian 4 (t .disk .enter))) (at + 31) (bigEndian 4 (t .log .enter)) ≡
+      lay (lay (lay (lay (lay s at (head 0x13 32)) (at + 3) logs) (at + 15) disks) (at + 27) (bigEndian 4 (t .disk .enter))) (at + 31)
+      (bigEndian 4 (t .log .enter)) ≡
       lay s at (field 0x13 (tariffBytes t))
   unfolding tariffBytes
   tariff-laid =
@@ -122,7 +123,8 @@ pub checkpoint-laid :
     (p : List ℕ) (s : ℕ) (first : Bool) (t : Tariff) (n : ℕ) (records : List ℕ) (last : Bool) (count at end : ℕ) →
     Bytes records → 6 * n ≤ length records → firstScoresAt ≤ length p →
     at ≡ 7 + length (fieldIf 0x13 tariffBytes (onlyIf first t)) → end ≡ at + 9 * n → end ≤ length p →
-    lay (lay (lay (lay p 0 (field 0x10 (bigEndian 4 s))) 7 (fieldIf 0x13 tariffBytes (onlyIf first t))) at (fields 0x14 (chunks 6 n records 0))) end (fieldIf 0x15 countBytes (onlyIf last count)) ≡
+    lay (lay (lay (lay p 0 (field 0x10 (bigEndian 4 s))) 7 (fieldIf 0x13 tariffBytes (onlyIf first t))) at (fields 0x14 (chunks 6 n records 0))) end
+    (fieldIf 0x15 countBytes (onlyIf last count)) ≡
     lay p 0 (bodyOf (recordsPage s first t n records last count))
 unfolding bodyOf recordsPage contentBytes
 checkpoint-laid p s first t n records last count at end b h l ea ee le =

@@ -48,7 +48,8 @@ pub run-next : (tag size left : ℕ) (dst src : List ℕ) (at from : ℕ) → 0 
 unfolding chunks fields
 run-next tag size left dst src at from h k m =
     let e : left ≡ suc (left - 1) = omega arith in
-    let l : at + (3 + size) ≡ at + length (field tag (part src from size)) = omega (arith, length-field tag (part src from size), length-part src from size m) in
+    let l : at + (3 + size) ≡ at + length (field tag (part src from size)) = omega
+    (arith, length-field tag (part src from size), length-part src from size m) in
     lay-next dst at (field tag (part src from size)) (fields tag (chunks size (left - 1) src (from + size))) (at + (3 + size)) k l ∙
     sym (ap (λ (n : ℕ). lay dst at (fields tag (chunks size n src from))) e)
 

@@ -19,7 +19,8 @@ use Rattle.page_write.specs.Pages.{entryRecord, logBody, firstPairs, bod
 -- ---- log pages
 
 pub entry-laid : (s : List ℕ) (at id version kind key pointer : ℕ) → at + 15 ≤ length s →
-    lay (lay (lay (lay (lay s at (bigEndian 2 id)) (at + 2) (bigEndian 4 version)) (at + 6) (kind ∷ [])) (at + 7) (bigEndian 4 key)) (at + 11) (bigEndian 4 pointer) ≡
+    lay (lay (lay (lay (lay s at (bigEndian 2 id)) (at + 2) (bigEndian 4 version)) (at + 6) (kind ∷ [])) (at + 7) (bigEndian 4 key)) (at + 11)
+    (bigEndian 4 pointer) ≡
     lay s at (entryRecord id version kind key pointer)
 unfolding entryRecord
 entry-laid s at id version kind key pointer h =
@@ -41,7 +42,8 @@ length-logBody s n buffer h = omega (arith, length-chunk-fields 0x12 15 n buffer
 -- ---- node pages
 
 pub pairs-next : (left : ℕ) (dst keys pointers : List ℕ) (at i : ℕ) → 0 < left → at + 8 ≤ length dst →
-    lay (lay (lay dst at (bigEndian 4 (getD keys i 0))) (at + 4) (bigEndian 4 (getD pointers i 0))) (at + 8) (pairsBytes (firstPairs (left - 1) keys pointers (i + 1))) ≡
+    lay (lay (lay dst at (bigEndian 4 (getD keys i 0))) (at + 4) (bigEndian 4 (getD pointers i 0))) (at + 8)
+    (pairsBytes (firstPairs (left - 1) keys pointers (i + 1))) ≡
     lay dst at (pairsBytes (firstPairs left keys pointers i))
 unfolding firstPairs pairsBytes
 pairs-next left dst keys pointers at i h k =

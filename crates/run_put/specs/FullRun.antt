@@ -32,7 +32,8 @@ module _ (table : Table) (ids : List ℕ) where
   next i l = drop-cons ids i 0 l
 
   -- from the node at place i on, where those behind it are full
-  full-from : (i : ℕ) → i < length ids → mostKeys ≤ sizeAt table (getD ids i 0) → fullRun table (drop (suc i) ids) ≡ length (drop (suc i) ids) → Full table ids i
+  full-from : (i : ℕ) → i < length ids → mostKeys ≤ sizeAt table (getD ids i 0) → fullRun table (drop (suc i) ids) ≡ length (drop (suc i) ids) →
+      Full table ids i
   full-from i l f e =
       record {
         inside = l;

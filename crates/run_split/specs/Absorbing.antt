@@ -24,7 +24,8 @@ absorbing-is {b = b} {m = m} {n = n} {p = p} e f g =
     ap (λ (z : World). absorbing z m p) e ∙ ap (λ (z : ℕ). absorbing b z p) f ∙ ap (λ (z : Pending). absorbing b n z) g
 
 -- What the code of a turn leaves: the world, the charge and the rest of the definition; at most two requests were charged.
-pub record AbsorbedAs (poolLength tableLength : ℕ) (pages : List (List ℕ)) (table : Worktable) (r : Absorbed) (before : State) (right : Absorbing) : Type 0 where
+pub record AbsorbedAs (poolLength tableLength : ℕ) (pages : List (List ℕ)) (table : Worktable) (r : Absorbed) (before : State)
+    (right : Absorbing) : Type 0 where
   pub charged : ChargedAs Grew poolLength tableLength pages table (r .charged) before 2 (right .now) (right .charge)
   pub pending : r .pending ≡ right .pending
 

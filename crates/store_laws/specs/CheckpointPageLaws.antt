@@ -76,7 +76,8 @@ countIn-later : (n : ℕ) (x : List Score) (xs : List (List Score)) → countIn 
 countIn-later n x [] = refl
 countIn-later n x (y ∷ xs) = countIn-later n y xs
 
-countIn-first : (t : Tariff) (n : ℕ) (c : List Score) (xs : List (List Score)) → countIn (checkpointPage (some t) c (countIfLast n xs) ∷ laterCheckpointPages n xs) ≡ n
+countIn-first : (t : Tariff) (n : ℕ) (c : List Score) (xs : List (List Score)) →
+    countIn (checkpointPage (some t) c (countIfLast n xs) ∷ laterCheckpointPages n xs) ≡ n
 countIn-first t n c [] = refl
 countIn-first t n c (x ∷ xs) = countIn-later n x xs
 

@@ -139,16 +139,19 @@ module _ {B : ℕ} {closing : Page → Bool} where
       record { nodes = refl; invariant = v; versions = r; buffer = refl; passed = p; keep = λ m k. keep-refl (run .now) m }
   writeCheckpointPages-left (x ∷ xs) run v r p l =
       let a = writeCheckpointPage-left run v x r p (omega arith) in
-      left-trans a (writeCheckpointPages-left xs (writeCheckpointPage closing x run) (a .invariant) (a .versions) (a .passed) (writeCheckpointPage-tally run v x (length xs) l))
+      left-trans a (writeCheckpointPages-left xs (writeCheckpointPage closing x run) (a .invariant) (a .versions) (a .passed)
+      (writeCheckpointPage-tally run v x (length xs) l))
 
   -- its last page has the last number
-  writeCheckpointPages-has : (x : CheckpointPage) (xs : List CheckpointPage) (run : Run) → Invariant B (run .nodes) closing (run .now) → VersionRules (run .now) →
+  writeCheckpointPages-has : (x : CheckpointPage) (xs : List CheckpointPage) (run : Run) → Invariant B (run .nodes) closing (run .now) →
+      VersionRules (run .now) →
       Every LeanAt (run .passed) → tally closing (run .now .blocks) + suc (length xs) ≤ mostCheckpointPages →
       0 < tally (numbered (last (writeCheckpointPages closing (x ∷ xs) run))) (writeCheckpointPages closing (x ∷ xs) run .now .blocks)
   writeCheckpointPages-has x [] run v r p l = writeCheckpointPage-has run v x
   writeCheckpointPages-has x (y ∷ xs) run v r p l =
       let a = writeCheckpointPage-left run v x r p (omega arith) in
-      writeCheckpointPages-has y xs (writeCheckpointPage closing x run) (a .invariant) (a .versions) (a .passed) (writeCheckpointPage-tally run v x (suc (length xs)) l)
+      writeCheckpointPages-has y xs (writeCheckpointPage closing x run) (a .invariant) (a .versions) (a .passed)
+      (writeCheckpointPage-tally run v x (suc (length xs)) l)
 
   -- THE CHECKPOINT STANDS where it was written: no page of it is lost
   writeCheckpointPages-stays : (xs : List CheckpointPage) (run : Run) → Invariant B (run .nodes) closing (run .now) → VersionRules (run .now) →
@@ -157,7 +160,8 @@ module _ {B : ℕ} {closing : Page → Bool} where
   writeCheckpointPages-stays [] run v r p l s q e c h = e
   writeCheckpointPages-stays (x ∷ xs) run v r p l s q e c h =
       let a = writeCheckpointPage-left run v x r p (omega arith) in
-      writeCheckpointPages-stays xs (writeCheckpointPage closing x run) (a .invariant) (a .versions) (a .passed) (writeCheckpointPage-tally run v x (length xs) l) s q
+      writeCheckpointPages-stays xs (writeCheckpointPage closing x run) (a .invariant) (a .versions) (a .passed)
+      (writeCheckpointPage-tally run v x (length xs) l) s q
       (writeCheckpointPage-stays run v x s q e c h) c
       (omega (arith, write-last closing (checkpointPageContent x) (run .now .buffer) run))
 
@@ -182,10 +186,12 @@ writeCheckpointPages-stand {closing = closing} (x ∷ xs) run v r p l c =
           (writeCheckpointPages-stand xs (writeCheckpointPage closing x run) (a .invariant) (a .versions) (a .passed) few (λ s y h. c s y (omega arith))),
     )
 
-pub writeCheckpointPages-last : (closing : Page → Bool) (xs : List CheckpointPage) (run : Run) → last (writeCheckpointPages closing xs run) ≡ last run + length xs
+pub writeCheckpointPages-last : (closing : Page → Bool) (xs : List CheckpointPage) (run : Run) →
+    last (writeCheckpointPages closing xs run) ≡ last run + length xs
 writeCheckpointPages-last closing [] run = omega arith
 writeCheckpointPages-last closing (x ∷ xs) run =
-    writeCheckpointPages-last closing xs (writeCheckpointPage closing x run) ∙ omega (arith, write-last closing (checkpointPageContent x) (run .now .buffer) run)
+    writeCheckpointPages-last closing xs (writeCheckpointPage closing x run) ∙
+    omega (arith, write-last closing (checkpointPageContent x) (run .now .buffer) run)
 
 -- READ BACK, from the greatest number down to the tariff
 collect-later : (bs : Blocks) (n : ℕ) (xs : List (List Score)) (k : ℕ) (later : List CheckpointPage) → Stand bs k (laterCheckpointPages n xs) →
@@ -312,7 +318,8 @@ module _ {B N : ℕ} {table : ℕ → Node} {modes : ℕ → Mode} {run : Run} (
   unfolding close closing scores checkpointPages
   close-has =
       let n = length scores in
-      writeCheckpointPages-has (checkpointPage (some t) (take firstScores scores) (countIfLast n (laterParts scores))) (laterCheckpointPages n (laterParts scores))
+      writeCheckpointPages-has (checkpointPage (some t) (take firstScores scores) (countIfLast n (laterParts scores)))
+      (laterCheckpointPages n (laterParts scores))
       (drain run) begins (d .good .versions) (d .good .passed) fits
 
   close-last : last (close t score run) ≡ last (drain run) + length (checkpointPages t scores)

@@ -155,7 +155,8 @@ module _ (bs : Blocks) (h : everyPage (pagePasses bs) bs ≡ true) (n : ℕ) whe
   unfolding pieces
   no-pieces e =
       ap (λ z. gather (λ s. piecesIn n z (itemsAt (find s bs))) (newest bs) ++ []) e ∙
-      ap (λ (z : List Piece). z ++ []) (gather-nil (λ s. piecesIn n 0 (itemsAt (find s bs))) (newest bs) (λ s a b. zero-of s (find s bs) (find-passes (pagePasses bs) s bs h)))
+      ap (λ (z : List Piece). z ++ []) (gather-nil (λ s. piecesIn n 0 (itemsAt (find s bs))) (newest bs)
+      (λ s a b. zero-of s (find s bs) (find-passes (pagePasses bs) s bs h)))
     where
       zero-of : (s : ℕ) (o : Option Page) → Passes (pagePasses bs) s o → piecesIn n 0 (itemsAt o) ≡ []
       zero-of s none p = refl

@@ -128,7 +128,8 @@ leaf-of (suc d) (suc fuel) table k t low high next a b f h =
           (before-within (rootOf d) (firstLeaf d) (pairsIn d) (Stands d table) (stands-within d table) (t .1) (t .2) low high next j (h .1) (h .4)) (r .below);
       beyond =
           within-append (r .top) (highAt (t .1) high j) high (r .later) (behind (pairsIn d) (t .1) (t .2) j) (r .under) (l .under) (r .beyond)
-          (behind-within (rootOf d) (firstLeaf d) (pairsIn d) (Stands d table) (stands-within d table) (t .1) (t .2) low high next j (omega arith) (h .1) (h .4));
+          (behind-within (rootOf d) (firstLeaf d) (pairsIn d) (Stands d table) (stands-within d table) (t .1) (t .2) low high next j (omega arith)
+          (h .1) (h .4));
       joined = rw (joinOf-childAt (pairsIn d) (t .1) (t .2) j, r .joined) (simp append-assoc);
     }
 

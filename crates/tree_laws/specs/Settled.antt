@@ -45,7 +45,8 @@ renamed-suits j ks right n e = go (ltb j (length ks)) refl
     go false f = rw (f, renamed) (sym e)
 
 -- A subtree whose work is finished, and one whose top has still to take edits.
-pub record Finished (limit d : ℕ) (table : Table) (count : ℕ) (t : Tree d) (low high link : ℕ) (pairs : List Pair) (rs : List NodeRequest) (next : ℕ) : Type 0 where
+pub record Finished (limit d : ℕ) (table : Table) (count : ℕ) (t : Tree d) (low high link : ℕ) (pairs : List Pair) (rs : List NodeRequest)
+    (next : ℕ) : Type 0 where
   pub changed : Changed d table (applyAll rs table) count next t low high link pairs mostKeys (applyAll rs table (rootOf d t))
   pub fits : next ≤ limit → Fits limit rs table count next
 
@@ -144,7 +145,8 @@ module _ (limit d : ℕ) (table : Table) (count k : ℕ) (f : List Pair → List
   settle-whole rs next g =
       record { changed = rises-whole d table count k f local t low high link a b o h (applyAll rs table) next (g .changed); fits = g .fits }
 
-  module _ (rs : List NodeRequest) (next : ℕ) (edits : List Change) (g : Pending limit d table count child childLow childHigh childNext (f (pairsIn d child)) rs next edits)
+  module _ (rs : List NodeRequest) (next : ℕ) (edits : List Change)
+      (g : Pending limit d table count child childLow childHigh childNext (f (pairsIn d child)) rs next edits)
       (l : mostKeys < length (pairsOf (changeAll edits (table (rootOf d child))))) where
     abbrev full : Node
     full = changeAll edits (table (rootOf d child))
@@ -158,10 +160,12 @@ module _ (limit d : ℕ) (table : Table) (count k : ℕ) (f : List Pair → List
     parted : Parted d table (applyAll splitting table) count (suc next) child childLow childHigh childNext (f (pairsIn d child)) (middleKey full) next
     parted = pending-halves limit d table count child childLow childHigh childNext (f (pairsIn d child)) rs next edits childOnce g l
 
-    becomes : changeAll bothEdits (table (t .0)) ≡ widened d table count k f local t low high link a b o h (applyAll splitting table) (suc next) (middleKey full) next parted
+    becomes : changeAll bothEdits (table (t .0)) ≡ widened d table count k f local t low high link a b o h (applyAll splitting table) (suc next)
+        (middleKey full) next parted
     becomes = edits-widen d table count k f local t low high link a b o h (applyAll splitting table) (suc next) (middleKey full) next parted
 
-    risen : Changed (suc d) table (applyAll splitting table) count (suc next) t low high link (f (pairsIn (suc d) t)) (suc mostKeys) (changeAll bothEdits (table (t .0)))
+    risen : Changed (suc d) table (applyAll splitting table) count (suc next) t low high link (f (pairsIn (suc d) t)) (suc mostKeys)
+        (changeAll bothEdits (table (t .0)))
     risen =
         rw becomes
         (rises-parted d table count k f local t low high link a b o h (applyAll splitting table) (suc next) (middleKey full) next parted)
@@ -187,12 +191,14 @@ module _ (limit d : ℕ) (table : Table) (count k : ℕ) (f : List Pair → List
         (omega (arith, p .under, child-leads d table count k f local t low high link a b o h .under)) (h .1) in
         let size : length (insert m (rootOf d child) ks) ≤ mostKeys =
         omega (arith, two-long, s, length-insert m (rootOf d child) ks, ap (λ (n : Node). length (pairsOf n)) (h .0)) in
-        let shape : shapeOf (change (put m (rootOf d child)) (table (t .0))) ≡ Branch = ap (λ (n : Node). shapeOf (change (put m (rootOf d child)) n)) (h .0) in (
+        let shape : shapeOf (change (put m (rootOf d child)) (table (t .0))) ≡ Branch = ap
+        (λ (n : Node). shapeOf (change (put m (rootOf d child)) n)) (h .0) in (
           rw (h .0) (neat-within low high (node Branch (insert m (rootOf d child) ks) _) bound w size),
           tt,
           (
             neat-within low high (changeAll bothEdits (table (t .0))) bound
-                (holds-keys (suc d) (applyAll splitting table) (risen .tree) low high link (suc mostKeys) (changeAll bothEdits (table (t .0))) (risen .holds)) s,
+                (holds-keys (suc d) (applyAll splitting table) (risen .tree) low high link (suc mostKeys) (changeAll bothEdits (table (t .0)))
+                (risen .holds)) s,
             renamed-suits (slot k (pairsOf (table (t .0)))) (pairsOf (table (t .0))) next (change (put m (rootOf d child)) (table (t .0))) shape,
             tt,
           ),
@@ -223,7 +229,8 @@ module _ (limit d : ℕ) (table : Table) (count k : ℕ) (f : List Pair → List
           Good limit (suc d) table count t low high link (f (pairsIn (suc d) t)) (settle table k (t .0) (rootOf d child) (pending rs next edits))
       go true e =
           rw (e, settle)
-          (settle-whole _ next (pending-whole limit d table count child childLow childHigh childNext (f (pairsIn d child)) rs next edits childOnce g (leb-true size mostKeys e)))
+          (settle-whole _ next (pending-whole limit d table count child childLow childHigh childNext (f (pairsIn d child)) rs next edits childOnce g
+          (leb-true size mostKeys e)))
       go false e = rw (e, settle) (settle-parted rs next edits g (leb-false size mostKeys e))
 
 -- A change says of a leaf what an edit says of its pairs, and suits every node.

@@ -106,7 +106,8 @@ names-checkpoint-page number at x =
 
 -- The next checkpoint page, k being written.
 module _ (base : ℕ) {k : ℕ} {w : World} {st : Store} (few : w .state .blocks ≤ mostBlocks)
-    (v : Invariant (w .state .blocks) (w .state .nodes) (checkpointSince base) st) (h : Mirrors image (owner base (w .state .nodes) st) (checkpointSince base) w st)
+    (v : Invariant (w .state .blocks) (w .state .nodes) (checkpointSince base) st)
+    (h : Mirrors image (owner base (w .state .nodes) st) (checkpointSince base) w st)
     (written : w .state .checkpoint ≡ k) (number : st .last ≡ base + k) (room : used (w .state) < length (w .table .rows)) (x : CheckpointPage) where
   abbrev nodes : ℕ
   nodes = w .state .nodes
@@ -176,7 +177,8 @@ module _ (base : ℕ) {k : ℕ} {w : World} {st : Store} (few : w .state .blocks
           ap (λ (b : Bool). isCheckpoint p && b) (ne-eqb (sequence p) (suc (base + (used s - nodes))) (λ z. omega (arith, used-is))) ∙
           and-false (isCheckpoint p)
 
-  checkpoint-page-named : Named (stands-found few v h) (inside-found few v h) (found-room v) pageOfCheckpoint (used stateAfter) (owner base nodes after) rowsAfter
+  checkpoint-page-named : Named (stands-found few v h) (inside-found few v h) (found-room v) pageOfCheckpoint (used stateAfter)
+      (owner base nodes after) rowsAfter
   unfolding pageCounted
   checkpoint-page-named =
       record {

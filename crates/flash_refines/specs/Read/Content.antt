@@ -93,7 +93,8 @@ module _ {B : ℕ} {score : ℕ → ℕ} {w : World} {run : Run} (known : Writab
 
   -- What the store says, by these numbers.
   draft-sequences : draftOf (run .now) n ≡
-      replayFrom (replayFrom (unlinked []) (joined (piecesOf (run .now) n) sequences)) (piecesIn n (greatest (view (run .now)) n) (map entryItem (run .now .buffer)))
+      replayFrom (replayFrom (unlinked []) (joined (piecesOf (run .now) n) sequences))
+      (piecesIn n (greatest (view (run .now)) n) (map entryItem (run .now .buffer)))
   unfolding draftOf replay pieces sequences
   draft-sequences =
       let behind : List Piece = piecesIn n (greatest (view (run .now)) n) (map entryItem (run .now .buffer)) in
@@ -181,7 +182,8 @@ module _ {B : ℕ} {score : ℕ → ℕ} {w : World} {run : Run} (known : Writab
   log-follows e = go (rowAt (w .table .rows) n .mode) (h .mirrors .rows .mode n inside)
     where
       go : (m : Mode) → RowMode m (run .now) n →
-          byMode m (logContent (w .pages) (w .table .buffer) (w .state .entries) (rowAt (w .table .rows) n) n) (nodePageAt (w .pages) (rowAt (w .table .rows) n .first)) ≡ draftOf (run .now) n
+          byMode m (logContent (w .pages) (w .table .buffer) (w .state .entries) (rowAt (w .table .rows) n) n)
+          (nodePageAt (w .pages) (rowAt (w .table .rows) n .first)) ≡ draftOf (run .now) n
       go Log i = log-content i
       go Disk o = let d = mode-is Disk (run .now) n o in absurd (let z : _≡_ {A = ℕ} 0 1 = cc in omega arith)
 
@@ -191,7 +193,8 @@ module _ {B : ℕ} {score : ℕ → ℕ} {w : World} {run : Run} (known : Writab
   content-follows x e neat = go (rowAt (w .table .rows) n .mode) (h .mirrors .rows .mode n inside)
     where
       go : (m : Mode) → RowMode m (run .now) n →
-          byMode m (logContent (w .pages) (w .table .buffer) (w .state .entries) (rowAt (w .table .rows) n) n) (nodePageAt (w .pages) (rowAt (w .table .rows) n .first)) ≡ made x
+          byMode m (logContent (w .pages) (w .table .buffer) (w .state .entries) (rowAt (w .table .rows) n) n)
+          (nodePageAt (w .pages) (rowAt (w .table .rows) n .first)) ≡ made x
       go Log i = log-content i ∙ e
       go Disk o =
           let said = disk-draft o in

@@ -81,7 +81,8 @@ entry-back s e l h =
     ap₂ entry one (number-bigEndian 4 (e .version) (omega (arith, h .below)))
 
 -- THE BUFFER
-pub buffer-redone : (n v last : ℕ) {buffer : List ℕ} {entries : ℕ} {es : List Entry} → BufferIs buffer entries es → last < bound32 → Every (EntryFits (suc last)) es → (d : Draft) →
+pub buffer-redone : (n v last : ℕ) {buffer : List ℕ} {entries : ℕ} {es : List Entry} → BufferIs buffer entries es → last < bound32 →
+    Every (EntryFits (suc last)) es → (d : Draft) →
     redoBuffer n v buffer entries d ≡ replayFrom d (piecesIn n v (map entryItem es))
 unfolding redoBuffer
 buffer-redone n v last {buffer} {entries} {es} b l fit d =

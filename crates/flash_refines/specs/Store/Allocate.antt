@@ -74,11 +74,13 @@ module _ (image : Page → List ℕ) (written : Images image) (own : ℕ → Pag
   blank-is : (i : ℕ) → i < length bs → blankBlock ps i ≡ empty (block bs i)
   blank-is i l = blank-block (r .pages) written i (omega (arith, r .pages .size))
 
-  mark-is : (i q : ℕ) → i < s .blocks → q < 32 → marked (getD (liveMap (s .nodes + s .checkpoint) (t .rows)) (32 * i + q) 0) ≡ test keep (getElem? (block bs i) q)
+  mark-is : (i q : ℕ) → i < s .blocks → q < 32 → marked (getD (liveMap (s .nodes + s .checkpoint) (t .rows)) (32 * i + q) 0) ≡ test keep
+      (getElem? (block bs i) q)
   mark-is i q li lq = mark-live small (r .names) o i q li lq
 
   live-is : (i : ℕ) → i < length bs → liveIn (liveMap (s .nodes + s .checkpoint) (t .rows)) i ≡ count keep (block bs i)
-  live-is i l = liveIn-is keep (liveMap (s .nodes + s .checkpoint) (t .rows)) (block bs i) i (r .pages .most i) (λ q lq. mark-is i q (omega (arith, r .pages .size)) lq)
+  live-is i l = liveIn-is keep (liveMap (s .nodes + s .checkpoint) (t .rows)) (block bs i) i (r .pages .most i)
+      (λ q lq. mark-is i q (omega (arith, r .pages .size)) lq)
 
   blanks-is : blankBlocks (s .blocks) ps ≡ blanks bs
   blanks-is = ap (λ (n : ℕ). blankBlocks n ps) (sym (r .pages .size)) ∙ blankBlocks-is ps bs blank-is
@@ -111,7 +113,11 @@ module _ (image : Page → List ℕ) (written : Images image) (own : ℕ → Pag
         go (inr l) two e =
             rw (lt-ltb (length (block bs (s .current))) 32 (omega (arith, r .fill)))
             (subst (goal true (leb 2 (blanks bs))) (allocate-room (world ps t s) l)
-            (record { stands = r; kept = record { blocks = refl; nodes = refl; checkpoint = refl; last = refl; entries = refl; buffer = refl; table = refl; rows = stays } }))
+            (record {
+              stands = r;
+              kept =
+                  record { blocks = refl; nodes = refl; checkpoint = refl; last = refl; entries = refl; buffer = refl; table = refl; rows = stays };
+            }))
         go (inl l) true e =
             rw (full l, e)
             (subst (goal false true) (allocate-next ps t s j (blanks bs) l (sym next-is) (sym blanks-is) (leb-true 2 (blanks bs) e) (inBlock j 0 s) refl)
@@ -139,7 +145,8 @@ module _ (image : Page → List ℕ) (written : Images image) (own : ℕ → Pag
             v = moves e .0
 
             z : Compacted
-            z = moveBlock (liveMap (s .nodes + s .checkpoint) (t .rows)) (s .nodes + s .checkpoint) (Model.victim keep bs) (Model.nextBlank bs (s .current)) ps (t .rows)
+            z = moveBlock (liveMap (s .nodes + s .checkpoint) (t .rows)) (s .nodes + s .checkpoint) (Model.victim keep bs)
+                (Model.nextBlank bs (s .current)) ps (t .rows)
 
             c : Compaction (s .blocks) image (used s) own (t .rows) bs keep (Model.victim keep bs) (Model.nextBlank bs (s .current)) z
             c =
@@ -154,7 +161,8 @@ module _ (image : Page → List ℕ) (written : Images image) (own : ℕ → Pag
             whole : z ≡ compact (used s) (s .blocks) (Model.nextBlank bs (s .current)) ps (t .rows)
             whole =
                 sym
-                (ap (λ (x : ℕ). moveBlock (liveMap (s .nodes + s .checkpoint) (t .rows)) (s .nodes + s .checkpoint) x (Model.nextBlank bs (s .current)) ps (t .rows)) chosen)
+                (ap (λ (x : ℕ). moveBlock (liveMap (s .nodes + s .checkpoint) (t .rows)) (s .nodes + s .checkpoint) x
+                (Model.nextBlank bs (s .current)) ps (t .rows)) chosen)
 
 -- A live page carries a node below the count, or is of the checkpoint being written.
 live-cases : (w : View) (closing : Page → Bool) (N : ℕ) (p : Page) → live w closing N p ≡ true →
@@ -190,7 +198,8 @@ owned-live {own} {closing} {N} {C} {st} within h =
     owned n l p e (inr g) = live-carries (view st) closing N p n g (sym (h .nodes n g p) ∙ e)
     owned n l p e (inl g) = live-closing (view st) closing N p (h .checkpointPage n g l p e)
 
-module _ {image : Page → List ℕ} {own : ℕ → Page → Bool} {closing : Page → Bool} {w : World} {st : Store} (written : Images image) (small : w .state .blocks ≤ 64)
+module _ {image : Page → List ℕ} {own : ℕ → Page → Bool} {closing : Page → Bool} {w : World} {st : Store} (written : Images image)
+    (small : w .state .blocks ≤ 64)
     (v : Invariant (w .state .blocks) (w .state .nodes) closing st) (h : Mirrors image own closing w st) where
   pub found-place : Allocated image own w (spot 32 (live (view st) closing (w .state .nodes)) (st .blocks) (st .current)) (allocate w)
   found-place =
@@ -247,6 +256,7 @@ module _ {image : Page → List ℕ} {own : ℕ → Page → Bool} {closing : Pa
       rows =
           record {
             version = λ n l. ap (λ (x : Row). x .version) (row n l .1) ∙ h .rows .version n l ∙ sym (found-same v n l .greatest);
-            mode = λ n l. subst (λ (x : Row). RowMode (x .mode) st′ n) (sym (row n l .1)) (found-rowMode v n l (rowAt (w .table .rows) n .mode) (h .rows .mode n l));
+            mode = λ n l. subst (λ (x : Row). RowMode (x .mode) st′ n) (sym (row n l .1))
+                (found-rowMode v n l (rowAt (w .table .rows) n .mode) (h .rows .mode n l));
             pages = λ n l. ap (λ (x : Row). x .pages) (row n l .1) ∙ h .rows .pages n l ∙ sym (found-same v n l .pages);
           }

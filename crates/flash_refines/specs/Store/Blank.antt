@@ -85,7 +85,8 @@ module _ (ps : List (List ℕ)) (bs : Blocks) (blank : (i : ℕ) → i < length 
   first-is zero x e = sym (ap (orAll (length bs)) (blankFrom-past bs x (omega arith)) ∙ omega arith)
   first-is (suc k) x e =
       ap (λ (t : Bool). choose t x (firstFrom (blankBlock ps) k (x + 1))) (blank x (omega arith)) ∙
-      ap (λ (n : ℕ). choose (empty (block bs x)) x n) (first-is k (x + 1) (omega arith) ∙ ap (λ (n : ℕ). orAll (length bs) (Model.blankFrom n bs)) (omega arith)) ∙
+      ap (λ (n : ℕ). choose (empty (block bs x)) x n) (first-is k (x + 1) (omega arith) ∙
+      ap (λ (n : ℕ). orAll (length bs) (Model.blankFrom n bs)) (omega arith)) ∙
       sym (ap (orAll (length bs)) (blankFrom-look bs x (omega arith)) ∙ by (empty (block bs x)) (Model.blankFrom (suc x) bs))
     where
       by : (t : Bool) (found : Option ℕ) → orAll (length bs) (orHere t x found) ≡ choose t x (orAll (length bs) found)

@@ -64,7 +64,8 @@ module _ (live : Page → Bool) (ps : List (List ℕ)) (m : List ℕ) where
       victim (length bs) ps m ≡ Model.victim live bs
   unfolding victim best
   victim-is bs h g few =
-      ap (λ (x : Choice). x .block) (best-merge bs 0 (choice 0 33) (λ i l. ap (blankBlock ps) (omega arith) ∙ h i l) (λ i l. ap (liveIn m) (omega arith) ∙ g i l)) ∙
+      ap (λ (x : Choice). x .block) (best-merge bs 0 (choice 0 33) (λ i l. ap (blankBlock ps) (omega arith) ∙ h i l)
+      (λ i l. ap (liveIn m) (omega arith) ∙ g i l)) ∙
       go (fewest live bs) refl (fewest-chosen live bs)
     where
       go : (c : Model.Choice) → fewest live bs ≡ c → Chosen live bs c → merge (choice 0 33) c 0 .block ≡ Model.blockTaken c

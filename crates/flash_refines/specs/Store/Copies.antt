@@ -105,7 +105,8 @@ module _ {B : ℕ} {image : Page → List ℕ} (live : Page → Bool) {ps : List
   unfolding copyPage copied
   copied-moves k w l p e t h =
       record {
-        pages = rw more (subst (λ (n : ℕ). PagesAre B image (set (w .pages) n (pageAt (w .pages) (32 * i + k))) (set bs j (cp ++ (p ∷ [])))) (sym at) (rw content added));
+        pages = rw more (subst (λ (n : ℕ). PagesAre B image (set (w .pages) n (pageAt (w .pages) (32 * i + k))) (set bs j (cp ++ (p ∷ []))))
+            (sym at) (rw content added));
         fill = omega (arith, h .fill, counted);
         long = length-set (w .places) k (32 * j + w .fill) ∙ h .long;
         places = λ q g p′ e′ t′. place q g p′ e′ t′ (eq-or q k);
@@ -121,12 +122,14 @@ module _ {B : ℕ} {image : Page → List ℕ} (live : Page → Bool) {ps : List
       at = omega (arith, h .fill, length-filter live (take k (block bs i)))
 
       content : pageAt (w .pages) (32 * i + k) ≡ image p
-      content = h .pages .each i k inside l ∙ ap (λ (x : List Page). imageAt image (getElem? x k)) (getD-set-other bs j i cp [] (v .apart)) ∙ ap (imageAt image) e
+      content = h .pages .each i k inside l ∙ ap (λ (x : List Page). imageAt image (getElem? x k)) (getD-set-other bs j i cp [] (v .apart)) ∙
+          ap (imageAt image) e
 
       added : PagesAre B image (set (w .pages) (32 * j + length cp) (image p)) (set bs j (cp ++ (p ∷ [])))
       added =
           subst (λ (x : List Page). PagesAre B image (set (w .pages) (32 * j + length x) (image p)) (set bs j (x ++ (p ∷ [])))) here
-          (subst (λ (y : Blocks). PagesAre B image (set (w .pages) (32 * j + length (block (set bs j cp) j)) (image p)) y) (set-set bs j cp (block (set bs j cp) j ++ (p ∷ [])))
+          (subst (λ (y : Blocks). PagesAre B image (set (w .pages) (32 * j + length (block (set bs j cp) j)) (image p)) y)
+          (set-set bs j cp (block (set bs j cp) j ++ (p ∷ [])))
           (pages-add (h .pages) j target p (rw here (omega (arith, few-copies k)))))
 
       more : filter live (take (k + 1) (block bs i)) ≡ cp ++ (p ∷ [])

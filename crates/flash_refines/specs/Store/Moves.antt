@@ -72,7 +72,8 @@ module _ {B rowsUsed : ℕ} {own : ℕ → Page → Bool} {rows : List Row} {bs 
 
   module _ (n a r : ℕ) (ln : n < rowsUsed) (la : a < B) (lr : r < 32) where
     -- a page that is named now is the row's own
-    names-own : names (32 * a + r) (mapped (newPlace (32 * i) places) (rowAt rows n)) ≡ true → test (own n) (getElem? (block (Model.compact live bs i j) a) r) ≡ true
+    names-own : names (32 * a + r) (mapped (newPlace (32 * i) places) (rowAt rows n)) ≡ true →
+        test (own n) (getElem? (block (Model.compact live bs i j) a) r) ≡ true
     names-own e =
         let u = names-unmapped (newPlace (32 * i) places) (rowAt rows n) (32 * a + r) e in
         go (u .0) (u .2) (u .1) (origin n (u .0) ln (u .1)) (eq-or a i) (eq-or a j)
@@ -100,7 +101,8 @@ module _ {B rowsUsed : ℕ} {own : ℕ → Page → Bool} {rows : List Row} {bs 
             (λ (k : ℕ). names k (rowAt rows n)) (sym d ∙ now) ∙ g
 
     -- and the row's own pages are named
-    own-named : test (own n) (getElem? (block (Model.compact live bs i j) a) r) ≡ true → names (32 * a + r) (mapped (newPlace (32 * i) places) (rowAt rows n)) ≡ true
+    own-named : test (own n) (getElem? (block (Model.compact live bs i j) a) r) ≡ true →
+        names (32 * a + r) (mapped (newPlace (32 * i) places) (rowAt rows n)) ≡ true
     own-named e = go (eq-or a i) (eq-or a j)
       where
         came : (c : Option Page) → getElem? (filter live (block bs i)) r ≡ c → test (own n) c ≡ true → a ≡ j → names (32 * a + r)
@@ -109,7 +111,8 @@ module _ {B rowsUsed : ℕ} {own : ℕ → Page → Bool} {rows : List Row} {bs 
         came (some p) d t aj =
             let h = rank-filter live (block bs i) r p d in
             let lq : h .place < 32 = omega (arith, get-below (block bs i) (h .place) p (h .here)) in
-            let was : names (32 * i + h .place) (rowAt rows n) ≡ true = named .each n i (h .place) ln (omega (arith, v .from)) lq ∙ ap (test (own n)) (h .here) ∙ t in
+            let was : names (32 * i + h .place) (rowAt rows n) ≡ true = named .each n i (h .place) ln (omega (arith, v .from)) lq ∙
+            ap (test (own n)) (h .here) ∙ t in
             let now : newPlace (32 * i) places (32 * i + h .place) ≡ 32 * a + r =
             new-inside (32 * i) places (h .place) lq ∙ went (h .place) lq p (h .here) (h .passes) ∙ omega (arith, h .ranked, aj) in
             ap (λ (k : ℕ). names k (mapped (newPlace (32 * i) places) (rowAt rows n))) (sym now) ∙ names-mapped (newPlace (32 * i) places)

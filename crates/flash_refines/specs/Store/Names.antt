@@ -144,6 +144,7 @@ module _ (base : ℕ) (places : List ℕ) (rows : List Row) where
   pub length-renameRows : (used : ℕ) → length (renameRows used base places rows) ≡ length rows
   length-renameRows used = all-renamed used .long
 
-  pub rowAt-renameRows : (used n : ℕ) → n < used → used ≤ length rows → rowAt (renameRows used base places rows) n ≡ mapped (newPlace base places) (rowAt rows n)
+  pub rowAt-renameRows : (used n : ℕ) → n < used → used ≤ length rows →
+      rowAt (renameRows used base places rows) n ≡ mapped (newPlace base places) (rowAt rows n)
   unfolding moved
   rowAt-renameRows used n l m = all-renamed used .done n l (omega arith)

@@ -22,7 +22,8 @@ use Rattle.flash_refines.specs.Store.Mirror.{rowAt, PagesAre, RowsName}
 use Rattle.flash_refines.specs.Store.Pages.{place-apart, pages-add}
 use Rattle.flash_refines.specs.Store.Allocate.{Stands}
 
-module _ {image : Page → List ℕ} {own : ℕ → Page → Bool} {w : World} {bs : Blocks} {here : ℕ} (r : Stands image own w bs here) (inside : here < w .state .blocks)
+module _ {image : Page → List ℕ} {own : ℕ → Page → Bool} {w : World} {bs : Blocks} {here : ℕ} (r : Stands image own w bs here)
+    (inside : here < w .state .blocks)
     (room : length (block bs here) < 32) where
   spot-is : spot (w .state) ≡ 32 * here + length (block bs here)
   spot-is = omega (arith, r .current, r .fill)
@@ -71,7 +72,8 @@ module _ {image : Page → List ℕ} {own : ℕ → Page → Bool} {w : World} {
       record {
         pages =
             subst (λ (k : ℕ). PagesAre k image (set (w .pages) (spot (w .state)) (image p)) (addTo bs here p)) (sym eb)
-            (subst (λ (k : ℕ). PagesAre (w .state .blocks) image (set (w .pages) k (image p)) (addTo bs here p)) (sym spot-is) (pages-add (r .pages) here inside p room));
+            (subst (λ (k : ℕ). PagesAre (w .state .blocks) image (set (w .pages) k (image p)) (addTo bs here p)) (sym spot-is)
+            (pages-add (r .pages) here inside p room));
         names = subst (λ (k : ℕ). RowsName k (used s′) own′ (t′ .rows) (addTo bs here p)) (sym eb) (rows-added p (used s′) own′ (t′ .rows) h);
         current = ec ∙ r .current;
         fill = ef ∙ omega (arith, r .fill, ap length added, length-append (block bs here) (p ∷ []));

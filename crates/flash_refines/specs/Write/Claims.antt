@@ -188,7 +188,8 @@ module _ (nodes page : ℕ) where
 
 -- ---- the buffer's entries
 
-module _ {buffer : List ℕ} {entries : ℕ} {es : List Entry} (b : BufferIs buffer entries es) {n : ℕ} (l : n < bound32) (f : Every (EntryFits n) es) (nodes page : ℕ) (rows : List Row) where
+module _ {buffer : List ℕ} {entries : ℕ} {es : List Entry} (b : BufferIs buffer entries es) {n : ℕ} (l : n < bound32) (f : Every (EntryFits n) es)
+    (nodes page : ℕ) (rows : List Row) where
   entries-claim : claimEntries buffer nodes page entries rows ≡ claimAll nodes page es rows
   unfolding claimEntries claimEntry steps
   entries-claim =

@@ -229,7 +229,8 @@ module _ {B : ℕ} {score : ℕ → ℕ} {w : World} {run : Run} (b : Writable B
       written : writeBuffer before ≡ world (set (before .pages) at (image p)) t′ s′
       written =
           ap
-          (λ (k : ℕ). world (set (before .pages) at (logImage k (before .state .entries) (before .table .buffer))) t′ (withoutEntries (advanced k (before .state))))
+          (λ (k : ℕ). world (set (before .pages) at (logImage k (before .state .entries) (before .table .buffer))) t′
+          (withoutEntries (advanced k (before .state))))
           (ap nextSequence (same .last ∙ f .mirrors .last) ∙ nextNumber-is (st .last) number) ∙
           ap (λ (z : List ℕ). world (set (before .pages) at z) t′ s′) (image-log waiting (suc (st .last)))
 

@@ -134,7 +134,8 @@ module _ {B : ℕ} {score : ℕ → ℕ} {w : World} {run : Run} (b : Writable B
       mode : (m : ℕ) → m < N′ → (n ≡ m) ⊎ (n ≡ m → ⊥) → RowMode (rowAt rows′ m .mode) after m
       mode m l (inl e) =
           subst (λ (k : ℕ). RowMode (rowAt rows′ k .mode) after k) e
-          (subst (λ (k : Mode). RowMode k after n) (sym (ap (λ (r : Row). r .mode) row-here)) (begin-mode (b .good) n c cs fits next (omega (arith, count)) .none))
+          (subst (λ (k : Mode). RowMode k after n) (sym (ap (λ (r : Row). r .mode) row-here))
+          (begin-mode (b .good) n c cs fits next (omega (arith, count)) .none))
       mode m l (inr d) =
           subst (λ (k : Mode). RowMode k after m) (sym (ap (λ (r : Row). r .mode) (row-other m d)))
           (same-rowMode (rowAt (w .table .rows) m .mode) st after m (other m d .greatest) refl (f .mirrors .rows .mode m (here m l d)))
@@ -199,7 +200,8 @@ module _ {B : ℕ} {score : ℕ → ℕ} {w : World} {run : Run} (b : Writable B
   restart-follows n there =
       subst (λ (v : ℕ). Follows score (besides (w .pages) (started n row v x (w .table) (w .state))) (begin n (changesOf x) run)) version
       (subst (λ (cs : List Change). Follows score (besides (w .pages) (appendAll n v cs (begun n row v (w .table) (w .state)))) (begin n cs run)) (sym (s .is))
-      (subst (λ (t : State). Follows score (world (w .pages) (appendAll n v (s .first ∷ s .rest) (begun n row v (w .table) (w .state)) .table) t) (begin n (s .first ∷ s .rest) run))
+      (subst (λ (t : State). Follows score (world (w .pages) (appendAll n v (s .first ∷ s .rest) (begun n row v (w .table) (w .state)) .table) t)
+      (begin n (s .first ∷ s .rest) run))
       (count-stays b f n (s .first) (s .rest) fits′ row (w .state .nodes) count next limit score (f .scores n there) (λ m l d. refl))
       (begin-follows b f n (s .first) (s .rest) fits′ row (w .state .nodes) count next limit score (f .scores n there) (λ m l d. refl))))
     where

@@ -85,7 +85,8 @@ module _ (at : ℕ → Option Page) where
       collect-gathered s k (consCheckpointPage (at (suc (s + suc k))) later) (reach-less s k r)
 
   -- Its first checkpoint page has the tariff.
-  pub tariff-gathered : (s k : ℕ) (later : List CheckpointPage) → opens (at (suc s)) ≡ true → tariffIn (gathered s k later) ≡ checkpointPageIn (at (suc s)) .tariff
+  pub tariff-gathered : (s k : ℕ) (later : List CheckpointPage) → opens (at (suc s)) ≡ true →
+      tariffIn (gathered s k later) ≡ checkpointPageIn (at (suc s)) .tariff
   unfolding gathered
   tariff-gathered s zero later o = tariff-cons (at (suc s)) later o
   tariff-gathered s (suc k) later o = tariff-gathered s k (consCheckpointPage (at (suc (s + suc k))) later) o
@@ -157,7 +158,8 @@ sumCheckpointPages h [] = 0
 sumCheckpointPages h (x ∷ xs) = h x + sumCheckpointPages h xs
 
 module _ (h : CheckpointPage → ℕ) (nothing : h noCheckpointPage ≡ 0) where
-  sum-cons : (x : Option Page) (later : List CheckpointPage) → sumCheckpointPages h (consCheckpointPage x later) ≡ h (checkpointPageIn x) + sumCheckpointPages h later
+  sum-cons : (x : Option Page) (later : List CheckpointPage) →
+      sumCheckpointPages h (consCheckpointPage x later) ≡ h (checkpointPageIn x) + sumCheckpointPages h later
   sum-cons none later = omega (arith, nothing)
   sum-cons (some (page s (log es))) later = omega (arith, nothing)
   sum-cons (some (page s (whole n x))) later = omega (arith, nothing)

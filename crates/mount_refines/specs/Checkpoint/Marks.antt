@@ -166,7 +166,8 @@ module _ {pool : List ℕ} {blocks : ℕ} {c : Cells} (j : Judged pool blocks c)
       (λ q h. idCount-read width i start l (pageAt ps q) ∙ ap (count (scoreOf (start + i))) (headers j q h .scores)) ∙
       in-checkpoint-pages (gathered (λ i. pageIn i (pagesIn c)) s k []))
     where
-      in-checkpoint-pages : (ys : List CheckpointPage) → sumCheckpointPages (λ y. count (scoreOf (start + i)) (y .scores)) ys ≡ count (scoreOf (start + i)) (scoresIn ys)
+      in-checkpoint-pages : (ys : List CheckpointPage) → sumCheckpointPages (λ y. count (scoreOf (start + i)) (y .scores)) ys ≡ count
+          (scoreOf (start + i)) (scoresIn ys)
       in-checkpoint-pages [] = refl
       in-checkpoint-pages (y ∷ ys) = omega (arith, in-checkpoint-pages ys, count-append (scoreOf (start + i)) (y .scores) (scoresIn ys))
 

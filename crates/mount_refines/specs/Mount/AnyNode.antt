@@ -72,6 +72,7 @@ module _ {B : ℕ} {score : ℕ → ℕ} {w : World} {run : Run} (known : Writab
   read-as = go (rowAt (w .table .rows) n .mode) (h .mirrors .rows .mode n (omega (arith, h .nodes)))
     where
       go : (m : Mode) → RowMode m (run .now) n →
-          read (byMode m (logContent (w .pages) (w .table .buffer) (w .state .entries) (rowAt (w .table .rows) n) n) (nodePageAt (w .pages) (rowAt (w .table .rows) n .first)))
+          read (byMode m (logContent (w .pages) (w .table .buffer) (w .state .entries) (rowAt (w .table .rows) n) n)
+          (nodePageAt (w .pages) (rowAt (w .table .rows) n .first)))
       go Log i = inl (ap nodeIn (sym (log-content known h n l i)))
       go Disk o = on-page o (ascends 0 bound32 (pairsOf (o .node))) refl

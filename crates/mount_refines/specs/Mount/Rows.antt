@@ -50,7 +50,8 @@ unmet-scored score r u = record { version = u .version; mode = u .mode; pages = 
 
 -- ---- the scores taken into it
 
-module _ {pool : List ℕ} {blocks : ℕ} {c : Cells} {t : Tariff} {nodes since : ℕ} (k : Known pool blocks c t nodes since) (limit : nodes ≤ nodeLimit blocks) where
+module _ {pool : List ℕ} {blocks : ℕ} {c : Cells} {t : Tariff} {nodes since : ℕ} (k : Known pool blocks c t nodes since)
+    (limit : nodes ≤ nodeLimit blocks) where
   abbrev score : ℕ → ℕ
   score = scoreFrom blocks c
 

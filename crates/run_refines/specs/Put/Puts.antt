@@ -115,7 +115,8 @@ module _ (n : Session) {B : ℕ} (s : State) (w : World) (a : Runs B w s) (pairs
   -- The put on this table, its path and its leaf, by whether the pair fits.
   put-by : (f : Fitting) → fitOf key (pairsOf (table leaf)) ≡ f →
       put t key value w ≡
-      byFit f (answering (valueOr Replaced (getAnswer count table key)) (readAndEdit t onPath leaf (table leaf) key value w)) (putSplitting t onPath (idsNeeded table onPath) key value w)
+      byFit f (answering (valueOr Replaced (getAnswer count table key)) (readAndEdit t onPath leaf (table leaf) key value w))
+      (putSplitting t onPath (idsNeeded table onPath) key value w)
   unfolding putIn getAnswer
   put-by f e =
       ap (λ (z : Table). putIn z t key value w) (table-is a) ∙

@@ -40,7 +40,8 @@ fits-behind limit (r ∷ rs) ss table count final f = fits-behind limit rs ss (a
 
 module _ {B : ℕ} {t : Tariff} {table : Table} {count : ℕ} {w : World} {all : List NodeRequest} (c : Course B t table count w all) where
   -- A create among the requests: the limit leaves an id for it.
-  grow-is : (rs more : List NodeRequest) (n : ℕ) (x : Node) → rs ++ (create n x ∷ more) ≡ all → grow x (servedAll t rs w) ≡ servedAll t (rs ++ (create n x ∷ [])) w
+  grow-is : (rs more : List NodeRequest) (n : ℕ) (x : Node) → rs ++ (create n x ∷ more) ≡ all →
+      grow x (servedAll t rs w) ≡ servedAll t (rs ++ (create n x ∷ [])) w
   unfolding grow
   grow-is rs more n x e =
       let m = c .moments rs (create n x ∷ more) e in
@@ -94,7 +95,8 @@ module _ {B : ℕ} {t : Tariff} {table : Table} {count : ℕ} {w : World} {all :
         let whole-list = sym (append-assoc rs rooting more) ∙ e in
         let one = grow-is rs (upper ∷ rewrite 0 crown ∷ more) n (lowerHalf whole (suc n)) whole-list in
         let two =
-        grow-is (rs ++ (lower ∷ [])) (rewrite 0 crown ∷ more) (suc n) (upperHalf whole) (append-assoc rs (lower ∷ []) (upper ∷ rewrite 0 crown ∷ more) ∙ whole-list) in
+        grow-is (rs ++ (lower ∷ [])) (rewrite 0 crown ∷ more) (suc n) (upperHalf whole)
+        (append-assoc rs (lower ∷ []) (upper ∷ rewrite 0 crown ∷ more) ∙ whole-list) in
         let grown : grow (upperHalf whole) (grow (lowerHalf whole (here .state .nodes + 1)) here) ≡ servedAll t (lower ∷ upper ∷ []) here =
         ap (λ (j : ℕ). grow (upperHalf whole) (grow (lowerHalf whole j) here)) right ∙
         ap (grow (upperHalf whole)) one ∙

@@ -39,7 +39,8 @@ counts-up (rewrite i x ∷ rs) count = counts-up rs count
 counts-up (create i x ∷ rs) count = omega (arith, counts-up rs (suc count))
 
 -- Nothing waits: nothing is done.
-upward-nothing : (t : Tariff) (k : ℕ) (root : Bool) (id : ℕ) (now : World) (paid : ℕ) → upward t k root id (absorbing now paid Nothing) ≡ absorbing now paid Nothing
+upward-nothing : (t : Tariff) (k : ℕ) (root : Bool) (id : ℕ) (now : World) (paid : ℕ) →
+    upward t k root id (absorbing now paid Nothing) ≡ absorbing now paid Nothing
 unfolding upward
 upward-nothing t k root id now paid = absorbing-is refl (omega arith) refl
 
@@ -112,7 +113,8 @@ module _ {B : ℕ} {t : Tariff} {table : Table} {count : ℕ} {w : World} {all :
     unfolding upward
     up-is made f = ap (upward t k root id) (m .is) ∙ ap (afterIt (chargedAll t rs w)) f
 
-    up-fits : fitsNode whole ≡ true → upward t k root id done ≡ absorbing (servedAll t (rs ++ map (edit id) edits) w) (chargedAll t (rs ++ map (edit id) edits) w) Nothing
+    up-fits : fitsNode whole ≡ true → upward t k root id done ≡ absorbing (servedAll t (rs ++ map (edit id) edits) w)
+        (chargedAll t (rs ++ map (edit id) edits) w) Nothing
     up-fits f =
         up-is _ (turn .fits (leb-true (length (pairsOf whole)) mostKeys f)) ∙
         absorbing-is (sym (servedAll-append t rs (map (edit id) edits) w)) (sym (chargedAll-append t rs (map (edit id) edits) w)) refl
@@ -121,7 +123,8 @@ module _ {B : ℕ} {t : Tariff} {table : Table} {count : ℕ} {w : World} {all :
     over f = turn .over (leb-false (length (pairsOf whole)) mostKeys f)
 
   -- a split below the root
-  split-matches : (id child : ℕ) (ids : List ℕ) (rs : List NodeRequest) (n : ℕ) (edits : List Change) (done : Absorbing) (m : Matches child ids rs n edits done) →
+  split-matches : (id child : ℕ) (ids : List ℕ) (rs : List NodeRequest) (n : ℕ) (edits : List Change) (done : Absorbing)
+      (m : Matches child ids rs n edits done) →
       child < count → Others child ids → shapeOf (table id) ≡ Branch → (more : List NodeRequest) → rs ++ more ≡ all →
       fitsNode (changeAll edits (table child)) ≡ false →
       let whole = changeAll edits (table child) in
@@ -144,7 +147,8 @@ module _ {B : ℕ} {t : Tariff} {table : Table} {count : ℕ} {w : World} {all :
       }
     where
       kept-other : (i : ℕ) → i < count → Others i (child ∷ ids) →
-          applyAll (rs ++ (rewrite child (lowerHalf (changeAll edits (table child)) n) ∷ create n (upperHalf (changeAll edits (table child))) ∷ [])) table i ≡ table i
+          applyAll (rs ++ (rewrite child (lowerHalf (changeAll edits (table child)) n) ∷ create n (upperHalf (changeAll edits (table child))) ∷
+          [])) table i ≡ table i
       kept-other i l (both d o) =
           let whole = changeAll edits (table child) in
           let parts = rewrite child (lowerHalf whole n) ∷ create n (upperHalf whole) ∷ [] in
@@ -155,7 +159,8 @@ module _ {B : ℕ} {t : Tariff} {table : Table} {count : ℕ} {w : World} {all :
 
   -- A NODE BELOW THE ROOT
   matched-step : (id child : ℕ) (ids : List ℕ) (x : Work) (done : Absorbing) → child < count → Others child ids → shapeOf (table id) ≡ Branch →
-      Ahead (settle table k id child x) → Ahead x → Matched child ids x done → Matched id (child ∷ ids) (settle table k id child x) (upward t k false child done)
+      Ahead (settle table k id child x) → Ahead x → Matched child ids x done →
+      Matched id (child ∷ ids) (settle table k id child x) (upward t k false child done)
   unfolding settle
   matched-step id child ids (finished rs n) done used others branch after a m =
       ap (upward t k false child) m ∙ upward-nothing t k false child (servedAll t rs w) (chargedAll t rs w)

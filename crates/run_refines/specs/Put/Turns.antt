@@ -53,7 +53,8 @@ module _ (t : Tariff) (k : ℕ) (root : Bool) (id : ℕ) (w : World) where
   unfolding absorbEdit
   one-request c = absorbing-is refl (omega arith) refl
 
-  two-requests : (c d : Change) → absorbEdits t id c d w ≡ absorbing (servedAll t (edit id c ∷ edit id d ∷ []) w) (chargedAll t (edit id c ∷ edit id d ∷ []) w) Nothing
+  two-requests : (c d : Change) → absorbEdits t id c d w ≡ absorbing (servedAll t (edit id c ∷ edit id d ∷ []) w)
+      (chargedAll t (edit id c ∷ edit id d ∷ []) w) Nothing
   unfolding absorbEdits
   two-requests c d = absorbing-is refl (omega arith) refl
 
