@@ -15,8 +15,8 @@ use Rattle.model.specs.Questions.{firstNo, ofPool}
 use Rattle.model.specs.Outcome as Model
 use Rattle.model.specs.Outcome.{workBy, ended}
 use Rattle.model.specs.Call.{Call, tableOf, bufferOf, bytesRun, ofLent, ofLast, outcome}
-use Rattle.model.specs.QuestionLaws.{Sizes, lent-sizes, Passes, lent-passes, lent-refuses, lent-right}
-use Rattle.model.specs.OutcomeLaws.{table-found, table-cleared}
+use Rattle.model.specs.Passes.{Sizes, lent-sizes, Passes, lent-passes}
+use Rattle.model.specs.OutcomeLaws.{lent-refuses, lent-right, table-found, table-cleared}
 use Rattle.batch.specs.declared.answer.Outcome.{Outcome}
 use Rattle.batch.specs.Left.{refusedWith, Leaves, left-as, refused-leaves}
 use Rattle.batch.specs.Closed.{Refused}

@@ -20,7 +20,7 @@ use Rattle.model.specs.PoolLaws.{blocks-length}
 use Rattle.model.specs.Questions.{firstNo, ofPool}
 use Rattle.model.specs.Outcome as Model
 use Rattle.model.specs.Outcome.{cleared, workBy, accept, ended}
-use Rattle.model.specs.QuestionLaws.{opens-yes, refused-no}
+use Rattle.model.specs.MountEnds.{opens-yes, refused-no}
 use Rattle.model.specs.OutcomeLaws.{ended-no, table-cleared}
 use Rattle.flash_rows.specs.Worktable.{Worktable, tableFrom}
 use Rattle.flash_blocks.specs.Pages.{pagesOf}

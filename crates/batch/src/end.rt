@@ -1,7 +1,7 @@
 // How calls end: the table zero in its first bytes, but after 1 and 2, and the checkpoint written where the pool opened.
 ghost use Prim.Native.Nat.{_≤_};
 ghost use lib.ListN.{length};
-ghost use Rattle.model.specs.QuestionLaws.{Sizes};
+ghost use Rattle.model.specs.Passes.{Sizes};
 ghost use Rattle.run_split.specs.Growing.{Growing};
 ghost use Rattle.batch.specs.Closed.{Refused, Unopened, Closed};
 use super::answer::Outcome;

@@ -36,7 +36,7 @@ use Rattle.book.specs.Batch.{doneBook, costBook, chargeBook, chargesBook}
 use Rattle.book.specs.Billed.{billCommands, billTotal, billed}
 use Rattle.model.specs.Pool.{blocksOf}
 use Rattle.model.specs.Call.{DeskLent, desk, joinedOr, outcome}
-use Rattle.model.specs.QuestionLaws.{joined-read, Passes}
+use Rattle.model.specs.Passes.{joined-read, Passes}
 use Rattle.model.specs.Calls.{fedOf, commandsBy, commandsIn}
 use Rattle.demands.specs.Ends.{accepted-ends}
 use Rattle.demands.specs.OneCall.{OpenPool, called}

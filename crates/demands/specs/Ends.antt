@@ -26,8 +26,9 @@ use Rattle.model.specs.Questions.{firstNo, ofPool, ofPrepare}
 use Rattle.model.specs.Outcome as Outcome
 use Rattle.model.specs.Outcome.{Outcome, refuse, tableAfter, Work, workBy, accept, ended}
 use Rattle.model.specs.Call.{Call, tableOf, bufferOf, bytesRun, ofLent, ofLast, questions, workIn, outcome, Prepared, preparedBy, prepareOf}
-use Rattle.model.specs.QuestionLaws.{first-behind, front-yes, behind-yes, lent-numbered, pool-numbered, Passes, lent-passes}
-use Rattle.model.specs.QuestionLaws.{MountEnds, unopened, mounted, mount-ends, opens-yes}
+use Rattle.model.specs.QuestionLaws.{first-behind, front-yes, behind-yes}
+use Rattle.model.specs.Passes.{lent-numbered, Passes, lent-passes}
+use Rattle.model.specs.MountEnds.{pool-numbered, MountEnds, unopened, mounted, mount-ends, opens-yes}
 
 -- Refused: pool and answers are as found. Done: what is lent is right, the pool opens, and the outcome is that of the work.
 pub data Ends (pool : List ℕ) (c : Call) : Outcome → Type 0 where

@@ -10,6 +10,8 @@ pub mod Outcome
 pub mod Call
 pub mod Order
 pub mod QuestionLaws
+pub mod Passes
+pub mod MountEnds
 pub mod OutcomeLaws
 pub mod Calls
 pub mod Computes

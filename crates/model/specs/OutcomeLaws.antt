@@ -1,15 +1,18 @@
--- A call ended by a number, and its table. Assumes nothing.
-use mathlib.Core.Path.{_≡_, refl}
-use mathlib.Core.List.{List}
+-- How a call ends: a number and its table; by what is lent, and then by what is in the pool. Assumes nothing.
+use mathlib.Core.Path.{_≡_, refl, ap, _∙_}
+use mathlib.Core.List.{List, [], _++_, append-nil}
 use mathlib.Core.Option.{Option, none, some}
 use Prim.Native.Nat.{ℕ, _≤_, _<_}
 use native.Mathlib.Omega.{arith}
 use borrow.Author.Tests.{le-leb, lt-leb, ne-eqb}
 use Rattle.model.specs.Mount.{Mounted}
 use Rattle.model.specs.Pool.{blocksOf}
-use Rattle.model.specs.Questions.{firstNo, ofPool}
+use Rattle.model.specs.Questions.{Question, firstNo, ofPool}
 use Rattle.model.specs.Outcome.{Outcome, cleared, tableAfter, refuse, Work, ended}
-use Rattle.model.specs.QuestionLaws.{MountEnds, unopened, mounted, mount-ends}
+use Rattle.model.specs.Call.{Call, tableOf, bufferOf, ofLent, ofLast, workIn, outcome}
+use Rattle.model.specs.QuestionLaws.{first-front, first-behind}
+use Rattle.model.specs.Passes.{lent-numbered}
+use Rattle.model.specs.MountEnds.{MountEnds, unopened, mounted, mount-ends}
 
 -- A number ends it with a refusal.
 pub ended-no : (n : ℕ) → 1 ≤ n → (w : Option Work) (pool table buffer : List ℕ) → ended n w pool table buffer ≡ refuse n pool table buffer
@@ -31,3 +34,23 @@ pool-table pool w table buffer = go (mount-ends pool) w
     go (unopened n l h) w = rw (ended-no n (omega arith) w pool table buffer) (table-cleared n (blocksOf pool) table (omega arith))
     go (mounted t s) none = refl
     go (mounted t s) (some w) = refl
+
+-- THE CALL: by what is lent, and then by what is in the pool.
+module _ (pool : List ℕ) (c : Call) where
+  abbrev endedBy : ℕ → Outcome
+  endedBy n = ended n (workIn pool c) pool (tableOf c) (bufferOf c)
+
+  pub lent-refuses : 1 ≤ firstNo (ofLent pool c) → outcome pool c ≡ refuse (firstNo (ofLent pool c)) pool (tableOf c) (bufferOf c)
+  unfolding outcome
+  lent-refuses l =
+      ap endedBy (first-front (ofLent pool c) (ofPool pool ++ ofLast pool c) l) ∙
+      ended-no (firstNo (ofLent pool c)) l (workIn pool c) pool (tableOf c) (bufferOf c)
+
+  -- Of a call that asks nothing behind that.
+  pub lent-right : firstNo (ofLent pool c) ≡ 0 → ofLast pool c ≡ [] → outcome pool c ≡ endedBy (firstNo (ofPool pool))
+  unfolding outcome
+  lent-right e nothing =
+      ap endedBy
+      (first-behind (ofLent pool c) (ofPool pool ++ ofLast pool c) (lent-numbered pool c) e ∙
+      ap (λ (last : List Question). firstNo (ofPool pool ++ last)) nothing ∙
+      ap firstNo (append-nil (ofPool pool)))

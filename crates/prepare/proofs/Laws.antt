@@ -22,7 +22,7 @@ use Rattle.page_checkpoint.specs.Checkpoint.{scoresIn}
 use Rattle.page_checkpoint.specs.Checkpoint as Writer
 use Rattle.model.specs.PoolLaws.{IsPool}
 use Rattle.model.specs.Questions.{firstNo, ofPrepare}
-use Rattle.model.specs.QuestionLaws.{prepare-pool}
+use Rattle.model.specs.Passes.{prepare-pool}
 use Rattle.model.specs.Call.{prepareOf}
 use Rattle.flash_blocks.specs.Pages.{erasedBytes}
 use Rattle.prepare.specs.Prepared.{rootPage, checkpointPage, firstBytes, Leaves, prepared-bytes}
