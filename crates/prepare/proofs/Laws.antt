@@ -76,8 +76,8 @@ module _ (pool : List ℕ) (t : Tariff) (n : ℕ) (is : n ≡ firstNo (ofPrepare
     pub is-prepared : IsPool pool
     is-prepared = prepare-pool pool t (sym is ∙ z)
 
-    pub prepared-leaves : (a b left : List ℕ) → a ≡ image rootPage → b ≡ image (checkpointPage t) → length a ≡ pageBytes → length b ≡ pageBytes →
-        left ≡ firstBytes (length pool) a b → Leaves (prepareOf pool t) 0 left
+    pub prepared-leaves : (a b left : List ℕ) → a ≡ image rootPage → b ≡ image (checkpointPage t) → length a ≡ pageBytes →
+        length b ≡ pageBytes → left ≡ firstBytes (length pool) a b → Leaves (prepareOf pool t) 0 left
     unfolding prepareOf
     prepared-leaves a b left ea eb la lb e =
         rw (sym is ∙ z)

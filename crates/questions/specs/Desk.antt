@@ -1,5 +1,5 @@
--- What the questions of a desk tell: the number of the first no; where there is none, queues that can be served, and in how many rounds. Assumes
--- nothing.
+-- What the questions of a desk tell: the number of the first no, and no rounds; where there is none, queues that can be served, and in how many
+-- rounds. Assumes nothing.
 use mathlib.Core.Path.{_≡_, refl, sym, ap, _∙_, subst}
 use mathlib.Core.Bool.{true, false}
 use mathlib.Core.List.{List, _∷_}
@@ -25,6 +25,7 @@ pub record DeskReady (lengths queues buffer : List ℕ) (rounds : ℕ) : Type 0 
 pub record Asks (pool table lengths queues buffer : List ℕ) (r : DeskAsked) : Type 0 where
   pub number : r .number ≡ firstNo (ofDesk pool table lengths queues buffer)
   pub ready : r .number ≡ 0 → DeskReady lengths queues buffer (r .rounds)
+  pub unserved : (r .number ≡ 0 → ⊥) → r .rounds ≡ 0
 
 abbrev pub refusedWith : ℕ → DeskAsked
 refusedWith number = record { number = number; rounds = 0 }
@@ -42,7 +43,7 @@ module _ (pool table lengths queues buffer : List ℕ) where
 
   -- A refusal.
   refuses : (n : ℕ) → 1 ≤ n → n ≡ firstNo (ofDesk pool table lengths queues buffer) → Asks pool table lengths queues buffer (refusedWith n)
-  refuses n l e = record { number = e; ready = λ z. absurd (omega (arith, z)) }
+  refuses n l e = record { number = e; ready = λ z. absurd (omega (arith, z)); unserved = λ d. refl }
 
   -- By 1 or 2; else what is behind them decides.
   module _ (n : ℕ) (is : n ≡ firstNo (ofSizes pool table)) where
@@ -88,4 +89,5 @@ module _ (pool table lengths queues buffer : List ℕ) where
                     last 0
                     (none-left buffer (joinedRead (joinedOf (queuesIn lengths queues))) (joined (r .commands)) commands-are (omega (arith, r .room-is)));
                 ready = λ z. record { fill = fill; room = room; ready = r; enough = l };
+                unserved = λ d. absurd (d refl);
               }
