@@ -6,14 +6,14 @@ ghost use Rattle.account.specs.Serve.{score_of, switched_of, stayed_of};
 ghost use Rattle.account.specs.ServeLaws.{Accounted};
 
 // Where a node lives: as entries on log pages, or whole on a page of its own (document 01: disk mode).
-#[derive(Drop)]
+#[derive(Clone, Copy)]
 pub enum Mode {
     Log,
     Disk,
 }
 
 // What a command asks of a node.
-#[derive(Drop)]
+#[derive(Clone, Copy)]
 pub enum Request {
     Read,
     Edit,
@@ -21,7 +21,7 @@ pub enum Request {
 }
 
 // What requests cost in one mode, and what it costs to switch into it.
-#[derive(Drop)]
+#[derive(Clone, Copy)]
 pub struct Costs {
     pub read: u32,
     pub edit: u32,
@@ -30,14 +30,14 @@ pub struct Costs {
 }
 
 // Document 01's tariff: the costs of both modes.
-#[derive(Drop)]
+#[derive(Clone, Copy)]
 pub struct Tariff {
     pub log: Costs,
     pub disk: Costs,
 }
 
 // A node's account: its mode, and how far the other mode would have been cheaper.
-#[derive(Drop)]
+#[derive(Clone, Copy)]
 pub struct Account {
     pub mode: Mode,
     pub score: u32,

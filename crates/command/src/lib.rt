@@ -3,7 +3,7 @@ pub mod answers;
 pub mod batch;
 
 // What a caller may ask: document 01's look up, hang, strip and sweep; of document 02, the current panel from here on (P2), and the next route up (P3).
-#[derive(Drop)]
+#[derive(Clone, Copy)]
 pub enum Command {
     Get { key: u32 },
     Put { key: u32, value: u32 },

@@ -1,6 +1,6 @@
 -- The pool of an accepted prepare opens: node 0 alone, an empty leaf in log mode with score 0, and the empty map. Assumes nothing.
 use Rattle.std.specs.Prelude.{◌≡◌, Bool, true, List, [], ◌∷◌, eqb, leb, ltb, replicate}
-use Rattle.std.proofs.Math.Path.{refl, ap, subst, fun_ext}
+use Rattle.std.proofs.Math.Path.{refl, ap, subst, sym, fun_ext}
 use Rattle.std.proofs.Common.{◌∙◌, arith}
 use Rattle.std.proofs.Math.Option.{none, some}
 use Prim.Native.Nat.{ℕ, zero, suc, ◌*◌, ◌-◌, ◌≤◌, max}
@@ -103,12 +103,12 @@ module _ (blocks : ℕ) (t : Tariff) (four : fewest_blocks ≤ blocks) where
   blocks_pass_lem : blocks_pass pages_in_block blocks (prepared blocks t) ≡ true
   unfolding blocks_pass prepared
   blocks_pass_lem =
-      rw (blocks_back, last-is)
+      rw blocks_back
       (and_both (eqb (length (prepared blocks t)) (pages_in_block * blocks)) _ (eq-eqb _ _ size)
       (and_both (all_filled pages_in_block blocks (prepared blocks t)) _ filled
       (and_both (differ bs) _ apart
-      (and_both (leb 1 (blanks bs)) (full_or_all pages_in_block 3 bs) (le-leb 1 (blanks bs) (omega (arith, blank-blanks k)))
-      (blank-full pages_in_block 3 k)))))
+      (and_both (leb 1 (blanks bs)) (full_or_all pages_in_block (newest bs) bs) (le-leb 1 (blanks bs) (omega (arith, blank-blanks k)))
+      full))))
     where
       size : length (prepared blocks t) ≡ pages_in_block * blocks
       size = length-cells pages_in_block bs ∙ omega (arith, length-blocks)
@@ -118,6 +118,9 @@ module _ (blocks : ℕ) (t : Tariff) (four : fewest_blocks ≤ blocks) where
 
       apart : differ bs ≡ true
       apart = rw (blank-tally k (numbered 2), blank-tally k (numbered 3)) (blank-differ k)
+
+      full : full_or_all pages_in_block (newest bs) bs ≡ true
+      full = subst (λ (n : ℕ). full_or_all pages_in_block n bs ≡ true) (sym last-is) (blank-full pages_in_block 3 k)
 
   pass : pages_pass blocks (prepared blocks t) ≡ true
   unfolding pages_pass

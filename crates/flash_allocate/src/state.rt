@@ -7,7 +7,7 @@ use layout::MOST_SEQUENCE;
 
 // What a batch knows beside the work table: the current block and its fill, the number of nodes and of checkpoint pages being written,
 // the last sequence number, and how many entries the log buffer has.
-#[derive(Drop)]
+#[derive(Clone, Copy)]
 pub struct State {
     pub blocks: usize,
     pub current: usize,

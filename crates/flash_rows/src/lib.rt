@@ -13,7 +13,7 @@ use wire::bytes::{lay_byte, lay_bytes};
 use wire::number::{read16, read32, write16, write32};
 
 // A node's row: its version, score and mode, and the one to three pages that it lies on.
-#[derive(Drop)]
+#[derive(Clone, Copy)]
 pub struct Row {
     pub version: u32,
     pub score: u32,

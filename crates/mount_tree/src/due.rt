@@ -12,7 +12,7 @@ use wire::bytes::lay_bytes;
 use wire::number::{read32, write32};
 
 // A node due: its id, how deep the leaves stand below it, and the bound that its keys stay below.
-#[derive(Drop)]
+#[derive(Clone, Copy)]
 pub struct Due {
     pub id: u32,
     pub depth: u32,

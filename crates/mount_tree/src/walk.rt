@@ -18,7 +18,7 @@ use node::search::ascends;
 use node::{NodeValue, Shape, same_shape};
 
 // Whether every node was in order so far, the leaf that must come next, the lowest key of the next node due, its slot, and how many ids were reached.
-#[derive(Drop)]
+#[derive(Clone, Copy)]
 pub struct WalkValue {
     pub passed: bool,
     pub awaited: u32,

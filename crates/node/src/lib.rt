@@ -13,14 +13,14 @@ pub mod splice;
 
 // Document 01's types 3 and 4: a leaf holds the map's pairs and a link to the next leaf, a branch holds keys with child
 // pointers and a last pointer.
-#[derive(Drop)]
+#[derive(Clone, Copy)]
 pub enum Shape {
     Leaf,
     Branch,
 }
 
 // A node: the first `count` keys, ascending, with the pointers beside them, and the link.
-#[derive(Drop)]
+#[derive(Clone, Copy)]
 pub struct NodeValue {
     pub shape: Shape,
     pub count: usize,
@@ -37,7 +37,7 @@ pub enum Found {
 }
 
 // How far the replay of a node has come: no link yet; a node; or no node, since its entries break a rule.
-#[derive(Drop)]
+#[derive(Clone, Copy)]
 pub enum DraftState {
     Unlinked,
     Made,
@@ -52,7 +52,7 @@ pub struct DraftValue {
 }
 
 // One change of a node: what one log entry says.
-#[derive(Drop)]
+#[derive(Clone, Copy)]
 pub enum ChangeValue {
     Put { key: u32, pointer: u32 },
     Delete { key: u32 },

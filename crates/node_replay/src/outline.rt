@@ -7,7 +7,7 @@ use layout::MOST_KEYS;
 use node::{DraftState, DraftValue, NodeValue, Shape};
 
 // A draft but for its keys and pointers.
-#[derive(Drop)]
+#[derive(Clone, Copy)]
 pub struct Outline {
     pub state: DraftState,
     pub shape: Shape,

@@ -16,7 +16,7 @@ pub struct Progress {
 }
 
 // What a batch remembers from one command to the next: the current panel, and the tariff.
-#[derive(Drop)]
+#[derive(Clone, Copy)]
 pub struct Session {
     pub panel: usize,
     pub tariff: Tariff,
