@@ -1,4 +1,6 @@
 // The account of a node: what its requests cost in each of two modes, and when it moves to the other.
+#![tactic(auto)]
+
 ghost use Rattle.std.specs.Prelude.{◌≡◌, ◌-◌};
 ghost use Rattle.account.specs.Tariff as tariffs;
 ghost use Rattle.account.specs.Range.{Ranged, within_range, costs_in_range, in_range};

@@ -1,4 +1,6 @@
 // Batch: the questions in their order, then the commands, then the checkpoint.
+#![tactic(auto)]
+
 ghost use Rattle.std.specs.Prelude.{◌≡◌, length};
 ghost use Rattle.book.specs.InTurn.{no_charges};
 ghost use Rattle.model.specs.Call.{batch_of};

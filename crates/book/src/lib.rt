@@ -1,1 +1,2 @@
 // The reference model is a definition; it stands in specs/, and there is no code here.
+#![tactic(auto)]

@@ -1,4 +1,6 @@
 // The commands of a batch and their answers, as bytes.
+#![tactic(auto)]
+
 pub mod answers;
 pub mod batch;
 

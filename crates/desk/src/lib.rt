@@ -1,4 +1,6 @@
 // Desk: the questions in their order, then the queues served round by round, then the checkpoint. It ends as a batch does.
+#![tactic(auto)]
+
 ghost use Rattle.std.specs.Prelude.{length, ◌≡◌};
 ghost use Rattle.book.specs.InTurn.{no_charges};
 ghost use Rattle.model.specs.Call.{desk_of};

@@ -1,4 +1,6 @@
 // Questions 11 and 3 of a desk: do the lengths fill the queues, and what do the queues ask for?
+#![tactic(auto)]
+
 ghost use Rattle.std.specs.Prelude.{◌≡◌, true, ◌+◌, ◌≤◌, max};
 ghost use Rattle.layout.specs.Layout.{bound32};
 ghost use Rattle.desk_queues.specs.Queues.{fills};

@@ -1,1 +1,2 @@
 // The queues that a desk is lent.
+#![tactic(auto)]

@@ -1,5 +1,7 @@
 // The commands of queues, served turn by turn from where they stand: no joined bytes are written anywhere. Each queue has a place, and each turn runs
 // by the step that a batch runs by.
+#![tactic(auto)]
+
 pub mod rounds;
 mod turn;
 

@@ -1,4 +1,6 @@
 // Where the next page goes.
+#![tactic(auto)]
+
 pub mod allocate;
 pub mod compact;
 pub mod state;

@@ -1,4 +1,6 @@
 // The checkpoint at the end of a batch: the buffer's page if it is not empty, then the tariff, the scores and the node count.
+#![tactic(auto)]
+
 ghost use Rattle.std.specs.Prelude.{◌≡◌, ◌+◌, ◌*◌, ◌≤◌, ◌<◌, length, set, replicate};
 ghost use Rattle.laws.specs.Lay.{lay};
 ghost use Rattle.layout.specs.Layout.{node_limit, page_bytes, pages_in_block};

@@ -1,4 +1,6 @@
 // Which pages are live, and the written block that has fewest of them.
+#![tactic(auto)]
+
 ghost use Rattle.std.specs.Prelude.{◌≡◌, ◌+◌, ◌*◌, ◌≤◌, ◌<◌, length};
 ghost use Rattle.flash_rows.specs.Row.{rows_of, row_bytes};
 ghost use Rattle.flash_blocks.specs.Pages.{pages_of};

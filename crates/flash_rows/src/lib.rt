@@ -1,4 +1,6 @@
 // The rows of the work table: what a batch keeps of each node while it runs.
+#![tactic(auto)]
+
 ghost use Rattle.std.specs.Prelude.{◌≡◌, ◌+◌, ◌*◌, ◌≤◌, ◌<◌, length, get_or, set};
 ghost use Rattle.laws.specs.BigEndian.{number_at};
 ghost use Rattle.flash_rows.specs.Row as def;

@@ -1,4 +1,6 @@
 // Every size and limit of the two documents, for code; specs/Layout.antt names the same for contracts.
+#![tactic(auto)]
+
 ghost use Rattle.std.specs.Prelude.{◌≡◌, ◌≤◌};
 ghost use Rattle.layout.specs.Blocks.{blocks_if};
 ghost use Rattle.layout.specs.Layout.{node_limit, fewest_blocks, most_blocks, most_nodes};

@@ -1,1 +1,2 @@
 // Mount, prepare and batch as definitions stand in specs/; there is no code here.
+#![tactic(auto)]

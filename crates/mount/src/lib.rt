@@ -1,4 +1,6 @@
 // Mount: questions 5 to 8 of document 01, from the bytes of a pool to the state that a batch begins with.
+#![tactic(auto)]
+
 pub mod answer;
 
 ghost use Rattle.std.specs.Prelude.{length};

@@ -1,4 +1,6 @@
 // A mark for each number of a row, in the second half of the table, so that one look tells of most numbers that the row has not got them.
+#![tactic(auto)]
+
 ghost use Rattle.std.specs.Prelude.{◌≡◌, ◌*◌, ◌≤◌, ◌<◌, length, replicate};
 ghost use Rattle.laws.specs.Lay.{lay};
 ghost use Rattle.layout.specs.Layout.{fewest_blocks, table_bytes};

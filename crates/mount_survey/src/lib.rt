@@ -1,4 +1,6 @@
 // Question 5 of document 01: do all pages of a pool check, each by itself and all together?
+#![tactic(auto)]
+
 pub mod answer;
 
 ghost use Rattle.std.specs.Prelude.{◌≡◌, ◌*◌, ◌≤◌, length};

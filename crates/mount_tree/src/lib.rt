@@ -1,5 +1,7 @@
 // Document 01, question 7: "Is the tree sound?" "Limit kept, every id reached once, leaves at one depth, keys ascending and in bounds, leaf links
 // in key order."
+#![tactic(auto)]
+
 ghost use Rattle.std.specs.Prelude.{◌≡◌, take};
 ghost use Rattle.flash_blocks.specs.Pages.{pages_of};
 ghost use Rattle.flash_rows.specs.Worktable.{table_from};

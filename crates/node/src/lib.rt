@@ -1,4 +1,6 @@
 // A tree node by value: the search in it, and its edits.
+#![tactic(auto)]
+
 ghost use Rattle.std.specs.Prelude.{◌≡◌, []};
 ghost use Rattle.node.specs.Node.{node};
 ghost use Rattle.node.specs.Replay.{same_shape};

@@ -1,4 +1,6 @@
 // The replay of a node from the changes of its log entries, one by one and in place.
+#![tactic(auto)]
+
 ghost use Rattle.node.specs.Change.{put, remove};
 ghost use Rattle.node.specs.Replay.{redo};
 ghost use Rattle.node.specs.Value.{Held};

@@ -1,4 +1,6 @@
 // The halves of a full node with a pair more, made from its 24 pairs and the new one: 25 pairs stand nowhere.
+#![tactic(auto)]
+
 ghost use Rattle.std.specs.Prelude.{◌≡◌, ◌+◌, ◌≤◌, ◌<◌, length, get_or, take, drop};
 ghost use Rattle.layout.specs.Layout.{most_keys, kept_keys};
 ghost use Rattle.node.specs.Change.{change, put};

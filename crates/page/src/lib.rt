@@ -1,4 +1,6 @@
 // The pages of the pool; and in code, the number by which a page says a node's shape.
+#![tactic(auto)]
+
 ghost use Rattle.std.specs.Prelude.{◌≡◌};
 ghost use Rattle.page.specs.Image.{shape_number};
 ghost use Rattle.page.specs.Decode.{shape_of_number};

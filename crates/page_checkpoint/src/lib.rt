@@ -1,4 +1,6 @@
 // Writer of checkpoint pages, from records of 6 bytes: a node's id (2) and its score (4).
+#![tactic(auto)]
+
 ghost use Rattle.std.specs.Prelude.{◌≡◌, ◌++◌, ◌+◌, ◌*◌, ◌≤◌, ◌<◌, length};
 ghost use Rattle.laws.specs.Lay.{lay};
 ghost use Rattle.laws.specs.BigEndian.{big_endian};

@@ -1,4 +1,6 @@
 // The page reader: what a page is, and what stands in its fields.
+#![tactic(auto)]
+
 pub mod field;
 pub mod seal;
 pub mod value;

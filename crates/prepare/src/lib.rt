@@ -1,5 +1,7 @@
 // Prepare: "it erases all, then writes from the first page of block 0: node 0 as an empty leaf (version 1, page stamp 2), a closing
 // page (stamp 3)".
+#![tactic(auto)]
+
 ghost use Rattle.std.specs.Prelude.{◌≡◌, ◌*◌, ◌≤◌, length, replicate};
 ghost use Rattle.layout.specs.Layout.{block_bytes};
 ghost use Rattle.page.specs.Image.{image};

@@ -1,5 +1,7 @@
 // The commands of a batch run one after another, each reply laid behind the last, each charge added to the current panel. A desk runs its
 // commands by the same step.
+#![tactic(auto)]
+
 pub mod charges;
 pub mod replies;
 pub mod run;

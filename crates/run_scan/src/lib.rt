@@ -1,4 +1,6 @@
 // Scan: the pairs from a low key to a high one, leaf after leaf by links.
+#![tactic(auto)]
+
 pub mod answer;
 pub mod gather;
 pub mod scan;

@@ -1,4 +1,6 @@
 // One node request served: by the node's account, in the mode that the account says.
+#![tactic(auto)]
+
 pub mod charged;
 pub mod content;
 pub mod id;

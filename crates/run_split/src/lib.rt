@@ -1,4 +1,6 @@
 // A pair put into a leaf, and the splits that it makes, from the leaf upwards.
+#![tactic(auto)]
+
 pub mod absorb;
 pub mod split;
 pub mod split_upwards;

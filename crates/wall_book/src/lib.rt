@@ -1,4 +1,6 @@
 // The wall book as C firmware calls it: prepare, batch and desk, on lent buffers that do not overlap. None asks anything of its caller.
+#![tactic(auto)]
+
 ghost use Rattle.account.specs.Tariff.{tariff_of};
 ghost use Rattle.model.specs.Call.{batch_of, prepare_of, desk_of};
 ghost use Rattle.prepare.specs.Prepared as Prepare;

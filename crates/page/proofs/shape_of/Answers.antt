@@ -1,0 +1,9 @@
+-- `page::shape_of` meets its contract: the test is the definition's. Assumes nothing.
+use borrow.Author.Tests.{eq-eqb, ne_eqb}
+use Rattle.page.proofs.shape_of.Goals as goal
+
+pub returns-then-number-eq3 : goal.returns-then-number-eq3
+returns-then-number-eq3 c = rw (eq-eqb _ _ c.if-number-eq3.true)
+
+pub returns : goal.returns
+returns c = rw (ne_eqb _ _ c.if-number-eq3.false)

@@ -1,0 +1,16 @@
+use mathlib.Core.Path.{◌≡◌}
+use lib.ListN.{length}
+use Rattle.flash_rows.specs.Worktable.{table_from}
+use Rattle.flash_blocks.specs.Pages.{pages_of}
+use Rattle.flash_allocate.specs.World.{world}
+use Rattle.run_split.specs.SplittingUpwards.{SplittingUpwards}
+use Rattle.run_split.proofs.split_upwards.split_upwards.Given as goal
+
+abbrev pub invariant-loop-i : goal.invariant-loop-i
+invariant-loop-i l =
+    (length l.pool ≡ length l.initial.pool) × (length l.table ≡ length l.initial.table) ×
+    SplittingUpwards (length l.pool) (length l.table) l.tariff l.key l.value l.ids l.i
+    (world (pages_of l.initial.pool) (table_from l.initial.table) l.initial.s) (world (pages_of l.pool) (table_from l.table) l.s) l.charge l.pending
+
+abbrev pub decreases-loop-i : goal.decreases-loop-i
+decreases-loop-i l = l.i
