@@ -1,4 +1,4 @@
-// The wall book as C firmware calls it: prepare, batch and desk, on lent buffers that do not overlap. None asks anything of its caller.
+// The three calls of the wall book: prepare, batch and desk, on lent buffers that do not overlap. None asks anything of its caller.
 #![tactic(auto)]
 
 ghost use Rattle.account.specs.Tariff.{tariff_of};
@@ -14,8 +14,7 @@ use layout::PANELS;
 use prepare::prepare;
 
 // Prepares a pool under a tariff, its numbers in document 01's order. The answer is 0, or the number of the refusal: then the pool is as it was.
-#[unsafe(no_mangle)]
-pub extern "C" fn wall_book_prepare(
+pub fn wall_book_prepare(
     pool: &mut [u8],
     log_read: u32,
     log_edit: u32,
@@ -45,8 +44,7 @@ pub extern "C" fn wall_book_prepare(
 }
 
 // Runs a batch. The answer is 0, or the number of the refusal: then pool and answers are as they were, and length and all charges are 0.
-#[unsafe(no_mangle)]
-pub extern "C" fn wall_book_batch(
+pub fn wall_book_batch(
     pool: &mut [u8],
     table: &mut [u8],
     commands: &[u8],
@@ -64,8 +62,7 @@ pub extern "C" fn wall_book_batch(
 }
 
 // Serves up to sixteen queues, one command of each by turns. The answer is as that of a batch.
-#[unsafe(no_mangle)]
-pub extern "C" fn wall_book_desk(
+pub fn wall_book_desk(
     pool: &mut [u8],
     table: &mut [u8],
     lengths: &[u8],

@@ -1,0 +1,76 @@
+// The wall book as C firmware calls it: the three calls of the crate `wall_book`, by C's calling convention and under the names of wall_book.h.
+#![tactic(auto)]
+
+ghost use Rattle.account.specs.Tariff.{tariff_of};
+ghost use Rattle.model.specs.Call.{batch_of, prepare_of, desk_of};
+ghost use Rattle.prepare.specs.Prepared as Prepare;
+ghost use Rattle.batch.specs.Left.{Leaves};
+ghost use Rattle.wall_book.specs.Entry.{outcome};
+
+use layout::PANELS;
+
+// Prepares a pool under a tariff, its numbers in document 01's order. The answer is 0, or the number of the refusal: then the pool is as it was.
+#[unsafe(no_mangle)]
+pub extern "C" fn wall_book_prepare(
+    pool: &mut [u8],
+    log_read: u32,
+    log_edit: u32,
+    log_rewrite: u32,
+    disk_read: u32,
+    disk_edit: u32,
+    disk_rewrite: u32,
+    to_disk: u32,
+    to_log: u32,
+) -> u32
+    ensures { Prepare.Leaves
+        (prepare_of pool.old
+        (tariff_of log_read log_edit log_rewrite disk_read disk_edit disk_rewrite to_disk
+        to_log)) result pool.new }
+{
+    wall_book::wall_book_prepare(
+        pool,
+        log_read,
+        log_edit,
+        log_rewrite,
+        disk_read,
+        disk_edit,
+        disk_rewrite,
+        to_disk,
+        to_log,
+    )
+}
+
+// Runs a batch. The answer is 0, or the number of the refusal: then pool and answers are as they were, and length and all charges are 0.
+#[unsafe(no_mangle)]
+pub extern "C" fn wall_book_batch(
+    pool: &mut [u8],
+    table: &mut [u8],
+    commands: &[u8],
+    answers: &mut [u8],
+    length: &mut usize,
+    charges: &mut [u64; PANELS],
+) -> u32
+    ensures { Leaves (batch_of pool.old table.old commands.now
+        answers.old) (outcome result length.new) pool.new table.new
+        answers.new charges.new }
+{
+    wall_book::wall_book_batch(pool, table, commands, answers, length, charges)
+}
+
+// Serves up to sixteen queues, one command of each by turns. The answer is as that of a batch.
+#[unsafe(no_mangle)]
+pub extern "C" fn wall_book_desk(
+    pool: &mut [u8],
+    table: &mut [u8],
+    lengths: &[u8],
+    queues: &[u8],
+    answers: &mut [u8],
+    length: &mut usize,
+    charges: &mut [u64; PANELS],
+) -> u32
+    ensures { Leaves (desk_of pool.old table.old lengths.now
+        queues.now answers.old) (outcome result length.new) pool.new
+        table.new answers.new charges.new }
+{
+    wall_book::wall_book_desk(pool, table, lengths, queues, answers, length, charges)
+}
