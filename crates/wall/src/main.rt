@@ -1,49 +1,53 @@
 // wall: prepares 65,536 bytes with the tariff 3 1 2, 1 4 4, 3 2 and runs standard input as one batch. Prints each answer as lower-case
 // hexadecimal on a line, then `charge` and the sum of the panels' charges; or only `refused` and the number.
+#![tactic(auto)]
+
 ghost use Rattle.std.specs.Prelude.{◌≡◌, ◌<◌, ◌^◌, length};
 ghost use Rattle.laws.specs.Update.{sum};
 ghost use Rattle.layout.specs.Layout.{panels};
 
 use layout::PANELS;
+use std::io;
+use std::io::Read;
 use wall_book::{wall_book_batch, wall_book_prepare};
 use wire::number::read16;
 
+// So much of standard input is read: a byte more than a batch may have, so that one that is too long is refused.
+const MOST_INPUT: u64 = 32769;
+
 // Prints a byte as two digits.
-fn print_byte(byte: u8) {
-    io::print_hex(1, byte as u64, 2);
+fn print_byte(rt: &impl Print, byte: u8) -> io::Result<()> {
+    print!(rt; "{byte:02x}")
 }
 
 // Prints bytes as one line.
-fn print_line(bytes: &[u8]) {
-    let mut i: usize = 0;
-    while i < bytes.len() {
-        print_byte(bytes[i]);
-        i += 1;
+fn print_line(rt: &impl Print, bytes: &[u8]) -> io::Result<()> {
+    for byte in bytes {
+        print_byte(rt, *byte)?;
     }
-    io::write_all(1, b"\n");
+    println!(rt; "")
 }
 
 // Prints answers one by one: each is a tag, a length of two bytes, and so many bytes.
-fn print_answers(answers: &[u8]) {
+fn print_answers(rt: &impl Print, answers: &[u8]) -> io::Result<()> {
     let mut at: usize = 0;
     while at < answers.len() {
         if answers.len() - at < 3 {
-            return;
+            return Ok(());
         }
         let size = 3 + read16(answers, at + 1) as usize;
         if answers.len() - at < size {
-            return;
+            return Ok(());
         }
-        print_line(&answers[at..at + size]);
+        print_line(rt, &answers[at..at + size])?;
         at += size;
     }
+    Ok(())
 }
 
 // Prints a word and a number on a line.
-fn print_number(word: &[u8], number: u64) {
-    io::write_all(1, word);
-    io::print_decimal(1, number);
-    io::write_all(1, b"\n");
+fn print_number(rt: &impl Print, word: &str, number: u64) -> io::Result<()> {
+    println!(rt; "{word} {number}")
 }
 
 // What all panels are charged together.
@@ -52,36 +56,39 @@ fn total(charges: &[u64; PANELS]) -> u64
     ensures { result ≡ sum charges.now }
 {
     let mut total: u64 = 0;
-    let mut panel: usize = 0;
-    while panel < PANELS {
-        total += charges[panel];
-        panel += 1;
+    for charge in charges {
+        total += *charge;
     }
     total
 }
 
 // Runs a batch and prints what it answers.
-fn run(pool: &mut [u8], table: &mut [u8], commands: &[u8], answers: &mut [u8]) {
+fn run(
+    rt: &impl Print,
+    pool: &mut [u8],
+    table: &mut [u8],
+    commands: &[u8],
+    answers: &mut [u8],
+) -> io::Result<()> {
     let mut length: usize = 0;
     let mut charges = [0u64; PANELS];
     let refused = wall_book_batch(pool, table, commands, answers, &mut length, &mut charges);
-    if refused == 0 {} else {
-        print_number(b"refused ", refused as u64);
-        return;
+    if refused != 0 {
+        return print_number(rt, "refused", refused as u64);
     }
     let charge = total(&charges);
     if length <= answers.len() {
-        print_answers(&answers[0..length]);
+        print_answers(rt, &answers[0..length])?;
     }
-    print_number(b"charge ", charge);
+    print_number(rt, "charge", charge)
 }
 
-fn main() {
+fn main(rt: HostRuntime) -> io::Result<()> {
     let mut pool = [0u8; 65536];
     let mut table = [0u8; 4096];
-    let mut input = [0u8; 32769];
     let mut answers = [0u8; 65536];
     wall_book_prepare(&mut pool, 3, 1, 2, 1, 4, 4, 3, 2);
-    let size = io::read_full(0, &mut input);
-    run(&mut pool, &mut table, &input[..size], &mut answers);
+    let mut input = Vec::new(rt.alloc());
+    rt.stdin().take(MOST_INPUT).read_to_end(&mut input)?;
+    run(&rt, &mut pool, &mut table, &input, &mut answers)
 }

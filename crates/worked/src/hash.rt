@@ -18,10 +18,8 @@ fn wide(byte: u8) -> u64 {
 // The hash of some bytes.
 pub fn hash(s: &[u8]) -> u64 {
     let mut h: u64 = 14695981039346656037;
-    let mut i: usize = 0;
-    while i < s.len() {
-        h = times_prime(h ^ wide(s[i]));
-        i += 1;
+    for byte in s {
+        h = times_prime(h ^ wide(*byte));
     }
     h
 }

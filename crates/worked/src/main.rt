@@ -1,6 +1,8 @@
 // worked: the cases of document 01, section "Worked", that a program executes, the pools of two small runs, and of document 02 panels (P2), the
 // next route up (P3) and the desk (P5), through the calls that C makes.
 // It prints a line for each; its file `stdout` has what must come out.
+#![tactic(auto)]
+
 ghost use Rattle.std.specs.Prelude.{◌≡◌, ◌+◌, ◌≤◌, length};
 ghost use Rattle.layout.specs.Layout.{panels};
 
@@ -8,37 +10,32 @@ pub mod hash;
 
 use hash::hash;
 use layout::{LAST_KEY, PANELS};
+use std::io;
 use wall_book::{wall_book_batch, wall_book_desk, wall_book_prepare};
 use wire::field::lay_head;
 use wire::number::write32;
 
 // Prints what a case is, and the number that it ended with.
-fn print_number(case: &[u8], number: u32) {
-    io::write_all(1, case);
-    io::print_decimal(1, number as u64);
-    io::write_all(1, b"\n");
+fn print_number(rt: &impl Print, case: &str, number: u32) -> io::Result<()> {
+    println!(rt; "{case}{number}")
 }
 
 // Prints the charges of all panels, with commas between them.
-fn print_charges(charges: &[u64; PANELS])
+fn print_charges(rt: &impl Print, charges: &[u64; PANELS]) -> io::Result<()>
     requires { length charges.now ≡ panels }
 {
-    let mut panel: usize = 0;
-    while panel < PANELS {
+    for (panel, charge) in charges.iter().enumerate() {
         if 0 < panel {
-            io::write_all(1, b",");
+            print!(rt; ",")?;
         }
-        io::print_decimal(1, charges[panel]);
-        panel += 1;
+        print!(rt; "{charge}")?;
     }
+    Ok(())
 }
 
 // Prints what a case is, and the hash of the pool that it left.
-fn print_pool(case: &[u8], pool: &[u8]) {
-    io::write_all(1, case);
-    io::write_all(1, b"pool ");
-    io::print_hex(1, hash(pool), 16);
-    io::write_all(1, b"\n");
+fn print_pool(rt: &impl Print, case: &str, pool: &[u8]) -> io::Result<()> {
+    println!(rt; "{case}pool {:016x}", hash(pool))
 }
 
 // Prepares a pool with document 01's tariff.
@@ -64,29 +61,36 @@ fn run(pool: &mut [u8], commands: &[u8], charges: &mut [u64; PANELS]) -> u32
 }
 
 // Runs a batch that is refused, and prints the number.
-fn refused(case: &[u8], pool: &mut [u8], commands: &[u8]) {
+fn refused(rt: &impl Print, case: &str, pool: &mut [u8], commands: &[u8]) -> io::Result<()> {
     let mut charges = [0u64; PANELS];
-    print_number(case, run(pool, commands, &mut charges));
+    let number = run(pool, commands, &mut charges);
+    print_number(rt, case, number)
 }
 
 // Runs a batch, and prints what each panel is charged and the pool that is left.
-fn done(case: &[u8], pool: &mut [u8], commands: &[u8]) {
+fn done(rt: &impl Print, case: &str, pool: &mut [u8], commands: &[u8]) -> io::Result<()> {
     let mut charges = [0u64; PANELS];
     run(pool, commands, &mut charges);
-    io::write_all(1, case);
-    print_left(&charges, pool);
+    print!(rt; "{case}")?;
+    print_left(rt, &charges, pool)
 }
 
 // Prints what each panel was charged, and the pool that is left.
-fn print_left(charges: &[u64; PANELS], pool: &[u8])
+fn print_left(rt: &impl Print, charges: &[u64; PANELS], pool: &[u8]) -> io::Result<()>
     requires { length charges.now ≡ panels }
 {
-    print_charges(charges);
-    print_pool(b", ", pool);
+    print_charges(rt, charges)?;
+    print_pool(rt, ", ", pool)
 }
 
 // Serves queues with a table and answers that are long enough; prints the number, and where it is 0 what each panel is charged and the pool.
-fn served(case: &[u8], pool: &mut [u8], lengths: &[u8], queues: &[u8]) {
+fn served(
+    rt: &impl Print,
+    case: &str,
+    pool: &mut [u8],
+    lengths: &[u8],
+    queues: &[u8],
+) -> io::Result<()> {
     let mut table = [0u8; 4096];
     let mut answers = [0u8; 1024];
     let mut length: usize = 0;
@@ -101,43 +105,42 @@ fn served(case: &[u8], pool: &mut [u8], lengths: &[u8], queues: &[u8]) {
         &mut charges,
     );
     if number == 0 {
-        io::write_all(1, case);
-        print_left(&charges, pool);
-        return;
+        print!(rt; "{case}")?;
+        return print_left(rt, &charges, pool);
     }
-    print_number(case, number);
+    print_number(rt, case, number)
 }
 
 // "Pool of 49,152 bytes: 1; 65,536: accepted. Switch cost 0: 10."
-fn prepares() {
+fn prepares(rt: &impl Print) -> io::Result<()> {
     let mut short = [0u8; 49152];
-    print_number(b"prepare 49152 bytes: ", prepare(&mut short));
+    print_number(rt, "prepare 49152 bytes: ", prepare(&mut short))?;
     let mut pool = [0u8; 65536];
-    print_number(b"prepare 65536 bytes: ", prepare(&mut pool));
+    print_number(rt, "prepare 65536 bytes: ", prepare(&mut pool))?;
     let free = wall_book_prepare(&mut pool, 3, 1, 2, 1, 4, 4, 0, 2);
-    print_number(b"prepare with a switch that costs 0: ", free);
+    print_number(rt, "prepare with a switch that costs 0: ", free)
 }
 
 // "Sweep of 0 or 33: 3."
-fn scans() {
+fn scans(rt: &impl Print) -> io::Result<()> {
     let mut pool = [0u8; 65536];
     prepare(&mut pool);
     let none = [4u8, 0, 10, 0, 0, 0, 3, 0, 0, 0, 9, 0, 0];
-    refused(b"scan for 0 pairs: ", &mut pool, &none);
+    refused(rt, "scan for 0 pairs: ", &mut pool, &none)?;
     let many = [4u8, 0, 10, 0, 0, 0, 3, 0, 0, 0, 9, 0, 33];
-    refused(b"scan for 33 pairs: ", &mut pool, &many);
+    refused(rt, "scan for 33 pairs: ", &mut pool, &many)
 }
 
 // The batch of the program `wall`: put 7 with 100, get 7, delete 7, get 7.
-fn first_run() {
+fn first_run(rt: &impl Print) -> io::Result<()> {
     let mut pool = [0u8; 65536];
     prepare(&mut pool);
-    print_pool(b"prepared: ", &pool);
+    print_pool(rt, "prepared: ", &pool)?;
     let commands = [
         2u8, 0, 8, 0, 0, 0, 7, 0, 0, 0, 100, 1, 0, 4, 0, 0, 0, 7, 3, 0, 4, 0, 0, 0, 7, 1, 0, 4, 0,
         0, 0, 7,
     ];
-    done(b"put 7, get 7, delete 7, get 7: ", &mut pool, &commands);
+    done(rt, "put 7, get 7, delete 7, get 7: ", &mut pool, &commands)
 }
 
 // One put, eleven bytes.
@@ -163,26 +166,24 @@ fn lay_key(commands: &mut [u8], at: usize, tag: u8, key: u32)
 fn lay_puts(commands: &mut [u8])
     requires { length commands.old ≡ 275 }
 {
-    let mut key: u32 = 0;
-    while key < 25 {
+    for key in 0..25u32 {
         lay_put(commands, 11 * key as usize, key, 100 + key);
-        key += 1;
     }
 }
 
 // A root that splits, under a tariff that moves nothing.
-fn second_run() {
+fn second_run(rt: &impl Print) -> io::Result<()> {
     let mut pool = [0u8; 65536];
     wall_book_prepare(&mut pool, 0, 0, 0, 0, 0, 0, 1, 1);
-    print_pool(b"prepared, all free: ", &pool);
+    print_pool(rt, "prepared, all free: ", &pool)?;
     let mut commands = [0u8; 275];
     lay_puts(&mut commands);
-    done(b"25 puts, all free: ", &mut pool, &commands);
+    done(rt, "25 puts, all free: ", &mut pool, &commands)
 }
 
 // "Command 05, length 1, names the panel (0 to 15) for the commands after it; a batch begins at panel 0." Three panels share the batch of `wall`; a
 // panel named and nothing more; "a panel above 15 gives 3".
-fn panels() {
+fn panels(rt: &impl Print) -> io::Result<()> {
     let mut pool = [0u8; 65536];
     prepare(&mut pool);
     let shared = [
@@ -190,17 +191,18 @@ fn panels() {
         0, 0, 0, 7, 5, 0, 1, 0, 1, 0, 4, 0, 0, 0, 7,
     ];
     done(
-        b"panel 3 put 7, panel 15 get 7 and delete 7, panel 0 get 7: ",
+        rt,
+        "panel 3 put 7, panel 15 get 7 and delete 7, panel 0 get 7: ",
         &mut pool,
         &shared,
-    );
+    )?;
     prepare(&mut pool);
-    done(b"panel 7: ", &mut pool, &[5u8, 0, 1, 7]);
-    refused(b"panel 16: ", &mut pool, &[5u8, 0, 1, 16]);
+    done(rt, "panel 7: ", &mut pool, &[5u8, 0, 1, 7])?;
+    refused(rt, "panel 16: ", &mut pool, &[5u8, 0, 1, 16])
 }
 
 // "That route or the nearest above": below the first key, at it, between two and above both.
-fn ceilings() {
+fn ceilings(rt: &impl Print) -> io::Result<()> {
     let mut pool = [0u8; 65536];
     prepare(&mut pool);
     let mut commands = [0u8; 50];
@@ -211,14 +213,15 @@ fn ceilings() {
     lay_key(&mut commands, 36, 7, 8);
     lay_key(&mut commands, 43, 7, 10);
     done(
-        b"put 7 and 9, ceilings of 0, 7, 8 and 10: ",
+        rt,
+        "put 7 and 9, ceilings of 0, 7, 8 and 10: ",
         &mut pool,
         &commands,
-    );
+    )
 }
 
 // The greatest key can be asked for, and be found; a ceiling with a byte too many gives 3.
-fn greatest_key() {
+fn greatest_key(rt: &impl Print) -> io::Result<()> {
     let mut pool = [0u8; 65536];
     prepare(&mut pool);
     let mut commands = [0u8; 32];
@@ -227,20 +230,22 @@ fn greatest_key() {
     lay_key(&mut commands, 18, 7, 8);
     lay_key(&mut commands, 25, 7, 0);
     done(
-        b"put ffffffff, ceilings of it, 8 and 0: ",
+        rt,
+        "put ffffffff, ceilings of it, 8 and 0: ",
         &mut pool,
         &commands,
-    );
+    )?;
     refused(
-        b"ceiling of five bytes: ",
+        rt,
+        "ceiling of five bytes: ",
         &mut pool,
         &[7u8, 0, 5, 0, 0, 0, 0, 0],
-    );
+    )
 }
 
 // "Serves one command from each queue that still has any, in panel order, round and round": panel 0 puts and gets, panel 1 gets and deletes, by
 // turns; three gets of panel 0 and one of panel 2; no queue at all.
-fn desks() {
+fn desks(rt: &impl Print) -> io::Result<()> {
     let mut pool = [0u8; 65536];
     prepare(&mut pool);
     let mut queues = [0u8; 32];
@@ -250,11 +255,12 @@ fn desks() {
     lay_key(&mut queues, 25, 3, 7);
     let two = [0u8, 0, 0, 18, 0, 0, 0, 14];
     served(
-        b"panel 0 put 7, get 7; panel 1 get 7, delete 7: ",
+        rt,
+        "panel 0 put 7, get 7; panel 1 get 7, delete 7: ",
         &mut pool,
         &two,
         &queues,
-    );
+    )?;
     prepare(&mut pool);
     lay_key(&mut queues, 0, 1, 7);
     lay_key(&mut queues, 7, 1, 7);
@@ -262,43 +268,57 @@ fn desks() {
     lay_key(&mut queues, 21, 1, 7);
     let three = [0u8, 0, 0, 21, 0, 0, 0, 0, 0, 0, 0, 7];
     served(
-        b"panel 0 three gets, panel 2 one: ",
+        rt,
+        "panel 0 three gets, panel 2 one: ",
         &mut pool,
         &three,
         &queues[0..28],
-    );
+    )?;
     prepare(&mut pool);
-    served(b"no queue: ", &mut pool, &[], &[]);
+    served(rt, "no queue: ", &mut pool, &[], &[])
 }
 
 // "More than 16 lengths, part of one, or lengths that don't fill the queue buffer exactly, gives 11"; a queue that holds an 05 gives 3.
-fn desks_refused() {
+fn desks_refused(rt: &impl Print) -> io::Result<()> {
     let mut pool = [0u8; 65536];
     prepare(&mut pool);
     let mut get = [0u8; 7];
     lay_key(&mut get, 0, 1, 7);
-    served(b"seventeen queues: ", &mut pool, &[0u8; 68], &[]);
-    served(b"part of a length: ", &mut pool, &[0u8, 0, 0, 7, 0], &get);
-    let wrapped = [255u8, 255, 255, 255, 0, 0, 0, 8];
-    served(b"lengths of 2^32 and 7 bytes: ", &mut pool, &wrapped, &get);
+    served(rt, "seventeen queues: ", &mut pool, &[0u8; 68], &[])?;
     served(
-        b"an 05 in a queue: ",
+        rt,
+        "part of a length: ",
+        &mut pool,
+        &[0u8, 0, 0, 7, 0],
+        &get,
+    )?;
+    let wrapped = [255u8, 255, 255, 255, 0, 0, 0, 8];
+    served(
+        rt,
+        "lengths of 2^32 and 7 bytes: ",
+        &mut pool,
+        &wrapped,
+        &get,
+    )?;
+    served(
+        rt,
+        "an 05 in a queue: ",
         &mut pool,
         &[0u8, 0, 0, 4],
         &[5u8, 0, 1, 0],
-    );
+    )?;
     let border = [0u8, 0, 0, 3, 0, 0, 0, 4];
-    served(b"a get over a border: ", &mut pool, &border, &get);
+    served(rt, "a get over a border: ", &mut pool, &border, &get)
 }
 
-fn main() {
-    prepares();
-    scans();
-    first_run();
-    second_run();
-    panels();
-    ceilings();
-    greatest_key();
-    desks();
-    desks_refused();
+fn main(rt: HostRuntime) -> io::Result<()> {
+    prepares(&rt)?;
+    scans(&rt)?;
+    first_run(&rt)?;
+    second_run(&rt)?;
+    panels(&rt)?;
+    ceilings(&rt)?;
+    greatest_key(&rt)?;
+    desks(&rt)?;
+    desks_refused(&rt)
 }
