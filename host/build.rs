@@ -1,4 +1,4 @@
-//! Links the proved book where `rt staticlib wall_book` has made its library, and lets `bench` count copies.
+//! Links the proved book where `tools/library` has made its library, and lets `bench` count copies.
 //!
 //! Without the library the package has the second book alone.
 

@@ -18,7 +18,7 @@ pub fn is_required() -> bool {
 
 /// Why there is no proved book in a build without it.
 #[cfg(not(proved_book))]
-const MISSING: &str = "this build has no proved book; make it with `rt staticlib wall_book`, and build again";
+const MISSING: &str = "this build has no proved book; make it with `tools/library`, and build again";
 
 /// The book of a name, or why there is none.
 ///

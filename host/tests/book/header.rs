@@ -50,7 +50,7 @@ const IN_RUST: Spelling = [
 
 /// The proved calls as they stand in their source, declared in another language.
 fn proved_calls(spelling: &Spelling) -> Vec<String> {
-    let calls = declarations(&text("crates/wall_book/src/lib.rt"), "pub extern \"C\" fn");
+    let calls = declarations(&text("crates/wall_book_c/src/lib.rt"), "pub extern \"C\" fn");
     let spelt = |parameter: &str| {
         let (name, kind) = parameter.split_once(": ").unwrap_or_else(|| panic!("no type: {parameter}"));
         let known = spelling.iter().find(|(proved, _)| *proved == kind);

@@ -22,7 +22,7 @@ fn program() -> Option<PathBuf> {
     if path.exists() {
         return Some(path);
     }
-    let missing = "there is no target/bin/wall; make it with `rt check wall`";
+    let missing = "there is no target/bin/wall; make it with `tools/library`";
     assert!(!is_required(), "{missing}");
     NOTICE.call_once(|| {
         // Past the test harness, which keeps what `eprintln` writes to itself.

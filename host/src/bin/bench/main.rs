@@ -16,7 +16,7 @@ fn usage() -> String {
         "usage: bench [--rounds N] [MEASUREMENT ..]\n\n\
          Prints all measurements, or those named; progress goes to standard error.\n\
          Times are the shortest of N rounds, {ROUNDS} if not given; build with --release.\n\
-         Needs the proved book, which `rt staticlib wall_book` makes.\n"
+         Needs the proved book, which `tools/library` makes.\n"
     );
     for section in SECTIONS {
         text.push_str(&format!("\n  {:<8} {}", section.name, section.title));
