@@ -107,11 +107,16 @@ fn repository(name: &str, line: &str) -> Folder {
     folder
 }
 
-/// Leaves a log of a gate in which the edit was refused for a fact.
+/// Leaves the log of a gate that says something of the edit.
+fn said_of_it(folder: &Folder, said: &str) {
+    fs::create_dir_all(folder.path("target")).expect("a folder");
+    let line = format!("rt: must-fail tree/wrong.edit: {said}\n");
+    fs::write(folder.path("target/ci.log"), line).expect("is written");
+}
+
+/// Leaves the log of a gate in which the edit was refused for a fact.
 fn refused(folder: &Folder) {
-    let log = folder.path("target/must-fail/tree/wrong");
-    fs::create_dir_all(&log).expect("a folder");
-    fs::write(log.join(".log"), "src/tree.rt:1: error: 1 is not 2\n").expect("is written");
+    said_of_it(folder, "refused, as it must be: src/tree.rt:1:1: error: 1 is not 2");
 }
 
 /// Runs a copy of a tool in a repository.
@@ -128,7 +133,7 @@ fn tool(folder: &Folder, name: &str, words: &[&str]) -> (Option<i32>, String, St
 #[test]
 fn the_tools_help() {
     let folder = repository("tools", "# P4: a wrong tree");
-    for name in ["guards", "contents", "believed", "firmware", "firmware-trial"] {
+    for name in ["guards", "contents", "believed", "library", "firmware", "firmware-trial"] {
         let (status, text, said) = tool(&folder, name, &["--help"]);
         assert_eq!((status, said.as_str()), (Some(0), ""), "{name}");
         assert!(text.contains(&format!("  tools/{name}")) && text.contains("Exit status: 0 "), "{text}");
@@ -144,7 +149,7 @@ fn guards_without_a_gate_say_so() {
     for words in [&[][..], &["--list"]] {
         let (status, text, said) = tool(&folder, "guards", words);
         assert_eq!((status, text.as_str()), (Some(2), ""), "{words:?}");
-        assert_eq!(said, "guards: no gate has left its logs in target/must-fail; .ci/run makes them\n");
+        assert_eq!(said, "guards: no gate has left its log in target/ci.log; .ci/run makes it\n");
     }
     refused(&folder);
     let (status, text, _) = tool(&folder, "guards", &[]);
@@ -162,5 +167,23 @@ fn guards_name_a_promise() {
         let (status, text, _) = tool(&folder, "guards", &[]);
         assert_eq!(status, Some(1), "{line}");
         assert!(text.starts_with("guards: tree/wrong names no promise of docs/PROMISES.md: "), "{text}");
+    }
+}
+
+#[test]
+fn guards_ask_for_a_fact() {
+    let beyond = [
+        "refused, as it must be",
+        "refused, as it must be (only because a proof file names what the edit took away): proofs/a.antt:1:1: error: b",
+        "refused, as it must be (only by a limit of the prover): src/tree.rt:1:1: error: c",
+        "NOT REFUSED: the crate is still proved with this edit",
+        "BAD EDIT: it changes nothing",
+    ];
+    for said in beyond {
+        let folder = repository("beyond", "# P4: a wrong tree");
+        said_of_it(&folder, said);
+        let (status, text, _) = tool(&folder, "guards", &[]);
+        assert_eq!(status, Some(1), "{said}");
+        assert!(text.starts_with("guards: tree/wrong ") && text.contains(said), "{text}");
     }
 }
