@@ -1,7 +1,7 @@
 /* A wall book that is kept in a file: `book FILE` prepares a pool, runs batches, reopens it, serves the queues of three
  * panels at a desk, and meets refusals.
  *
- * `rt staticlib wall_book` makes the proved library, `make -C examples/c` builds target/book. The file is C99 and C++.
+ * `tools/library` makes the proved library, `make -C examples/c` builds target/book. The file is C99 and C++.
  */
 #include "wall_book.h"
 
