@@ -2,7 +2,7 @@
 // hexadecimal on a line, then `charge` and the sum of the panels' charges; or only `refused` and the number.
 #![tactic(auto)]
 
-ghost use Rattle.std.specs.Prelude.{◌≡◌, ◌<◌, ◌^◌, length};
+ghost use Rattle.std.specs.Prelude.{◌≡◌, ◌<◌, ◌≤◌, ◌^◌, IfOk, length};
 ghost use Rattle.laws.specs.Update.{sum};
 ghost use Rattle.layout.specs.Layout.{panels};
 
@@ -13,7 +13,7 @@ use wall_book::{wall_book_batch, wall_book_prepare};
 use wire::number::read16;
 
 // So much of standard input is read: a byte more than a batch may have, so that one that is too long is refused.
-const MOST_INPUT: u64 = 32769;
+const MOST_INPUT: usize = 32769;
 
 // Prints a byte as two digits.
 fn print_byte(rt: &impl Print, byte: u8) -> io::Result<()> {
@@ -83,12 +83,27 @@ fn run(
     print_number(rt, "charge", charge)
 }
 
+// Reads until the buffer is full or the input ends, and says how many bytes came.
+fn read_full(input: &mut impl Read, buffer: &mut [u8]) -> io::Result<usize>
+    ensures { IfOk result (λ size. size ≤ length buffer.new) }
+{
+    let mut size: usize = 0;
+    while size < buffer.len() {
+        let got = input.read(&mut buffer[size..])?;
+        if got == 0 {
+            return Ok(size);
+        }
+        size += got;
+    }
+    Ok(size)
+}
+
 fn main(rt: HostRuntime) -> io::Result<()> {
     let mut pool = [0u8; 65536];
     let mut table = [0u8; 4096];
+    let mut input = [0u8; MOST_INPUT];
     let mut answers = [0u8; 65536];
     wall_book_prepare(&mut pool, 3, 1, 2, 1, 4, 4, 3, 2);
-    let mut input = Vec::new(rt.alloc());
-    rt.stdin().take(MOST_INPUT).read_to_end(&mut input)?;
-    run(&rt, &mut pool, &mut table, &input, &mut answers)
+    let size = read_full(&mut rt.stdin(), &mut input)?;
+    run(&rt, &mut pool, &mut table, &input[..size], &mut answers)
 }
