@@ -1,14 +1,13 @@
 -- One node: what it is charged is at most three times what any schedule pays, and an allowance that does not grow with the list.
 -- Each theorem is an instance of the first, at the potential of its start. Assumes nothing.
-use Rattle.std.specs.Prelude.{List, [], ◌∷◌, ℕ, suc, ◌+◌, ◌-◌, ◌*◌, ◌≤◌, ◌<◌}
+use Rattle.std.specs.Prelude.{List, [], ◌∷◌, ℕ, suc, ◌+◌, ◌*◌, ◌≤◌, ◌<◌}
 use Rattle.std.proofs.Common.{arith}
 use Rattle.account.specs.declared.Mode.{Mode}
-use Rattle.account.specs.declared.Mode.TheVariants.{Log, Disk}
 use Rattle.account.specs.declared.Request.{Request}
 use Rattle.account.specs.declared.Tariff.{Tariff}
 use Rattle.account.specs.declared.Account.{Account}
-use Rattle.account.specs.Tariff.{switch_to, limit}
-use Rattle.account.specs.Serve.{serve_of, fresh, charges_of, account_after}
+use Rattle.account.specs.Tariff.{limit}
+use Rattle.account.specs.Serve.{serve_of, charges_of, account_after}
 use Rattle.account.specs.ServeLaws.{serve_low, after_low}
 use Rattle.account.specs.Schedule.{Schedule, paid, end_of}
 use Rattle.account.specs.Potential.{potential, allowance, potential_step, potential_most, potential-fresh}
@@ -32,15 +31,6 @@ module _ (t : Tariff) (plan : Schedule) where
         charges_of t qs (record { mode = m; score = 0 }) ≤ 3 * paid t plan qs i m + allowance t m
     charges_even m some =
         omega (arith, charges_from qs i (record { mode = m; score = 0 }) m some, potential-fresh t m)
-
-    -- A new node, sharply: the switch to log, so far as it costs more than the switch to disk.
-    pub charges-fresh_sharp : 0 < limit t →
-        charges_of t qs fresh ≤ 3 * paid t plan qs i Log + (switch_to t Log - switch_to t Disk)
-    charges-fresh_sharp some = charges_even Log some
-
-    -- A new node: one switch to log.
-    pub charges-fresh : 0 < limit t → charges_of t qs fresh ≤ 3 * paid t plan qs i Log + switch_to t Log
-    charges-fresh some = omega (arith, charges_even Log some)
 
     -- Any stretch of requests, after any others, against any schedule of it that begins in either mode: three times both switches.
     pub charges_stretch : (earlier : List Request) (a : Account) (before : Mode) → a.score < limit t →

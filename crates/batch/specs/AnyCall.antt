@@ -13,7 +13,7 @@ use Rattle.model.specs.Outcome as Model
 use Rattle.model.specs.Outcome.{work_by, ended}
 use Rattle.model.specs.Call.{Call, table_of, buffer_of, bytes_run, of_lent, of_last, outcome}
 use Rattle.model.specs.Passes.{Sizes, lent-sizes, Passes, lent-passes}
-use Rattle.model.specs.OutcomeLaws.{lent-refuses, lent-right, table-found, table-cleared}
+use Rattle.model.proofs.OutcomeLaws.{lent-refuses, lent-right, table-found, table-cleared}
 use Rattle.batch.specs.declared.answer.Outcome.{Outcome}
 use Rattle.batch.specs.Left.{refused_with, Leaves, left_as, refused-leaves}
 use Rattle.batch.specs.Closed.{Refused}

@@ -11,7 +11,7 @@ use Rattle.layout.specs.Layout.{table_bytes}
 use Rattle.model.specs.Pool.{blocks_of}
 use Rattle.model.specs.Questions.{first_no, of_pool}
 use Rattle.model.specs.Outcome.{cleared, refuse, Work, done, ended}
-use Rattle.model.specs.OutcomeLaws.{pool-table}
+use Rattle.model.proofs.OutcomeLaws.{pool-table}
 use Rattle.batch.specs.declared.answer.Outcome.{Outcome}
 use Rattle.batch.specs.Left.{Leaves}
 use Rattle.batch.specs.Closed.{zeros}

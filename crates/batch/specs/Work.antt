@@ -18,8 +18,8 @@ use Rattle.model.specs.PoolLaws.{blocks-length}
 use Rattle.model.specs.Questions.{first_no, of_pool}
 use Rattle.model.specs.Outcome as Model
 use Rattle.model.specs.Outcome.{cleared, work_by, accept, ended}
-use Rattle.model.specs.MountEnds.{opens_yes, refused_no}
-use Rattle.model.specs.OutcomeLaws.{ended_no, table-cleared}
+use Rattle.model.proofs.MountEnds.{opens_yes, refused_no}
+use Rattle.model.proofs.OutcomeLaws.{ended_no, table-cleared}
 use Rattle.flash_rows.specs.Worktable.{Worktable, table_from}
 use Rattle.flash_blocks.specs.Pages.{pages_of}
 use Rattle.flash_allocate.specs.declared.state.State.{State}

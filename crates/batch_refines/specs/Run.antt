@@ -23,10 +23,10 @@ use Rattle.demands.specs.BatchFits.{most_numbers}
 use Rattle.flash_allocate.specs.World.{World}
 use Rattle.run.specs.Run.{command_world, command_charge, command_reply, run_world, run_charge, run_replies}
 use Rattle.run_refines.specs.Commands.Lists.{served_all, charged_all, Runs, Ran}
-use Rattle.run_refines.specs.Commands.Commands.{command_runs}
-use Rattle.run_refines.specs.Commands.Lookups.{get-world, get-charge, get-answer, delete-world, delete-charge, delete-answer, scan-world}
-use Rattle.run_refines.specs.Commands.Lookups.{scan-charge, scan-answer, ceiling-world, ceiling-charge, ceiling-answer}
-use Rattle.run_refines.specs.Put.Puts.{put_agrees}
+use Rattle.run_refines.proofs.Commands.Commands.{command_runs}
+use Rattle.run_refines.proofs.Commands.Lookups.{get-world, get-charge, get-answer, delete-world, delete-charge, delete-answer, scan-world}
+use Rattle.run_refines.proofs.Commands.Lookups.{scan-charge, scan-answer, ceiling-world, ceiling-charge, ceiling-answer}
+use Rattle.run_refines.proofs.Put.Puts.{put_agrees}
 
 -- What one command leaves, by code and model.
 pub record One (blocks : ℕ) (n : Session) (c : Command) (w : World) (s : State) : Type 0 where

@@ -12,7 +12,7 @@ use Rattle.tree.specs.NodeRequest.{count_after_all}
 use Rattle.tree_laws.specs.Size.{depth_count}
 use Rattle.node.specs.Narrow.{Narrow}
 use Rattle.store_laws.specs.Numbers.{last}
-use Rattle.store_laws.specs.Closing.{close-closed}
+use Rattle.store_laws.proofs.Closing.{close-closed}
 use Rattle.book.specs.Book.{Book}
 use Rattle.book.specs.Command.{most_requests, requests}
 use Rattle.book.specs.Session.{Session, at_first}
@@ -30,7 +30,7 @@ use Rattle.demands.specs.Run.{Holds, run_book-requests, Batched, batch_batched}
 use Rattle.demands.specs.Mount.{Ready}
 use Rattle.store_laws.specs.StoreFits.{RunFits}
 use Rattle.demands.specs.NodesNarrow.{book_narrow}
-use Rattle.store_laws.specs.CloseFits.{close-fits}
+use Rattle.store_laws.proofs.CloseFits.{close-fits}
 use Rattle.demands.specs.CommandFits.{command_narrow}
 use Rattle.demands.specs.RequestCount.{command_length}
 use Rattle.demands.specs.RequestFits.{Took, took_more, took_then, serve_all_took}

@@ -18,7 +18,8 @@ use Rattle.store_laws.specs.Keeps.{Keeps}
 use Rattle.store.specs.Checkpoint.{scores_from, checkpoint_pages, close, checkpoint_of, scores_in, count_in, complete}
 use Rattle.store_laws.specs.CheckpointPageLaws.{scores_in-checkpoint-pages}
 use Rattle.store.specs.Reopen.{Cells, pool_of, reopened}
-use Rattle.store_laws.specs.Closing.{Closed, close-closed}
+use Rattle.store_laws.specs.Closing.{Closed}
+use Rattle.store_laws.proofs.Closing.{close-closed}
 use Rattle.book.specs.Book.{Book}
 use Rattle.model.specs.State.{State, book_of}
 use Rattle.model.specs.Batch.{closed}

@@ -19,7 +19,7 @@ use Rattle.pairs.specs.Pairs.{Pair}
 use Rattle.command.specs.declared.Command.{Command}
 use Rattle.command.specs.Batch.{commands_of}
 use Rattle.desk_order.specs.Turns.{turns, is_of, picks}
-use Rattle.desk_order.specs.OwnOrder.{own_order}
+use Rattle.desk_order.proofs.OwnOrder.{own_order}
 use Rattle.desk_queues.specs.Queues.{queues_of}
 use Rattle.desk_queues.specs.Joined.{all_commands, interleaved, joined_bytes, bytes_by, joined_of, joined_by}
 use Rattle.desk_laws.specs.QueueLaws.{cut_few, cut_bytes}

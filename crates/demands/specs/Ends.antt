@@ -26,7 +26,8 @@ use Rattle.model.specs.Outcome.{Outcome, refuse, table_after, Work, work_by, acc
 use Rattle.model.specs.Call.{Call, table_of, buffer_of, bytes_run, of_lent, of_last, questions, work_in, outcome, Prepared, prepared_by, prepare_of}
 use Rattle.model.specs.QuestionLaws.{first-behind, front_yes, behind_yes}
 use Rattle.model.specs.Passes.{lent-numbered, Passes, lent-passes}
-use Rattle.model.specs.MountEnds.{pool-numbered, MountEnds, unopened, mounted, mount_ends, opens_yes}
+use Rattle.model.specs.MountEnds.{MountEnds, unopened, mounted}
+use Rattle.model.proofs.MountEnds.{pool-numbered, mount_ends, opens_yes}
 
 -- Refused: pool and answers are as found. Done: what is lent is right, the pool opens, and the outcome is that of the work.
 pub data Ends (pool : List ℕ) (c : Call) : Outcome → Type 0 where

@@ -17,7 +17,8 @@ use Rattle.book.specs.Command.{Reply, reply_bytes, replies_bytes, requests, answ
 use Rattle.book.specs.Session.{Session, at_first, with_panel}
 use Rattle.book.specs.SessionAfter.{session_after}
 use Rattle.book.specs.InTurn.{each_panel, total, charge_on}
-use Rattle.book.specs.Naming.{Naming, sets, keeps, naming, panel-below, requests-panel, answer-panel}
+use Rattle.book.specs.Naming.{Naming, sets, keeps}
+use Rattle.book.proofs.Naming.{naming, panel-below, requests-panel, answer-panel}
 use Rattle.book.specs.EachPanel.{sum_each}
 use Rattle.model.specs.State.{State, book_of, serve_all, charges}
 use Rattle.model.specs.Batch.{reply_of, done, cost, run, answers, closed}

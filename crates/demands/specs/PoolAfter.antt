@@ -11,7 +11,7 @@ use Rattle.command.specs.Batch.{ValidAll}
 use Rattle.tree.specs.Spells.{map_of}
 use Rattle.store.specs.Store.{Store}
 use Rattle.store_laws.specs.CellLaws.{length-cells}
-use Rattle.store_laws.specs.Closing.{close-closed}
+use Rattle.store_laws.proofs.Closing.{close-closed}
 use Rattle.store.specs.Reopen.{Cells, pool_of}
 use Rattle.book.specs.Session.{at_first}
 use Rattle.model.specs.State.{State, book_of}

@@ -16,9 +16,9 @@ use Rattle.page.specs.Page.{Page}
 use Rattle.page.specs.Image.{blank_bytes}
 use Rattle.page.specs.Decode.{Decoded, blank, written, bad, decode}
 use Rattle.page.specs.Limits.{PageFits}
-use Rattle.page.specs.ReadBack.{decode-image}
-use Rattle.page.specs.Exact.{decode-fits, image-decode}
-use Rattle.page.specs.Sizes.{length-image, decode-blank_bytes, blank-decode}
+use Rattle.page.proofs.ReadBack.{decode-image}
+use Rattle.page.proofs.Exact.{decode-fits, image-decode}
+use Rattle.page.proofs.Sizes.{length-image, decode-blank_bytes, blank-decode}
 use Rattle.page.specs.ImageBytes.{bytes-image, bytes-blank_bytes}
 use Rattle.store.specs.Reopen.{Cells}
 use Rattle.model.specs.Bytes.{cell_bytes, bytes_of, cell_from, joined, cells_from, cells_of}

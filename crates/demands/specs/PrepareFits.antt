@@ -14,7 +14,7 @@ use Rattle.store.specs.Prepare.{first_pages, prepared_blocks}
 use Rattle.model.specs.Prepare.{prepared}
 use Rattle.model.specs.Bytes.{bytes_of, cells_of}
 use Rattle.store_laws.specs.StoreFits.{BlocksFit}
-use Rattle.store_laws.specs.CloseFits.{tariff-fits}
+use Rattle.store_laws.proofs.CloseFits.{tariff-fits}
 use Rattle.demands.specs.PoolBytes.{CellFits, cells_of-bytes_of}
 use Rattle.demands.specs.MountFits.{cells_fit}
 

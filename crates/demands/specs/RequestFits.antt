@@ -16,7 +16,8 @@ use Rattle.tree.specs.Narrow.{NarrowRequest}
 use Rattle.store.specs.Run.{Run}
 use Rattle.store.specs.Serve as Store
 use Rattle.store_laws.specs.Keeps.{Keeps}
-use Rattle.store_laws.specs.Numbers.{last, serve-last, create-last}
+use Rattle.store_laws.specs.Numbers.{last}
+use Rattle.store_laws.proofs.RequestNumbers.{serve-last, create-last}
 use Rattle.book.specs.Book.{Book, request_of, account_by}
 use Rattle.book.specs.Book as Book
 use Rattle.model.specs.State.{State, book_of, write, serve, serve_all}

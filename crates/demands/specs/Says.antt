@@ -8,7 +8,8 @@ use Rattle.account.specs.declared.Mode.{Mode}
 use Rattle.account.specs.declared.Account.{Account}
 use Rattle.account.specs.Serve.{fresh}
 use Rattle.store.specs.Store.{no_node, node_of, mode_of}
-use Rattle.store_laws.specs.Keeps.{Keeps, holds_node, holds_mode}
+use Rattle.store_laws.specs.Keeps.{Keeps}
+use Rattle.store_laws.proofs.Keeps.{holds_node, holds_mode}
 use Rattle.book.specs.Book.{Book}
 use Rattle.model.specs.State.{State, book_of}
 

@@ -17,11 +17,13 @@ use Rattle.store.specs.Serve.{Work, read, edit, rewrite, switch, work, note, ser
 use Rattle.store_laws.specs.Contents.{neat_fits}
 use Rattle.store_laws.specs.Versions.{InLog, InMode}
 use Rattle.store_laws.specs.Good.{Good}
-use Rattle.store_laws.specs.Keeps.{Keeps, holds_node, holds_mode, Fits, write_group_keeps}
-use Rattle.store_laws.specs.Numbers.{last, write-last, write_group-last}
+use Rattle.store_laws.specs.Keeps.{Keeps, Fits}
+use Rattle.store_laws.proofs.Keeps.{holds_node, holds_mode, write_group_keeps}
+use Rattle.store_laws.specs.Numbers.{last}
+use Rattle.store_laws.proofs.Numbers.{write-last, write_group-last}
 use Rattle.store_laws.specs.StoreFits.{RunFits}
 use Rattle.demands.specs.NodesNarrow.{node_narrow}
-use Rattle.store_laws.specs.WriteFits.{write_group-fits, write_node-fits, write_edit-fits}
+use Rattle.store_laws.proofs.WriteFits.{write_group-fits, write_node-fits, write_edit-fits}
 
 -- What a request brings has 32-bit numbers.
 abbrev pub NarrowWork : Work → Type 0

@@ -18,7 +18,8 @@ use Rattle.tree.specs.Fit.{Fit}
 use Rattle.store.specs.Store.{no_node}
 use Rattle.store.specs.Run.{Run}
 use Rattle.store.specs.Serve as Store
-use Rattle.store_laws.specs.Keeps.{Keeps, serve_keeps, create_keeps}
+use Rattle.store_laws.specs.Keeps.{Keeps}
+use Rattle.store_laws.proofs.Keeps.{serve_keeps, create_keeps}
 use Rattle.book.specs.Book.{Book, request_of, account_by}
 use Rattle.book.specs.Book as Book
 use Rattle.tree_laws.specs.Requests.{apply-other, count_after_le}

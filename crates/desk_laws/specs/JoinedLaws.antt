@@ -14,8 +14,9 @@ use Rattle.command.specs.Batch.{commands_of, room_for_all}
 use Rattle.command.specs.BatchLaws.{commands_of_long}
 use Rattle.command.specs.Spelled.{batch_bytes, commands_of-batch_bytes}
 use Rattle.desk_order.specs.Turns.{turns}
-use Rattle.desk_order.specs.Turned.{every-turns, panels-turns}
-use Rattle.desk_order.specs.Weigh.{weigh, weigh_all, weigh_turns, commands_in, turns-weigh, length-turns}
+use Rattle.desk_order.proofs.Turned.{every-turns, panels-turns}
+use Rattle.desk_order.specs.Weigh.{weigh, weigh_all, weigh_turns, commands_in}
+use Rattle.desk_order.proofs.Weigh.{turns-weigh, length-turns}
 use Rattle.desk_queues.specs.Joined.{interleaved, joined, joined_bytes}
 use Rattle.desk_laws.specs.ValidBytes.{bytes_batch}
 use Rattle.desk_laws.specs.Read.{Read, bytes_for, read_length, read_valid, read-bytes}

@@ -14,7 +14,7 @@ use Rattle.command.specs.Spelled.{batch_bytes}
 use Rattle.command.specs.OneSpelling.{batch_bytes-commands_of}
 use Rattle.command.specs.BatchLaws.{commands_of_valid}
 use Rattle.desk_order.specs.Turns.{turns, picks}
-use Rattle.desk_order.specs.OwnOrder.{own_order}
+use Rattle.desk_order.proofs.OwnOrder.{own_order}
 use Rattle.desk_order.specs.Weigh.{weigh, weigh_all}
 use Rattle.desk_queues.specs.Joined.{own_commands, queue_commands, beside, all_commands}
 

@@ -12,7 +12,6 @@ pub mod Order
 pub mod QuestionLaws
 pub mod Passes
 pub mod MountEnds
-pub mod OutcomeLaws
 pub mod Calls
 pub mod Computes
 pub mod Worked

@@ -11,7 +11,7 @@ use Rattle.laws.specs.Tests.{choose}
 use Rattle.laws.specs.BigEndian.{number}
 use Rattle.wire.specs.Field.{payload_at}
 use Rattle.page.specs.Decode.{run, found, taken, score_ok, most_scores}
-use Rattle.page.specs.ReadBack.{taken-found}
+use Rattle.page.proofs.ReadBack.{taken-found}
 use Rattle.page_read.specs.Payload.{found_true}
 use Rattle.mount_checkpoint_pages.specs.CheckpointPage.{number_of, has_tariff, scores_from, scores_on, count_part, Standing, checkpoint_page_of, Read, fits_in}
 use Rattle.mount_checkpoint_pages.specs.Extent.{extended}

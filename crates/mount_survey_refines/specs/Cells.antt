@@ -13,8 +13,8 @@ use Rattle.page.specs.Page.{Page}
 use Rattle.page.specs.Image.{image, blank_bytes}
 use Rattle.page.specs.Decode.{Decoded, blank, written, bad, decode}
 use Rattle.page.specs.Limits.{PageFits}
-use Rattle.page.specs.Exact.{decode-fits, image-decode}
-use Rattle.page.specs.Sizes.{blank-decode}
+use Rattle.page.proofs.Exact.{decode-fits, image-decode}
+use Rattle.page.proofs.Sizes.{blank-decode}
 use Rattle.store.specs.Reopen.{Cells}
 use Rattle.model.specs.Bytes.{cell_from, joined, cells_from, cells_of}
 use Rattle.flash_blocks.specs.Pages.{pages_of, blank_page, page_at}

@@ -7,7 +7,7 @@ use Rattle.store.specs.Store.{no_node}
 use Rattle.tree.specs.Table.{Table}
 use Rattle.tree.specs.Sound.{sound}
 use Rattle.tree_laws.specs.Standing.{Proper}
-use Rattle.tree_laws.specs.Agree.{sound_proper}
+use Rattle.tree_laws.proofs.Agree.{sound_proper}
 
 -- A branch without a key is in no sound tree.
 pub no_node_improper : Proper no_node → ⊥

@@ -7,7 +7,7 @@ use Rattle.std.proofs.Math.ListN.{get_or, take, length-set}
 use Rattle.std.proofs.lemmas.List.{set-get_or}
 use Rattle.layout.specs.Layout.{most_keys, bound32}
 use Rattle.pairs.specs.Pairs.{Pair, insert, Within}
-use Rattle.pairs.specs.Bounds.{within_insert, within_delete}
+use Rattle.pairs.proofs.Bounds.{within_insert, within_delete}
 use Rattle.node.specs.declared.Shape.{Shape}
 use Rattle.node.specs.declared.NodeValue.{NodeValue}
 use Rattle.node.specs.Node.{Node, node, pairs_of}

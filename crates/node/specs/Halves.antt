@@ -5,7 +5,7 @@ use Rattle.std.proofs.Common.{arith, take-append-drop}
 use Rattle.std.proofs.Math.ListN.{length-take, length-drop}
 use Rattle.layout.specs.Layout.{most_keys, kept_keys, bound32}
 use Rattle.pairs.specs.Pairs.{Pair, Within}
-use Rattle.pairs.specs.Bounds.{within_weaken}
+use Rattle.pairs.proofs.Bounds.{within_weaken}
 use Rattle.node.specs.declared.Shape.{Shape}
 use Rattle.node.specs.declared.Shape.TheVariants.{Leaf, Branch}
 use Rattle.node.specs.Node.{Node, node, pairs_of, Neat}

@@ -5,8 +5,8 @@ use Rattle.std.proofs.Common.{sym, ap, ◌∙◌, append-nil, append_assoc, arit
 use Rattle.std.proofs.lemmas.Bool.{lt-leb}
 use Rattle.layout.specs.Layout.{most_keys, bound32}
 use Rattle.pairs.specs.Pairs.{Pair, insert, Within}
-use Rattle.pairs.specs.Bounds.{within_append}
-use Rattle.pairs.specs.LocalEdit.{insert-append-right}
+use Rattle.pairs.proofs.Bounds.{within_append}
+use Rattle.pairs.proofs.LocalEdit.{insert-append-right}
 use Rattle.node.specs.declared.Shape.{Shape}
 use Rattle.node.specs.declared.Shape.TheVariants.{Leaf, Branch}
 use Rattle.node.specs.Node.{Node, node, shape_of, pairs_of, Neat}

@@ -6,7 +6,7 @@ use Rattle.std.proofs.Math.Option.{none, some}
 use Rattle.laws.specs.Order.{Tri, less, same, more, tri, eq_or, le_or}
 use Rattle.pairs.specs.Pairs.{Pair, lookup, insert, delete, Within}
 use Rattle.pairs.specs.Clauses.{lookup_same, lookup-other, delete_same, delete-other, insert-before, insert_same, insert-behind}
-use Rattle.pairs.specs.Bounds.{lookup-below}
+use Rattle.pairs.proofs.Bounds.{lookup-below}
 use Rattle.node.specs.Splice.{insert_at, remove_at}
 
 -- The place of the first key at or above the wanted one: the number of pairs where every key is below it.

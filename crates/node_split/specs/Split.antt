@@ -8,7 +8,7 @@ use Rattle.std.proofs.Math.ListN.{length, take, drop, length-drop}
 use Rattle.std.proofs.Math.Seq.{take_all}
 use Rattle.layout.specs.Layout.{most_keys, kept_keys, bound32}
 use Rattle.pairs.specs.Pairs.{Pair, insert, Within}
-use Rattle.pairs.specs.Bounds.{within_insert}
+use Rattle.pairs.proofs.Bounds.{within_insert}
 use Rattle.node.specs.declared.NodeValue.{NodeValue}
 use Rattle.node.specs.Node.{node}
 use Rattle.node.specs.Change.{change, put}

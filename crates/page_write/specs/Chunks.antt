@@ -7,7 +7,7 @@ use Rattle.laws.specs.BigEndian.{Bytes, bytes-part}
 use Rattle.wire.specs.Field.{field}
 use Rattle.wire.specs.FieldLaws.{length-field}
 use Rattle.page.specs.Image.{fields}
-use Rattle.page.specs.ReadBack.{length_fields}
+use Rattle.page.proofs.ReadBack.{length_fields}
 
 -- The n records of a size from a place on.
 unfoldable pub chunks : ℕ → ℕ → List ℕ → ℕ → List (List ℕ)

@@ -5,7 +5,7 @@ use Rattle.std.proofs.Common.{arith, length-append}
 use Rattle.layout.specs.Layout.{last_key}
 use Rattle.account.specs.declared.Tariff.{Tariff}
 use Rattle.pairs.specs.Pairs.{Pair, first}
-use Rattle.pairs.specs.Ranges.{length-range}
+use Rattle.pairs.proofs.Ranges.{length-range}
 use Rattle.node.specs.Node.{pairs_of, link_of}
 use Rattle.tree.specs.Table.{Table}
 use Rattle.tree.specs.Scan.{stops_in, taken, pairs_from}

@@ -14,7 +14,7 @@ use Rattle.command.specs.Batch.{room_for_all}
 use Rattle.book.specs.Command.{reply_bytes, replies_bytes}
 use Rattle.book.specs.Session.{Session, at_first}
 use Rattle.book.specs.InTurn.{no_charges}
-use Rattle.book.specs.Naming.{panel-below}
+use Rattle.book.proofs.Naming.{panel-below}
 use Rattle.book.specs.EachPanel.{length_each, each_at, each_are}
 use Rattle.flash_rows.specs.Worktable.{Worktable}
 use Rattle.flash_allocate.specs.declared.state.State.{State}

@@ -8,7 +8,6 @@ pub mod AllocateLaws
 pub mod BlockRules
 pub mod Placing
 pub mod Versions
-pub mod Passed
 pub mod Contents
 pub mod Good
 pub mod Keeps
@@ -22,7 +21,4 @@ pub mod ScoreOrder
 pub mod CheckpointPageLaws
 pub mod Unscored
 pub mod Closing
-pub mod Compaction
 pub mod StoreFits
-pub mod WriteFits
-pub mod CloseFits

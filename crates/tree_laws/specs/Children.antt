@@ -10,7 +10,7 @@ use Rattle.std.proofs.Math.ListN.{length}
 use Rattle.laws.specs.Order.{Tri, less, same, more, tri}
 use Rattle.pairs.specs.Pairs.{Pair, insert, Within}
 use Rattle.pairs.specs.Clauses.{insert-before, insert_same, insert-behind}
-use Rattle.pairs.specs.Bounds.{within_tail, within_append}
+use Rattle.pairs.proofs.Bounds.{within_tail, within_append}
 use Rattle.node.specs.Search.{key_at, pointer_at}
 use Rattle.tree.specs.Table.{slot}
 use Rattle.tree.specs.Tree.{keys_of, first_of, join_of, sum_of, EachChild}

@@ -5,8 +5,8 @@ use Rattle.std.proofs.Common.{append-nil, arith}
 use Rattle.std.proofs.Math.Option.{Option, none, some}
 use Rattle.layout.specs.Layout.{bound32}
 use Rattle.pairs.specs.Pairs.{Pair, lookup, delete}
-use Rattle.pairs.specs.Sizes.{length-delete, delete-absent}
-use Rattle.pairs.specs.LocalEdit.{delete_local}
+use Rattle.pairs.proofs.Sizes.{length-delete, delete-absent}
+use Rattle.pairs.proofs.LocalEdit.{delete_local}
 use Rattle.node.specs.Change.{remove}
 use Rattle.tree.specs.Table.{Table, path, leaf_for}
 use Rattle.tree.specs.NodeRequest.{edit, count_after_all}

@@ -5,7 +5,7 @@ use Rattle.std.proofs.Common.{ap, ◌∙◌, arith, length-take, length-drop, ta
 use Rattle.laws.specs.Counts.{bit}
 use Rattle.layout.specs.Layout.{most_keys, kept_keys}
 use Rattle.pairs.specs.Pairs.{Pair, Within}
-use Rattle.pairs.specs.Bounds.{within_weaken}
+use Rattle.pairs.proofs.Bounds.{within_weaken}
 use Rattle.node.specs.Node.{Node, pairs_of}
 use Rattle.node.specs.Halves.{lower_half, middle_key, upper_half}
 use Rattle.node.specs.Search.{key_at}

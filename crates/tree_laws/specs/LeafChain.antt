@@ -4,7 +4,7 @@ use Rattle.std.specs.Prelude.{◌≡◌, refl, List, [], ◌∷◌, ◌++◌, �
 use Rattle.std.proofs.Common.{append_assoc, arith}
 use Rattle.layout.specs.Layout.{most_keys, no_leaf}
 use Rattle.pairs.specs.Pairs.{Pair, Within}
-use Rattle.pairs.specs.Bounds.{within_append}
+use Rattle.pairs.proofs.Bounds.{within_append}
 use Rattle.node.specs.declared.Shape.TheVariants.{Leaf}
 use Rattle.node.specs.Node.{node}
 use Rattle.tree.specs.Table.{Table, slot, leaf_for}

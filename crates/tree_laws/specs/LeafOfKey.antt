@@ -9,8 +9,8 @@ use Prim.Native.Nat.{ℕ, zero, suc, ◌≤◌, ◌<◌}
 use Rattle.laws.specs.Every.{Every, none, both}
 use Rattle.layout.specs.Layout.{most_keys}
 use Rattle.pairs.specs.Pairs.{Pair, lookup, Within}
-use Rattle.pairs.specs.Bounds.{within_append}
-use Rattle.pairs.specs.LocalEdit.{lookup-append-left, lookup-append-right}
+use Rattle.pairs.proofs.Bounds.{within_append}
+use Rattle.pairs.proofs.LocalEdit.{lookup-append-left, lookup-append-right}
 use Rattle.node.specs.declared.Shape.TheVariants.{Leaf}
 use Rattle.node.specs.Node.{Node, node, pairs_of}
 use Rattle.tree.specs.Table.{Table, slot, child_for, path, leaf_for}

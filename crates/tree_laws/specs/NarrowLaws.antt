@@ -11,7 +11,7 @@ use Rattle.std.proofs.Math.ListN.{length}
 use Rattle.laws.specs.Every.{Every, none, both, every_append, every_weaken, every_map, every_take, every_drop}
 use Rattle.layout.specs.Layout.{kept_keys, bound32}
 use Rattle.pairs.specs.Pairs.{Pair}
-use Rattle.pairs.specs.Members.{every-insert, every-delete}
+use Rattle.pairs.proofs.Members.{every-insert, every-delete}
 use Rattle.node.specs.declared.Shape.TheVariants.{Leaf, Branch}
 use Rattle.node.specs.Node.{Node, node, pairs_of}
 use Rattle.node.specs.Change.{Change, put, remove, link, change}

@@ -11,8 +11,8 @@ use borrow.Author.Tests.{ltb-true, ltb-false}
 use Rattle.std.proofs.Math.ListN.{length, length-append, length-map}
 use Rattle.layout.specs.Layout.{bound32}
 use Rattle.pairs.specs.Pairs.{Pair, lookup, insert}
-use Rattle.pairs.specs.Sizes.{length-insert-absent, length-insert-present}
-use Rattle.pairs.specs.LocalEdit.{insert_local}
+use Rattle.pairs.proofs.Sizes.{length-insert-absent, length-insert-present}
+use Rattle.pairs.proofs.LocalEdit.{insert_local}
 use Rattle.node.specs.Node.{Node, pairs_of}
 use Rattle.node.specs.Change.{Change, put}
 use Rattle.tree.specs.Table.{Table, path, leaf_for}

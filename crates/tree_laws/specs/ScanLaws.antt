@@ -12,8 +12,8 @@ use Rattle.laws.specs.Every.{Every, none, both, every_append}
 use Rattle.laws.specs.Tests.{or_left, or_right}
 use Rattle.layout.specs.Layout.{no_leaf, last_key, bound32}
 use Rattle.pairs.specs.Pairs.{Pair, range, ceiling, first, has_above}
-use Rattle.pairs.specs.Ranges.{range_none, range-append-below, range-append_stop, range-append-full, range-append_on}
-use Rattle.pairs.specs.Ceiling.{range-ceiling}
+use Rattle.pairs.proofs.Ranges.{range_none, range-append-below, range-append_stop, range-append-full, range-append_on}
+use Rattle.pairs.proofs.Ceiling.{range-ceiling}
 use Rattle.node.specs.Node.{Node, pairs_of, link_of}
 use Rattle.tree.specs.Table.{Table, path, leaf_for}
 use Rattle.tree.specs.Scan.{stops_in, taken, pairs_from, leaves_after, scan_reads, scan_answer}

@@ -8,8 +8,8 @@ use Rattle.std.proofs.Math.ListN.{length}
 use Rattle.laws.specs.Update.{update, update_same, update_other}
 use Rattle.layout.specs.Layout.{most_keys, bound32}
 use Rattle.pairs.specs.Pairs.{Pair, insert, delete, Within}
-use Rattle.pairs.specs.Bounds.{within_insert}
-use Rattle.pairs.specs.Sizes.{length-insert}
+use Rattle.pairs.proofs.Bounds.{within_insert}
+use Rattle.pairs.proofs.Sizes.{length-insert}
 use Rattle.pairs.specs.LocalEdit.{LocalEdit}
 use Rattle.node.specs.declared.Shape.TheVariants.{Leaf, Branch}
 use Rattle.node.specs.Node.{Node, node, shape_of, pairs_of, Neat}

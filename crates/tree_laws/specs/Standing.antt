@@ -7,7 +7,7 @@ use Rattle.laws.specs.Counts.{bit}
 use Rattle.laws.specs.Order.{eq_or, le_or}
 use Rattle.layout.specs.Layout.{most_keys, bound32}
 use Rattle.pairs.specs.Pairs.{Within}
-use Rattle.pairs.specs.Bounds.{within_weaken, within_tail}
+use Rattle.pairs.proofs.Bounds.{within_weaken, within_tail}
 use Rattle.node.specs.declared.Shape.TheVariants.{Leaf, Branch}
 use Rattle.node.specs.Node.{Node, node, shape_of, pairs_of, Neat}
 use Rattle.tree.specs.Table.{Table}

@@ -7,7 +7,7 @@ use Rattle.layout.specs.Layout.{node_limit, last_key, bound32}
 use Rattle.account.specs.declared.Tariff.{Tariff}
 use Rattle.pairs.specs.Pairs.{Pair, lookup, ceiling, Within}
 use Rattle.pairs.specs.Ceiling.{CeilingIs}
-use Rattle.pairs.specs.Ceiling.{ceiling-is as nearest-is, ceiling-none as none_above}
+use Rattle.pairs.proofs.Ceiling.{ceiling-is as nearest-is, ceiling-none as none_above}
 use Rattle.command.specs.declared.Command.{Command}
 use Rattle.command.specs.declared.Command.TheVariants.{Scan, Ceiling}
 use Rattle.command.specs.Batch.{commands_of, ValidAll}

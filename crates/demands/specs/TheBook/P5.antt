@@ -14,8 +14,8 @@ use Rattle.command.specs.Batch.{commands_of}
 use Rattle.command.specs.Spelled.{batch_bytes}
 use Rattle.desk_order.specs.Turns.{turns, turns_of, picks, waits}
 use Rattle.desk_order.specs.Weigh.{commands_in as CommandCount}
-use Rattle.desk_order.specs.OwnOrder.{own_order as in_order_lem}
-use Rattle.desk_order.specs.Fair.{fair as few-others}
+use Rattle.desk_order.proofs.OwnOrder.{own_order as in_order_lem}
+use Rattle.desk_order.proofs.Fair.{fair as few-others}
 use Rattle.desk_queues.specs.Queues.{queues_of}
 use Rattle.desk_queues.specs.Joined.{all_commands, interleaved, joined_bytes, bytes_by, joined_of, joined_by}
 use Rattle.desk_laws.specs.QueueLaws.{cut_few, cut_bytes, cut_length}

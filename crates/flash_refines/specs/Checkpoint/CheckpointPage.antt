@@ -21,8 +21,9 @@ use Rattle.store.specs.Store.{Store, view}
 use Rattle.store.specs.Live.{carries, is_checkpoint, checkpoint_since}
 use Rattle.store.specs.Write.{found, next, place}
 use Rattle.store.specs.Checkpoint.{CheckpointPage, checkpoint_page_content}
-use Rattle.store_laws.specs.Placing.{Invariant, found_ready, silent_same}
-use Rattle.store_laws.specs.Compaction.{found-room}
+use Rattle.store_laws.specs.Placing.{Invariant}
+use Rattle.store_laws.proofs.Placing.{found_ready, silent_same}
+use Rattle.store_laws.proofs.Compaction.{found-room}
 use Rattle.store_laws.specs.Changes.{Same}
 use Rattle.flash_rows.specs.Row.{no_row}
 use Rattle.flash_rows.specs.Step.{names, fresh}

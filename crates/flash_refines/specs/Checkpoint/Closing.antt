@@ -24,10 +24,11 @@ use Rattle.store.specs.Write as Write
 use Rattle.store.specs.Run.{Run, write, flush_run}
 use Rattle.store.specs.Checkpoint.{CheckpointPage, checkpoint_page_content, scores_from, write_checkpoint_pages, drain_by, close}
 use Rattle.store.specs.Checkpoint as Model
-use Rattle.store_laws.specs.Placing.{Invariant, place-tally, silent_invariant}
-use Rattle.store_laws.specs.Closing.{closing_none, closing_begins}
-use Rattle.store_laws.specs.Good.{flush_run_good}
-use Rattle.store_laws.specs.WriteFits.{flush-fits}
+use Rattle.store_laws.specs.Placing.{Invariant}
+use Rattle.store_laws.proofs.Placing.{place-tally, silent_invariant}
+use Rattle.store_laws.proofs.Closing.{closing_none, closing_begins}
+use Rattle.store_laws.proofs.Good.{flush_run_good}
+use Rattle.store_laws.proofs.WriteFits.{flush-fits}
 use Rattle.flash_rows.specs.declared.Row.{Row}
 use Rattle.flash_rows.specs.Worktable.{with_row, rows_for}
 use Rattle.flash_allocate.specs.declared.state.State.{State}

@@ -27,7 +27,7 @@ use Rattle.page.specs.Tags.{allowed_11, allowed_12}
 use Rattle.page.specs.Runs.{Good, run-fields, payloads-fields}
 use Rattle.page.specs.Spelled.{length-entry_bytes}
 use Rattle.page.specs.SpelledNode.{length-whole_bytes, node_of-bytes}
-use Rattle.page.specs.ReadBack.{sequence-found}
+use Rattle.page.proofs.ReadBack.{sequence-found}
 use Rattle.store.specs.Item.{entry_item, pieces_in}
 use Rattle.flash_read.specs.Replay.{redo_run}
 use Rattle.flash_read.specs.NodePage.{node_of_payload}

@@ -19,7 +19,8 @@ use Rattle.store.specs.Allocate as Model
 use Rattle.store_laws.specs.AllocateLaws.{BlankAt, next_blank-blank}
 use Rattle.store_laws.specs.PoolLaws.{Moves}
 use Rattle.store_laws.specs.BlockRules.{spot_moves}
-use Rattle.store_laws.specs.Placing.{Invariant, live-fits, found_same}
+use Rattle.store_laws.specs.Placing.{Invariant}
+use Rattle.store_laws.proofs.Placing.{live-fits, found_same}
 use Rattle.store.specs.Write.{found}
 use Rattle.flash_rows.specs.declared.Row.{Row}
 use Rattle.flash_rows.specs.Worktable.{Worktable, with_rows}

@@ -8,8 +8,9 @@ use Rattle.page.specs.Page.{Entry, Content, Page, page}
 use Rattle.page.specs.Image.{image, sealed, numbered}
 use Rattle.store.specs.Store.{Store}
 use Rattle.store.specs.Write.{found, next, place}
-use Rattle.store_laws.specs.Placing.{Invariant, found_ready}
-use Rattle.store_laws.specs.Compaction.{found-room}
+use Rattle.store_laws.specs.Placing.{Invariant}
+use Rattle.store_laws.proofs.Placing.{found_ready}
+use Rattle.store_laws.proofs.Compaction.{found-room}
 use Rattle.flash_rows.specs.Step.{names}
 use Rattle.flash_rows.specs.Worktable.{Worktable}
 use Rattle.flash_blocks.specs.Pages.{is_blank}

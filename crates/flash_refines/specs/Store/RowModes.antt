@@ -11,9 +11,11 @@ use Rattle.store.specs.Store.{Store, view, mode_at, mode_of}
 use Rattle.store.specs.Write.{found, place}
 use Rattle.store_laws.specs.PoolLaws.{find_none}
 use Rattle.store_laws.specs.BlockRules.{how_tally}
-use Rattle.store_laws.specs.Placing.{Invariant, found_how, found_same, place-tally}
-use Rattle.store_laws.specs.Compaction.{found_unmoved}
-use Rattle.store_laws.specs.Versions.{mode_is, place_mode, same_mode_lem}
+use Rattle.store_laws.specs.Placing.{Invariant}
+use Rattle.store_laws.proofs.Placing.{found_how, found_same, place-tally}
+use Rattle.store_laws.proofs.Compaction.{found_unmoved}
+use Rattle.store_laws.specs.Versions.{mode_is}
+use Rattle.store_laws.proofs.Versions.{place_mode, same_mode_lem}
 use Rattle.flash_refines.specs.Store.Mirror.{RowMode}
 
 -- The store says the row's mode.

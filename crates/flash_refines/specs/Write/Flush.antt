@@ -26,7 +26,8 @@ use Rattle.store.specs.Write as Model
 use Rattle.store.specs.Run.{Run, write, flush_run, room_by, make_room}
 use Rattle.store_laws.specs.Changes.{Now}
 use Rattle.store_laws.specs.PoolLaws.{find_none}
-use Rattle.store_laws.specs.Placing.{Invariant, flush_now}
+use Rattle.store_laws.specs.Placing.{Invariant}
+use Rattle.store_laws.proofs.Placing.{flush_now}
 use Rattle.store_laws.specs.Versions.{version_is, said, VersionRules, OnPage}
 use Rattle.flash_rows.specs.Step.{names, by_mode}
 use Rattle.flash_rows.specs.declared.Row.{Row}

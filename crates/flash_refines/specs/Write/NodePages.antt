@@ -24,7 +24,8 @@ use Rattle.store.specs.Live.{carries, no_checkpoint}
 use Rattle.store.specs.Write.{found, next, place, node_page}
 use Rattle.store.specs.Run.{Run, write, write_node}
 use Rattle.store_laws.specs.Changes.{Same, Now}
-use Rattle.store_laws.specs.Placing.{Invariant, page_now, page_other, page_invariant, place-find, found_ready}
+use Rattle.store_laws.specs.Placing.{Invariant}
+use Rattle.store_laws.proofs.Placing.{page_now, page_other, page_invariant, place-find, found_ready}
 use Rattle.store_laws.specs.BlockRules.{add_to-tally}
 use Rattle.flash_rows.specs.Row.{no_row}
 use Rattle.flash_rows.specs.Step.{names, fresh, noted}

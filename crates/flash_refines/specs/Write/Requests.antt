@@ -17,11 +17,11 @@ use Rattle.store.specs.Live.{no_checkpoint}
 use Rattle.store.specs.Write.{flush}
 use Rattle.store.specs.Run.{Run, write, room_by, make_room, begin, write_group, edit_by, write_edit}
 use Rattle.store_laws.specs.Contents.{length-changes_of}
-use Rattle.store_laws.specs.Good.{make_room-roomy}
-use Rattle.store_laws.specs.Keeps.{make_room-nodes}
-use Rattle.store_laws.specs.Numbers.{make_room-last}
+use Rattle.store_laws.proofs.Good.{make_room-roomy}
+use Rattle.store_laws.proofs.Keeps.{make_room-nodes}
+use Rattle.store_laws.proofs.Numbers.{make_room-last}
 use Rattle.store_laws.specs.StoreFits.{StoreFits}
-use Rattle.store_laws.specs.WriteFits.{flush-fits}
+use Rattle.store_laws.proofs.WriteFits.{flush-fits}
 use Rattle.flash_rows.specs.declared.Row.{Row}
 use Rattle.flash_allocate.specs.World.{World}
 use Rattle.flash_log.specs.Flush.{room}

@@ -27,8 +27,9 @@ use Rattle.store.specs.Write.{start}
 use Rattle.store.specs.Run.{Run, begin}
 use Rattle.store_laws.specs.Changes.{Same, Now}
 use Rattle.store_laws.specs.Contents.{Spelled, spelled}
-use Rattle.store_laws.specs.Placing.{Invariant, start_now, start-other, start_invariant}
-use Rattle.store_laws.specs.Good.{begin_mode}
+use Rattle.store_laws.specs.Placing.{Invariant}
+use Rattle.store_laws.proofs.Placing.{start_now, start-other, start_invariant}
+use Rattle.store_laws.proofs.Good.{begin_mode}
 use Rattle.flash_rows.specs.Row.{no_row, decode}
 use Rattle.flash_rows.specs.Step.{names, fresh}
 use Rattle.flash_rows.specs.declared.Row.{Row}

@@ -15,7 +15,7 @@ use Rattle.page.specs.Limits.{given}
 use Rattle.store.specs.Pool.{page_in}
 use Rattle.store.specs.Reopen.{Cells, greatest_of}
 use Rattle.flash_blocks.specs.Pages.{pages_of, page_at}
-use Rattle.page.specs.Exact.{found-given}
+use Rattle.page.proofs.Exact.{found-given}
 use Rattle.store_laws.specs.WrittenPages.{pages_in}
 use Rattle.mount_checkpoint_pages.specs.CheckpointPage.{has_tariff}
 use Rattle.mount_checkpoint_pages.specs.Extent.{extended, no_extent, extent_of}

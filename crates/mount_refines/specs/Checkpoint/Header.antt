@@ -38,8 +38,8 @@ use Rattle.page.specs.Decode.{
   decode,
 }
 use Rattle.page.specs.Image.{blank_bytes}
-use Rattle.page.specs.Seal.{all_blank-replicate}
-use Rattle.page.specs.Sizes.{blank-decode}
+use Rattle.page.proofs.Seal.{all_blank-replicate}
+use Rattle.page.proofs.Sizes.{blank-decode}
 use Rattle.page.specs.Cases.{
   decode-blank,
   decode-other,
@@ -51,7 +51,7 @@ use Rattle.page.specs.Cases.{
   when_passed,
 }
 use Rattle.page.specs.Runs.{run_stops}
-use Rattle.page.specs.Exact.{written_bad}
+use Rattle.page.proofs.Exact.{written_bad}
 use Rattle.store.specs.Checkpoint.{CheckpointPage, checkpoint_page}
 use Rattle.model.specs.Bytes.{cell_from}
 use Rattle.mount_checkpoint_pages.specs.CheckpointPage.{number_of, scores_from, scores_on, count_part}

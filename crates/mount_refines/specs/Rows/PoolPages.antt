@@ -12,7 +12,7 @@ use Rattle.laws.specs.Lay.{part}
 use Rattle.layout.specs.Layout.{page_bytes}
 use Rattle.page.specs.Page.{Page}
 use Rattle.page.specs.Image.{image, blank_bytes}
-use Rattle.page.specs.Sizes.{length-image}
+use Rattle.page.proofs.Sizes.{length-image}
 use Rattle.store.specs.Pool.{Blocks, block}
 use Rattle.store.specs.Reopen.{Cells, cells}
 use Rattle.model.specs.Bytes.{cell_bytes, bytes_of}

@@ -8,9 +8,9 @@ use Rattle.laws.specs.Order.{eq_or, le_or}
 use Rattle.laws.specs.Options.{none_some}
 use Rattle.layout.specs.Layout.{most_keys, bound32}
 use Rattle.pairs.specs.Pairs.{Pair, insert, Within}
-use Rattle.pairs.specs.Sizes.{length-insert}
-use Rattle.pairs.specs.Bounds.{within_insert}
-use Rattle.pairs.specs.MapLaws.{lookup-insert}
+use Rattle.pairs.proofs.Sizes.{length-insert}
+use Rattle.pairs.proofs.Bounds.{within_insert}
+use Rattle.pairs.proofs.MapLaws.{lookup-insert}
 use Rattle.node.specs.declared.Shape.TheVariants.{Branch}
 use Rattle.node.specs.Node.{Node, node, pairs_of}
 use Rattle.node.specs.Change.{put, change}

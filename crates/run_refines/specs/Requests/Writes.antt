@@ -14,11 +14,11 @@ use Rattle.store.specs.Live.{no_checkpoint}
 use Rattle.store.specs.Write.{node_page}
 use Rattle.store.specs.Run.{Run, write, write_group, write_node}
 use Rattle.store_laws.specs.Contents.{neat_fits}
-use Rattle.store_laws.specs.Good.{make_room-roomy, write_group-done, write_node-done}
-use Rattle.store_laws.specs.Keeps.{write_group-nodes}
-use Rattle.store_laws.specs.Numbers.{make_room-last, write-last, write_group-last}
+use Rattle.store_laws.proofs.Good.{make_room-roomy, write_group-done, write_node-done}
+use Rattle.store_laws.proofs.Keeps.{write_group-nodes}
+use Rattle.store_laws.proofs.Numbers.{make_room-last, write-last, write_group-last}
 use Rattle.store_laws.specs.StoreFits.{StoreFits}
-use Rattle.store_laws.specs.WriteFits.{changes_of_fit, start_fits, node_page-fits}
+use Rattle.store_laws.proofs.WriteFits.{changes_of_fit, start_fits, node_page-fits}
 use Rattle.flash_allocate.specs.World.{World}
 use Rattle.flash_refines.specs.Store.Follows.{Follows, Writable}
 use Rattle.flash_refines.specs.Write.Requests.{room_writable, group_follows}

@@ -9,7 +9,7 @@ use lib.ListN.{length}
 use Rattle.wire.specs.Field.{payload_at}
 use Rattle.page.specs.Decode.{found, taken, most_scores}
 use Rattle.page.specs.Tags.{only_13}
-use Rattle.page.specs.ReadBack.{taken-found}
+use Rattle.page.proofs.ReadBack.{taken-found}
 use Rattle.page_read.specs.Payload.{payload-empty, found_true}
 use Rattle.page_read.specs.Steps.{checkpoint-is}
 use Rattle.page_read.proofs.view.view_checkpoint.Goals as goal

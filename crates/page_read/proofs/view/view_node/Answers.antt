@@ -10,7 +10,7 @@ use lib.ListN.{length, get_or}
 use Rattle.laws.specs.BigEndian.{number_at}
 use Rattle.wire.specs.Field.{payload_at}
 use Rattle.page.specs.Decode.{sealed_at, taken, shape_of_number, pairs_in}
-use Rattle.page.specs.ReadBack.{taken-found}
+use Rattle.page.proofs.ReadBack.{taken-found}
 use Rattle.page_read.specs.declared.view.PageView.TheVariants.{NodePage}
 use Rattle.page_read.specs.Payload.{found_true, found_false, node_short}
 use Rattle.page_read.specs.Steps.{node_none, node_other, node_unsealed, node_sealed}

@@ -11,8 +11,8 @@ use Rattle.laws.specs.BigEndian.{number, number_at-whole}
 use Rattle.wire.specs.Field.{payload_at}
 use Rattle.page.specs.Decode.{sealed_at, taken, found, most_scores, decode_counted}
 use Rattle.page.specs.Tags.{only_15}
-use Rattle.page.specs.ReadBack.{taken-found}
-use Rattle.page.specs.Exact.{found-given}
+use Rattle.page.proofs.ReadBack.{taken-found}
+use Rattle.page.proofs.Exact.{found-given}
 use Rattle.page_read.specs.declared.view.Nodes.{Nodes}
 use Rattle.page_read.specs.declared.view.Nodes.TheVariants.{Count}
 use Rattle.page_read.specs.declared.view.PageView.TheVariants.{Checkpoint}

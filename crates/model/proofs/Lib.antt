@@ -1,0 +1,2 @@
+pub mod MountEnds
+pub mod OutcomeLaws

@@ -1,0 +1,4 @@
+pub mod Seal
+pub mod ReadBack
+pub mod Exact
+pub mod Sizes

@@ -1,0 +1,12 @@
+pub mod Spots
+pub mod Placing
+pub mod Versions
+pub mod Good
+pub mod Keeps
+pub mod Numbers
+pub mod RequestNumbers
+pub mod Closing
+pub mod Passed
+pub mod WriteFits
+pub mod Compaction
+pub mod CloseFits
