@@ -1,6 +1,6 @@
 -- Many nodes: the potentials of all nodes are summed. A request changes one term of the sum, by no more than its own step, and a new
 -- node adds its allowance. So charges are at most three times any schedule and one allowance for each node made. Assumes nothing.
-use Rattle.std.specs.Prelude.{◌≡◌, refl, List, [], ◌∷◌, ◌⊎◌, ℕ, suc, ◌+◌, ◌-◌, ◌*◌, ◌≤◌, ◌<◌, length}
+use Rattle.std.specs.Prelude.{◌≡◌, refl, List, [], ◌∷◌, ◌⊎◌, ℕ, suc, ◌+◌, ◌*◌, ◌≤◌, ◌<◌, length}
 use Rattle.std.proofs.Common.{ap₂, ◌∙◌, inl, inr, mul-le-mul_right, arith}
 use Rattle.laws.specs.Order.{eq_or}
 use Rattle.laws.specs.Update.{update, update_same, update_other, sum_below, sum_below-ext, sum_below-change}

@@ -1,5 +1,5 @@
 -- The part of the table that is lent comes back zero, and so the whole table is as the definition says. Assumes nothing.
-use Rattle.std.specs.Prelude.{◌≡◌, refl, Bool, true, false, List, ℕ, ◌-◌, ◌≤◌, eqb, length, take, drop}
+use Rattle.std.specs.Prelude.{◌≡◌, Bool, true, false, List, ℕ, ◌-◌, ◌≤◌, eqb, length, take, drop}
 use Rattle.std.proofs.Common.{sym, ap, ◌∙◌, arith, length-take-le}
 use Rattle.std.proofs.Math.Option.{Option, none, some}
 use Rattle.std.proofs.Math.Nat.{sub-zero}
@@ -10,7 +10,7 @@ use Rattle.laws.specs.Tests.{choose}
 use Rattle.layout.specs.Layout.{table_bytes}
 use Rattle.model.specs.Pool.{blocks_of}
 use Rattle.model.specs.Questions.{first_no, of_pool}
-use Rattle.model.specs.Outcome.{cleared, refuse, Work, done, ended}
+use Rattle.model.specs.Outcome.{refuse, Work, done, ended}
 use Rattle.model.proofs.OutcomeLaws.{pool-table}
 use Rattle.batch.specs.declared.answer.Outcome.{Outcome}
 use Rattle.batch.specs.Left.{Leaves}

@@ -1,6 +1,6 @@
 -- The reference model is charged at most three times what any schedule pays, and one allowance for each node made: its charges are
 -- those of the accounts for its requests as events. Assumes nothing.
-use Rattle.std.specs.Prelude.{◌≡◌, refl, ℕ, zero, suc, ◌+◌, ◌-◌, ◌*◌, ◌≤◌, ◌<◌}
+use Rattle.std.specs.Prelude.{◌≡◌, refl, ℕ, zero, suc, ◌+◌, ◌*◌, ◌≤◌, ◌<◌}
 use Rattle.std.proofs.Common.{ap, ◌∙◌, mul-le-mul_right, arith}
 use mathlib.Core.List.{List, [], ◌∷◌}
 use Rattle.laws.specs.Update.{update, sum_below, sum_below-ext}

@@ -1,5 +1,5 @@
 -- Answers (document 01, "Commands and answers"; document 02, P3): the number and the values of each case. Assumes nothing.
-use Rattle.std.specs.Prelude.{List, [], ◌∷◌, ◌++◌, ℕ, ◌+◌}
+use Rattle.std.specs.Prelude.{List, [], ◌∷◌, ◌++◌, ℕ}
 use Rattle.std.proofs.Math.Option.{Option, none, some}
 use Rattle.laws.specs.BigEndian.{big_endian}
 use Rattle.pairs.specs.Pairs.{Pair}

@@ -5,7 +5,6 @@ use Rattle.std.proofs.Common.{sym, ap, ap₂, ◌∙◌, subst, arith}
 use Rattle.std.proofs.lemmas.List.{map-append}
 use Rattle.std.proofs.Math.Option.{Option, none, some}
 use Rattle.laws.specs.Every.{Every, both, every_append}
-use Rattle.laws.specs.Every as Every
 use Rattle.laws.specs.Update.{sum}
 use Rattle.layout.specs.Layout.{node_limit, most_log_pages}
 use Rattle.account.specs.declared.Tariff.{Tariff}

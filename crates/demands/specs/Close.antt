@@ -15,7 +15,7 @@ use Rattle.store.specs.View.{pages}
 use Rattle.store.specs.Store.{Store, view}
 use Rattle.store_laws.specs.Changes.{Lean}
 use Rattle.store_laws.specs.Keeps.{Keeps}
-use Rattle.store.specs.Checkpoint.{scores_from, checkpoint_pages, close, checkpoint_of, scores_in, count_in, complete}
+use Rattle.store.specs.Checkpoint.{scores_from, checkpoint_pages, close, checkpoint_of, scores_in, count_in}
 use Rattle.store_laws.specs.CheckpointPageLaws.{scores_in-checkpoint-pages}
 use Rattle.store.specs.Reopen.{Cells, pool_of, reopened}
 use Rattle.store_laws.specs.Closing.{Closed}

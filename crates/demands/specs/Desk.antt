@@ -1,9 +1,9 @@
 -- A call of the desk (document 02, P5): it is the batch of the joined bytes, or it is refused before these are asked about. Assumes nothing.
 use Rattle.std.specs.Prelude.{◌≡◌, Bool, List, [], ◌∷◌, ◌++◌, ℕ, ◌≤◌, leb, length}
 use Rattle.std.proofs.Math.Path.{refl, ap}
-use Rattle.std.proofs.Common.{sym, ◌∙◌, arith}
+use Rattle.std.proofs.Common.{◌∙◌, arith}
 use Rattle.std.proofs.Math.Bool.{true, false}
-use Rattle.std.proofs.Math.Option.{Option, none, some}
+use Rattle.std.proofs.Math.Option.{none, some}
 use borrow.Author.Tests.{le-leb}
 use Rattle.laws.specs.Options.{none_some}
 use Rattle.laws.specs.Tests.{choose}

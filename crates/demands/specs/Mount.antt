@@ -24,11 +24,10 @@ use Rattle.tree_laws.specs.GetLaws.{node_proper}
 use Rattle.store.specs.View.{pages}
 use Rattle.store.specs.Store.{Store, view, draft_of, node_in, node_of}
 use Rattle.store.specs.Run.{Run}
-use Rattle.store_laws.specs.Keeps.{Keeps, Holds}
+use Rattle.store_laws.specs.Keeps.{Keeps}
 use Rattle.store.specs.Checkpoint.{checkpoint_of, tariff_in, scores_in, count_in, score_in, complete}
 use Rattle.store.specs.Reopen.{Cells, reopened, pages_pass}
 use Rattle.store_laws.specs.Opening.{Opens, opened_keeps, complete-newest}
-use Rattle.store_laws.specs.Opening as Opening
 use Rattle.book.specs.Book.{Book}
 use Rattle.book.specs.Bound.{Scored}
 use Rattle.model.specs.State.{State, book_of}

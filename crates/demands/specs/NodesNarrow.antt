@@ -8,7 +8,6 @@ use Rattle.laws.specs.Tests.{choose}
 use Rattle.pairs.specs.Pairs.{Pair}
 use Rattle.node.specs.declared.Shape.{Shape}
 use Rattle.node.specs.Node.{node}
-use Rattle.node.specs.Change.{link}
 use Rattle.node.specs.Replay.{Piece, Draft, unlinked, made, broken, replay}
 use Rattle.page.specs.Page.{Entry, Page, page, log, whole, checkpoint}
 use Rattle.page.specs.Limits.{EntryFits, PageFits, NodeFits}

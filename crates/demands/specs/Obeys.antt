@@ -7,7 +7,6 @@ use Rattle.std.proofs.Math.Option.{Option, none, some}
 use borrow.Author.Tests.{leb-true, le-leb, ltb-true, lt-ltb}
 use Rattle.laws.specs.Tests.{and_left, and_right, and_both}
 use Rattle.laws.specs.Every.{Every, both}
-use Rattle.laws.specs.Every as Every
 use Rattle.laws.specs.BigEndian.{Bytes}
 use Rattle.laws.specs.Options.{some_same}
 use Rattle.layout.specs.Layout.{pages_in_block, node_limit, most_log_pages, last_sequence}

@@ -8,10 +8,8 @@ use mathlib.Core.List.{List, [], map}
 use Rattle.std.proofs.Math.Option.{Option, none, some}
 use borrow.Author.Tests.{ne_eqb}
 use Rattle.std.proofs.Math.Dec.{eqb}
-use Rattle.std.proofs.Math.ListN.{length}
 use Rattle.laws.specs.Tests.{choose}
 use Rattle.laws.specs.Every.{Every, every_weaken}
-use Rattle.laws.specs.Every as Every
 use Rattle.laws.specs.Lay.{lay-nil}
 use Rattle.laws.specs.Update.{sum}
 use Rattle.laws.specs.BigEndian.{Bytes}

@@ -8,7 +8,7 @@ use borrow.Author.Tests.{le-leb, eq-eqb, lt-ltb, le-ltb}
 use Rattle.std.proofs.Math.ListN.{length}
 use Rattle.std.proofs.lemmas.List.{length-replicate}
 use Rattle.laws.specs.Tests.{choose, and_both}
-use Rattle.laws.specs.Counts.{count, tally}
+use Rattle.laws.specs.Counts.{tally}
 use Rattle.layout.specs.Layout.{fewest_blocks, node_limit, pages_in_block}
 use Rattle.account.specs.declared.Mode.{Mode}
 use Rattle.account.specs.declared.Mode.TheVariants.{Log}

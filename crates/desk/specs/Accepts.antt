@@ -4,15 +4,14 @@ use Rattle.std.specs.Prelude.{◌≡◌, refl, true, List, ℕ, ◌*◌, ◌≤�
 use Rattle.std.proofs.Common.{sym, ap, ◌∙◌, arith}
 use Rattle.std.proofs.Math.Option.{some}
 use Rattle.laws.specs.BigEndian.{Bytes}
-use Rattle.laws.specs.Options.{some_same}
-use Rattle.layout.specs.Layout.{fewest_blocks, most_blocks, block_bytes, table_bytes, most_batch_bytes}
+use Rattle.layout.specs.Layout.{fewest_blocks, most_blocks, block_bytes, table_bytes}
 use Rattle.command.specs.declared.Command.{Command}
 use Rattle.command.specs.Batch.{commands_of, room_for_all}
 use Rattle.command.specs.BatchLaws.{commands_from_few}
 use Rattle.desk_order.specs.Turns.{longest}
 use Rattle.desk_queues.specs.Queues.{queue_count, queues_in, fills, queues_of}
 use Rattle.desk_queues.specs.Joined.{all_commands, joined, joined_bytes, joined_of, joined_by}
-use Rattle.desk_laws.specs.QueueLaws.{Filled, filled, queues-bytes}
+use Rattle.desk_laws.specs.QueueLaws.{filled, queues-bytes}
 use Rattle.desk_laws.specs.Read.{all_read}
 use Rattle.desk_laws.specs.JoinedLaws.{joined_bytes_lem}
 use Rattle.desk_questions.specs.Answers.{Ready}

@@ -5,7 +5,6 @@ use Rattle.std.proofs.Common.{◌∙◌, arith, eq-eqb, ne_eqb}
 use Rattle.std.specs.Prelude.{List, ℕ, ◌*◌, ◌≤◌, ◌<◌}
 use Rattle.std.proofs.Math.Option.{Option, none, some}
 use Rattle.std.proofs.Math.ListN.{length}
-use Rattle.laws.specs.BigEndian.{Bytes}
 use Rattle.layout.specs.Layout.{most_batch_bytes}
 use Rattle.command.specs.declared.Command.{Command}
 use Rattle.command.specs.declared.Asked.TheVariants as asked

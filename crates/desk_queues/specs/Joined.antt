@@ -1,6 +1,6 @@
 -- The queues joined to one batch (document 02, P5). Nowhere do these bytes stand: the desk serves from the queues, as this batch would be served.
 -- Assumes nothing.
-use Rattle.std.specs.Prelude.{Bool, true, false, List, [], ◌∷◌, ℕ, eqb}
+use Rattle.std.specs.Prelude.{List, [], ◌∷◌, ℕ, eqb}
 use Rattle.std.proofs.Math.Option.{Option, none, some}
 use Rattle.laws.specs.Tests.{choose}
 use Rattle.command.specs.declared.Command.{Command}

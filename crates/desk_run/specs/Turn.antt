@@ -5,7 +5,6 @@ use Rattle.std.proofs.Math.Path.{ap}
 use Rattle.std.proofs.Math.Option.{Option, none, some}
 use Rattle.laws.specs.Options.{none_some, some_same}
 use Rattle.laws.specs.Order.{le_or}
-use Rattle.layout.specs.Layout.{panels}
 use Rattle.command.specs.declared.Command.{Command}
 use Rattle.command.specs.declared.Command.TheVariants.{Panel}
 use Rattle.command.specs.declared.Step.{Step}

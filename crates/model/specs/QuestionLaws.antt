@@ -1,5 +1,5 @@
 -- The laws of lists of questions: which part of a list decides. Assumes nothing.
-use Rattle.std.specs.Prelude.{◌≡◌, refl, Bool, true, false, ◌&&◌, List, [], ◌∷◌, ◌++◌, ℕ, ◌≤◌, leb}
+use Rattle.std.specs.Prelude.{◌≡◌, refl, Bool, true, false, ◌&&◌, List, [], ◌∷◌, ◌++◌, ◌≤◌, leb}
 use Rattle.std.proofs.Common.{sym, ◌∙◌, arith, leb-true}
 use Rattle.laws.specs.Tests.{choose, and_left, and_right}
 use Rattle.model.specs.Questions.{Question, first_no}

@@ -7,7 +7,7 @@ use Rattle.account.specs.declared.Mode.{Mode}
 use Rattle.account.specs.declared.Tariff.{Tariff}
 use Rattle.account.specs.Serve.{fresh}
 use Rattle.tree.specs.NodeRequest.{NodeRequest, read, edit, rewrite, create, id_of}
-use Rattle.store.specs.Store.{Store, no_node, node_of, mode_of}
+use Rattle.store.specs.Store.{no_node, node_of, mode_of}
 use Rattle.store.specs.Run.{Run}
 use Rattle.store.specs.Serve as Store
 use Rattle.book.specs.Book.{Book, request_of, account_by, charge}

@@ -11,7 +11,7 @@ use Rattle.pairs.proofs.Bounds.{within_insert, within_delete}
 use Rattle.node.specs.declared.Shape.{Shape}
 use Rattle.node.specs.declared.NodeValue.{NodeValue}
 use Rattle.node.specs.Node.{Node, node, pairs_of}
-use Rattle.node.specs.Change.{put, remove, link, change}
+use Rattle.node.specs.Change.{put, remove, change}
 use Rattle.node.specs.Splice.{zip, insert_at, remove_at, length-insert_at}
 use Rattle.node.specs.declared.Found.TheVariants.{At, Above}
 use Rattle.node.specs.Found.{found, at-present, at_place, above-absent, above_place}

@@ -3,7 +3,7 @@ use Rattle.std.specs.Prelude.{◌≡◌, get_or, set}
 use Rattle.std.proofs.Common.{sym, ◌∙◌, arith, add-one, take-suc, take-suc-set, get_or-drop}
 use Rattle.std.proofs.Math.Path.{ap, ap₂}
 use mathlib.Core.List.{List, [], ◌∷◌, ◌++◌}
-use Prim.Native.Nat.{ℕ, suc, ◌+◌, ◌-◌, ◌≤◌, ◌<◌}
+use Prim.Native.Nat.{ℕ, suc, ◌+◌, ◌≤◌, ◌<◌}
 use Rattle.std.proofs.Math.ListN.{length, take, drop, length-drop}
 use Rattle.std.proofs.Math.Seq.{take_all}
 use Rattle.layout.specs.Layout.{most_keys, kept_keys, bound32}

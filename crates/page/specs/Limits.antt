@@ -7,7 +7,6 @@ use Rattle.pairs.specs.Pairs.{Pair}
 use Rattle.account.specs.declared.Costs.{Costs}
 use Rattle.account.specs.declared.Tariff.{Tariff}
 use Rattle.node.specs.Node.{node}
-use Rattle.node.specs.Change.{link}
 use Rattle.node.specs.Narrow.{NarrowChange, NarrowPair}
 use Rattle.page.specs.Page.{Entry, Score, Content, log, whole, checkpoint, Page, page}
 use Rattle.page.specs.Decode.{most_scores}

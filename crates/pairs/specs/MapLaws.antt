@@ -4,7 +4,7 @@ use Rattle.std.specs.Prelude.{◌≡◌, Bool, ◌&&◌, ℕ, suc, ◌≤◌, �
 use mathlib.Core.List.{List, [], ◌∷◌}
 use Rattle.std.proofs.Math.Option.{Option, none, some}
 use Rattle.laws.specs.Counts.{filter}
-use Rattle.pairs.specs.Pairs.{Pair, lookup, insert, delete, range, ceiling, Within}
+use Rattle.pairs.specs.Pairs.{Pair, Within}
 use Rattle.pairs.specs.Ceiling.{CeilingIs}
 
 -- A key from low to high, both included.

@@ -7,7 +7,7 @@ use native.Mathlib.Omega.{arith}
 use borrow.Author.Tests.{ne_eqb}
 use lib.ListN.{length, replicate, length-replicate, replicate-append-replicate}
 use Rattle.laws.specs.Lay.{lay, lay-next, lay-whole, part, part-whole}
-use Rattle.laws.specs.BigEndian.{number, number_at}
+use Rattle.laws.specs.BigEndian.{number_at}
 use Rattle.layout.specs.Layout.{page_bytes, no_leaf}
 use Rattle.account.specs.declared.Tariff.{Tariff}
 use Rattle.node.specs.declared.Shape.TheVariants.{Leaf}

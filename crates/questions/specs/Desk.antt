@@ -5,9 +5,8 @@ use Rattle.std.proofs.Math.Path.{refl, ap}
 use Rattle.std.proofs.Common.{sym, ◌∙◌, subst, arith}
 use Rattle.std.proofs.Math.Option.{Option, none, some}
 use Rattle.command.specs.declared.Command.{Command}
-use Rattle.command.specs.Batch.{commands_of, room_for_all}
 use Rattle.desk_queues.specs.Queues.{queues_in, fills, queues_of}
-use Rattle.desk_queues.specs.Joined.{all_commands, joined, joined_bytes, bytes_by, joined_of, joined_by, joined_read}
+use Rattle.desk_queues.specs.Joined.{joined, bytes_by, joined_of, joined_by, joined_read}
 use Rattle.desk_questions.specs.Answers.{Ready}
 use Rattle.model.specs.Questions.{Question, first_no, of_sizes, of_commands, of_desk}
 use Rattle.questions.specs.declared.desk.DeskAsked.{DeskAsked}

@@ -13,7 +13,6 @@ use Rattle.command.specs.Batch.{before, commands_from}
 use Rattle.command.specs.BatchLaws.{commands_from_end, commands_from-next, commands_from_invalid, commands_from_few}
 use Rattle.book.specs.InTurn.{no_charges}
 use Rattle.flash_rows.specs.Worktable.{Worktable}
-use Rattle.flash_allocate.specs.declared.state.State.{State}
 use Rattle.flash_allocate.specs.World.{World, world}
 use Rattle.run_split.specs.Growing.{Growing}
 use Rattle.run.specs.declared.Ran.{Ran}

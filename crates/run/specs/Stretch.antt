@@ -1,6 +1,6 @@
 -- A stretch of commands, from one place of a batch to another: what it needs, what it leaves, and two of them one behind the other. Whatever comes
 -- behind a stretch goes on from where it ends. Assumes nothing.
-use Rattle.std.specs.Prelude.{◌≡◌, refl, List, [], ◌∷◌, ◌++◌, ℕ, ◌+◌, ◌*◌, ◌≤◌, ◌<◌, length, get_or}
+use Rattle.std.specs.Prelude.{◌≡◌, List, [], ◌∷◌, ◌++◌, ℕ, ◌+◌, ◌*◌, ◌≤◌, ◌<◌, length, get_or}
 use Rattle.std.proofs.Common.{sym, ap, ◌∙◌, subst, append-nil, append_assoc, arith, length-append, length-set}
 use Rattle.laws.specs.Lay.{lay, lay-nil, lay-next}
 use Rattle.laws.specs.Update.{only, only_le}
@@ -9,7 +9,7 @@ use Rattle.account.specs.declared.Tariff.{Tariff}
 use Rattle.account.specs.Range.{Ranged}
 use Rattle.account.specs.ServeLaws.{most_charge}
 use Rattle.command.specs.declared.Command.{Command}
-use Rattle.command.specs.Command.{InRange, room_for}
+use Rattle.command.specs.Command.{InRange}
 use Rattle.command.specs.Batch.{room_for_all}
 use Rattle.book.specs.Command.{reply_bytes, replies_bytes}
 use Rattle.book.specs.Session.{Session, at_first}

@@ -1,6 +1,6 @@
 -- The checkpoint (document 01: closing set): its pages from tariff and scores, how it is written, and how it is read back from the
 -- pages of greatest sequence numbers. Assumes nothing.
-use Rattle.std.specs.Prelude.{Bool, true, false, ◌&&◌, List, [], ◌∷◌, ◌++◌, ℕ, zero, suc, ◌+◌, eqb, length, take, drop}
+use Rattle.std.specs.Prelude.{Bool, true, false, ◌&&◌, List, [], ◌∷◌, ◌++◌, ℕ, zero, suc, eqb, length, take, drop}
 use Rattle.std.proofs.Math.Option.{Option, none, some}
 use Rattle.laws.specs.Tests.{choose}
 use Rattle.laws.specs.Counts.{count}

@@ -3,13 +3,12 @@
 use Rattle.std.specs.Prelude.{◌≡◌, Bool, true, List, [], ◌∷◌, ◌++◌, ℕ, suc, ◌+◌, ◌≤◌, ◌<◌, take}
 use Rattle.std.proofs.Math.Path.{refl, ap}
 use Rattle.std.proofs.Common.{sym, ◌∙◌, subst, append-nil, arith, eq-eqb, lt-ltb}
-use Rattle.std.proofs.Math.Option.{none, some}
+use Rattle.std.proofs.Math.Option.{some}
 use Rattle.std.proofs.Math.Nat.{le_trans}
 use Rattle.std.proofs.Math.ListN.{length}
 use Rattle.laws.specs.Tests.{and_right}
 use Rattle.laws.specs.Counts.{bit, bit_le_one, tally, tally_mono}
 use Rattle.laws.specs.Every.{Every, every_append, every_map}
-use Rattle.laws.specs.Every as Every
 use Rattle.layout.specs.Layout.{first_scores, most_blocks}
 use Rattle.account.specs.declared.Mode.{Mode}
 use Rattle.account.specs.declared.Tariff.{Tariff}

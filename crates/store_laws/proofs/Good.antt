@@ -7,7 +7,7 @@ use mathlib.Core.List.{List, [], ◌∷◌, ◌++◌, map}
 use native.Mathlib.Omega.{arith}
 use Rattle.std.proofs.Math.ListN.{length-append}
 use Rattle.laws.specs.Counts.{bit_le_one, empty, tally}
-use Rattle.laws.specs.Every.{Every, none, every_append, every_map}
+use Rattle.laws.specs.Every.{Every, every_append, every_map}
 use Rattle.layout.specs.Layout.{most_entries, most_log_pages, node_limit}
 use Rattle.account.specs.declared.Mode.{Mode}
 use Rattle.account.specs.declared.Mode.TheVariants.{Log, Disk}
@@ -15,7 +15,7 @@ use Rattle.node.specs.Node.{Node}
 use Rattle.node.specs.Change.{Change, changes_of}
 use Rattle.node.specs.Replay.{Piece, step}
 use Rattle.node.specs.Replay as Replay
-use Rattle.page.specs.Page.{Entry, Content, Page, page, log, whole}
+use Rattle.page.specs.Page.{Entry, Content, Page, log, whole}
 use Rattle.store.specs.Item.{entries}
 use Rattle.store.specs.View.{greatest, pieces, buffered, pages}
 use Rattle.store.specs.Pool.{numbered}

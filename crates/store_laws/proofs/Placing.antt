@@ -15,7 +15,7 @@ use Rattle.node.specs.Node.{Node}
 use Rattle.node.specs.Change.{Change}
 use Rattle.node.specs.Replay.{Piece, step}
 use Rattle.node.specs.Replay as Replay
-use Rattle.page.specs.Page.{Entry, Content, Page, page, log, whole, sequence}
+use Rattle.page.specs.Page.{Entry, Content, Page, log, whole, sequence}
 use Rattle.store.specs.Item.{entry_item, items_of, greatest_in, group}
 use Rattle.store.specs.View.{some?, greatest, pieces, buffered, pages}
 use Rattle.store.specs.Pool.{Blocks, block, numbered, page_in, find, items_at, add_to}

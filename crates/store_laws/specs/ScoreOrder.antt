@@ -8,7 +8,6 @@ use Rattle.laws.specs.Tests.{choose, and_left, and_right}
 use Rattle.laws.specs.Order.{eq_or, le_or}
 use Rattle.laws.specs.Counts.{bit, count, count_mono, Reordered, reordered_length}
 use Rattle.laws.specs.Every.{Every, both, every_weaken}
-use Rattle.laws.specs.Every as Every
 use Rattle.page.specs.Page.{Score}
 use Rattle.store.specs.Checkpoint.{CheckpointPage, scores_from, tariff_in, scores_in, count_in, score_in, count_last, score_of, once_below, complete}
 

@@ -1,6 +1,6 @@
 -- The written pages of a pool as one list, cell by cell and block by block: where blank cells follow written ones in each block, the two are one.
 -- Assumes nothing.
-use Rattle.std.specs.Prelude.{◌≡◌, refl, Bool, true, List, [], ◌∷◌, ◌++◌, ℕ, zero, suc, ◌+◌, ◌*◌, max, length, take, drop}
+use Rattle.std.specs.Prelude.{◌≡◌, refl, Bool, true, List, [], ◌∷◌, ◌++◌, ℕ, zero, suc, ◌*◌, max, length, take, drop}
 use Rattle.std.proofs.Common.{sym, ap, ap₂, ◌∙◌, arith, length-drop, take-append-drop}
 use Rattle.std.proofs.Math.Option.{none, some}
 use Rattle.laws.specs.Tests.{and_left, and_right}

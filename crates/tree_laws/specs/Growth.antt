@@ -13,7 +13,7 @@ use Rattle.pairs.specs.Pairs.{Pair, insert}
 use Rattle.pairs.specs.LocalEdit.{LocalEdit}
 use Rattle.node.specs.declared.Shape.TheVariants.{Branch}
 use Rattle.node.specs.Node.{Node, node, pairs_of}
-use Rattle.node.specs.Change.{link, change}
+use Rattle.node.specs.Change.{change}
 use Rattle.node.specs.Halves.{lower_half, middle_key, upper_half}
 use Rattle.tree.specs.Table.{Table, slot}
 use Rattle.tree.specs.NodeRequest.{change_all}

@@ -1,6 +1,6 @@
 -- The leaves by their links: from the leaf of a key on they spell what is left of the map behind the pairs below the key, and
 -- they are at most as many as the tree has leaves. Assumes nothing.
-use Rattle.std.specs.Prelude.{◌≡◌, refl, List, [], ◌∷◌, ◌++◌, ℕ, zero, suc, ◌+◌, ◌≤◌, ◌<◌, length}
+use Rattle.std.specs.Prelude.{◌≡◌, refl, List, [], ◌∷◌, ◌++◌, ℕ, zero, suc, ◌+◌, ◌≤◌, ◌<◌}
 use Rattle.std.proofs.Common.{append_assoc, arith}
 use Rattle.layout.specs.Layout.{most_keys, no_leaf}
 use Rattle.pairs.specs.Pairs.{Pair, Within}

@@ -7,7 +7,6 @@ use native.Mathlib.Omega.{arith}
 use Rattle.layout.specs.Layout.{table_bytes}
 use Rattle.model.specs.PoolLaws.{is-pool}
 use Rattle.model.specs.Call.{Call}
-use Rattle.model.specs.Call as Call
 use Rattle.batch.specs.AnyCall.{may_refuse, call-refused, call_passes, call_worked}
 use Rattle.batch.proofs.batch.Goals as goal
 

@@ -1,6 +1,6 @@
 -- DOCUMENT 02, P4. "It keeps one entry for each command and page field in use, none besides, and is indexed by the tag byte no more. Every answer and
 -- every promise is unchanged." The entries of the table are the rows, one for one, by the contract of `wire::tag::find`. Assumes nothing.
-use Rattle.std.specs.Prelude.{◌≡◌, map, ℕ, eqb}
+use Rattle.std.specs.Prelude.{◌≡◌, map, eqb}
 use Rattle.laws.specs.Counts.{count}
 use Rattle.wire.specs.Tag.{Row, rows}
 use Rattle.command.specs.declared.Command.{Command}

@@ -8,7 +8,6 @@ use Rattle.layout.specs.Layout.{table_bytes}
 use Rattle.desk_queues.specs.Joined.{joined}
 use Rattle.model.specs.PoolLaws.{is-pool}
 use Rattle.model.specs.Call.{Call}
-use Rattle.model.specs.Call as Call
 use Rattle.batch.specs.AnyCall.{may_refuse, call-refused, call_passes, call_worked}
 use Rattle.desk.specs.Accepts.{desk_accepts, lists_read, runs_read}
 use Rattle.desk.proofs.desk.Goals as goal

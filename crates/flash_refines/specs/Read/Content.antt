@@ -14,7 +14,7 @@ use Rattle.laws.specs.Options.{test}
 use Rattle.layout.specs.Layout.{most_entries}
 use Rattle.account.specs.declared.Mode.{Mode}
 use Rattle.account.specs.declared.Mode.TheVariants.{Log, Disk}
-use Rattle.node.specs.Node.{Node, node, Neat}
+use Rattle.node.specs.Node.{Node, Neat}
 use Rattle.node.specs.Replay.{Piece, Draft, unlinked, made, redo_piece, replay_from, replay}
 use Rattle.wire.specs.Field.{payload_at}
 use Rattle.page.specs.Page.{Page, page, whole}

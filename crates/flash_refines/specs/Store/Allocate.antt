@@ -2,14 +2,14 @@
 use Rattle.std.specs.Prelude.{◌≡◌, Bool, true, false, not, ◌||◌, ◌⊎◌, List, leb, ltb, length, get_or}
 use Rattle.std.proofs.Math.Path.{refl, subst}
 use Rattle.std.proofs.Common.{sym, ap, ◌∙◌, inl, inr, arith, lt-ltb, le-ltb, leb-true, leb-false}
-use Prim.Native.Nat.{ℕ, zero, suc, ◌+◌, ◌-◌, ◌*◌, ◌≤◌, ◌<◌}
+use Prim.Native.Nat.{ℕ, zero, suc, ◌+◌, ◌*◌, ◌≤◌, ◌<◌}
 use Rattle.std.proofs.Math.ListN.{get_elem?}
 use Rattle.laws.specs.Order.{le_or}
 use Rattle.laws.specs.Counts.{count, tally, empty}
 use Rattle.laws.specs.Options.{test}
 use Rattle.page.specs.Page.{Page, sequence}
 use Rattle.store.specs.Item.{items_of, pieces_in}
-use Rattle.store.specs.View.{View, greatest}
+use Rattle.store.specs.View.{View}
 use Rattle.store.specs.Pool.{Blocks, block, above}
 use Rattle.store.specs.Store.{Store, view}
 use Rattle.store.specs.Live.{carries, live}

@@ -16,7 +16,6 @@ use Rattle.store.specs.Live.{carries}
 use Rattle.store.specs.Write.{enter}
 use Rattle.store.specs.Run.{Run, edit_by}
 use Rattle.store_laws.proofs.Placing.{enter_now, enter-other}
-use Rattle.flash_rows.specs.Step.{names}
 use Rattle.flash_allocate.specs.World.{World}
 use Rattle.flash_log.specs.Entry.{besides, logged, Logged, entry_of, append}
 use Rattle.flash_refines.specs.Store.Mirror.{row_at, RowsName, RowsSay}

@@ -10,7 +10,6 @@ use Rattle.laws.specs.Tests.{choose, and_left, and_right}
 use Rattle.layout.specs.Layout.{node_limit, table_bytes, last_sequence}
 use Rattle.account.specs.declared.Tariff.{Tariff}
 use Rattle.account.specs.Range.{Ranged}
-use Rattle.store.specs.Checkpoint.{complete}
 use Rattle.store.specs.Store.{Store}
 use Rattle.store.specs.Reopen.{Cells, reopened}
 use Rattle.store_laws.specs.Opening as Opening

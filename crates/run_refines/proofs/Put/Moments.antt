@@ -1,5 +1,5 @@
 -- THE WORLD AFTER SOME OF THE REQUESTS of a list says the table and the count that those requests make. Assumes nothing.
-use Rattle.std.specs.Prelude.{◌≡◌, refl, List, [], ◌∷◌, ◌++◌, ℕ, ◌+◌, length}
+use Rattle.std.specs.Prelude.{◌≡◌, refl, List, [], ◌∷◌, ◌++◌, ℕ, length}
 use Rattle.std.proofs.Common.{sym, ap, ◌∙◌, subst, arith, length-append}
 use Rattle.laws.specs.Every.{Every, every-append-left}
 use Rattle.layout.specs.Layout.{node_limit}

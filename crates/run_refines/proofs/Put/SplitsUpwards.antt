@@ -1,5 +1,5 @@
 -- THE WORK THAT GOES LEAF UPWARDS, as the code does it, is the tree's: the same requests, in the same order. Assumes nothing.
-use Rattle.std.specs.Prelude.{◌≡◌, Bool, ℕ, suc, ◌+◌, ◌≤◌, ◌<◌, length}
+use Rattle.std.specs.Prelude.{◌≡◌, Bool, ℕ, suc, ◌≤◌, ◌<◌, length}
 use Rattle.std.proofs.Math.Path.{refl, sym, ap}
 use Rattle.std.proofs.Common.{◌∙◌, arith, leb-true, leb-false}
 use Rattle.std.proofs.Math.Bool.{true, false}

@@ -1,7 +1,7 @@
 -- `command::batch::asked` meets its contract: the invariant says that what is left, with what was asked so far, asks for what the whole
 -- batch asks for. Assumes nothing.
 use mathlib.Core.Path.{◌≡◌, sym, ap₂, ◌∙◌}
-use Prim.Native.Nat.{ℕ, ◌+◌, ◌-◌}
+use Prim.Native.Nat.{ℕ, ◌+◌}
 use native.Mathlib.Omega.{arith}
 use Rattle.command.specs.declared.Step.TheVariants.{Next}
 use Rattle.command.specs.Command.{command_at, Onward}

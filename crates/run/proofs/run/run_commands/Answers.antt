@@ -1,6 +1,6 @@
 -- `run::run_commands` meets its contract: the commands run so far, and those left, are the whole. Assumes nothing.
 use mathlib.Core.Path.{◌≡◌, refl, sym, ◌∙◌}
-use Prim.Native.Nat.{ℕ, ◌-◌}
+use Prim.Native.Nat.{ℕ}
 use native.Mathlib.Omega.{arith}
 use lib.ListN.{length, length-replicate}
 use Rattle.command.specs.declared.Step.TheVariants.{Next}
