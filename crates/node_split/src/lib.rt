@@ -31,7 +31,9 @@ fn value_at(a: [u32; MOST_KEYS], at: usize, x: u32, i: usize) -> u32
     a[i - 1]
 }
 
-// The n values from an index on of the array with one more at a place.
+// The n values from an index on of the array with one more at a place. In a frame of its own, since the longest chain of calls comes by
+// here.
+#[inline(never)]
 fn values_from(a: [u32; MOST_KEYS], at: usize, x: u32, from: usize, n: usize) -> [u32; MOST_KEYS]
     requires { (at ≤ most_keys) × (n ≤ most_keys) × (from + n ≤ most_keys + 1) }
     ensures { (take n result ≡ take n (drop from (insert_at at x a))) × (length result ≡ most_keys) }

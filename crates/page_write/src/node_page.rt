@@ -66,7 +66,9 @@ fn lay_node(
     lay_sums(p, 17 + 8 * n);
 }
 
-// The image of a node page of the first n keys, each with its pointer, and the link.
+// The image of a node page of the first n keys, each with its pointer, and the link. In a frame of its own, since the longest chain of calls
+// comes by here.
+#[inline(never)]
 pub fn node_image(
     sequence: u32,
     id: u32,

@@ -67,9 +67,7 @@ pub fn prepare(pool: &mut [u8], tariff: Tariff) -> u32
     if number == 0 {} else {
         return number;
     }
-    let root = root_page();
-    let checkpoint = checkpoint_page(tariff);
     let blocks = pool_blocks(pool.len());
-    write_first(pool, blocks, &root, &checkpoint);
+    write_first(pool, blocks, &root_page(), &checkpoint_page(tariff));
     0
 }

@@ -98,7 +98,7 @@ module _ {table : Table} {steps k : ℕ} {ids : List ℕ} {id i : ℕ} (d : Down
         }
 
     pub down_leaf : (ps : List Pair) (next : ℕ) → table id ≡ node Leaf ps next → PathTo table steps k (set ids i id) (record { length = i + 1; leaf = v })
-    down_leaf ps next e =
+    down_leaf ps n e =
         let ends : child_for k (table id) ≡ none = ap (child_for k) e in
         down_end (path-leaf table k (steps - i) id ends) (leaf_for-leaf table k (steps - i) id ends)
 

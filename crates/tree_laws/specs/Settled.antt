@@ -245,8 +245,8 @@ remove_says k = record { does = λ ps l. refl; suits = λ n. tt }
 pub work_step : (table : Table) (k : ℕ) (c : Change) (count fuel id child : ℕ) →
     work table k c count (id ∷ path fuel table k child) ≡ settle table k id child (work table k c count (path fuel table k child))
 unfolding work path
-work_step table k c count zero id child = refl
-work_step table k c count (suc fuel) id child = refl
+work_step table k c count zero above below = refl
+work_step table k c count (suc fuel) above below = refl
 
 module _ (limit : ℕ) (table : Table) (count k : ℕ) (c : Change) (f : List Pair → List Pair) (local : LocalEdit k f)
     (says : Says c f) where

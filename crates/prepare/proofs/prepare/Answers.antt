@@ -20,5 +20,5 @@ pub returns : goal.returns
 returns c =
     let a = c.args in
     prepared-leaves a.pool.now a.tariff c.refusal-number.result c.refusal-number.ensures c.if-number-eq0.true
-    c.root_page-root.result c.checkpoint_page-checkpoint.result c.write_first.new.pool c.root_page-root.ensures
-    c.checkpoint_page-checkpoint.ensures (search rules) (search rules) c.write_first.ensures
+    c.root_page.result c.checkpoint_page.result c.write_first.new.pool c.root_page.ensures
+    c.checkpoint_page.ensures (search rules) (search rules) c.write_first.ensures
