@@ -8,14 +8,14 @@ ghost use Rattle.account.specs.Serve.{score_of, switched_of, stayed_of};
 ghost use Rattle.account.specs.ServeLaws.{Accounted};
 
 // Where a node lives: as entries on log pages, or whole on a page of its own (document 01: disk mode).
-#[derive(Clone, Copy)]
+#[derive(Clone, Copy, Debug, PartialEq, Eq)]
 pub enum Mode {
     Log,
     Disk,
 }
 
 // What a command asks of a node.
-#[derive(Clone, Copy)]
+#[derive(Clone, Copy, Debug, PartialEq, Eq)]
 pub enum Request {
     Read,
     Edit,
@@ -23,7 +23,7 @@ pub enum Request {
 }
 
 // What requests cost in one mode, and what it costs to switch into it.
-#[derive(Clone, Copy)]
+#[derive(Clone, Copy, Debug, PartialEq, Eq)]
 pub struct Costs {
     pub read: u32,
     pub edit: u32,
@@ -32,21 +32,21 @@ pub struct Costs {
 }
 
 // Document 01's tariff: the costs of both modes.
-#[derive(Clone, Copy)]
+#[derive(Clone, Copy, Debug, PartialEq, Eq)]
 pub struct Tariff {
     pub log: Costs,
     pub disk: Costs,
 }
 
 // A node's account: its mode, and how far the other mode would have been cheaper.
-#[derive(Clone, Copy)]
+#[derive(Clone, Copy, Debug, PartialEq, Eq)]
 pub struct Account {
     pub mode: Mode,
     pub score: u32,
 }
 
 // A request that was served: the account handed back, and what was charged.
-#[derive(Drop)]
+#[derive(Clone, Copy, Debug, PartialEq, Eq)]
 pub struct Served {
     pub account: Account,
     pub charge: u64,
@@ -96,14 +96,11 @@ pub fn tariff_of(
 const MOST_COST: u32 = 1000000;
 
 // Whether a tariff number is at least the least one allowed and at most a million.
+#[tactic(auto, unfolding(crate::specs::Range::within_range))]
 fn within(least: u32, number: u32) -> bool
     ensures { result ≡ within_range least number }
 {
-    if least <= number {
-        number <= MOST_COST
-    } else {
-        false
-    }
+    least <= number && number <= MOST_COST
 }
 
 impl Costs {
@@ -119,19 +116,14 @@ impl Costs {
     }
 
     // Whether each of these numbers is in range.
+    #[tactic(auto, unfolding(crate::specs::Range::costs_in_range))]
     pub fn in_range(self) -> bool
         ensures { result ≡ costs_in_range self }
     {
-        if within(0, self.read) {} else {
-            return false;
-        }
-        if within(0, self.edit) {} else {
-            return false;
-        }
-        if within(0, self.rewrite) {} else {
-            return false;
-        }
-        within(1, self.enter)
+        within(0, self.read)
+            && within(0, self.edit)
+            && within(0, self.rewrite)
+            && within(1, self.enter)
     }
 }
 
@@ -150,26 +142,16 @@ impl Tariff {
     pub fn limit(self) -> u64
         ensures { result ≡ tariffs.limit self }
     {
-        self.disk.enter as u64 + self.log.enter as u64
+        u64::from(self.disk.enter) + u64::from(self.log.enter)
     }
 
     // Whether each number of the tariff is in range (document 01, question 10).
+    #[tactic(auto, unfolding(crate::specs::Range::in_range))]
     pub fn in_range(self) -> bool
         ensures { result ≡ in_range self }
     {
-        if self.log.in_range() {
-            self.disk.in_range()
-        } else {
-            false
-        }
+        self.log.in_range() && self.disk.in_range()
     }
-}
-
-// The first number less the second, and 0 where the second is more: the floor of a score.
-fn floored(a: u64, b: u64) -> u64
-    ensures { result ≡ a - b }
-{
-    if b <= a { a - b } else { 0 }
 }
 
 impl Account {
@@ -177,25 +159,20 @@ impl Account {
     pub fn scored(self, tariff: Tariff, request: Request) -> u64
         ensures { result ≡ score_of tariff self request }
     {
-        let mode = self.mode;
-        let here = tariff.costs(mode).cost(request) as u64;
-        let there = tariff.costs(other(mode)).cost(request) as u64;
-        floored(self.score as u64 + here, there)
+        let here = tariff.costs(self.mode).cost(request);
+        let there = tariff.costs(other(self.mode)).cost(request);
+        (u64::from(self.score) + u64::from(here)).saturating_sub(u64::from(there))
     }
 
     // The request served after a switch: the switch and the other mode's cost are charged, the score is 0.
     pub fn switched(self, tariff: Tariff, request: Request) -> Served
         ensures { result ≡ switched_of tariff self request }
     {
-        let mode = self.mode;
-        let away = other(mode);
-        let costs = tariff.costs(away);
+        let mode = other(self.mode);
+        let costs = tariff.costs(mode);
         Served {
-            account: Account {
-                mode: away,
-                score: 0,
-            },
-            charge: costs.enter as u64 + costs.cost(request) as u64,
+            account: Account { mode, score: 0 },
+            charge: u64::from(costs.enter) + u64::from(costs.cost(request)),
         }
     }
 
@@ -203,10 +180,9 @@ impl Account {
     pub fn stayed(self, tariff: Tariff, request: Request, score: u32) -> Served
         ensures { result ≡ stayed_of tariff self request score }
     {
-        let mode = self.mode;
         Served {
-            account: Account { mode, score },
-            charge: tariff.costs(mode).cost(request) as u64,
+            account: Account { score, ..self },
+            charge: u64::from(tariff.costs(self.mode).cost(request)),
         }
     }
 

@@ -1,7 +1,6 @@
 -- A call of any kind, put together from its two ways out: refused for what is lent, or its work done. Assumes nothing.
-use Rattle.std.specs.Prelude.{◌≡◌, List, [], ℕ, ◌≤◌, ◌<◌, ◌-◌, take, drop}
+use Rattle.std.specs.Prelude.{◌≡◌, List, [], ℕ, ◌≤◌, ◌<◌, ◌-◌, take, drop, Option, Some}
 use Rattle.std.proofs.Common.{sym, ap, ◌∙◌, subst, arith}
-use Rattle.std.proofs.Math.Option.{Option, some}
 use borrow.Rule.Slice.PartMut.{put_mid}
 use Rattle.layout.specs.Layout.{table_bytes}
 use Rattle.command.specs.declared.Command.{Command}
@@ -14,8 +13,7 @@ use Rattle.model.specs.Outcome.{work_by, ended}
 use Rattle.model.specs.Call.{Call, table_of, buffer_of, bytes_run, of_lent, of_last, outcome}
 use Rattle.model.specs.Passes.{Sizes, lent-sizes, Passes, lent-passes}
 use Rattle.model.proofs.OutcomeLaws.{lent-refuses, lent-right, table-found, table-cleared}
-use Rattle.batch.specs.declared.answer.Outcome.{Outcome}
-use Rattle.batch.specs.Left.{refused_with, Leaves, left_as, refused-leaves}
+use Rattle.batch.specs.Left.{Outcome, refused_with, Leaves, left_as, refused-leaves}
 use Rattle.batch.specs.Closed.{Refused}
 use Rattle.batch.specs.Lent.{lent-work}
 
@@ -46,10 +44,10 @@ module _ (pool : List ℕ) (c : Call) (n : ℕ) (is : n ≡ first_no (of_lent po
     pub call_passes : Passes pool c
     call_passes = lent-passes pool c (sym is ∙ z)
 
-    module _ (nothing : of_last pool c ≡ []) (cs : List Command) (are : commands_of (bytes_run c) ≡ some cs) (bytes : ℕ)
+    module _ (nothing : of_last pool c ≡ []) (cs : List Command) (are : commands_of (bytes_run c) ≡ Some cs) (bytes : ℕ)
         (size : bytes ≡ table_bytes (blocks_of pool)) where
       abbrev left : List ℕ → Model.Outcome
-      left table = ended (first_no (of_pool pool)) (work_by (some cs) (mount_of pool)) pool table (buffer_of c)
+      left table = ended (first_no (of_pool pool)) (work_by (Some cs) (mount_of pool)) pool table (buffer_of c)
 
       ends : outcome pool c ≡ left (table_of c)
       ends =
@@ -61,4 +59,4 @@ module _ (pool : List ℕ) (c : Call) (n : ℕ) (is : n ≡ first_no (of_lent po
           Leaves (outcome pool c) r pool' (put_mid 0 (bytes - 0) (table_of c) rest) replies charges
       call_worked {r} {pool'} {rest} {replies} {charges} h =
           subst (λ (o : Model.Outcome). Leaves o r pool' (put_mid 0 (bytes - 0) (table_of c) rest) replies charges) (sym ends)
-          (lent-work (work_by (some cs) (mount_of pool)) pool (table_of c) (buffer_of c) bytes size (omega (arith, size, call_passes.table)) h)
+          (lent-work (work_by (Some cs) (mount_of pool)) pool (table_of c) (buffer_of c) bytes size (omega (arith, size, call_passes.table)) h)

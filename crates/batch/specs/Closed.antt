@@ -9,9 +9,8 @@ use Rattle.flash_blocks.specs.Pages.{pages_of}
 use Rattle.flash_allocate.specs.declared.state.State.{State}
 use Rattle.flash_allocate.specs.World.{world, world_in}
 use Rattle.flash_checkpoint.specs.CheckpointPages.{checkpoint, Ended}
-use Rattle.run.specs.declared.Ran.{Ran}
-use Rattle.batch.specs.declared.answer.Outcome.{Outcome}
-use Rattle.batch.specs.Left.{refused_with}
+use Rattle.run.specs.Session.{Ran}
+use Rattle.batch.specs.Left.{Outcome, refused_with}
 
 -- What is told of a call that was run.
 abbrev pub done_with : Ran → Outcome

@@ -1,7 +1,8 @@
 -- What the code of a call leaves, beside what the definition says. Assumes nothing.
-use Rattle.std.specs.Prelude.{◌≡◌, refl, List, ℕ, ◌*◌, ◌≤◌, length}
+use Rattle.std.specs.Prelude.{◌≡◌, refl, List, ℕ, ◌*◌, ◌≤◌, length, Some, Result, Ok, Err}
 use Rattle.std.proofs.Common.{sym, ap, ◌∙◌, subst}
-use Rattle.std.proofs.Math.Option.{some}
+use Rattle.refusal.specs.declared.Refusal.{Refusal}
+use Rattle.refusal.specs.Number.{number}
 use Rattle.layout.specs.Layout.{fewest_blocks, most_blocks, block_bytes, table_bytes, panels}
 use Rattle.command.specs.declared.Command.{Command}
 use Rattle.command.specs.Batch.{commands_of, room_for_all}
@@ -11,7 +12,15 @@ use Rattle.model.specs.Pool.{blocks_of, mount_of}
 use Rattle.model.specs.Questions.{first_no, of_pool}
 use Rattle.model.specs.Outcome as Model
 use Rattle.model.specs.Outcome.{table_after, refuse, work_by, ended}
-use Rattle.batch.specs.declared.answer.Outcome.{Outcome}
+
+-- What a call answers: its number, 0 where its work is done, and how many bytes of answers it has laid.
+pub record Outcome : Type 0 where
+  pub number : ℕ
+  pub length : ℕ
+
+abbrev pub outcome_of : Result ℕ Refusal → Outcome
+outcome_of (Ok laid) = record { number = 0; length = laid }
+outcome_of (Err refusal) = record { number = number refusal; length = 0 }
 
 abbrev pub refused_with : ℕ → Outcome
 refused_with number = record { number = number; length = 0 }
@@ -52,11 +61,11 @@ pub record Accepts (pool_length table_length blocks : ℕ) (batch : List ℕ) (r
   pub most : blocks ≤ most_blocks
   pub table : table_length ≡ table_bytes blocks
   pub commands : List Command
-  pub are : commands_of batch ≡ some commands
+  pub are : commands_of batch ≡ Some commands
   pub enough : room_for_all commands ≤ room
 
 -- What is left then: what the model leaves by the questions of the pool, whatever the commands are.
 pub record Worked (pool pool' table table' batch answers answers' charges : List ℕ) (r : Outcome) : Type 0 where
   pub leaves :
-      (cs : List Command) → commands_of batch ≡ some cs →
-      Leaves (ended (first_no (of_pool pool)) (work_by (some cs) (mount_of pool)) pool table answers) r pool' table' answers' charges
+      (cs : List Command) → commands_of batch ≡ Some cs →
+      Leaves (ended (first_no (of_pool pool)) (work_by (Some cs) (mount_of pool)) pool table answers) r pool' table' answers' charges

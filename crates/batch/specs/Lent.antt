@@ -1,7 +1,6 @@
 -- The part of the table that is lent comes back zero, and so the whole table is as the definition says. Assumes nothing.
-use Rattle.std.specs.Prelude.{◌≡◌, Bool, true, false, List, ℕ, ◌-◌, ◌≤◌, eqb, length, take, drop}
+use Rattle.std.specs.Prelude.{◌≡◌, Bool, true, false, List, ℕ, ◌-◌, ◌≤◌, eqb, length, take, drop, Option, None, Some}
 use Rattle.std.proofs.Common.{sym, ap, ◌∙◌, arith, length-take-le}
-use Rattle.std.proofs.Math.Option.{Option, none, some}
 use Rattle.std.proofs.Math.Nat.{sub-zero}
 use Rattle.std.proofs.lemmas.List.{length-replicate}
 use borrow.Rule.Slice.PartMut.{put_mid}
@@ -12,8 +11,7 @@ use Rattle.model.specs.Pool.{blocks_of}
 use Rattle.model.specs.Questions.{first_no, of_pool}
 use Rattle.model.specs.Outcome.{refuse, Work, done, ended}
 use Rattle.model.proofs.OutcomeLaws.{pool-table}
-use Rattle.batch.specs.declared.answer.Outcome.{Outcome}
-use Rattle.batch.specs.Left.{Leaves}
+use Rattle.batch.specs.Left.{Outcome, Leaves}
 use Rattle.batch.specs.Closed.{zeros}
 use Rattle.batch.specs.Work.{cleared-whole}
 
@@ -38,9 +36,9 @@ module _ (pool part table answers : List ℕ) {r : Outcome} {left rest replies c
       go : (b : Bool) (w : Option Work) → Leaves (choose b (done w pool part answers) (refuse n pool part answers)) r left rest replies charges →
           whole ≡ (choose b (done w pool table answers) (refuse n pool table answers)).table →
           Leaves (choose b (done w pool table answers) (refuse n pool table answers)) r left whole replies charges
-      go true none h e =
+      go true None h e =
           record { number = h.number; pool = h.pool; cleared = e; replies = h.replies; long = h.long; paid = h.paid; sixteen = h.sixteen }
-      go true (some w) h e =
+      go true (Some w) h e =
           record { number = h.number; pool = h.pool; cleared = e; replies = h.replies; long = h.long; paid = h.paid; sixteen = h.sixteen }
       go false w h e =
           record { number = h.number; pool = h.pool; cleared = e; replies = h.replies; long = h.long; paid = h.paid; sixteen = h.sixteen }

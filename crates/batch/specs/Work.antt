@@ -1,7 +1,6 @@
 -- Questions 5 to 8, the commands and the checkpoint, put together from what the code of each leaves. Assumes nothing.
-use Rattle.std.specs.Prelude.{◌≡◌, refl, List, ℕ, length}
+use Rattle.std.specs.Prelude.{◌≡◌, refl, List, ℕ, length, Some}
 use Rattle.std.proofs.Common.{sym, ap, ◌∙◌, subst, arith}
-use Rattle.std.proofs.Math.Option.{some}
 use Rattle.std.proofs.lemmas.List.{length-replicate}
 use Rattle.laws.specs.BigEndian.{Bytes}
 use Rattle.laws.specs.Lay.{lay-whole}
@@ -27,11 +26,10 @@ use Rattle.flash_allocate.specs.World.{World, world}
 use Rattle.flash_checkpoint.specs.CheckpointPages.{checkpoint}
 use Rattle.run_split.specs.Growing.{Growing}
 use Rattle.mount_refines.specs.Mount.Opens.{Opens}
-use Rattle.run.specs.declared.Ran.{Ran}
+use Rattle.run.specs.Session.{Ran}
 use Rattle.run.specs.Run.{run_world, run_charge, RunAs}
 use Rattle.batch_refines.specs.Accepted.{accepted}
-use Rattle.batch.specs.declared.answer.Outcome.{Outcome}
-use Rattle.batch.specs.Left.{refused_with, Leaves, refused-leaves, Accepts, Worked}
+use Rattle.batch.specs.Left.{Outcome, refused_with, Leaves, refused-leaves, Accepts, Worked}
 use Rattle.batch.specs.Closed.{done_with, zeros, Unopened, Closed}
 
 -- A table of just the pool's size is all zero afterwards.
@@ -55,7 +53,7 @@ module _ (pool table batch answers : List ℕ) {blocks : ℕ} (a : Accepts (leng
       record {
         leaves =
             λ cs are.
-            let w = work_by (some cs) (mount_of pool) in
+            let w = work_by (Some cs) (mount_of pool) in
             subst (λ (o : Model.Outcome). Leaves o (refused_with number) pool table' answers charges)
             (sym (ended_no number (omega (arith, no.least)) w pool table answers) ∙
             ap (λ (n : ℕ). ended n w pool table answers) (sym no.first))
@@ -96,7 +94,7 @@ module _ (pool table batch answers : List ℕ) {blocks : ℕ} (a : Accepts (leng
         }
 
     abbrev end_of : List Command → Model.Outcome
-    end_of cs = ended (first_no (of_pool pool)) (work_by (some cs) (mount_of pool)) pool table answers
+    end_of cs = ended (first_no (of_pool pool)) (work_by (Some cs) (mount_of pool)) pool table answers
 
     done_as : (cs : List Command) → a.commands ≡ cs → accept blocks t a.commands o.state table answers ≡ end_of cs
     done_as cs same = rw (opens_yes pool o.is, o.is, blocks_are, same) refl
@@ -128,6 +126,17 @@ module _ {pool table batch answers : List ℕ} {blocks : ℕ} (a : Accepts (leng
       (worked_done pool table batch answers a table' (c.zero ∙ ap zeros size) bytes {P = P} {T = T} o
       (subst (λ (cs : List Command). RunAs P T (pages_of pool₁) (table_from held) answers answers₁ charges p t cs (world (pages_of pool) rows st)) e ran)
       pool' c.ended.is c.ended.blocks same)
+
+-- The same of a pool and a table that were lent on as one value: what is in them then is what was closed.
+pub worked_lent : {pool table batch answers : List ℕ} {blocks : ℕ} (a : Accepts (length pool) (length table) blocks batch (length answers)) →
+    Bytes batch → {table_length P T : ℕ} {rows : Worktable} {t : Tariff} {st : State} →
+    Opens pool table_length blocks rows t st → {pool₁ table₁ answers₁ charges : List ℕ} {p : Ran} {cs : List Command} → cs ≡ a.commands →
+    RunAs P T (pages_of pool₁) (table_from table₁) answers answers₁ charges p t cs (world (pages_of pool) rows st) →
+    {pool₂ table₂ : List ℕ} {r : Outcome} → Closed pool₁ pool₂ table₁ table₂ p t r →
+    length table₁ ≡ length table → {pool' table' : List ℕ} → pool' ≡ pool₂ → table' ≡ table₂ → length pool' ≡ length pool →
+    Worked pool pool' table table' batch answers answers₁ charges r
+worked_lent a bytes {P = P} {T = T} o e ran closed size same_pool same_table long =
+    worked_closed a size bytes {P = P} {T = T} o e ran (rw (same_pool, same_table) closed) long
 
 -- A pool that opens has what the commands and the checkpoint ask for.
 pub grows : {pool : List ℕ} {table_length blocks : ℕ} {held : Worktable} {t : Tariff} {st : State} → Opens pool table_length blocks held t st → Growing

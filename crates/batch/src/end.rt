@@ -1,47 +1,49 @@
 // How calls end: the table zero in its first bytes, but after 1 and 2, and the checkpoint written where the pool opened.
-ghost use Rattle.std.specs.Prelude.{◌≤◌, length};
+ghost use Rattle.std.specs.Prelude.{◌≤◌, length, Ok};
+ghost use Rattle.refusal.specs.Number.{number};
 ghost use Rattle.model.specs.Passes.{Sizes};
-ghost use Rattle.run_split.specs.Growing.{Growing};
+ghost use Rattle.flash_allocate.specs.Flash.{Same};
+ghost use Rattle.run_split.specs.Growing.{Grows};
+ghost use Rattle.run.specs.Session.{ran_in};
+ghost use Rattle.batch.specs.Left.{outcome_of};
 ghost use Rattle.batch.specs.Closed.{Refused, Unopened, Closed};
 
-use super::answer::{Outcome, refused};
 use account::Tariff;
+use flash_allocate::flash::Flash;
 use flash_checkpoint::checkpoint;
-use layout::{TABLE_BYTES, pool_blocks};
+use layout::{BLOCK_BYTES, TABLE_BYTES};
+use refusal::Refusal;
 use run::Ran;
 use wire::bytes::{fill, fill_part};
 
 // A call refused for what is lent, whichever call it is.
-pub fn refuse(pool: &[u8], table: &mut [u8], number: u32) -> Outcome
-    requires { (1 ≤ number) × (3 ≤ number → Sizes pool.now table.old) }
-    ensures { Refused pool.now table.old table.new number result }
+pub fn refuse(pool: &[u8], table: &mut [u8], refusal: Refusal) -> Result<usize, Refusal>
+    requires { 3 ≤ number refusal → Sizes pool.now table.old }
+    ensures { Refused pool.now table.old table.new (number refusal) (outcome_of result) }
 {
-    if number < 3 {
-        return refused(number);
+    if refusal != Refusal::PoolLength && refusal != Refusal::TableLength {
+        let blocks = pool.len() / BLOCK_BYTES;
+        fill_part(table, 0, TABLE_BYTES * blocks, 0);
     }
-    let blocks = pool_blocks(pool.len());
-    fill_part(table, 0, TABLE_BYTES * blocks, 0);
-    refused(number)
+    Err(refusal)
 }
 
 // A pool that does not open: the table that it was read into is zero again.
-pub fn unopened(table: &mut [u8], number: u32) -> Outcome
-    ensures { Unopened table.old table.new number result }
+pub fn unopened(table: &mut [u8], refusal: Refusal) -> Result<usize, Refusal>
+    ensures { Unopened table.old table.new (number refusal) (outcome_of result) }
 {
     fill(table, 0);
-    refused(number)
+    Err(refusal)
 }
 
-// A call whose commands were run: the checkpoint, then the table zero.
-pub fn close(pool: &mut [u8], table: &mut [u8], done: Ran, tariff: Tariff) -> Outcome
-    requires { Growing (length pool.old) (length table.old) done.state }
-    ensures { Closed pool.old pool.new table.old table.new done tariff result }
+// A call whose commands were run: the checkpoint, then the table zero. The length of its answers is given.
+pub fn close(flash: &mut Flash, done: Ran, tariff: Tariff) -> usize
+    requires { Grows flash.old }
+    ensures buffers { Same flash.old flash.new }
+    ensures closed { Closed flash.old.pool.now flash.new.pool.now flash.old.table.now flash.new.table.now
+        (ran_in flash.old.state done) tariff (outcome_of (Ok result)) }
 {
-    let state = done.state;
-    checkpoint(pool, table, state, tariff);
-    fill(table, 0);
-    Outcome {
-        number: 0,
-        length: done.at,
-    }
+    checkpoint(flash, tariff);
+    fill(flash.table, 0);
+    done.at
 }

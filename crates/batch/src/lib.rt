@@ -4,16 +4,17 @@
 ghost use Rattle.std.specs.Prelude.{◌≡◌, length};
 ghost use Rattle.book.specs.InTurn.{no_charges};
 ghost use Rattle.model.specs.Call.{batch_of};
-ghost use Rattle.batch.specs.Left.{Accepts, Worked, Leaves};
+ghost use Rattle.batch.specs.Left.{Accepts, outcome_of, Worked, Leaves};
 
-pub mod answer;
 pub mod end;
 
-use answer::Outcome;
 use end::{close, refuse, unopened};
+use flash_allocate::flash::Flash;
 use layout::{PANELS, TABLE_BYTES, pool_blocks};
+use mount::answer::Mounted;
 use mount::mount;
 use questions::batch::refusal;
+use refusal::Refusal;
 use run::charges::clear;
 use run::run::run_commands;
 
@@ -25,40 +26,38 @@ fn work(
     answers: &mut [u8],
     charges: &mut [u64; PANELS],
     blocks: usize,
-) -> Outcome
+) -> Result<usize, Refusal>
     requires { (Accepts (length pool.old) (length table.old) blocks commands.now (length answers.old))
         × (charges.old ≡ no_charges) }
     ensures { Worked pool.old pool.new table.old table.new
-        commands.now answers.old answers.new charges.new result }
+        commands.now answers.old answers.new charges.new (outcome_of result) }
 {
-    let mounted = mount(pool, table, blocks);
-    if mounted.refused == 0 {} else {
-        return unopened(table, mounted.refused);
-    }
-    let tariff = mounted.tariff;
-    let state = mounted.state;
-    let done = run_commands(pool, table, commands, answers, charges, state, tariff);
-    close(pool, table, done, tariff)
+    let Mounted { tariff, state } = match mount(pool, table, blocks) {
+        Ok(mounted) => mounted,
+        Err(refusal) => return unopened(table, refusal),
+    };
+    let mut flash = Flash { pool, table, state };
+    let done = run_commands(&mut flash, commands, answers, charges, tariff);
+    Ok(close(&mut flash, done, tariff))
 }
 
-// A batch: refused with its number, or run. The charges that it finds mean nothing.
+// A batch: refused, or run; then the length of its answers is given. The charges that it finds mean nothing.
 pub fn batch(
     pool: &mut [u8],
     table: &mut [u8],
     commands: &[u8],
     answers: &mut [u8],
     charges: &mut [u64; PANELS],
-) -> Outcome
+) -> Result<usize, Refusal>
     ensures { Leaves (batch_of pool.old table.old commands.now
-        answers.old) result pool.new table.new answers.new
+        answers.old) (outcome_of result) pool.new table.new answers.new
         charges.new }
 {
     clear(charges);
-    let number = refusal(pool, table, commands, answers);
-    if number == 0 {} else {
-        return refuse(pool, table, number);
-    }
-    let blocks = pool_blocks(pool.len());
+    let blocks = match refusal(pool, table, commands, answers) {
+        Ok(blocks) => blocks,
+        Err(refusal) => return refuse(pool, table, refusal),
+    };
     let bytes = TABLE_BYTES * blocks;
     work(
         pool,

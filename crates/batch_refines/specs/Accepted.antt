@@ -1,7 +1,6 @@
 -- AN ACCEPTED BATCH: from a pool that the code mounted, the code's commands and its checkpoint leave what the model's batch leaves. Assumes nothing.
-use Rattle.std.specs.Prelude.{◌≡◌, refl, List, ℕ, ◌*◌, ◌≤◌, length}
+use Rattle.std.specs.Prelude.{◌≡◌, refl, List, ℕ, ◌*◌, ◌≤◌, length, Option, None, Some}
 use Rattle.std.proofs.Common.{sym, ap, ◌∙◌, subst, arith}
-use Rattle.std.proofs.Math.Option.{Option, none, some}
 use Rattle.laws.specs.BigEndian.{Bytes}
 use Rattle.laws.specs.Lay.{lay}
 use Rattle.layout.specs.Layout.{fewest_blocks, block_bytes, node_limit}
@@ -51,8 +50,8 @@ module _ {blocks : ℕ} (least : fewest_blocks ≤ blocks) (t : Tariff) (s : Mod
       (mounts_ready least m.mounts).holds
 
   open_holds : (o : Option Cells) → mount_by blocks o ≡ opened t s → Holds (node_limit blocks) (book_of s) (map_of (book_of s).count (book_of s).table)
-  open_holds (some c) e = cells_hold c e
-  open_holds none e = absurd (apart (refused 5) refl e)
+  open_holds (Some c) e = cells_hold c e
+  open_holds None e = absurd (apart (refused 5) refl e)
     where
       number : Mounted → ℕ
       number (refused n) = n
@@ -63,7 +62,7 @@ module _ {blocks : ℕ} (least : fewest_blocks ≤ blocks) (t : Tariff) (s : Mod
 
 module _ {pool : List ℕ} {table_length blocks : ℕ} {held : Worktable} {t : Tariff} {st : State} (o : Opens pool table_length blocks held t st)
     (least : fewest_blocks ≤ blocks) (size : length pool ≡ block_bytes * blocks) (batch : List ℕ) (bytes : Bytes batch)
-    (cs : List Command) (are : commands_of batch ≡ some cs) where
+    (cs : List Command) (are : commands_of batch ≡ Some cs) where
   abbrev w : World
   w = world (pages_of pool) held st
 

@@ -1,7 +1,6 @@
 -- A pool whose pages are the images of a store's blocks is the bytes of that store's pool. Assumes nothing.
-use Rattle.std.specs.Prelude.{◌≡◌, refl, List, [], ◌∷◌, ◌++◌, map, ℕ, zero, suc, ◌*◌, ◌/◌, length, take, drop}
+use Rattle.std.specs.Prelude.{◌≡◌, refl, List, [], ◌∷◌, ◌++◌, map, ℕ, zero, suc, ◌*◌, ◌/◌, length, take, drop, None, Some}
 use Rattle.std.proofs.Common.{sym, ap, ◌∙◌, arith, length-drop, take-append-drop}
-use Rattle.std.proofs.Math.Option.{none, some}
 use Rattle.laws.specs.Lay.{part}
 use Rattle.laws.specs.Chunks.{first_chunks, chunks}
 use Rattle.laws.specs.Lists.{length-zero}
@@ -29,8 +28,8 @@ joined-chunks (suc n) s e =
 joined_images : (c : Cells) → joined (map (image_at image) c) ≡ bytes_of c
 unfolding blank_page blank_bytes
 joined_images [] = refl
-joined_images (none ∷ c) = ap (blank_bytes ++◌) (joined_images c)
-joined_images (some p ∷ c) = ap (image p ++◌) (joined_images c)
+joined_images (None ∷ c) = ap (blank_bytes ++◌) (joined_images c)
+joined_images (Some p ∷ c) = ap (image p ++◌) (joined_images c)
 
 -- THE POOL
 pub pool-is : (blocks : ℕ) (pool : List ℕ) (bs : Blocks) → length pool ≡ block_bytes * blocks → PagesAre blocks image (pages_of pool) bs →

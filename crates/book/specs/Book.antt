@@ -1,6 +1,5 @@
 -- The reference model (document 01: the paper book): it "keeps the tree, modes and scores" and never sees a page. Assumes nothing.
-use Rattle.std.specs.Prelude.{List, [], ◌∷◌, ℕ, ◌+◌}
-use Rattle.std.proofs.Math.Option.{Option, none, some}
+use Rattle.std.specs.Prelude.{List, [], ◌∷◌, ℕ, ◌+◌, Option, None, Some}
 use Rattle.laws.specs.Update.{update}
 use Rattle.account.specs.declared.Request.{Request}
 use Rattle.account.specs.declared.Request.TheVariants.{Read, Edit, Rewrite}
@@ -18,19 +17,19 @@ pub record Book : Type 0 where
 
 -- What Account calls it; "creates .. are free", and no request.
 abbrev pub request_of : NodeRequest → Option Request
-request_of (read id) = some Read
-request_of (edit id c) = some Edit
-request_of (rewrite id n) = some Rewrite
-request_of (create id n) = none
+request_of (read id) = Some Read
+request_of (edit id c) = Some Edit
+request_of (rewrite id n) = Some Rewrite
+request_of (create id n) = None
 
 -- A node's account after a request, and what is charged: Account serves it; "new nodes start in log mode, score 0".
 abbrev pub account_by : Tariff → Option Request → Account → Account
-account_by t none a = fresh
-account_by t (some q) a = (serve_of t a q).account
+account_by t None a = fresh
+account_by t (Some q) a = (serve_of t a q).account
 
 abbrev pub charge_by : Tariff → Option Request → Account → ℕ
-charge_by t none a = 0
-charge_by t (some q) a = (serve_of t a q).charge
+charge_by t None a = 0
+charge_by t (Some q) a = (serve_of t a q).charge
 
 -- One node request, and its charge.
 unfoldable pub serve : Tariff → NodeRequest → Book → Book

@@ -1,7 +1,6 @@
 -- A command on a book, in a session: its node requests and its answer (document 01, "Commands and answers", "Nodes and tree"; document 02, P2 and P3).
 -- Both the run over the flash store and the reference model ask these functions, so neither has requests or answers of its own. Assumes nothing.
-use Rattle.std.specs.Prelude.{Bool, true, false, List, [], ◌∷◌, ◌++◌, map, ℕ, ◌+◌}
-use Rattle.std.proofs.Math.Option.{Option, none, some}
+use Rattle.std.specs.Prelude.{Bool, true, false, List, [], ◌∷◌, ◌++◌, map, ℕ, ◌+◌, Option, None, Some}
 use Rattle.layout.specs.Layout.{last_key}
 use Rattle.command.specs.declared.Command.{Command}
 use Rattle.command.specs.declared.Command.TheVariants.{Get, Put, Delete, Scan, Panel, Ceiling}
@@ -56,8 +55,8 @@ abbrev pub delete_reply : Option ℕ → Reply
 delete_reply old = short (value_or Deleted old)
 
 abbrev pub ceiling_reply : Option Pair → Reply
-ceiling_reply none = short Absent
-ceiling_reply (some p) = nearest p
+ceiling_reply None = short Absent
+ceiling_reply (Some p) = nearest p
 
 -- A command that changes nothing: the nodes that it reads, in order, and what it is answered.
 pub record Look : Type 0 where

@@ -1,6 +1,5 @@
 -- What the tables of worked limits and orders ask of the definitions, a kind of case each, and the result that the definitions give. Assumes nothing.
-use Rattle.std.specs.Prelude.{Bool, List, [], ◌∷◌, map, ℕ, length, take, replicate}
-use Rattle.std.proofs.Math.Option.{Option, none, some}
+use Rattle.std.specs.Prelude.{Bool, List, [], ◌∷◌, map, ℕ, length, take, replicate, Option, None, Some}
 use Rattle.account.specs.declared.Mode.{Mode}
 use Rattle.account.specs.declared.Request.{Request}
 use Rattle.account.specs.declared.Served.{Served}
@@ -72,18 +71,18 @@ scores_on (p ∷ ps) = length p.scores ∷ scores_on ps
 
 abbrev entries_on : Cells → List ℕ
 entries_on [] = []
-entries_on (none ∷ c) = entries_on c
-entries_on (some (page s (log es)) ∷ c) = length es ∷ entries_on c
-entries_on (some (page s (whole n x)) ∷ c) = entries_on c
-entries_on (some (page s (checkpoint t xs n)) ∷ c) = entries_on c
+entries_on (None ∷ c) = entries_on c
+entries_on (Some (page s (log es)) ∷ c) = length es ∷ entries_on c
+entries_on (Some (page s (whole n x)) ∷ c) = entries_on c
+entries_on (Some (page s (checkpoint t xs n)) ∷ c) = entries_on c
 
 abbrev entries_in : Option Cells → List ℕ
-entries_in none = []
-entries_in (some c) = entries_on c
+entries_in None = []
+entries_in (Some c) = entries_on c
 
 abbrev scores_left : ℕ → Option Cells → List Score
-scores_left blocks none = []
-scores_left blocks (some c) = scores_in (checkpoint_of (reopened blocks c))
+scores_left blocks None = []
+scores_left blocks (Some c) = scores_in (checkpoint_of (reopened blocks c))
 
 -- The result that the definitions give.
 abbrev pub result_of : Case → Result

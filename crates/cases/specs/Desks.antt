@@ -1,7 +1,6 @@
 -- The desk (document 02, P5), worked: queues on the pool that a prepare leaves, each call with its number, its answers and the charge of every panel,
 -- and the order in which panels are served. By computation. Assumes nothing.
-use Rattle.std.specs.Prelude.{◌≡◌, refl, List, [], ◌∷◌, ◌++◌, map, ℕ, replicate, take}
-use Rattle.std.proofs.Math.Option.{some}
+use Rattle.std.specs.Prelude.{◌≡◌, refl, List, [], ◌∷◌, ◌++◌, map, ℕ, replicate, take, Some}
 use Rattle.command.specs.Command as command
 use Rattle.desk_order.specs.Turns as order
 use Rattle.desk_queues.specs.Queues as queues
@@ -41,7 +40,7 @@ two_queues = put 7 100 ++ get 7 ++ get 7 ++ delete 7
 abbrev two_joined : List ℕ
 two_joined = panel 0 ++ put 7 100 ++ panel 1 ++ get 7 ++ panel 0 ++ get 7 ++ panel 1 ++ delete 7
 
-pub two_joined_lem : joined_by (queues_of two_lengths two_queues) ≡ some two_joined
+pub two_joined_lem : joined_by (queues_of two_lengths two_queues) ≡ Some two_joined
 unfolding desk_computes
 two_joined_lem = refl
 
@@ -71,7 +70,7 @@ abbrev three_queues : List ℕ
 three_queues = get 1 ++ get 2 ++ get 3 ++ get 9
 
 pub three_joined : joined_by (queues_of three_lengths three_queues) ≡
-    some (panel 0 ++ get 1 ++ panel 2 ++ get 9 ++ panel 0 ++ get 2 ++ panel 0 ++ get 3)
+    Some (panel 0 ++ get 1 ++ panel 2 ++ get 9 ++ panel 0 ++ get 2 ++ panel 0 ++ get 3)
 unfolding desk_computes
 three_joined = refl
 

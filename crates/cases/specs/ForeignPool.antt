@@ -1,7 +1,6 @@
 -- The second pool of docs/FORMAT.md, which no software of ours wrote, byte by byte: the definitions read from it what that page reads from it. All by
 -- computation. Assumes nothing.
-use Rattle.std.specs.Prelude.{◌≡◌, refl, List, [], ◌∷◌, ◌++◌, ℕ, zero, suc, ◌-◌, ◌*◌, length, replicate}
-use Rattle.std.proofs.Math.Option.{Option, none, some}
+use Rattle.std.specs.Prelude.{◌≡◌, refl, List, [], ◌∷◌, ◌++◌, ℕ, zero, suc, ◌-◌, ◌*◌, length, replicate, Option, None, Some}
 use Rattle.pairs.specs.Pairs.{Pair}
 use Rattle.account.specs.declared.Mode.TheVariants.{Log, Disk}
 use Rattle.account.specs.declared.Account.{Account}
@@ -108,14 +107,14 @@ accounts_of zero b = []
 accounts_of (suc n) b = accounts_of n b ++ (b.account n ∷ [])
 
 abbrev read_of : Mounted → Option Read
-read_of (refused n) = none
+read_of (refused n) = None
 read_of (opened t s) =
     let b = book_of s in
-    some (record { tariff = t; accounts = accounts_of b.count b; pairs = map_of b.count b.table })
+    Some (record { tariff = t; accounts = accounts_of b.count b; pairs = map_of b.count b.table })
 
 pub foreign-pool-read :
     read_of (mount_of pool) ≡
-    some
+    Some
     (record {
       tariff = tariff_of 3 1 2 1 4 4 3 2;
       accounts =

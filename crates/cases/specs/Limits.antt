@@ -1,9 +1,8 @@
 -- Every limit that document 01 names, at the limit and one past it: one table, one theorem, by computation; and the lengths of pools, which are said of any
 -- pool, since a list of a million bytes does not compute. The limits of one page stand in `page` Worked, that of a batch in `command` Worked, 24 and 25 keys
 -- in Worked. Assumes nothing.
-use Rattle.std.specs.Prelude.{◌≡◌, true, false, List, [], ◌∷◌, ◌++◌, map, ℕ, zero, suc, eqb, length, replicate}
+use Rattle.std.specs.Prelude.{◌≡◌, true, false, List, [], ◌∷◌, ◌++◌, map, ℕ, zero, suc, eqb, length, replicate, Some}
 use Rattle.std.proofs.Math.Path.{refl}
-use Rattle.std.proofs.Math.Option.{some}
 use Rattle.laws.specs.Tests.{choose}
 use Rattle.layout.specs.Layout.{node_limit}
 use Rattle.account.specs.declared.Mode.TheVariants.{Log, Disk}
@@ -201,7 +200,7 @@ wrong-length_batch pool table batch buffer e = rw e refl
 -- "Is the greatest stamp at most 4,000,000,000? (8)", of any pool that passes questions 5 to 7: a mount with such numbers does not compute, since a
 -- node's content is gathered over every sequence number from 1 to the greatest.
 module _ (blocks : ℕ) (c : Cells) (t : Tariff) (five : pages_pass blocks c ≡ true) (six : complete (checkpoint_of (reopened blocks c)) ≡ true)
-    (first : tariff_in (checkpoint_of (reopened blocks c)) ≡ some t) (seven : TreeSound blocks t (reopened blocks c) ≡ true) where
+    (first : tariff_in (checkpoint_of (reopened blocks c)) ≡ Some t) (seven : TreeSound blocks t (reopened blocks c) ≡ true) where
   pub last-number : (reopened blocks c).last ≡ 4000000000 → mount_cells blocks c ≡ opened t (state_of (reopened blocks c))
   unfolding mount_cells
   last-number e = rw (five, six, first, seven, e) refl

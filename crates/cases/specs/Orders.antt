@@ -1,7 +1,6 @@
 -- The questions in their order, pools that open and pools that do not, and what a call leaves of the buffers lent to it: one table, one theorem, by
 -- computation. Assumes nothing.
-use Rattle.std.specs.Prelude.{◌≡◌, refl, List, [], ◌∷◌, ◌++◌, ℕ, zero, suc, replicate}
-use Rattle.std.proofs.Math.Option.{none, some}
+use Rattle.std.specs.Prelude.{◌≡◌, refl, List, [], ◌∷◌, ◌++◌, ℕ, zero, suc, replicate, None, Some}
 use Rattle.account.specs.Tariff.{tariff_of}
 use Rattle.layout.specs.Layout.{no_leaf}
 use Rattle.node.specs.declared.Shape.TheVariants.{Leaf}
@@ -24,7 +23,7 @@ no_command = 0x10 ∷ []
 -- The checkpoint of 51 nodes on two pages, and pages between the two.
 abbrev on_two : List Page → List Page
 on_two between =
-    page 5 (checkpoint (some tariff) (scores 50) none) ∷ between ++ (page 7 (checkpoint none (score 50 0 ∷ []) (some 51)) ∷ [])
+    page 5 (checkpoint (Some tariff) (scores 50) None) ∷ between ++ (page 7 (checkpoint None (score 50 0 ∷ []) (Some 51)) ∷ [])
 
 -- An entry, and a node page, of a node that there is not.
 abbrev strange_entry : ℕ → Entry
@@ -85,7 +84,7 @@ orders =
     row (mounts_pages
     (in_first
     (tree_pages 3 ++
-    (page 5 (checkpoint (some tariff) (scores 2) (some 3)) ∷ page 6 (checkpoint none (score 2 0 ∷ []) (some 3)) ∷ []))))
+    (page 5 (checkpoint (Some tariff) (scores 2) (Some 3)) ∷ page 6 (checkpoint None (score 2 0 ∷ []) (Some 3)) ∷ []))))
     (number 6) ∷
     -- "each id below its count once" (6): an id twice, one at the count, one more than the count, a count of 0
     row (mounts_pages (three_nodes (score 0 0 ∷ score 1 0 ∷ score 1 0 ∷ []))) (number 6) ∷
@@ -99,7 +98,7 @@ orders =
     row (scores_after (empty_batch (score 1 1 ∷ score 2 2 ∷ score 0 0 ∷ []))) in_node_order ∷
     row (scores_after (empty_batch (score 2 2 ∷ score 0 0 ∷ score 1 1 ∷ []))) in_node_order ∷
     -- "In a block blank pages follow written ones" (5)
-    row (calls (lent (bytes_of (some (strange_page 2) ∷ none ∷ some (strange_page 3) ∷ replicate 125 none)) 4096 [] 0)) (number 5) ∷
+    row (calls (lent (bytes_of (Some (strange_page 2) ∷ None ∷ Some (strange_page 3) ∷ replicate 125 None)) 4096 [] 0)) (number 5) ∷
     -- "At least one block is wholly blank" (5): two blocks full and one begun, then three
     row (mounts_pages ((prepared ++ strange_pages 30 10) ∷ strange_pages 32 40 ∷ [] ∷ (checkpoint_at 104 tariff (score 0 0 ∷ []) 1 ∷ []) ∷ [])) (number 0) ∷
     row (mounts_pages

@@ -1,7 +1,6 @@
 -- Small pools written by hand, page by page, for the worked limits and orders: a tree of so many nodes, a node that lies on log pages,
 -- checkpoints. Assumes nothing.
-use Rattle.std.specs.Prelude.{List, [], ◌∷◌, ◌++◌, ℕ, zero, suc, ◌+◌, ◌-◌, ◌*◌, ltb, replicate}
-use Rattle.std.proofs.Math.Option.{some}
+use Rattle.std.specs.Prelude.{List, [], ◌∷◌, ◌++◌, ℕ, zero, suc, ◌+◌, ◌-◌, ◌*◌, ltb, replicate, Some}
 use Rattle.laws.specs.Tests.{choose}
 use Rattle.layout.specs.Layout.{no_leaf}
 use Rattle.pairs.specs.Pairs.{Pair}
@@ -36,7 +35,7 @@ scores (suc n) = score n 0 ∷ scores n
 
 -- A checkpoint on one page.
 abbrev pub checkpoint_at : ℕ → Tariff → List Score → ℕ → Page
-checkpoint_at s t xs n = page s (checkpoint (some t) xs (some n))
+checkpoint_at s t xs n = page s (checkpoint (Some t) xs (Some n))
 
 -- So many pairs from a key on, each value 100 more than its key.
 abbrev pub pairs : ℕ → ℕ → List Pair

@@ -1,6 +1,5 @@
 -- Answers (document 01, "Commands and answers"; document 02, P3): the number and the values of each case. Assumes nothing.
-use Rattle.std.specs.Prelude.{List, [], ◌∷◌, ◌++◌, ℕ}
-use Rattle.std.proofs.Math.Option.{Option, none, some}
+use Rattle.std.specs.Prelude.{List, [], ◌∷◌, ◌++◌, ℕ, Option, None, Some}
 use Rattle.laws.specs.BigEndian.{big_endian}
 use Rattle.pairs.specs.Pairs.{Pair}
 use Rattle.wire.specs.Field.{field}
@@ -46,5 +45,5 @@ ceiling_bytes p = field 0x87 (pair_bytes p)
 
 -- The answer with the value that there was, or that there was none.
 abbrev pub value_or : (ℕ → Answer) → Option ℕ → Answer
-value_or with none = Absent
-value_or with (some v) = with v
+value_or with None = Absent
+value_or with (Some v) = with v

@@ -1,18 +1,15 @@
 -- The commands of a batch (document 01, "Commands and answers"): look up, hang, strip and sweep, here get, put, delete and scan; of document 02, panel
 -- (P2) and the next route up, here ceiling (P3). What a new command is in bytes, in range and in room is said here, case by case. Assumes nothing.
-use Rattle.std.specs.Prelude.{Bool, ◌&&◌, List, [], ◌∷◌, ◌++◌, ℕ, ◌+◌, ◌-◌, ◌*◌, ◌≤◌, ◌<◌, eqb, leb, ltb, length, get_or}
-use Rattle.std.proofs.Math.Option.{Option, none, some}
+use Rattle.std.specs.Prelude.{Bool, ◌&&◌, List, [], ◌∷◌, ◌++◌, ℕ, ◌+◌, ◌-◌, ◌*◌, ◌≤◌, ◌<◌, eqb, leb, ltb, length, get_or, Option, None, Some, Result, Ok, Err}
 use Rattle.laws.specs.Tests.{choose}
 use Rattle.laws.specs.Lay.{part}
 use Rattle.laws.specs.BigEndian.{big_endian, number_at}
 use Rattle.layout.specs.Layout.{most_pairs, panels, bound32}
 use Rattle.wire.specs.Field.{field, field_at}
-use Rattle.wire.specs.declared.field.Field.{Field}
-use Rattle.wire.specs.declared.field.Field.TheVariants.{Payload, Missing, Foreign, Overlong}
+use Rattle.wire.specs.declared.field.Span.{Span}
+use Rattle.wire.specs.declared.field.Fault.{Fault}
 use Rattle.command.specs.declared.Command.{Command}
 use Rattle.command.specs.declared.Command.TheVariants.{Get, Put, Delete, Scan, Panel, Ceiling}
-use Rattle.command.specs.declared.Step.{Step}
-use Rattle.command.specs.declared.Step.TheVariants.{Next, Invalid}
 
 -- A sweep asks for 1 to 32 pairs.
 unfoldable pub in_range : ℕ → Bool
@@ -42,23 +39,25 @@ command_bytes c = field (command_tag c) (command_values c)
 -- 3"), or where the tag is no command's.
 unfoldable pub command_of : ℕ → List ℕ → Option Command
 command_of tag p =
-    choose (eqb tag 0x01) (some (Get (number_at 4 p 0)))
-    (choose (eqb tag 0x02) (some (Put (number_at 4 p 0) (number_at 4 p 4)))
-    (choose (eqb tag 0x03) (some (Delete (number_at 4 p 0)))
-    (choose (eqb tag 0x04 && in_range (number_at 2 p 8)) (some (Scan (number_at 4 p 0) (number_at 4 p 4) (number_at 2 p 8)))
-    (choose (eqb tag 0x05 && ltb (get_or p 0 0) panels) (some (Panel (get_or p 0 0)))
-    (choose (eqb tag 0x07) (some (Ceiling (number_at 4 p 0))) none)))))
+    choose (eqb tag 0x01) (Some (Get (number_at 4 p 0)))
+    (choose (eqb tag 0x02) (Some (Put (number_at 4 p 0) (number_at 4 p 4)))
+    (choose (eqb tag 0x03) (Some (Delete (number_at 4 p 0)))
+    (choose (eqb tag 0x04 && in_range (number_at 2 p 8)) (Some (Scan (number_at 4 p 0) (number_at 4 p 4) (number_at 2 p 8)))
+    (choose (eqb tag 0x05 && ltb (get_or p 0 0) panels) (Some (Panel (get_or p 0 0)))
+    (choose (eqb tag 0x07) (Some (Ceiling (number_at 4 p 0))) None)))))
+
+-- What stands at a place of a batch: a command with the place behind it, or none that is valid.
+abbrev pub Step : Type 0
+Step = Option (Command × ℕ)
 
 abbrev pub step_as : ℕ → Option Command → Step
-step_as next none = Invalid
-step_as next (some c) = Next c next
+step_as next None = None
+step_as next (Some c) = Some (c, next)
 
 -- the command of a field that was looked for
-abbrev pub field_step : List ℕ → ℕ → Field → Step
-field_step s tag (Payload start end) = step_as end (command_of tag (part s start (end - start)))
-field_step s tag Missing = Invalid
-field_step s tag Foreign = Invalid
-field_step s tag Overlong = Invalid
+abbrev pub field_step : List ℕ → ℕ → Result Span Fault → Step
+field_step s tag (Ok p) = step_as p.end (command_of tag (part s p.start (p.end - p.start)))
+field_step s tag (Err fault) = None
 
 -- The command at a place, by the tag there, with the place behind it.
 unfoldable pub command_at : List ℕ → ℕ → Step
@@ -94,5 +93,5 @@ room_for (Ceiling k) = 11
 
 -- A step goes on: the place behind a command is further on and within the bytes, and the command's numbers are in range.
 abbrev pub Onward : List ℕ → ℕ → Step → Type 0
-Onward s at (Next c next) = (at < next) × (next ≤ length s) × InRange c
-Onward s at Invalid = Unit {0}
+Onward s at (Some (c, next)) = (at < next) × (next ≤ length s) × InRange c
+Onward s at None = Unit {0}

@@ -1,32 +1,29 @@
 -- The command at a place: its cases by tag; that it goes on within the bytes, takes three of them or more, and, read from bytes, is valid. Assumes nothing.
-use Rattle.std.specs.Prelude.{◌≡◌, Bool, true, false, ◌&&◌, List, ℕ, ◌+◌, ◌-◌, ◌≤◌, ◌<◌, eqb, leb, ltb, length, get_or}
+use Rattle.std.specs.Prelude.{◌≡◌, Bool, true, false, ◌&&◌, List, ℕ, ◌+◌, ◌-◌, ◌≤◌, ◌<◌, eqb, leb, ltb, length, get_or, Option, None, Some, Result, Ok, Err}
 use Rattle.std.proofs.Math.Path.{refl, ap}
 use Rattle.std.proofs.Common.{sym, ◌∙◌, arith}
-use Rattle.std.proofs.Math.Option.{Option, none, some}
 use borrow.Author.Tests.{eq-eqb, ne_eqb, eqb-true, le-leb, lt-leb, leb-true, ltb-true, lt-ltb, le-ltb}
 use Rattle.laws.specs.Tests.{choose, and_left, and_right, test_clash}
 use Rattle.laws.specs.Lay.{part, length_part}
 use Rattle.laws.specs.BigEndian.{Bytes, number_at, number_at_lt, bytes-part}
 use Rattle.wire.specs.Tag.{length_of, allowed, find, rows}
-use Rattle.wire.specs.Field.{field_at, length_at, is_payload, stands_at}
+use Rattle.wire.specs.Field.{from_to, field_at, length_at, is_payload, stands_at}
 use Rattle.wire.specs.FieldLaws.{Stands, stands_is}
 use Rattle.wire.specs.declared.tag.Length.{Length}
 use Rattle.wire.specs.declared.tag.Length.TheVariants.{Exact}
-use Rattle.wire.specs.declared.field.Field.{Field}
-use Rattle.wire.specs.declared.field.Field.TheVariants.{Payload, Missing, Foreign, Overlong}
+use Rattle.wire.specs.declared.field.Span.{Span}
+use Rattle.wire.specs.declared.field.Fault.{Fault}
 use Rattle.command.specs.declared.Command.{Command}
 use Rattle.command.specs.declared.Command.TheVariants.{Get, Put, Delete, Scan, Panel, Ceiling}
-use Rattle.command.specs.declared.Step.{Step}
-use Rattle.command.specs.declared.Step.TheVariants.{Next, Invalid}
 use Rattle.layout.specs.Layout.{most_pairs, panels, bound32}
-use Rattle.command.specs.Command.{in_range, command_of, step_as, field_step, command_at, InRange, Valid, room_for, Onward}
+use Rattle.command.specs.Command.{in_range, command_of, Step, step_as, field_step, command_at, InRange, Valid, room_for, Onward}
 
 -- The payload lengths of the commands' tags, as the table has them.
-payload_exact : (tag k n : ℕ) → length_of tag ≡ Exact k → allowed (length_of tag) n ≡ true → n ≡ k
-payload_exact tag k n e m = eqb-true n k (ap (λ (l : Length). allowed l n) (sym e) ∙ m)
+payload_exact : (tag k n : ℕ) → length_of tag ≡ Some (Exact k) → allowed (length_of tag) n ≡ true → n ≡ k
+payload_exact tag k n e m = eqb-true n k (ap (λ (l : Option Length). allowed l n) (sym e) ∙ m)
 
 module _ (tag n : ℕ) (m : allowed (length_of tag) n ≡ true) where
-  at_tag : (t k : ℕ) → tag ≡ t → length_of t ≡ Exact k → n ≡ k
+  at_tag : (t k : ℕ) → tag ≡ t → length_of t ≡ Some (Exact k) → n ≡ k
   at_tag t k e f = payload_exact tag k n (ap length_of e ∙ f) m
 
   pub payload-get : tag ≡ 1 → n ≡ 4
@@ -55,19 +52,19 @@ module _ (tag n : ℕ) (m : allowed (length_of tag) n ≡ true) where
 
 -- The command of a tag and a payload, case by case.
 module _ (tag : ℕ) (p : List ℕ) where
-  pub command_of-get : tag ≡ 1 → command_of tag p ≡ some (Get (number_at 4 p 0))
+  pub command_of-get : tag ≡ 1 → command_of tag p ≡ Some (Get (number_at 4 p 0))
   unfolding command_of
   command_of-get e = simp (eq-eqb tag 1 e)
 
-  pub command_of-put : tag ≡ 2 → command_of tag p ≡ some (Put (number_at 4 p 0) (number_at 4 p 4))
+  pub command_of-put : tag ≡ 2 → command_of tag p ≡ Some (Put (number_at 4 p 0) (number_at 4 p 4))
   unfolding command_of
   command_of-put e = simp (ne_eqb tag 1 (omega arith), eq-eqb tag 2 e)
 
-  pub command_of-delete : tag ≡ 3 → command_of tag p ≡ some (Delete (number_at 4 p 0))
+  pub command_of-delete : tag ≡ 3 → command_of tag p ≡ Some (Delete (number_at 4 p 0))
   unfolding command_of
   command_of-delete e = simp (ne_eqb tag 1 (omega arith), ne_eqb tag 2 (omega arith), eq-eqb tag 3 e)
 
-  pub command_of-ceiling : tag ≡ 7 → command_of tag p ≡ some (Ceiling (number_at 4 p 0))
+  pub command_of-ceiling : tag ≡ 7 → command_of tag p ≡ Some (Ceiling (number_at 4 p 0))
   unfolding command_of
   command_of-ceiling e =
       simp (
@@ -80,37 +77,37 @@ module _ (tag : ℕ) (p : List ℕ) where
       )
 
   pub command_of-other :
-      (tag ≡ 1 → ⊥) → (tag ≡ 2 → ⊥) → (tag ≡ 3 → ⊥) → (tag ≡ 4 → ⊥) → (tag ≡ 5 → ⊥) → (tag ≡ 7 → ⊥) → command_of tag p ≡ none
+      (tag ≡ 1 → ⊥) → (tag ≡ 2 → ⊥) → (tag ≡ 3 → ⊥) → (tag ≡ 4 → ⊥) → (tag ≡ 5 → ⊥) → (tag ≡ 7 → ⊥) → command_of tag p ≡ None
   unfolding command_of
   command_of-other a b c d e f =
       simp (ne_eqb tag 1 a, ne_eqb tag 2 b, ne_eqb tag 3 c, ne_eqb tag 4 d, ne_eqb tag 5 e, ne_eqb tag 7 f)
 
 module _ (p : List ℕ) where
   pub command_of-scan :
-      1 ≤ number_at 2 p 8 → number_at 2 p 8 ≤ most_pairs → command_of 4 p ≡ some (Scan (number_at 4 p 0) (number_at 4 p 4) (number_at 2 p 8))
+      1 ≤ number_at 2 p 8 → number_at 2 p 8 ≤ most_pairs → command_of 4 p ≡ Some (Scan (number_at 4 p 0) (number_at 4 p 4) (number_at 2 p 8))
   unfolding command_of in_range
   command_of-scan h k = simp (le-leb 1 (number_at 2 p 8) h, le-leb (number_at 2 p 8) most_pairs k)
 
-  pub command_of-none : number_at 2 p 8 < 1 → command_of 4 p ≡ none
+  pub command_of-none : number_at 2 p 8 < 1 → command_of 4 p ≡ None
   unfolding command_of in_range
   command_of-none h = simp (lt-leb 1 (number_at 2 p 8) h)
 
-  pub command_of_many : 1 ≤ number_at 2 p 8 → most_pairs < number_at 2 p 8 → command_of 4 p ≡ none
+  pub command_of_many : 1 ≤ number_at 2 p 8 → most_pairs < number_at 2 p 8 → command_of 4 p ≡ None
   unfolding command_of in_range
   command_of_many h k = simp (le-leb 1 (number_at 2 p 8) h, lt-leb (number_at 2 p 8) most_pairs k)
 
-  pub command_of-panel : get_or p 0 0 < panels → command_of 5 p ≡ some (Panel (get_or p 0 0))
+  pub command_of-panel : get_or p 0 0 < panels → command_of 5 p ≡ Some (Panel (get_or p 0 0))
   unfolding command_of
   command_of-panel h = simp (lt-ltb (get_or p 0 0) panels h)
 
-  pub command_of_no_panel : panels ≤ get_or p 0 0 → command_of 5 p ≡ none
+  pub command_of_no_panel : panels ≤ get_or p 0 0 → command_of 5 p ≡ None
   unfolding command_of
   command_of_no_panel h = simp (le-ltb (get_or p 0 0) panels h)
 
 -- The scan that was read number by number.
 pub scan_step :
     (p : List ℕ) (next low high most : ℕ) → low ≡ number_at 4 p 0 → high ≡ number_at 4 p 4 → most ≡ number_at 2 p 8 →
-    1 ≤ most → most ≤ most_pairs → Next (Scan low high most) next ≡ step_as next (command_of 4 p)
+    1 ≤ most → most ≤ most_pairs → Some (Scan low high most, next) ≡ step_as next (command_of 4 p)
 scan_step p next low high most e f g h k =
     let scan = command_of-scan p (omega arith) (omega arith) in
     rw (e, f, g) (sym (ap (step_as next) scan))
@@ -122,14 +119,14 @@ pub record Bounds (s : List ℕ) (at tag start end : ℕ) : Type 0 where
   pub may : allowed (length_of tag) (length_at s at) ≡ true
   pub within : at + 3 + length_at s at ≤ length s
 
-pub field_bounds : (s : List ℕ) (at tag start end : ℕ) → field_at s at tag ≡ Payload start end → Bounds s at tag start end
+pub field_bounds : (s : List ℕ) (at tag start end : ℕ) → field_at s at tag ≡ Ok (from_to start end) → Bounds s at tag start end
 unfolding stands_at field_at
 field_bounds s at tag start end e =
     let stand = stands_is s at tag (ap is_payload e) in
     go stand (leb (at + 3) (length s)) (eqb (get_or s at 0) tag && allowed (length_of tag) (length_at s at))
     (leb (at + 3 + length_at s at) (length s)) refl refl refl
   where
-    clash : {f : Field} → f ≡ Payload start end → is_payload f ≡ false → Bounds s at tag start end
+    clash : {f : Result Span Fault} → f ≡ Ok (from_to start end) → is_payload f ≡ false → Bounds s at tag start end
     clash g h = let z : true ≡ false = sym (ap is_payload g) ∙ h in absurd (test_clash true refl z)
 
     go :
@@ -137,15 +134,16 @@ field_bounds s at tag start end e =
         (eqb (get_or s at 0) tag && allowed (length_of tag) (length_at s at)) ≡ b → leb (at + 3 + length_at s at) (length s) ≡ c →
         Bounds s at tag start end
     go stand true true true a b c =
-        let f : Payload (at + 3) (at + 3 + length_at s at) ≡ Payload start end = simp (a, b, c) at e in
-        record { first = cc; last = cc; may = stand.may; within = stand.within }
+        let f : ◌≡◌ {A = Result Span Fault} (Ok (from_to (at + 3) (at + 3 + length_at s at))) (Ok (from_to start end)) = simp (a, b, c) at e in
+        let g : from_to (at + 3) (at + 3 + length_at s at) ≡ from_to start end = cc in
+        record { first = sym (ap (λ (p : Span). p.start) g); last = sym (ap (λ (p : Span). p.end) g); may = stand.may; within = stand.within }
     go stand true true false a b c = clash (simp (a, b, c) at e) refl
     go stand true false c a b _ = clash (simp (a, b) at e) refl
     go stand false b c a _ _ = clash (simp a at e) refl
 
 -- A payload has a length that its tag may have.
 pub payload_may :
-    (s : List ℕ) (at tag start end : ℕ) → field_at s at tag ≡ Payload start end →
+    (s : List ℕ) (at tag start end : ℕ) → field_at s at tag ≡ Ok (from_to start end) →
     allowed (length_of tag) (length (part s start (end - start))) ≡ true
 payload_may s at tag start end e =
     let b = field_bounds s at tag start end e in
@@ -155,13 +153,13 @@ payload_may s at tag start end e =
 
 -- What holds of no command, and of each command that a payload may say under its tag, holds of the one that it says.
 pub command_of_each :
-    (P : Option Command → Type 0) (tag : ℕ) (p : List ℕ) → P none →
-    (tag ≡ 1 → P (some (Get (number_at 4 p 0)))) →
-    (tag ≡ 2 → P (some (Put (number_at 4 p 0) (number_at 4 p 4)))) →
-    (tag ≡ 3 → P (some (Delete (number_at 4 p 0)))) →
-    (tag ≡ 4 → (1 ≤ number_at 2 p 8) × (number_at 2 p 8 ≤ most_pairs) → P (some (Scan (number_at 4 p 0) (number_at 4 p 4) (number_at 2 p 8)))) →
-    (tag ≡ 5 → get_or p 0 0 < panels → P (some (Panel (get_or p 0 0)))) →
-    (tag ≡ 7 → P (some (Ceiling (number_at 4 p 0)))) → P (command_of tag p)
+    (P : Option Command → Type 0) (tag : ℕ) (p : List ℕ) → P None →
+    (tag ≡ 1 → P (Some (Get (number_at 4 p 0)))) →
+    (tag ≡ 2 → P (Some (Put (number_at 4 p 0) (number_at 4 p 4)))) →
+    (tag ≡ 3 → P (Some (Delete (number_at 4 p 0)))) →
+    (tag ≡ 4 → (1 ≤ number_at 2 p 8) × (number_at 2 p 8 ≤ most_pairs) → P (Some (Scan (number_at 4 p 0) (number_at 4 p 4) (number_at 2 p 8)))) →
+    (tag ≡ 5 → get_or p 0 0 < panels → P (Some (Panel (get_or p 0 0)))) →
+    (tag ≡ 7 → P (Some (Ceiling (number_at 4 p 0)))) → P (command_of tag p)
 unfolding command_of in_range
 command_of_each P tag p nothing get put delete scan panel ceiling =
     go (eqb tag 1) refl (eqb tag 2) refl (eqb tag 3) refl (eqb tag 4 && asked) refl (eqb tag 5 && named) refl (eqb tag 7) refl
@@ -178,12 +176,12 @@ command_of_each P tag p nothing get put delete scan panel ceiling =
     go : (a : Bool) → eqb tag 1 ≡ a → (b : Bool) → eqb tag 2 ≡ b → (c : Bool) → eqb tag 3 ≡ c → (d : Bool) → (eqb tag 4 && asked) ≡ d →
         (e : Bool) → (eqb tag 5 && named) ≡ e → (f : Bool) → eqb tag 7 ≡ f →
         P
-        (choose a (some (Get (number_at 4 p 0)))
-        (choose b (some (Put (number_at 4 p 0) (number_at 4 p 4)))
-        (choose c (some (Delete (number_at 4 p 0)))
-        (choose d (some (Scan (number_at 4 p 0) (number_at 4 p 4) (number_at 2 p 8)))
-        (choose e (some (Panel (get_or p 0 0)))
-        (choose f (some (Ceiling (number_at 4 p 0))) none))))))
+        (choose a (Some (Get (number_at 4 p 0)))
+        (choose b (Some (Put (number_at 4 p 0) (number_at 4 p 4)))
+        (choose c (Some (Delete (number_at 4 p 0)))
+        (choose d (Some (Scan (number_at 4 p 0) (number_at 4 p 4) (number_at 2 p 8)))
+        (choose e (Some (Panel (get_or p 0 0)))
+        (choose f (Some (Ceiling (number_at 4 p 0))) None))))))
     go true h b i c j d k e l f m = get (eqb-true tag 1 h)
     go false h true i c j d k e l f m = put (eqb-true tag 2 i)
     go false h false i true j d k e l f m = delete (eqb-true tag 3 j)
@@ -200,8 +198,8 @@ command_of_each P tag p nothing get put delete scan panel ceiling =
 
 -- A payload of bytes, of a length that its tag may have, says a valid command or none.
 abbrev pub ValidOr : Option Command → Type 0
-ValidOr none = Unit {0}
-ValidOr (some c) = Valid c
+ValidOr None = Unit {0}
+ValidOr (Some c) = Valid c
 
 pub command_of_valid : (tag n : ℕ) (p : List ℕ) → Bytes p → length p ≡ n → allowed (length_of tag) n ≡ true → ValidOr (command_of tag p)
 command_of_valid tag n p bytes size may =
@@ -215,17 +213,15 @@ command_of_valid tag n p bytes size may =
     small i l = number_at_lt 4 p i bytes (omega arith)
 
 -- THE COMMAND AT A PLACE is that of the payload that lies there, or an invalid one.
-pub command_at_each : (P : Step → Type 0) (s : List ℕ) (at : ℕ) → P Invalid →
-    ((start end : ℕ) → field_at s at (get_or s at 0) ≡ Payload start end → P (step_as end (command_of (get_or s at 0) (part s start (end - start))))) →
+pub command_at_each : (P : Step → Type 0) (s : List ℕ) (at : ℕ) → P None →
+    ((start end : ℕ) → field_at s at (get_or s at 0) ≡ Ok (from_to start end) → P (step_as end (command_of (get_or s at 0) (part s start (end - start))))) →
     P (command_at s at)
 unfolding command_at
 command_at_each P s at nothing found = go (field_at s at (get_or s at 0)) refl
   where
-    go : (f : Field) → field_at s at (get_or s at 0) ≡ f → P (field_step s (get_or s at 0) f)
-    go (Payload start end) e = found start end e
-    go Missing e = nothing
-    go Foreign e = nothing
-    go Overlong e = nothing
+    go : (f : Result Span Fault) → field_at s at (get_or s at 0) ≡ f → P (field_step s (get_or s at 0) f)
+    go (Ok p) e = found p.start p.end e
+    go (Err fault) e = nothing
 
 -- It ends further on, within the bytes.
 onward_command_of :
@@ -243,8 +239,8 @@ command_at_onward s at =
 
 -- It takes three bytes or more.
 abbrev Long : ℕ → Step → Type 0
-Long at (Next c next) = at + 3 ≤ next
-Long at Invalid = Unit {0}
+Long at (Some (c, next)) = at + 3 ≤ next
+Long at None = Unit {0}
 
 pub command_at_long : (s : List ℕ) (at : ℕ) → Long at (command_at s at)
 command_at_long s at =
@@ -252,13 +248,13 @@ command_at_long s at =
     (λ start end e. step end (command_of (get_or s at 0) (part s start (end - start))) (omega (arith, (field_bounds s at (get_or s at 0) start end e).last)))
   where
     step : (end : ℕ) (o : Option Command) → at + 3 ≤ end → Long at (step_as end o)
-    step end none l = tt
-    step end (some c) l = l
+    step end None l = tt
+    step end (Some c) l = l
 
 -- Read from bytes, it is valid.
 abbrev ValidStep : Step → Type 0
-ValidStep (Next c next) = Valid c
-ValidStep Invalid = Unit {0}
+ValidStep (Some (c, next)) = Valid c
+ValidStep None = Unit {0}
 
 pub command_at_valid : (s : List ℕ) → Bytes s → (at : ℕ) → ValidStep (command_at s at)
 command_at_valid s bytes at =
@@ -269,16 +265,16 @@ command_at_valid s bytes at =
     step end (command_of tag p) (command_of_valid tag (length p) p (bytes-part start (end - start) bytes) refl (payload_may s at tag start end e)))
   where
     step : (end : ℕ) (o : Option Command) → ValidOr o → ValidStep (step_as end o)
-    step end none v = tt
-    step end (some c) v = v
+    step end None v = tt
+    step end (Some c) v = v
 
 -- The command at a place, from what the field reader found there.
 module _ (s : List ℕ) (at : ℕ) where
-  pub command_at_past : length s ≤ at → Invalid ≡ command_at s at
+  pub command_at_past : length s ≤ at → None ≡ command_at s at
   unfolding command_at field_at
   command_at_past h = simp (lt-leb (at + 3) (length s) (omega arith))
 
-  pub command_at-is : (f : Field) → f ≡ field_at s at (get_or s at 0) → field_step s (get_or s at 0) f ≡ command_at s at
+  pub command_at-is : (f : Result Span Fault) → f ≡ field_at s at (get_or s at 0) → field_step s (get_or s at 0) f ≡ command_at s at
   unfolding command_at
   command_at-is f e = ap (field_step s (get_or s at 0)) e
 

@@ -1,7 +1,6 @@
 -- A batch is spelled in one way: the bytes that were read as commands are these commands' own. Assumes nothing.
-use Rattle.std.specs.Prelude.{◌≡◌, refl, true, List, ◌++◌, ℕ, ◌+◌, ◌-◌, ◌≤◌, length, get_or}
+use Rattle.std.specs.Prelude.{◌≡◌, refl, true, List, ◌++◌, ℕ, ◌+◌, ◌-◌, ◌≤◌, length, get_or, Option, None, Some}
 use Rattle.std.proofs.Common.{sym, ap, ap₂, ◌∙◌, arith}
-use Rattle.std.proofs.Math.Option.{Option, none, some}
 use Rattle.laws.specs.Lay.{part, length_part, part-add, part-whole}
 use Rattle.laws.specs.BigEndian.{Bytes, big_endian, number_at, bytes-part, big_endian-number_at}
 use Rattle.laws.specs.Lists.{length-one, length-zero}
@@ -9,9 +8,7 @@ use Rattle.wire.specs.Tag.{length_of, allowed}
 use Rattle.wire.specs.Field.{field, payload_at, is_payload, stands_at}
 use Rattle.wire.specs.FieldLaws.{stands_is, part_field}
 use Rattle.command.specs.declared.Command.{Command}
-use Rattle.command.specs.declared.Step.{Step}
-use Rattle.command.specs.declared.Step.TheVariants.{Next, Invalid}
-use Rattle.command.specs.Command.{command_tag, command_values, command_bytes, command_of, step_as, command_at, Onward}
+use Rattle.command.specs.Command.{command_tag, command_values, command_bytes, command_of, Step, step_as, command_at, Onward}
 use Rattle.command.specs.CommandLaws.{payload-get, payload-put, payload-delete, payload-scan, payload-panel, payload-ceiling, command_of_each}
 use Rattle.command.specs.CommandLaws.{field_bounds, payload_may, command_at_each, command_at_onward}
 use Rattle.command.specs.Batch.{commands_from, commands_of}
@@ -20,8 +17,8 @@ use Rattle.command.specs.Spelled.{batch_bytes}
 
 -- A tag and a payload are a command's own.
 abbrev Own : ℕ → List ℕ → Option Command → Type 0
-Own tag p none = Unit {0}
-Own tag p (some c) = (command_tag c ≡ tag) × (command_values c ≡ p)
+Own tag p None = Unit {0}
+Own tag p (Some c) = (command_tag c ≡ tag) × (command_values c ≡ p)
 
 command_of-own : (tag : ℕ) (p : List ℕ) → Bytes p → allowed (length_of tag) (length p) ≡ true → Own tag p (command_of tag p)
 command_of-own tag p bytes may =
@@ -50,8 +47,8 @@ command_of-own tag p bytes may =
 
 -- The command at a place stands there in its own bytes.
 abbrev Stood : List ℕ → ℕ → Step → Type 0
-Stood s at (Next c next) = part s at (next - at) ≡ command_bytes c
-Stood s at Invalid = Unit {0}
+Stood s at (Some (c, next)) = part s at (next - at) ≡ command_bytes c
+Stood s at None = Unit {0}
 
 command_at-own : (s : List ℕ) → Bytes s → (at : ℕ) → Stood s at (command_at s at)
 unfolding command_bytes stands_at payload_at
@@ -67,17 +64,17 @@ command_at-own s bytes at =
     step end (command_of tag p) p (command_of-own tag p (bytes-part start (end - start) bytes) (payload_may s at tag start end e)) stood)
   where
     step : (end : ℕ) (o : Option Command) (p : List ℕ) → Own (get_or s at 0) p o → part s at (end - at) ≡ field (get_or s at 0) p → Stood s at (step_as end o)
-    step end none p own stood = tt
-    step end (some c) p own stood = stood ∙ sym (ap₂ field own.0 own.1)
+    step end None p own stood = tt
+    step end (Some c) p own stood = stood ∙ sym (ap₂ field own.0 own.1)
 
 module _ (s : List ℕ) (bytes : Bytes s) where
   -- from a place on, a command at a time
-  spelled_from : (at : ℕ) (cs : List Command) → commands_from s at ≡ some cs → at ≤ length s → batch_bytes cs ≡ part s at (length s - at)
+  spelled_from : (at : ℕ) (cs : List Command) → commands_from s at ≡ Some cs → at ≤ length s → batch_bytes cs ≡ part s at (length s - at)
   spelled_from =
       commands_from-all s (λ at cs. at ≤ length s → batch_bytes cs ≡ part s at (length s - at))
       (λ at l m. sym (length-zero (part s at (length s - at)) (length_part s at (length s - at) (omega arith) ∙ omega arith)))
       (λ at next c cs e rest m.
-      let w : Onward s at (Next c next) = rw e at (command_at_onward s at) in
+      let w : Onward s at (Some (c, next)) = rw e at (command_at_onward s at) in
       let own : part s at (next - at) ≡ command_bytes c = rw e at (command_at-own s bytes at) in
       ap₂ {B = List ℕ} ◌++◌ (sym own) (rest w.1) ∙
       ap (λ (i : ℕ). part s at (next - at) ++ part s i (length s - next)) {x = next} {y = at + (next - at)} (omega (arith, w.0)) ∙
@@ -85,6 +82,6 @@ module _ (s : List ℕ) (bytes : Bytes s) where
       ap (part s at) (omega (arith, w.0, w.1)))
 
   -- ONE SPELLING: what is read is spelled by these bytes, and by no others.
-  pub batch_bytes-commands_of : (cs : List Command) → commands_of s ≡ some cs → batch_bytes cs ≡ s
+  pub batch_bytes-commands_of : (cs : List Command) → commands_of s ≡ Some cs → batch_bytes cs ≡ s
   batch_bytes-commands_of cs e =
       spelled_from 0 cs (commands_of-read s cs e).1 (omega arith) ∙ part-whole s (length s - 0) (omega arith)

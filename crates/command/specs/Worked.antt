@@ -1,6 +1,5 @@
 -- Worked batches and answers of the documents, computed, and the longest batches there are. Assumes nothing.
-use Rattle.std.specs.Prelude.{◌≡◌, refl, List, [], ◌∷◌, ◌++◌, map, ℕ, length, replicate}
-use Rattle.std.proofs.Math.Option.{none, some}
+use Rattle.std.specs.Prelude.{◌≡◌, refl, List, [], ◌∷◌, ◌++◌, map, ℕ, length, replicate, Option, None, Some}
 use Rattle.std.proofs.Common.{arith}
 use Rattle.laws.specs.Every.{Every, every_append, every-replicate}
 use Rattle.laws.specs.Lay.{part}
@@ -10,12 +9,16 @@ use Rattle.wire.specs.Field.{field, field_at}
 use Rattle.command.specs.declared.Command.{Command}
 use Rattle.command.specs.declared.Command.TheVariants.{Get, Put, Delete, Panel}
 use Rattle.command.specs.declared.Answer.TheVariants.{Absent, Got, Replaced, Deleted, Refused}
-use Rattle.command.specs.declared.Asked.TheVariants.{Bytes, Invalid}
+use Rattle.command.specs.declared.Asked.{Asked}
 use Rattle.command.specs.Command.{in_range, command_bytes, command_of, command_at, Valid}
-use Rattle.command.specs.Batch.{run, commands_from, commands_of, asked_of}
+use Rattle.command.specs.Batch.{run, commands_from, commands_of, asked_for, asked_of}
 use Rattle.command.specs.BatchLaws.{commands_of_long}
 use Rattle.command.specs.Spelled.{batch_bytes, commands_of-batch_bytes}
 use Rattle.command.specs.Answer.{answer_bytes, scan_bytes, ceiling_bytes}
+
+-- What a valid batch asks for.
+abbrev asks : ℕ → ℕ → ℕ → Option Asked
+asks room commands named = Some (asked_for room commands named)
 
 -- put 7 with 100, get 7, delete 7, get 7
 pub worked_batch : List ℕ
@@ -30,7 +33,7 @@ worked_batch =
 pub scan_batch : ℕ → List ℕ
 scan_batch most = 0x04 ∷ 0 ∷ 10 ∷ 0 ∷ 0 ∷ 0 ∷ 9 ∷ 0 ∷ 0 ∷ 0 ∷ 3 ∷ 0 ∷ most ∷ []
 
-pub worked_commands : commands_of worked_batch ≡ some (Put 7 100 ∷ Get 7 ∷ Delete 7 ∷ Get 7 ∷ [])
+pub worked_commands : commands_of worked_batch ≡ Some (Put 7 100 ∷ Get 7 ∷ Delete 7 ∷ Get 7 ∷ [])
 unfolding worked_batch commands_of commands_from run command_at command_of in_range field_at length_of find rows is_node_bytes number_at part
 worked_commands = refl
 
@@ -47,7 +50,7 @@ pub worked_room :
     (0x01 ∷ 0 ∷ 5 ∷ 0 ∷ 0 ∷ 0 ∷ 7 ∷ 0 ∷ []) ∷
     (0x01 ∷ 0 ∷ 4 ∷ 0 ∷ 0 ∷ 0 ∷ []) ∷
     []) ≡
-    Bytes 0 0 0 ∷ Bytes 28 4 0 ∷ Invalid ∷ Bytes 11 1 0 ∷ Bytes 259 1 0 ∷ Invalid ∷ Invalid ∷ Invalid ∷ Invalid ∷ []
+    asks 0 0 0 ∷ asks 28 4 0 ∷ None ∷ asks 11 1 0 ∷ asks 259 1 0 ∷ None ∷ None ∷ None ∷ None ∷ []
 unfolding worked_batch scan_batch asked_of commands_of commands_from run command_at command_of in_range field_at length_of find rows is_node_bytes number_at part
 worked_room = refl
 
@@ -62,7 +65,7 @@ pub worked_panels :
     (0x05 ∷ 0 ∷ 1 ∷ []) ∷
     (0x01 ∷ 0 ∷ 4 ∷ 0 ∷ 0 ∷ 0 ∷ 7 ∷ 0x05 ∷ 0 ∷ 1 ∷ 9 ∷ []) ∷
     []) ≡
-    Bytes 0 1 1 ∷ Bytes 0 1 1 ∷ Invalid ∷ Invalid ∷ Invalid ∷ Invalid ∷ Bytes 7 2 1 ∷ []
+    asks 0 1 1 ∷ asks 0 1 1 ∷ None ∷ None ∷ None ∷ None ∷ asks 7 2 1 ∷ []
 unfolding asked_of commands_of commands_from run command_at command_of in_range field_at length_of find rows is_node_bytes number_at part
 worked_panels = refl
 
@@ -77,7 +80,7 @@ pub worked_ceilings :
     (0x08 ∷ 0 ∷ 0 ∷ []) ∷
     (0x01 ∷ 0 ∷ 4 ∷ 0 ∷ 0 ∷ 0 ∷ 7 ∷ 0x07 ∷ 0 ∷ 4 ∷ 255 ∷ 255 ∷ 255 ∷ 255 ∷ []) ∷
     []) ≡
-    Bytes 11 1 0 ∷ Invalid ∷ Invalid ∷ Invalid ∷ Invalid ∷ Invalid ∷ Bytes 18 2 0 ∷ []
+    asks 11 1 0 ∷ None ∷ None ∷ None ∷ None ∷ None ∷ asks 18 2 0 ∷ []
 unfolding asked_of commands_of commands_from run command_at command_of in_range field_at length_of find rows is_node_bytes number_at part
 worked_ceilings = refl
 
@@ -116,7 +119,7 @@ pub worked_length : length (batch_bytes longest) ≡ 32768
 unfolding longest command_bytes field
 worked_length = refl
 
-pub worked_longest : commands_of (batch_bytes longest) ≡ some longest
+pub worked_longest : commands_of (batch_bytes longest) ≡ Some longest
 worked_longest = commands_of-batch_bytes longest valid (omega (arith, worked_length))
 
 -- 8,192 panels have 8,192 × 4 = 32,768 bytes too, and are as many commands as a batch can have.
@@ -127,10 +130,10 @@ pub worked_many_length : length (batch_bytes many_panels) ≡ 32768
 unfolding many_panels command_bytes field
 worked_many_length = refl
 
-pub worked_many : commands_of (batch_bytes many_panels) ≡ some many_panels
+pub worked_many : commands_of (batch_bytes many_panels) ≡ Some many_panels
 unfolding many_panels
 worked_many = commands_of-batch_bytes many_panels (every-replicate 8192 (Panel 7) (omega arith)) (omega (arith, worked_many_length))
 
 -- One byte more is not read, whatever it holds.
-pub worked_too_long : (s : List ℕ) → length s ≡ 32769 → commands_of s ≡ none
+pub worked_too_long : (s : List ℕ) → length s ≡ 32769 → commands_of s ≡ None
 worked_too_long s e = commands_of_long s (omega arith)

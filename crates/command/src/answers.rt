@@ -23,6 +23,7 @@ fn lay_value(buffer: &mut [u8], at: usize, tag: u8, value: u32) -> usize
 }
 
 // Lays an answer that no route is there.
+#[tactic(auto, unfolding(crate::specs::Answer::answer_bytes, wire::specs::Field::field))]
 fn lay_absent(buffer: &mut [u8], at: usize) -> usize
     requires { at + 3 ≤ length buffer.old }
     ensures { (buffer.new ≡ lay buffer.old at (answer_bytes Answer.Absent)) × (result ≡ at + 3) }
@@ -43,6 +44,7 @@ fn lay_refused(buffer: &mut [u8], at: usize, number: u8) -> usize
 }
 
 // Lays an answer of 7 bytes or fewer, and says where the next goes.
+#[tactic(auto, unfolding(crate::specs::Answer::answer_bytes, wire::specs::Field::field))]
 pub fn lay_answer(buffer: &mut [u8], at: usize, answer: Answer) -> usize
     requires { at + 7 ≤ length buffer.old }
     ensures { (buffer.new ≡ lay buffer.old at (answer_bytes answer))

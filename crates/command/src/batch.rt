@@ -1,95 +1,72 @@
 // The commands of a batch, one at a place and all of them.
 ghost use Rattle.std.specs.Prelude.{◌≡◌, true, length};
 ghost use Rattle.wire.specs.Tag.{length_of, allowed};
-ghost use Rattle.command.specs.Command.{command_of, step_as, command_at, room_for};
+ghost use Rattle.command.specs.Command.{command_of, command_at, room_for};
 ghost use Rattle.command.specs.Batch.{named, asked_of};
 
-use crate::{Asked, Command, Step};
-use layout::{MOST_BATCH_BYTES, PANELS};
-use wire::field::{Field, field_at};
+use crate::{Asked, Command};
+use layout::{MOST_BATCH_BYTES, MOST_PAIRS, PANELS};
+use wire::field::{Span, field_at};
 use wire::number::{read8, read16, read32};
 
 // The scan of a payload, where its most is in range.
-fn scan_of(p: &[u8], next: usize) -> Step
+#[tactic(auto, unfolding(crate::specs::Command::command_of, crate::specs::Command::in_range))]
+fn scan_of(p: &[u8]) -> Option<Command>
     requires { length p.now ≡ 10 }
-    ensures { result ≡ step_as next (command_of 4 p.now) }
+    ensures { result ≡ command_of 4 p.now }
 {
     let low = read32(p, 0);
     let high = read32(p, 4);
     let most = read16(p, 8);
-    if most < 1 {
-        return Step::Invalid;
+    if most < 1 || (MOST_PAIRS as u32) < most {
+        return None;
     }
-    if 32 < most {
-        return Step::Invalid;
-    }
-    let command = Command::Scan { low, high, most };
-    Step::Next { command, next }
+    Some(Command::Scan { low, high, most })
 }
 
 // The panel of a payload, where there is such a panel.
-fn panel_of(p: &[u8], next: usize) -> Step
+#[tactic(auto, unfolding(crate::specs::Command::command_of))]
+fn panel_of(p: &[u8]) -> Option<Command>
     requires { length p.now ≡ 1 }
-    ensures { result ≡ step_as next (command_of 5 p.now) }
+    ensures { result ≡ command_of 5 p.now }
 {
     let panel = read8(p, 0) as usize;
     if PANELS <= panel {
-        return Step::Invalid;
+        return None;
     }
-    let command = Command::Panel { panel };
-    Step::Next { command, next }
+    Some(Command::Panel { panel })
 }
 
 // The command of a tag and a payload of its length.
-fn command_of(tag: u8, p: &[u8], next: usize) -> Step
+#[tactic(auto, unfolding(crate::specs::Command::command_of))]
+fn command_of(tag: u8, p: &[u8]) -> Option<Command>
     requires { allowed (length_of tag) (length p.now) ≡ true }
-    ensures { result ≡ step_as next (command_of tag p.now) }
+    ensures { result ≡ command_of tag p.now }
 {
-    if tag == 1 {
-        let key = read32(p, 0);
-        let command = Command::Get { key };
-        return Step::Next { command, next };
+    match tag {
+        1 => Some(Command::Get { key: read32(p, 0) }),
+        2 => Some(Command::Put {
+            key: read32(p, 0),
+            value: read32(p, 4),
+        }),
+        3 => Some(Command::Delete { key: read32(p, 0) }),
+        4 => scan_of(p),
+        5 => panel_of(p),
+        7 => Some(Command::Ceiling { key: read32(p, 0) }),
+        _ => None,
     }
-    if tag == 2 {
-        let key = read32(p, 0);
-        let value = read32(p, 4);
-        let command = Command::Put { key, value };
-        return Step::Next { command, next };
-    }
-    if tag == 3 {
-        let key = read32(p, 0);
-        let command = Command::Delete { key };
-        return Step::Next { command, next };
-    }
-    if tag == 4 {
-        return scan_of(p, next);
-    }
-    if tag == 5 {
-        return panel_of(p, next);
-    }
-    if tag == 7 {
-        let key = read32(p, 0);
-        let command = Command::Ceiling { key };
-        return Step::Next { command, next };
-    }
-    Step::Invalid
 }
 
-// The command at a place, with the place behind it.
-pub fn command_at(s: &[u8], at: usize) -> Step
+// The command at a place, where a valid one stands there, with the place behind it.
+#[tactic(auto, unfolding(crate::specs::Command::command_at))]
+pub fn command_at(s: &[u8], at: usize) -> Option<(Command, usize)>
     ensures { result ≡ command_at s.now at }
 {
-    if s.len() <= at {
-        return Step::Invalid;
-    }
-    let tag = s[at];
-    let found = field_at(s, at, tag);
-    match found {
-        Field::Payload { start, end } => command_of(tag, &s[start..end], end),
-        Field::Missing => Step::Invalid,
-        Field::Foreign => Step::Invalid,
-        Field::Overlong => Step::Invalid,
-    }
+    let tag = *s.get(at)?;
+    let Ok(Span { start, end }) = field_at(s, at, tag) else {
+        return None;
+    };
+    Some((command_of(tag, &s[start..end])?, end))
 }
 
 // The answer bytes that a command may need.
@@ -97,16 +74,10 @@ pub fn room_for(command: Command) -> usize
     ensures { result ≡ room_for command }
 {
     match command {
-        Command::Get { key: _ } => 7,
-        Command::Put { key: _, value: _ } => 7,
-        Command::Delete { key: _ } => 7,
-        Command::Scan {
-            low: _,
-            high: _,
-            most,
-        } => 3 + 8 * (most as usize),
-        Command::Panel { panel: _ } => 0,
-        Command::Ceiling { key: _ } => 11,
+        Command::Get { .. } | Command::Put { .. } | Command::Delete { .. } => 7,
+        Command::Scan { most, .. } => 3 + 8 * (most as usize),
+        Command::Panel { .. } => 0,
+        Command::Ceiling { .. } => 11,
     }
 }
 
@@ -115,47 +86,30 @@ pub fn named_by(command: Command) -> usize
     ensures { result ≡ named command }
 {
     match command {
-        Command::Get { key: _ } => 0,
-        Command::Put { key: _, value: _ } => 0,
-        Command::Delete { key: _ } => 0,
-        Command::Scan {
-            low: _,
-            high: _,
-            most: _,
-        } => 0,
-        Command::Panel { panel: _ } => 1,
-        Command::Ceiling { key: _ } => 0,
+        Command::Panel { .. } => 1,
+        _ => 0,
     }
 }
 
-// What a batch asks for, or that it is not valid.
-pub fn asked(s: &[u8]) -> Asked
+// What a batch asks for, where it is valid.
+pub fn asked(s: &[u8]) -> Option<Asked>
     ensures { result ≡ asked_of s.now }
 {
     if MOST_BATCH_BYTES < s.len() {
-        return Asked::Invalid;
+        return None;
     }
+    let mut asked = Asked {
+        room: 0,
+        commands: 0,
+        named: 0,
+    };
     let mut at: usize = 0;
-    let mut room: usize = 0;
-    let mut commands: usize = 0;
-    let mut named: usize = 0;
     while at < s.len() {
-        let step = command_at(s, at);
-        match step {
-            Step::Next { command, next } => {
-                room += room_for(command);
-                commands += 1;
-                named += named_by(command);
-                at = next;
-            }
-            Step::Invalid => {
-                return Asked::Invalid;
-            }
-        }
+        let (command, next) = command_at(s, at)?;
+        asked.room += room_for(command);
+        asked.commands += 1;
+        asked.named += named_by(command);
+        at = next;
     }
-    Asked::Bytes {
-        room,
-        commands,
-        named,
-    }
+    Some(asked)
 }

@@ -1,9 +1,8 @@
 -- A whole list of calls, one after the other, on a pool that stands: what each returns and leaves. Demands 2 and 3 (TheBook) are read off it.
 -- Assumes nothing.
-use Rattle.std.specs.Prelude.{◌≡◌, refl, List, [], ◌∷◌, ◌++◌, map, ℕ, ◌+◌, ◌≤◌, ◌<◌}
+use Rattle.std.specs.Prelude.{◌≡◌, refl, List, [], ◌∷◌, ◌++◌, map, ℕ, ◌+◌, ◌≤◌, ◌<◌, Option, None, Some}
 use Rattle.std.proofs.Common.{sym, ap, ap₂, ◌∙◌, subst, arith}
 use Rattle.std.proofs.lemmas.List.{map-append}
-use Rattle.std.proofs.Math.Option.{Option, none, some}
 use Rattle.laws.specs.Every.{Every, both, every_append}
 use Rattle.laws.specs.Update.{sum}
 use Rattle.layout.specs.Layout.{node_limit, most_log_pages}
@@ -35,8 +34,8 @@ use Rattle.demands.specs.Obeys.{Obeys, stands_obeys}
 
 -- Each log node of a pool between calls lies on at most three pages; of a pool with a page that does not check this does not hold.
 abbrev pub ThinCells : ℕ → Option Cells → Type 0
-ThinCells blocks none = ⊥
-ThinCells blocks (some c) =
+ThinCells blocks None = ⊥
+ThinCells blocks (Some c) =
     (n : ℕ) → n < (book_of (state_of (reopened blocks c))).count → pages (view (reopened blocks c)) n ≤ most_log_pages
 
 unfoldable pub ThinPool : List ℕ → Type 0
@@ -52,7 +51,7 @@ Spelled t (o ∷ os) (ps ∷ pss) = Obeys o.pool t ps × Spelled t os pss
 pub record AllCalled (t : Tariff) (pool : List ℕ) (cs : List Call) (b : Book) (ps : List Pair) : Type 0 where
   pub charges : map (λ (o : Outcome). o.charges) (outcomes pool cs) ≡ all_charges (blocks_of pool) t (fed pool cs) b
   pub requests : map book_of (all_states pool cs) ≡ all_books (blocks_of pool) t (fed pool cs) b
-  pub calls : map (λ (o : Outcome). book_in o.pool) (outcomes pool cs) ≡ map some (books_after (blocks_of pool) t (fed pool cs) b)
+  pub calls : map (λ (o : Outcome). book_in o.pool) (outcomes pool cs) ≡ map Some (books_after (blocks_of pool) t (fed pool cs) b)
   pub thin : Every Thin (all_moments pool cs)
   pub thin_calls : Every (λ (o : Outcome). ThinPool o.pool) (outcomes pool cs)
   pub answers : map answered (outcomes pool cs) ≡ laid (map buffer_of cs) (map_replies (blocks_of pool) t (fed pool cs) b ps)
@@ -97,7 +96,7 @@ module _ {t : Tariff} where
             map-append book_of (states_by B (work_of pool c)) (all_states next cs) ∙
             ap₂ {B = List Book} ◌++◌ x.passed (y.requests ∙ ap (λ (k : ℕ). all_books k t (fed next cs) b') e);
         calls =
-            ap₂ {B = List (Option Book)} ◌∷◌ (book_in-is x.stands) (y.calls ∙ ap (λ (k : ℕ). map some (books_after k t (fed next cs) b')) e);
+            ap₂ {B = List (Option Book)} ◌∷◌ (book_in-is x.stands) (y.calls ∙ ap (λ (k : ℕ). map Some (books_after k t (fed next cs) b')) e);
         thin = every_append x.thin y.thin;
         thin_calls = both (thin_pool x.stands) y.thin_calls;
         answers =

@@ -1,6 +1,5 @@
 -- A call made of bytes, and so what it runs. Assumes nothing.
-use Rattle.std.specs.Prelude.{◌≡◌, refl, List, [], ◌∷◌, ℕ, ◌<◌}
-use Rattle.std.proofs.Math.Option.{Option, none, some}
+use Rattle.std.specs.Prelude.{◌≡◌, refl, List, [], ◌∷◌, ℕ, ◌<◌, Option, None, Some}
 use Rattle.std.proofs.Common.{arith}
 use Rattle.laws.specs.BigEndian.{Bytes}
 use Rattle.laws.specs.Every.{both}
@@ -25,14 +24,14 @@ joined-run lengths queues bytes = go (queues_of lengths queues) refl
     zero_byte : Bytes (0 ∷ [])
     zero_byte = let l : 0 < 256 = omega arith in both l Every.none
 
-    on : (qs : List (List ℕ)) → queues_of lengths queues ≡ some qs → (o : Option (List (List Command))) → all_commands qs ≡ o →
+    on : (qs : List (List ℕ)) → queues_of lengths queues ≡ Some qs → (o : Option (List (List Command))) → all_commands qs ≡ o →
         Bytes (joined_or (bytes_by o))
-    on qs e none f = zero_byte
-    on qs e (some css) f = joined_bytes_lem (cut_bytes lengths queues qs e bytes) (cut_few lengths queues qs e) (all_read qs css f)
+    on qs e None f = zero_byte
+    on qs e (Some css) f = joined_bytes_lem (cut_bytes lengths queues qs e bytes) (cut_few lengths queues qs e) (all_read qs css f)
 
     go : (o : Option (List (List ℕ))) → queues_of lengths queues ≡ o → Bytes (joined_or (joined_by o))
-    go none e = zero_byte
-    go (some qs) e = on qs e (all_commands qs) refl
+    go None e = zero_byte
+    go (Some qs) e = on qs e (all_commands qs) refl
 
 pub run-bytes : (c : Call) → CallBytes c → Bytes (bytes_run c)
 run-bytes (batch l) bytes = bytes

@@ -1,8 +1,7 @@
 -- Ceilings (document 02, P3): a batch, and the same batch with scans in their places, "of that route to FFFFFFFF with a most of 1", leave the same but for
 -- what is answered. Assumes nothing.
-use Rattle.std.specs.Prelude.{◌≡◌, List, [], ◌∷◌, ℕ, ◌+◌}
+use Rattle.std.specs.Prelude.{◌≡◌, List, [], ◌∷◌, ℕ, ◌+◌, Some}
 use Rattle.std.proofs.Math.Path.{refl, ap}
-use Rattle.std.proofs.Math.Option.{some}
 use Rattle.laws.specs.Update.{only}
 use Rattle.layout.specs.Layout.{last_key, node_limit}
 use Rattle.account.specs.declared.Tariff.{Tariff}
@@ -59,8 +58,8 @@ module _ (limit : ℕ) where
       ap (λ (m : ℕ). only n.panel (cost limit n (Ceiling k) s) q + m) (scans_charge r q n (done limit n (Ceiling k) s))
 
 -- A CEILING READS AS SUCH A SCAN: on any pool, with any table and answer buffer, refusals too.
-pub scans_same : (pool table buffer : List ℕ) (cs ds : List Command) → ScansFor cs ds → (batch batch' : List ℕ) → commands_of batch ≡ some cs →
-    commands_of batch' ≡ some ds → SameReads (batch_of pool table batch buffer) (batch_of pool table batch' buffer)
+pub scans_same : (pool table buffer : List ℕ) (cs ds : List Command) → ScansFor cs ds → (batch batch' : List ℕ) → commands_of batch ≡ Some cs →
+    commands_of batch' ≡ Some ds → SameReads (batch_of pool table batch buffer) (batch_of pool table batch' buffer)
 scans_same pool table buffer cs ds r =
     both_end SameReads (λ o. record { number = refl; pool = refl; table = refl; charges = refl }) pool table buffer cs ds (scans_room r) accepts
   where

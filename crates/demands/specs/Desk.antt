@@ -1,9 +1,8 @@
 -- A call of the desk (document 02, P5): it is the batch of the joined bytes, or it is refused before these are asked about. Assumes nothing.
-use Rattle.std.specs.Prelude.{◌≡◌, Bool, List, [], ◌∷◌, ◌++◌, ℕ, ◌≤◌, leb, length}
+use Rattle.std.specs.Prelude.{◌≡◌, Bool, List, [], ◌∷◌, ◌++◌, ℕ, ◌≤◌, leb, length, None, Some}
 use Rattle.std.proofs.Math.Path.{refl, ap}
 use Rattle.std.proofs.Common.{◌∙◌, arith}
 use Rattle.std.proofs.Math.Bool.{true, false}
-use Rattle.std.proofs.Math.Option.{none, some}
 use borrow.Author.Tests.{le-leb}
 use Rattle.laws.specs.Options.{none_some}
 use Rattle.laws.specs.Tests.{choose}
@@ -23,12 +22,12 @@ module _ (pool table lengths queues buffer : List ℕ) where
   call = desk (record { table = table; lengths = lengths; queues = queues; buffer = buffer })
 
   -- "THE JOINED BYTES RUN AS ONE BATCH, with its length limit and all its questions": number, pool, table, answers, length and sixteen charges.
-  module _ (qs : List (List ℕ)) (bytes : List ℕ) (cut : queues_of lengths queues ≡ some qs) (joins : joined_of qs ≡ some bytes) where
+  module _ (qs : List (List ℕ)) (bytes : List ℕ) (cut : queues_of lengths queues ≡ Some qs) (joins : joined_of qs ≡ Some bytes) where
     fill : fills lengths queues ≡ true
     unfolding queues_of
     fill = go (fills lengths queues) refl cut
       where
-        go : (b : Bool) → fills lengths queues ≡ b → choose b (some (queues_in lengths queues)) none ≡ some qs → fills lengths queues ≡ true
+        go : (b : Bool) → fills lengths queues ≡ b → choose b (Some (queues_in lengths queues)) None ≡ Some qs → fills lengths queues ≡ true
         go true e f = e
         go false e f = absurd (none_some f)
 
@@ -60,7 +59,7 @@ module _ (pool table lengths queues buffer : List ℕ) where
     pub sixteen : length o.charges ≡ panels
     pub table_left : o.table ≡ table_after o.number (blocks_of pool) table
 
-  module _ (none-joined : joined_by (queues_of lengths queues) ≡ none) where
+  module _ (none-joined : joined_by (queues_of lengths queues) ≡ None) where
     ends_with : (desk_of pool table lengths queues buffer).number ≡ first_no of_queues
     unfolding of_desk
     ends_with = rw (ap joined_read none-joined) at (call-first pool call)
@@ -73,7 +72,7 @@ module _ (pool table lengths queues buffer : List ℕ) where
 
   -- Joined bytes that are no batch, where 1, 2 and 11 are passed: 3.
   pub too_long : (qs : List (List ℕ)) (css : List (List Command)) → pool_length pool ≡ true → table_bytes (blocks_of pool) ≤ length table →
-      queues_of lengths queues ≡ some qs → joined_of qs ≡ some (joined_bytes css) → commands_of (joined_bytes css) ≡ none →
+      queues_of lengths queues ≡ Some qs → joined_of qs ≡ Some (joined_bytes css) → commands_of (joined_bytes css) ≡ None →
       (desk_of pool table lengths queues buffer).number ≡ 3
   unfolding of_buffers
   too_long qs css p u cut joins long =

@@ -1,10 +1,9 @@
 -- An accepted desk call (document 02, P5): its queues were cut and read, it runs their turns in order, and what each panel is charged is the bill of its
 -- own commands. Assumes nothing.
-use Rattle.std.specs.Prelude.{◌≡◌, Bool, true, false, ◌⊎◌, ℕ, ◌+◌, ◌≤◌, ◌<◌, eqb, length, get_or}
+use Rattle.std.specs.Prelude.{◌≡◌, Bool, true, false, ◌⊎◌, ℕ, ◌+◌, ◌≤◌, ◌<◌, eqb, length, get_or, Option, None, Some}
 use Rattle.std.proofs.Math.Path.{refl, ap}
 use Rattle.std.proofs.Common.{sym, ap₂, ◌∙◌, inl, inr}
 use mathlib.Core.List.{List, [], ◌∷◌}
-use Rattle.std.proofs.Math.Option.{Option, none, some}
 use native.Mathlib.Omega.{arith}
 use Rattle.std.proofs.Math.ListN.{get_or-eq_default}
 use Rattle.laws.specs.BigEndian.{Bytes}
@@ -43,9 +42,9 @@ use Rattle.demands.specs.CallBytes.{run-bytes}
 -- WHAT A CALL READS AND RUNS.
 pub record DeskReads (pool : List ℕ) (d : DeskLent) : Type 0 where
   pub queues : List (List ℕ)
-  pub cut : queues_of d.lengths d.queues ≡ some queues
+  pub cut : queues_of d.lengths d.queues ≡ Some queues
   pub commands : List (List Command)
-  pub read : all_commands queues ≡ some commands
+  pub read : all_commands queues ≡ Some commands
   pub served : commands_in (fed_of pool (desk d)) ≡ interleaved (turns commands)
 
 module _ (pool : List ℕ) (d : DeskLent) (bytes : Bytes d.queues) (accepted : (outcome pool (desk d)).number ≡ 0) where
@@ -53,24 +52,24 @@ module _ (pool : List ℕ) (d : DeskLent) (bytes : Bytes d.queues) (accepted : (
   passes = (accepted_ends pool (desk d) accepted).passes
 
   -- There are joined bytes,
-  joined_there : joined_by (queues_of d.lengths d.queues) ≡ none → ⊥
-  joined_there e = none_some (joined-read none ∙ sym (ap (λ (o : Option (List ℕ)). commands_of (joined_or o)) e) ∙ passes.are)
+  joined_there : joined_by (queues_of d.lengths d.queues) ≡ None → ⊥
+  joined_there e = none_some (joined-read None ∙ sym (ap (λ (o : Option (List ℕ)). commands_of (joined_or o)) e) ∙ passes.are)
 
-  module _ (qs : List (List ℕ)) (cut : queues_of d.lengths d.queues ≡ some qs) (css : List (List Command)) (read : all_commands qs ≡ some css) where
-    joined_are : joined_by (queues_of d.lengths d.queues) ≡ some (joined_bytes css)
+  module _ (qs : List (List ℕ)) (cut : queues_of d.lengths d.queues ≡ Some qs) (css : List (List Command)) (read : all_commands qs ≡ Some css) where
+    joined_are : joined_by (queues_of d.lengths d.queues) ≡ Some (joined_bytes css)
     unfolding joined_of
     joined_are = ap joined_by cut ∙ ap bytes_by read
 
     -- and these are commands,
-    joined_valid : commands_of (joined_bytes css) ≡ none → ⊥
+    joined_valid : commands_of (joined_bytes css) ≡ None → ⊥
     joined_valid e = none_some (sym e ∙ sym (ap (λ (o : Option (List ℕ)). commands_of (joined_or o)) joined_are) ∙ passes.are)
 
     -- those of the turns, each with its 05 before it.
-    joined-turns : commands_of (joined_bytes css) ≡ some (interleaved (turns css))
+    joined-turns : commands_of (joined_bytes css) ≡ Some (interleaved (turns css))
     joined-turns = go (le_or (length (joined_bytes css)) most_batch_bytes)
       where
         go : (length (joined_bytes css) ≤ most_batch_bytes) ⊎ (most_batch_bytes < length (joined_bytes css)) →
-            commands_of (joined_bytes css) ≡ some (interleaved (turns css))
+            commands_of (joined_bytes css) ≡ Some (interleaved (turns css))
         go (inl l) = joined_short (cut_bytes d.lengths d.queues qs cut bytes) (cut_few d.lengths d.queues qs cut) (all_read qs css read) l
         go (inr l) = absurd (joined_valid (joined_long css l))
 
@@ -83,13 +82,13 @@ module _ (pool : List ℕ) (d : DeskLent) (bytes : Bytes d.queues) (accepted : (
   unfolding joined_of
   desk_reads = go (queues_of d.lengths d.queues) refl
     where
-      on : (qs : List (List ℕ)) → queues_of d.lengths d.queues ≡ some qs → (o : Option (List (List Command))) → all_commands qs ≡ o → DeskReads pool d
-      on qs e none f = absurd (joined_there (ap joined_by e ∙ ap bytes_by f))
-      on qs e (some css) f = record { queues = qs; cut = e; commands = css; read = f; served = runs qs e css f }
+      on : (qs : List (List ℕ)) → queues_of d.lengths d.queues ≡ Some qs → (o : Option (List (List Command))) → all_commands qs ≡ o → DeskReads pool d
+      on qs e None f = absurd (joined_there (ap joined_by e ∙ ap bytes_by f))
+      on qs e (Some css) f = record { queues = qs; cut = e; commands = css; read = f; served = runs qs e css f }
 
       go : (o : Option (List (List ℕ))) → queues_of d.lengths d.queues ≡ o → DeskReads pool d
-      go none e = absurd (joined_there (ap joined_by e))
-      go (some qs) e = on qs e (all_commands qs) refl
+      go None e = absurd (joined_there (ap joined_by e))
+      go (Some qs) e = on qs e (all_commands qs) refl
 
 -- A PANEL'S BILL, of any turns: its commands are those that the panel is served, in order,
 module _ (limit : ℕ) where

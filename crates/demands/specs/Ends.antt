@@ -1,9 +1,8 @@
 -- The ways in which a call ends, whatever the bytes in its buffers: refused with a number, or its work done. Assumes nothing.
-use Rattle.std.specs.Prelude.{◌≡◌, Bool, List, [], ◌∷◌, ◌++◌, ℕ, zero, suc, ◌≤◌, length}
+use Rattle.std.specs.Prelude.{◌≡◌, Bool, List, [], ◌∷◌, ◌++◌, ℕ, zero, suc, ◌≤◌, length, Option, None, Some}
 use Rattle.std.proofs.Math.Path.{refl, sym}
 use Rattle.std.proofs.Common.{◌∙◌, arith}
 use Rattle.std.proofs.Math.Bool.{true, false}
-use Rattle.std.proofs.Math.Option.{Option, none, some}
 use borrow.Author.Tests.{eqb-true}
 use Rattle.std.proofs.Math.Dec.{eqb}
 use Rattle.laws.specs.Tests.{choose, test_clash}
@@ -71,8 +70,8 @@ module _ (pool : List ℕ) (c : Call) where
     where
       go : (n : ℕ) (b : Bool) → eqb n 0 ≡ b → (w : Option Work) →
           (choose {A = Outcome} b (Outcome.done w pool (table_of c) (buffer_of c)) (refuse n pool (table_of c) (buffer_of c))).number ≡ n
-      go n true z none = sym (eqb-true n 0 z)
-      go n true z (some w) = sym (eqb-true n 0 z)
+      go n true z None = sym (eqb-true n 0 z)
+      go n true z (Some w) = sym (eqb-true n 0 z)
       go n false z w = refl
 
 -- "After refusals 1 and 2 the work table too" is as found; "otherwise its first 1,024 × B bytes are zero".

@@ -1,7 +1,6 @@
 -- A command where it stands in a call: the commands before it are valid, and the map that they leave is an ordered map still. Assumes nothing.
-use Rattle.std.specs.Prelude.{◌≡◌, refl, Bool, true, false, List, [], ◌∷◌, ◌++◌, ℕ, ◌<◌}
+use Rattle.std.specs.Prelude.{◌≡◌, refl, Bool, true, false, List, [], ◌∷◌, ◌++◌, ℕ, ◌<◌, Option, None, Some}
 use Rattle.std.proofs.Common.{subst}
-use Rattle.std.proofs.Math.Option.{Option, none, some}
 use Rattle.layout.specs.Layout.{no_leaf, bound32}
 use Rattle.pairs.specs.Pairs.{Pair, Within}
 use Rattle.command.specs.declared.Command.{Command}
@@ -30,8 +29,8 @@ call_valid pool c bytes = go (accepted (outcome pool c)) (commands_of (bytes_run
   where
     go : (a : Bool) (o : Option (List Command)) → commands_of (bytes_run c) ≡ o → ValidAll (commands_by a o)
     go false o e = tt
-    go true none e = tt
-    go true (some cs) e = (commands_of_batch (bytes_run c) (run-bytes c bytes) cs e).valid
+    go true None e = tt
+    go true (Some cs) e = (commands_of_batch (bytes_run c) (run-bytes c bytes) cs e).valid
 
 pub before_valid : (pool : List ℕ) (c : Call) → CallBytes c → (before cs : List Command) → commands_in (fed_of pool c) ≡ before ++ cs → ValidAll before
 before_valid pool c bytes before cs e = valid_front before cs (subst ValidAll e (call_valid pool c bytes))

@@ -1,9 +1,8 @@
 -- Any pool that passes the questions opens, whoever wrote it: the state then says a book that spells a map, and the store holds what it
 -- says. Assumes nothing.
-use Rattle.std.specs.Prelude.{◌≡◌, Bool, true, false, ◌&&◌, ◌⊎◌, List, [], ◌∷◌, ℕ, zero, suc, ◌≤◌, ◌<◌, eqb, leb, ltb}
+use Rattle.std.specs.Prelude.{◌≡◌, Bool, true, false, ◌&&◌, ◌⊎◌, List, [], ◌∷◌, ℕ, zero, suc, ◌≤◌, ◌<◌, eqb, leb, ltb, Option, None, Some}
 use Rattle.std.proofs.Math.Path.{refl, sym, ap, subst}
 use Rattle.std.proofs.Common.{inl, inr, arith, leb-true, ltb-true}
-use Rattle.std.proofs.Math.Option.{Option, none, some}
 use Rattle.laws.specs.Tests.{choose, and_left, and_right}
 use Rattle.laws.specs.Order.{le_suc_or}
 use Rattle.layout.specs.Layout.{fewest_blocks, node_limit, most_log_pages}
@@ -39,14 +38,14 @@ use Rattle.demands.specs.Run as Run
 pub record Sealed (blocks : ℕ) (c : Cells) (t : Tariff) : Type 0 where
   pub pass : pages_pass blocks c ≡ true
   pub complete : complete (checkpoint_of (reopened blocks c)) ≡ true
-  pub tariff : tariff_in (checkpoint_of (reopened blocks c)) ≡ some t
+  pub tariff : tariff_in (checkpoint_of (reopened blocks c)) ≡ Some t
   pub sound : TreeSound blocks t (reopened blocks c) ≡ true
 
 -- The questions of a pool that opens, one by one.
 pub record Mounts (blocks : ℕ) (c : Cells) (t : Tariff) : Type 0 where
   pub pass : pages_pass blocks c ≡ true
   pub complete : complete (checkpoint_of (reopened blocks c)) ≡ true
-  pub tariff : tariff_in (checkpoint_of (reopened blocks c)) ≡ some t
+  pub tariff : tariff_in (checkpoint_of (reopened blocks c)) ≡ Some t
   pub sound : TreeSound blocks t (reopened blocks c) ≡ true
   pub left : numbers_left (reopened blocks c) ≡ true
 
@@ -82,7 +81,7 @@ opened_mounts {blocks} {c} {t} {s} e =
     st : Store
     st = reopened blocks c
 
-    tree : (t' : Tariff) → pages_pass blocks c ≡ true → complete (checkpoint_of st) ≡ true → tariff_in (checkpoint_of st) ≡ some t' →
+    tree : (t' : Tariff) → pages_pass blocks c ≡ true → complete (checkpoint_of st) ≡ true → tariff_in (checkpoint_of st) ≡ Some t' →
         (a : Bool) → TreeSound blocks t' st ≡ a → (b : Bool) → numbers_left st ≡ b → Opened blocks c t s
     tree t' p q r false a b l = refused-opened 7 t s (rw (p, q, r, a) at e)
     tree t' p q r true a false l = refused-opened 8 t s (rw (p, q, r, a, l) at e)
@@ -94,7 +93,7 @@ opened_mounts {blocks} {c} {t} {s} e =
               record {
                 pass = p;
                 complete = q;
-                tariff = subst (λ (z : Tariff). tariff_in (checkpoint_of st) ≡ some z) k r;
+                tariff = subst (λ (z : Tariff). tariff_in (checkpoint_of st) ≡ Some z) k r;
                 sound = subst (λ (z : Tariff). TreeSound blocks z st ≡ true) k a;
                 left = l;
               };
@@ -105,8 +104,8 @@ opened_mounts {blocks} {c} {t} {s} e =
         tariff_in (checkpoint_of st) ≡ o → Opened blocks c t s
     pages false p b q o r = refused-opened 5 t s (rw p at e)
     pages true p false q o r = refused-opened 6 t s (rw (p, q) at e)
-    pages true p true q none r = refused-opened 6 t s (rw (p, q, r) at e)
-    pages true p true q (some t') r = tree t' p q r (TreeSound blocks t' st) refl (numbers_left st) refl
+    pages true p true q None r = refused-opened 6 t s (rw (p, q, r) at e)
+    pages true p true q (Some t') r = tree t' p q r (TreeSound blocks t' st) refl (numbers_left st) refl
 
 -- What such a state is worth: it says its own book, which spells a map; the tariff is in range and the scores are below the limit T.
 pub record Ready (blocks : ℕ) (t : Tariff) (s : State) (b : Book) (ps : List Pair) : Type 0 where

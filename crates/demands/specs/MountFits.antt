@@ -1,8 +1,7 @@
 -- A pool that opens is a fitting store: its pages were read from bytes, so each is within its limits, and between calls the buffer is
 -- empty. So every node of the book that it says has 32-bit numbers. Assumes nothing.
-use Rattle.std.specs.Prelude.{◌≡◌, List, [], ◌∷◌, ℕ, zero, suc, ◌*◌, ◌≤◌, ◌<◌, length, take, drop}
+use Rattle.std.specs.Prelude.{◌≡◌, List, [], ◌∷◌, ℕ, zero, suc, ◌*◌, ◌≤◌, ◌<◌, length, take, drop, None, Some}
 use Rattle.std.proofs.Common.{sym, subst, arith, leb-true}
-use Rattle.std.proofs.Math.Option.{none, some}
 use Rattle.laws.specs.Every.{Every, none, both, every_append, every_take, every_drop}
 use Rattle.laws.specs.BigEndian.{Bytes}
 use Rattle.layout.specs.Layout.{block_bytes, pages_in_block, bound32, last_sequence}
@@ -25,8 +24,8 @@ use Rattle.demands.specs.PoolBytes.{CellFits, cells_of-bytes_of, cells_of-is}
 -- The blocks that cells spell have no page that is not among the cells.
 block_in-fits : (c : Cells) → Every CellFits c → Every PageFits (block_in c)
 block_in-fits [] none = none
-block_in-fits (none ∷ c) (both f e) = none
-block_in-fits (some p ∷ c) (both f e) = both {x = p} f (block_in-fits c e)
+block_in-fits (None ∷ c) (both f e) = none
+block_in-fits (Some p ∷ c) (both f e) = both {x = p} f (block_in-fits c e)
 
 blocks_in_fit : (width k : ℕ) (c : Cells) → Every CellFits c → BlocksFit (blocks_in width k c)
 blocks_in_fit width zero c e = none
@@ -79,8 +78,8 @@ opened-enters blocks c t s e q =
 cells_in_fit : (width : ℕ) (b : List Page) → Every PageFits b → Every CellFits (cells_in width b)
 unfolding cells_in
 cells_in_fit zero b e = none
-cells_in_fit (suc k) [] none = both {x = none} tt (cells_in_fit k [] none)
-cells_in_fit (suc k) (p ∷ b) (both f e) = both {x = some p} f (cells_in_fit k b e)
+cells_in_fit (suc k) [] none = both {x = None} tt (cells_in_fit k [] none)
+cells_in_fit (suc k) (p ∷ b) (both f e) = both {x = Some p} f (cells_in_fit k b e)
 
 pub cells_fit : (width : ℕ) (bs : Blocks) → BlocksFit bs → Every CellFits (cells width bs)
 cells_fit width [] none = none
@@ -90,11 +89,11 @@ pub pool_of-fits : {st : Store} → StoreFits st → Every CellFits (pool_of st)
 pool_of-fits {st} h = cells_fit pages_in_block st.blocks h.pages
 
 -- THE POOL THAT A FITTING STORE LEAVES is read back from its bytes.
-pub pool_back : {st : Store} → StoreFits st → cells_of (bytes_of (pool_of st)) ≡ some (pool_of st)
+pub pool_back : {st : Store} → StoreFits st → cells_of (bytes_of (pool_of st)) ≡ Some (pool_of st)
 pool_back {st} h = cells_of-bytes_of (pool_of st) (pool_of-fits h)
 
 -- A POOL OF BYTES of which every page checks and which opens.
-pub bytes-enter : (bs : List ℕ) → Bytes bs → (blocks : ℕ) → length bs ≡ block_bytes * blocks → (c : Cells) → cells_of bs ≡ some c →
+pub bytes-enter : (bs : List ℕ) → Bytes bs → (blocks : ℕ) → length bs ≡ block_bytes * blocks → (c : Cells) → cells_of bs ≡ Some c →
     (t : Tariff) (s : State) → mount_cells blocks c ≡ opened t s → Enters s
 bytes-enter bs bytes blocks l c e t s m =
     opened-enters blocks c t s (cells_of-is bs bytes (pages_in_block * blocks) (omega arith) c e).fits m

@@ -1,7 +1,6 @@
 -- Every node that a fitting store says has 32-bit numbers: they are those of entries and node pages that fit, and replaying adds no
 -- number. Assumes nothing.
-use Rattle.std.specs.Prelude.{Bool, true, false, ◌&&◌, List, [], ◌∷◌, map, ℕ, zero, suc, eqb, ltb}
-use Rattle.std.proofs.Math.Option.{Option, none, some}
+use Rattle.std.specs.Prelude.{Bool, true, false, ◌&&◌, List, [], ◌∷◌, map, ℕ, zero, suc, eqb, ltb, Option, None, Some}
 use Rattle.std.proofs.Common.{arith}
 use Rattle.laws.specs.Every.{Every, none, both, every_append, every_map, every_weaken, every-cons_if}
 use Rattle.laws.specs.Tests.{choose}
@@ -40,7 +39,7 @@ page_in_narrow : (s : ℕ) (b : List Page) → Every PageFits b → Every Narrow
 page_in_narrow s [] none = none
 page_in_narrow s (p ∷ b) (both f e) = go (numbered s p) (page_in_narrow s b e)
   where
-    go : (t : Bool) → Every NarrowItem (items_at (page_in s b)) → Every NarrowItem (items_at (choose t (some p) (page_in s b)))
+    go : (t : Bool) → Every NarrowItem (items_at (page_in s b)) → Every NarrowItem (items_at (choose t (Some p) (page_in s b)))
     go true r = items_narrow p f
     go false r = r
 
@@ -50,8 +49,8 @@ find_narrow s (b ∷ bs) (both f e) = go (page_in s b) (page_in_narrow s b f) (f
   where
     go : (o : Option Page) → Every NarrowItem (items_at o) → Every NarrowItem (items_at (find s bs)) →
         Every NarrowItem (items_at (or_else o (find s bs)))
-    go none p r = r
-    go (some q) p r = p
+    go None p r = r
+    go (Some q) p r = p
 
 pieces_in_narrow : (n v : ℕ) (xs : List Item) → Every NarrowItem xs → Every NarrowPiece (pieces_in n v xs)
 pieces_in_narrow n v [] none = none

@@ -1,9 +1,8 @@
 -- The layout as a definition, and that it is what mount asks: "every pool that obeys the layout opens, any other is refused", whoever wrote it;
 -- the map that a pool spells is unique. What stands between calls (OneCall `OpenPool`) obeys, and what obeys stands. Assumes nothing.
-use Rattle.std.specs.Prelude.{◌≡◌, true, List, [], ◌∷◌, ℕ, ◌*◌, ◌≤◌, ◌<◌, ltb}
+use Rattle.std.specs.Prelude.{◌≡◌, true, List, [], ◌∷◌, ℕ, ◌*◌, ◌≤◌, ◌<◌, ltb, Option, None, Some}
 use Rattle.std.proofs.Math.Path.{refl, ap}
 use Rattle.std.proofs.Common.{sym, ◌∙◌, subst, arith}
-use Rattle.std.proofs.Math.Option.{Option, none, some}
 use borrow.Author.Tests.{leb-true, le-leb, ltb-true, lt-ltb}
 use Rattle.laws.specs.Tests.{and_left, and_right, and_both}
 use Rattle.laws.specs.Every.{Every, both}
@@ -56,7 +55,7 @@ pub record Obeys (pool : List ℕ) (t : Tariff) (ps : List Pair) : Type 0 where
   pub versions : VersionRules (store_of blocks)
   -- a complete checkpoint with a tariff in range and scores below the limit T
   pub set : complete (checkpoint_of (store_of blocks)) ≡ true
-  pub tariff : tariff_in (checkpoint_of (store_of blocks)) ≡ some t
+  pub tariff : tariff_in (checkpoint_of (store_of blocks)) ≡ Some t
   pub ranged : Ranged t
   pub scores : Every (λ (x : Score). x.score < limit t) (scores_in (checkpoint_of (store_of blocks)))
   -- a sound tree that spells the map, within the node limit, no log node on more than three pages
@@ -84,7 +83,7 @@ module _ {pool : List ℕ} {t : Tariff} {ps : List Pair} (o : Obeys pool t ps) w
   abbrev st : Store
   st = store_of o.blocks
 
-  reads : cells_of pool ≡ some (cells pages_in_block o.blocks)
+  reads : cells_of pool ≡ Some (cells pages_in_block o.blocks)
   reads = rw o.is (cells_of-bytes_of (cells pages_in_block o.blocks) o.fits)
 
   again : reopened (blocks_of pool) (cells pages_in_block o.blocks) ≡ st
@@ -126,11 +125,11 @@ module _ {pool : List ℕ} {t : Tariff} {ps : List Pair} (o : Obeys pool t ps) w
   obeys_map = map_unique (book_of (state_of st)).table (book_of (state_of st)).count ps o.spells
 
   -- The book that it spells is that of its pages.
-  pub obeys_spelled : book_in pool ≡ some (book_of (state_of st))
+  pub obeys_spelled : book_in pool ≡ Some (book_of (state_of st))
   unfolding book_in
-  obeys_spelled = ap (book_by (blocks_of pool)) reads ∙ ap (λ (z : Store). some (book_of (state_of z))) again
+  obeys_spelled = ap (book_by (blocks_of pool)) reads ∙ ap (λ (z : Store). Some (book_of (state_of z))) again
 
-  obeys_book : (b : Book) → book_in pool ≡ some b → book_of (state_of st) ≡ b
+  obeys_book : (b : Book) → book_in pool ≡ Some b → book_of (state_of st) ≡ b
   obeys_book b e = some_same (sym obeys_spelled ∙ e)
 
   -- The state that its bytes are read back as.
@@ -138,7 +137,7 @@ module _ {pool : List ℕ} {t : Tariff} {ps : List Pair} (o : Obeys pool t ps) w
   reopening = state_of (reopened (blocks_of pool) (cells pages_in_block o.blocks))
 
   -- IT STANDS BETWEEN CALLS.
-  pub obeys_stands : (b : Book) → book_in pool ≡ some b → OpenPool t pool b ps
+  pub obeys_stands : (b : Book) → book_in pool ≡ Some b → OpenPool t pool b ps
   obeys_stands b e =
       record {
         bytes = rw o.is (bytes-bytes_of (cells pages_in_block o.blocks));
@@ -168,10 +167,10 @@ obeys_unique {pool} o p =
 pub record Opening (pool : List ℕ) (t : Tariff) (s : State) : Type 0 where
   pub obeys : Obeys pool t (map_of (book_of s).count (book_of s).table)
   pub left : newest obeys.blocks ≤ last_sequence
-  pub book : book_in pool ≡ some (book_of s)
+  pub book : book_in pool ≡ Some (book_of s)
 
 -- The pages of a pool that passes the questions 5 to 7.
-module _ (pool : List ℕ) (bytes : Bytes pool) (t : Tariff) (size : pool_length pool ≡ true) (c : Cells) (r : cells_of pool ≡ some c)
+module _ (pool : List ℕ) (bytes : Bytes pool) (t : Tariff) (size : pool_length pool ≡ true) (c : Cells) (r : cells_of pool ≡ Some c)
     (m : Sealed (blocks_of pool) c t) where
   abbrev B : ℕ
   B = blocks_of pool
@@ -231,8 +230,8 @@ module _ (pool : List ℕ) (bytes : Bytes pool) (t : Tariff) (size : pool_length
 
 module _ (pool : List ℕ) (bytes : Bytes pool) (t : Tariff) (s : State) (size : pool_length pool ≡ true) where
   by-cells : (o : Option Cells) → cells_of pool ≡ o → mount_by (blocks_of pool) o ≡ opened t s → Opening pool t s
-  by-cells none r f = let z : ◌≡◌ {A = ℕ} 0 1 = cc in absurd (omega arith)
-  by-cells (some c) r f =
+  by-cells None r f = let z : ◌≡◌ {A = ℕ} 0 1 = cc in absurd (omega arith)
+  by-cells (Some c) r f =
       let x = opened_mounts f in
       subst (λ (z : State). Opening pool t z) (sym x.is)
       (sealed_opening pool bytes t size c r (mounts_sealed x.mounts) x.mounts.left)

@@ -1,11 +1,10 @@
 -- One call on a pool that stands between calls, whatever its bytes, with any work table and answer buffer: what it returns and leaves is what
 -- the reference model and the ordered map say. Assumes nothing.
-use Rattle.std.specs.Prelude.{◌≡◌, refl, Bool, ℕ, ◌≤◌, ◌<◌}
+use Rattle.std.specs.Prelude.{◌≡◌, refl, Bool, ℕ, ◌≤◌, ◌<◌, Option, None, Some}
 use Rattle.std.proofs.Math.Path.{sym, ap}
 use Rattle.std.proofs.Common.{◌∙◌, subst, arith}
 use Rattle.std.proofs.Math.Bool.{true, false}
 use mathlib.Core.List.{List, [], map}
-use Rattle.std.proofs.Math.Option.{Option, none, some}
 use borrow.Author.Tests.{ne_eqb}
 use Rattle.std.proofs.Math.Dec.{eqb}
 use Rattle.laws.specs.Tests.{choose}
@@ -61,7 +60,7 @@ pub record OpenPool (t : Tariff) (pool : List ℕ) (b : Book) (ps : List Pair) :
   pub bytes : Bytes pool
   pub size : pool_length pool ≡ true
   pub cells : Cells
-  pub reads : cells_of pool ≡ some cells
+  pub reads : cells_of pool ≡ Some cells
   pub sealed : Sealed (blocks_of pool) cells t
   pub ready : Ready (blocks_of pool) t (state_of (reopened (blocks_of pool) cells)) b ps
 
@@ -73,9 +72,9 @@ lean_thin : (m : Moment) → LeanAt m → Thin m
 lean_thin m h n l = omega (arith, h.each n l)
 
 -- The book that the pool spells is the book.
-pub book_in-is : {t : Tariff} {pool : List ℕ} {b : Book} {ps : List Pair} → OpenPool t pool b ps → book_in pool ≡ some b
+pub book_in-is : {t : Tariff} {pool : List ℕ} {b : Book} {ps : List Pair} → OpenPool t pool b ps → book_in pool ≡ Some b
 unfolding book_in
-book_in-is o = rw o.reads (ap some o.ready.says.is)
+book_in-is o = rw o.reads (ap Some o.ready.says.is)
 
 -- What a call leaves, `r`, what it ran, `w`, and the commands that the reference model was fed.
 pub record CalledBy (t : Tariff) (pool buffer : List ℕ) (b : Book) (ps : List Pair) (r : Outcome) (w : Option Work) (cs : List Command) : Type 0 where
@@ -115,7 +114,7 @@ module _ {t : Tariff} {pool : List ℕ} {b : Book} {ps : List Pair} (o : OpenPoo
   refused_called : (n : ℕ) → 1 ≤ n → outcome pool call ≡ refuse n pool (table_of call) (buffer_of call) → Called t pool call b ps
   unfolding work_of
   refused_called n h e =
-      from_known (refuse n pool (table_of call) (buffer_of call)) none [] e (ap (λ (x : Bool). choose x (work_in pool call) none) no)
+      from_known (refuse n pool (table_of call) (buffer_of call)) None [] e (ap (λ (x : Bool). choose x (work_in pool call) None) no)
       (ap (λ (x : Bool). commands_by x (commands_of (bytes_run call))) no)
       (record {
         length = refl;
@@ -134,7 +133,7 @@ module _ {t : Tariff} {pool : List ℕ} {b : Book} {ps : List Pair} (o : OpenPoo
       no = ap (λ (x : Outcome). eqb x.number 0) e ∙ ne_eqb n 0 (λ z. omega arith)
 
   module _ (bytes : Bytes (bytes_run call)) (cs : List Command) (t' : Tariff) (s : State) (p : pool_length pool ≡ true)
-      (q : commands_of (bytes_run call) ≡ some cs) (m : mount_of pool ≡ opened t' s) where
+      (q : commands_of (bytes_run call) ≡ Some cs) (m : mount_of pool ≡ opened t' s) where
     mounted : mount_cells B o.cells ≡ opened t' s
     unfolding mount_of
     mounted = sym (ap (mount_by B) o.reads) ∙ m
@@ -232,7 +231,7 @@ module _ {t : Tariff} {pool : List ℕ} {b : Book} {ps : List Pair} (o : OpenPoo
     accepted_called : outcome pool call ≡ accept B t' cs s (table_of call) (buffer_of call) → Called t pool call b ps
     unfolding work_of
     accepted_called e =
-        from_known (accept B t cs s (table_of call) (buffer_of call)) (some (record { tariff = t; commands = cs; start = s })) cs
+        from_known (accept B t cs s (table_of call) (buffer_of call)) (Some (record { tariff = t; commands = cs; start = s })) cs
         (e ∙ ap (λ (z : Tariff). accept B z cs s (table_of call) (buffer_of call)) same_tariff) work fed
         (record {
           length = same_blocks;
@@ -252,7 +251,7 @@ module _ {t : Tariff} {pool : List ℕ} {b : Book} {ps : List Pair} (o : OpenPoo
         yes : accepted (outcome pool call) ≡ true
         yes = ap (λ (x : Outcome). eqb x.number 0) e
 
-        work : work_of pool call ≡ some (record { tariff = t; commands = cs; start = s })
+        work : work_of pool call ≡ Some (record { tariff = t; commands = cs; start = s })
         work = rw (yes, q, m, same_tariff) refl
 
         fed : commands_in (fed_of pool call) ≡ cs

@@ -1,8 +1,7 @@
 -- Panels (document 02, P2): the sixteen charges add up to what all commands cost, and a batch without its panels leaves the same but for who is
 -- charged. Assumes nothing.
-use Rattle.std.specs.Prelude.{◌≡◌, refl, List, [], ◌∷◌, ◌++◌, ℕ, zero, suc, ◌+◌, ◌<◌, length}
+use Rattle.std.specs.Prelude.{◌≡◌, refl, List, [], ◌∷◌, ◌++◌, ℕ, zero, suc, ◌+◌, ◌<◌, length, Some}
 use Rattle.std.proofs.Common.{sym, ap, ap₂, ◌∙◌, subst, arith}
-use Rattle.std.proofs.Math.Option.{some}
 use Rattle.laws.specs.Lay.{lay}
 use Rattle.laws.specs.Update.{only, sum, sum_below, sum_below-add, sum-only}
 use Rattle.layout.specs.Layout.{panels, node_limit}
@@ -150,6 +149,6 @@ module _ (pool table buffer : List ℕ) (cs : List Command) (valid : ValidAll cs
       }
 
   -- PANELS LEAVE NO TRACE: not in the number, not in the pool, not in table or answers, not in the sum of the charges.
-  pub unnamed-leaves : (batch batch' : List ℕ) → commands_of batch ≡ some cs → commands_of batch' ≡ some (unnamed cs) →
+  pub unnamed-leaves : (batch batch' : List ℕ) → commands_of batch ≡ Some cs → commands_of batch' ≡ Some (unnamed cs) →
       SameBut (batch_of pool table batch buffer) (batch_of pool table batch' buffer)
   unnamed-leaves = both_end SameBut (λ o. same_but refl) pool table buffer cs (unnamed cs) (unnamed-room cs) accepts_same

@@ -1,8 +1,7 @@
 -- From bytes to bytes: a batch on a pool of bytes that opens leaves a pool of as many bytes, and these are read back as the very pages
 -- that the store has then. Assumes nothing.
-use Rattle.std.specs.Prelude.{◌≡◌, List, ℕ, ◌*◌, ◌≤◌, length}
+use Rattle.std.specs.Prelude.{◌≡◌, List, ℕ, ◌*◌, ◌≤◌, length, Some}
 use Rattle.std.proofs.Common.{sym, subst, arith}
-use Rattle.std.proofs.Math.Option.{some}
 use Rattle.laws.specs.BigEndian.{Bytes}
 use Rattle.layout.specs.Layout.{block_bytes, pages_in_block, fewest_blocks, most_blocks, node_limit}
 use Rattle.account.specs.declared.Tariff.{Tariff}
@@ -31,7 +30,7 @@ pool_bytes s = bytes_of (pool_of s.run.now)
 
 pub record PoolAfter (blocks : ℕ) (s after : State) : Type 0 where
   pub batch : AfterBatch s after
-  pub back : cells_of (pool_bytes after) ≡ some (pool_of after.run.now)
+  pub back : cells_of (pool_bytes after) ≡ Some (pool_of after.run.now)
   pub bytes : Bytes (pool_bytes after)
   pub size : length (pool_bytes after) ≡ block_bytes * blocks
 
@@ -45,7 +44,7 @@ closed-blocks t s small v = (close-closed v small t s.score).keeps.good.invarian
 
 -- A BATCH ON A POOL OF BYTES
 module _ {blocks : ℕ} (four : fewest_blocks ≤ blocks) (small : blocks ≤ most_blocks) (bs : List ℕ) (bytes : Bytes bs)
-    (size : length bs ≡ block_bytes * blocks) {c : Cells} (reads : cells_of bs ≡ some c) {t : Tariff} {s : State} (opens : mount_cells blocks c ≡ opened t s)
+    (size : length bs ≡ block_bytes * blocks) {c : Cells} (reads : cells_of bs ≡ Some c) {t : Tariff} {s : State} (opens : mount_cells blocks c ≡ opened t s)
     (cs : List Command) (valid : ValidAll cs) (few : length cs ≤ most_commands) where
   enters : Enters s
   enters = bytes-enter bs bytes blocks size c reads t s opens

@@ -1,8 +1,7 @@
 -- The pool of an accepted prepare opens: node 0 alone, an empty leaf in log mode with score 0, and the empty map. Assumes nothing.
-use Rattle.std.specs.Prelude.{◌≡◌, Bool, true, List, [], ◌∷◌, eqb, leb, ltb, replicate}
+use Rattle.std.specs.Prelude.{◌≡◌, Bool, true, List, [], ◌∷◌, eqb, leb, ltb, replicate, None, Some}
 use Rattle.std.proofs.Math.Path.{refl, ap, subst, sym, fun_ext}
 use Rattle.std.proofs.Common.{◌∙◌, arith}
-use Rattle.std.proofs.Math.Option.{none, some}
 use Prim.Native.Nat.{ℕ, zero, suc, ◌*◌, ◌-◌, ◌≤◌, max}
 use borrow.Author.Tests.{le-leb, eq-eqb, lt-ltb, le-ltb}
 use Rattle.std.proofs.Math.ListN.{length}
@@ -47,7 +46,7 @@ blank-tally : (k : ℕ) (f : Page → Bool) → tally f (replicate k []) ≡ 0
 blank-tally zero f = refl
 blank-tally (suc k) f = omega (arith, blank-tally k f)
 
-blank-find : (k s : ℕ) → find s (replicate k []) ≡ none
+blank-find : (k s : ℕ) → find s (replicate k []) ≡ None
 blank-find zero s = refl
 blank-find (suc k) s = blank-find k s
 
@@ -141,7 +140,7 @@ module _ (blocks : ℕ) (t : Tariff) (four : fewest_blocks ≤ blocks) where
       let l = last-is in
       λ i. record { at = e i; buffer = []; last = l i }
 
-  set_is : checkpoint_of st ≡ Checkpoint.checkpoint_page (some t) (record { id = 0; score = 0 } ∷ []) (some 1) ∷ []
+  set_is : checkpoint_of st ≡ Checkpoint.checkpoint_page (Some t) (record { id = 0; score = 0 } ∷ []) (Some 1) ∷ []
   unfolding checkpoint_of collect
   set_is = ap (λ (n : ℕ). collect (λ s. find s bs) n []) last-is
 

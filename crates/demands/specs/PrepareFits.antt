@@ -1,6 +1,5 @@
 -- The pool that prepare leaves can stand in bytes and is read back from them: its two pages are within their limits. Assumes nothing.
-use Rattle.std.specs.Prelude.{◌≡◌, [], ◌∷◌, ℕ, zero, suc, ◌-◌, replicate}
-use Rattle.std.proofs.Math.Option.{none, some}
+use Rattle.std.specs.Prelude.{◌≡◌, [], ◌∷◌, ℕ, zero, suc, ◌-◌, replicate, None, Some}
 use Rattle.std.proofs.Common.{arith}
 use Rattle.laws.specs.Every.{Every, none, both}
 use Rattle.layout.specs.Layout.{no_leaf, pages_in_block}
@@ -38,7 +37,7 @@ module _ (t : Tariff) (r : Ranged t) where
             };
       }
 
-  checkpoint_page_lem : PageFits (page 3 (checkpoint (some t) (record { id = 0; score = 0 } ∷ []) (some 1)))
+  checkpoint_page_lem : PageFits (page 3 (checkpoint (Some t) (record { id = 0; score = 0 } ∷ []) (Some 1)))
   checkpoint_page_lem =
       record {
         from = omega arith;
@@ -56,11 +55,11 @@ module _ (t : Tariff) (r : Ranged t) where
   first_fits : Every PageFits (first_pages t)
   first_fits =
       both {x = page 2 (log (record { id = 0; version = 1; change = link Leaf no_leaf } ∷ []))} root_page_lem
-      (both {x = page 3 (checkpoint (some t) (record { id = 0; score = 0 } ∷ []) (some 1))} checkpoint_page_lem none)
+      (both {x = page 3 (checkpoint (Some t) (record { id = 0; score = 0 } ∷ []) (Some 1))} checkpoint_page_lem none)
 
   pub prepared-fits : (blocks : ℕ) → Every CellFits (prepared blocks t)
   unfolding prepared
   prepared-fits blocks = cells_fit pages_in_block (prepared_blocks blocks t) (both first_fits (blank-blocks (blocks - 1)))
 
-  pub prepared_back : (blocks : ℕ) → cells_of (bytes_of (prepared blocks t)) ≡ some (prepared blocks t)
+  pub prepared_back : (blocks : ℕ) → cells_of (bytes_of (prepared blocks t)) ≡ Some (prepared blocks t)
   prepared_back blocks = cells_of-bytes_of (prepared blocks t) (prepared-fits blocks)

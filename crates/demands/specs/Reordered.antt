@@ -1,10 +1,9 @@
 -- "Pools with any order still open" (document 02, P1): two pools that differ in the order of their newest checkpoint's scores alone are asked the same
 -- questions with the same answers, and stand with the same tariff, book and map. Assumes nothing.
-use Rattle.std.specs.Prelude.{◌≡◌, Bool, ◌⊎◌, List, [], ◌∷◌, ℕ, zero, suc, ◌+◌, ◌/◌, ◌≤◌, ◌<◌, eqb, leb, length}
+use Rattle.std.specs.Prelude.{◌≡◌, Bool, ◌⊎◌, List, [], ◌∷◌, ℕ, zero, suc, ◌+◌, ◌/◌, ◌≤◌, ◌<◌, eqb, leb, length, Option, Some}
 use Rattle.std.proofs.Math.Path.{refl, sym, ap, ap₂, fun_ext}
 use Rattle.std.proofs.Common.{◌∙◌, subst, inl, inr, arith, ne_eqb, ltb-true, lt-ltb, le-ltb, le-leb}
 use Rattle.std.proofs.Math.Bool.{true, false, ◌&&◌}
-use Rattle.std.proofs.Math.Option.{Option, some}
 use Rattle.std.proofs.Math.Dec.{ltb}
 use Rattle.std.proofs.lemmas.Bool.{lt-leb}
 use Rattle.laws.specs.Tests.{choose}
@@ -46,8 +45,8 @@ pub record ReorderedPool (pool pool' : List ℕ) : Type 0 where
   pub length : length pool ≡ length pool'
   pub pages : Cells
   pub pages' : Cells
-  pub reads : cells_of pool ≡ some pages
-  pub reads' : cells_of pool' ≡ some pages'
+  pub reads : cells_of pool ≡ Some pages
+  pub reads' : cells_of pool' ≡ Some pages'
   -- page for page they are the same but for fields 14 ..
   pub same : unscored_cells pages ≡ unscored_cells pages'
   -- .. of which the newest checkpoints have the same, in whatever order, on whichever of its pages
@@ -122,7 +121,7 @@ module _ {pool pool' : List ℕ} (r : ReorderedPool pool pool') where
   lasts : numbers_left st ≡ numbers_left st'
   lasts = ap (λ (w : View). leb w.last last_sequence) a.views
 
-  pages-asked : of_pages B (some r.pages) ≡ of_pages B (some r.pages')
+  pages-asked : of_pages B (Some r.pages) ≡ of_pages B (Some r.pages')
   pages-asked =
       let five = a.pass in
       let six = ap₂ ◌&&◌ completes (ap (asked (λ t. true)) a.tariff) in

@@ -1,8 +1,7 @@
 -- How many node requests a command makes: at most 32 more than there are nodes. A command reads each node at most once, and what it writes
 -- goes along its way up: a branch has two children or more, so a tree has at least three times as many nodes as levels below the root, and a
 -- put's way down and up again is no longer than that and four. Assumes nothing.
-use Rattle.std.specs.Prelude.{Bool, List, ℕ, zero, suc, ◌+◌, ◌*◌, ◌≤◌, ◌<◌, length}
-use Rattle.std.proofs.Math.Option.{Option, none, some}
+use Rattle.std.specs.Prelude.{Bool, List, ℕ, zero, suc, ◌+◌, ◌*◌, ◌≤◌, ◌<◌, length, Option, None, Some}
 use native.Mathlib.Omega.{arith}
 use Rattle.std.proofs.Math.ListN.{length-append}
 use Rattle.std.proofs.lemmas.List.{length-map}
@@ -49,8 +48,8 @@ module _ (table : Table) (count : ℕ) (pairs : List Pair) (s : Spells table cou
   reads-length k small = omega (arith, length-map (path count table k 0) read, path-count table count pairs s k small)
 
   deletion-length : (o : Option ℕ) (leaf k : ℕ) → length (deletion_for o leaf k) ≤ 1
-  deletion-length none leaf k = omega arith
-  deletion-length (some old) leaf k = omega arith
+  deletion-length None leaf k = omega arith
+  deletion-length (Some old) leaf k = omega arith
 
   delete-length : (k : ℕ) → k < bound32 → length (delete_requests count table k) ≤ 1 + count
   unfolding delete_requests

@@ -1,8 +1,7 @@
 -- Scores in node order (document 02, P1), of a pool's bytes: what it means, that the pools of closed batches and of prepares have it, and that it leaves
 -- one closing set alone. Assumes nothing.
-use Rattle.std.specs.Prelude.{◌≡◌, refl, Bool, ◌⊎◌, List, ℕ, ◌≤◌, ◌<◌, ltb}
+use Rattle.std.specs.Prelude.{◌≡◌, refl, Bool, ◌⊎◌, List, ℕ, ◌≤◌, ◌<◌, ltb, Option, None, Some}
 use Rattle.std.proofs.Common.{sym, ap, ap₂, ◌∙◌, subst, inl, inr, arith, le-ltb}
-use Rattle.std.proofs.Math.Option.{Option, none, some}
 use Rattle.laws.specs.Options.{some_same}
 use Rattle.laws.specs.Order.{le_or}
 use Rattle.laws.specs.Counts.{bit, count}
@@ -19,8 +18,8 @@ use Rattle.model.specs.Calls.{book_in}
 
 -- The newest checkpoint of a pool (document 01: closing set), its pages by sequence number; none where a page does not check.
 abbrev newest_by : ℕ → Option Cells → Option (List CheckpointPage)
-newest_by blocks none = none
-newest_by blocks (some c) = some (checkpoint_of (reopened blocks c))
+newest_by blocks None = None
+newest_by blocks (Some c) = Some (checkpoint_of (reopened blocks c))
 
 unfoldable pub newest_checkpoint : List ℕ → Option (List CheckpointPage)
 newest_checkpoint pool = newest_by (blocks_of pool) (cells_of pool)
@@ -33,10 +32,10 @@ has_node b n = ltb n b.count
 pub record InNodeOrder (pool : List ℕ) : Type 0 where
   pub tariff : Tariff
   pub book : Book
-  pub spelled : book_in pool ≡ some book
+  pub spelled : book_in pool ≡ Some book
   -- those of the newest checkpoint, by page sequence number and then by place: 50 on its first page, 54 on each other, each filled before the next
   pub scores : List Score
-  pub written : newest_checkpoint pool ≡ some (checkpoint_pages tariff scores)
+  pub written : newest_checkpoint pool ≡ Some (checkpoint_pages tariff scores)
   -- "by ascending node id"
   pub ascending : Ascending scores
   -- these ids: each that has a node, once, and no other
@@ -45,7 +44,7 @@ pub record InNodeOrder (pool : List ℕ) : Type 0 where
   pub each : (n : ℕ) → n < book.count → score_in scores n ≡ (book.account n).score
 
 -- What is closed with the scores from node 0 on is in node order.
-pub closed_in_order : (pool : List ℕ) (t : Tariff) (b : Book) → book_in pool ≡ some b → (c : Cells) → cells_of pool ≡ some c →
+pub closed_in_order : (pool : List ℕ) (t : Tariff) (b : Book) → book_in pool ≡ Some b → (c : Cells) → cells_of pool ≡ Some c →
     (score : ℕ → ℕ) →
     checkpoint_of (reopened (blocks_of pool) c) ≡ checkpoint_pages t (scores_from 0 b.count score) →
     ((n : ℕ) → n < b.count → score n ≡ (b.account n).score) → InNodeOrder pool
@@ -86,6 +85,6 @@ module _ {pool pool' : List ℕ} (x : InNodeOrder pool) (y : InNodeOrder pool') 
   pub one_order : newest_checkpoint pool ≡ newest_checkpoint pool'
   one_order =
       x.written ∙
-      ap₂ (λ (t : Tariff) (z : List Score). some (checkpoint_pages t z)) tariffs
+      ap₂ (λ (t : Tariff) (z : List Score). Some (checkpoint_pages t z)) tariffs
       (ascending_one x.scores y.scores x.ascending y.ascending same_ids each_same) ∙
       sym y.written

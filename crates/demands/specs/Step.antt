@@ -1,8 +1,7 @@
 -- One node request: what the state of the run says afterwards is what the reference model says. Assumes nothing.
-use Rattle.std.specs.Prelude.{◌≡◌, refl, ◌⊎◌}
+use Rattle.std.specs.Prelude.{◌≡◌, refl, ◌⊎◌, Option, None}
 use Rattle.std.proofs.Common.{sym, ap, ◌∙◌, subst, inl, inr, arith}
 use Rattle.std.proofs.Math.Path.{fun_ext}
-use Rattle.std.proofs.Math.Option.{Option, none}
 use Prim.Native.Nat.{ℕ, ◌≤◌, ◌<◌}
 use Rattle.laws.specs.Order.{eq_or}
 use Rattle.laws.specs.Update.{update, update_same, update_other, update_self}
@@ -35,7 +34,7 @@ update_mode f n a = fun_ext (λ k. go k (eq_or k n))
 
 module _ {blocks : ℕ} {table : Table} {count : ℕ} {m : ℕ → Mode} {run : Run} (v : Keeps blocks count table m run) where
   -- What a request writes leaves the store with the request's table, count and mode.
-  write_keeps : (r : NodeRequest) (mode : Mode) → (request_of r ≡ none → mode ≡ fresh.mode) → Fit (node_limit blocks) r table count →
+  write_keeps : (r : NodeRequest) (mode : Mode) → (request_of r ≡ None → mode ≡ fresh.mode) → Fit (node_limit blocks) r table count →
       Keeps blocks (count_after r count) (apply r table) (update m (id_of r) mode) (write mode r run)
   write_keeps (read n) mode h f =
       subst (λ (z : Table). Keeps blocks count z (update m n mode) (Store.serve mode n Store.read run)) (update_self table n (table n) refl)
@@ -52,7 +51,7 @@ module _ {blocks : ℕ} (t : Tariff) (s : State) (v : Sound blocks s) (r : NodeR
   abbrev served : Account
   served = account_by t (request_of r) (b.account (id_of r))
 
-  created_log : request_of r ≡ none → served.mode ≡ fresh.mode
+  created_log : request_of r ≡ None → served.mode ≡ fresh.mode
   created_log e = ap (λ (q : Option Request). (account_by t q (b.account (id_of r))).mode) e
 
   in_count : (r : NodeRequest) (limit : ℕ) (table : Table) (count : ℕ) → Fit limit r table count → id_of r < count_after r count

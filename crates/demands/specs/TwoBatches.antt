@@ -1,8 +1,7 @@
 -- Two batches with the same pool and buffers, which ask for the same room: a relation that holds of equal ends, and of both ends where the pool opens,
 -- holds of the ends of both calls. Assumes nothing.
-use Rattle.std.specs.Prelude.{◌≡◌, Bool, true, false, List, [], ◌++◌, ℕ, eqb}
+use Rattle.std.specs.Prelude.{◌≡◌, Bool, true, false, List, [], ◌++◌, ℕ, eqb, Some}
 use Rattle.std.proofs.Math.Path.{refl}
-use Rattle.std.proofs.Math.Option.{some}
 use Rattle.laws.specs.Tests.{choose}
 use Rattle.account.specs.declared.Tariff.{Tariff}
 use Rattle.command.specs.declared.Command.{Command}
@@ -18,14 +17,14 @@ module _ (R : Outcome → Outcome → Type 0) (alike : (o : Outcome) → R o o) 
     (room : room_for_all cs ≡ room_for_all ds)
     (accepts : (t : Tariff) (s : State) → R (accept (blocks_of pool) t cs s table buffer) (accept (blocks_of pool) t ds s table buffer)) where
   abbrev end_of : ℕ → Bool → Mounted → List Command → Outcome
-  end_of n b m xs = choose b (done (work_by (some xs) m) pool table buffer) (refuse n pool table buffer)
+  end_of n b m xs = choose b (done (work_by (Some xs) m) pool table buffer) (refuse n pool table buffer)
 
   ends : (n : ℕ) (b : Bool) (m : Mounted) → R (end_of n b m cs) (end_of n b m ds)
   ends n true (refused k) = alike (refuse 0 pool table buffer)
   ends n true (opened t s) = accepts t s
   ends n false m = alike (refuse n pool table buffer)
 
-  module _ (bytes bytes' : List ℕ) (e : commands_of bytes ≡ some cs) (f : commands_of bytes' ≡ some ds) where
+  module _ (bytes bytes' : List ℕ) (e : commands_of bytes ≡ Some cs) (f : commands_of bytes' ≡ Some ds) where
     asked : of_buffers pool table bytes buffer ≡ of_buffers pool table bytes' buffer
     unfolding of_buffers
     asked = rw (e, f, room) refl

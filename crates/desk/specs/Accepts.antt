@@ -1,8 +1,7 @@
 -- What is known of a desk where nothing that is lent was answered with no: what a batch of the joined bytes would have, and queues that can be
 -- served. Assumes nothing.
-use Rattle.std.specs.Prelude.{◌≡◌, refl, true, List, ℕ, ◌*◌, ◌≤◌, length}
+use Rattle.std.specs.Prelude.{◌≡◌, refl, true, List, ℕ, ◌*◌, ◌≤◌, length, Some}
 use Rattle.std.proofs.Common.{sym, ap, ◌∙◌, arith}
-use Rattle.std.proofs.Math.Option.{some}
 use Rattle.laws.specs.BigEndian.{Bytes}
 use Rattle.layout.specs.Layout.{fewest_blocks, most_blocks, block_bytes, table_bytes}
 use Rattle.command.specs.declared.Command.{Command}
@@ -27,19 +26,19 @@ pub record DeskAccepts (pool_length table_length blocks : ℕ) (lengths queues :
   pub commands_are : accepts.commands ≡ joined (lists_in lengths queues)
 
 -- The lists of commands are those that were read.
-pub lists_are : (lengths queues : List ℕ) (css : List (List Command)) → all_commands (queues_in lengths queues) ≡ some css →
+pub lists_are : (lengths queues : List ℕ) (css : List (List Command)) → all_commands (queues_in lengths queues) ≡ Some css →
     lists_in lengths queues ≡ css
 unfolding lists_in
 lists_are lengths queues css e = ap lists_or e
 
 -- .. and the joined bytes are read as these, joined.
-pub lists_read : (lengths queues : List ℕ) (css : List (List Command)) → all_commands (queues_in lengths queues) ≡ some css →
-    commands_of (joined_bytes css) ≡ some (joined css) → commands_of (joined_bytes (lists_in lengths queues)) ≡ some (joined css)
+pub lists_read : (lengths queues : List ℕ) (css : List (List Command)) → all_commands (queues_in lengths queues) ≡ Some css →
+    commands_of (joined_bytes css) ≡ Some (joined css) → commands_of (joined_bytes (lists_in lengths queues)) ≡ Some (joined css)
 lists_read lengths queues css e read = ap (λ (l : List (List Command)). commands_of (joined_bytes l)) (lists_are lengths queues css e) ∙ read
 
 -- So are the bytes that the call runs.
 pub runs_read : (lengths queues : List ℕ) {room rounds : ℕ} → fills lengths queues ≡ true → (r : Ready lengths queues room rounds) →
-    commands_of (joined_or (joined_by (queues_of lengths queues))) ≡ some (joined r.commands)
+    commands_of (joined_or (joined_by (queues_of lengths queues))) ≡ Some (joined r.commands)
 unfolding queues_of joined_of
 runs_read lengths queues fill r = rw (fill, r.are) r.read
 
@@ -62,13 +61,13 @@ module _ (lengths queues : List ℕ) (fill : fills lengths queues ≡ true) wher
               most = most;
               table = table;
               commands = joined (lists_in lengths queues);
-              are = lists_read lengths queues css q.are q.read ∙ ap (λ (l : List (List Command)). some (joined l)) lists;
+              are = lists_read lengths queues css q.are q.read ∙ ap (λ (l : List (List Command)). Some (joined l)) lists;
               enough = omega (arith, q.room-is, enough, ap (λ (l : List (List Command)). room_for_all (joined l)) lists);
             };
         serves =
             record {
               fill = fill;
-              valid = q.are ∙ ap some lists;
+              valid = q.are ∙ ap Some lists;
               rounds_are = q.rounds-is ∙ ap longest lists;
               room = omega (arith, q.room-is, enough, ap (λ (l : List (List Command)). room_for_all (joined l)) lists);
               few = omega (arith, few, count, fits.short, ap (λ (l : List (List Command)). length (joined l)) lists);
@@ -77,7 +76,7 @@ module _ (lengths queues : List ℕ) (fill : fills lengths queues ≡ true) wher
       }
 
   -- The joined bytes are bytes.
-  pub bytes_are : Bytes queues → all_commands (queues_in lengths queues) ≡ some (lists_in lengths queues) → Bytes (joined_bytes (lists_in lengths queues))
+  pub bytes_are : Bytes queues → all_commands (queues_in lengths queues) ≡ Some (lists_in lengths queues) → Bytes (joined_bytes (lists_in lengths queues))
   bytes_are bytes valid =
       joined_bytes_lem (queues-bytes lengths queues (queue_count lengths) bytes) (lent_few lengths queues (filled lengths queues fill) bytes)
       (all_read (queues_in lengths queues) (lists_in lengths queues) valid)

@@ -6,18 +6,21 @@ ghost use Rattle.book.specs.InTurn.{no_charges};
 ghost use Rattle.model.specs.Call.{desk_of};
 ghost use Rattle.desk_queues.specs.Joined.{joined_bytes};
 ghost use Rattle.desk_run.specs.Served.{lists_in};
-ghost use Rattle.batch.specs.Left.{Worked, Leaves};
+ghost use Rattle.batch.specs.Left.{outcome_of, Worked, Leaves};
 ghost use Rattle.desk.specs.Accepts.{DeskAccepts};
 
-use batch::answer::Outcome;
 use batch::end::{close, refuse, unopened};
 use desk_run::rounds::run_rounds;
+use flash_allocate::flash::Flash;
 use layout::{PANELS, TABLE_BYTES, pool_blocks};
+use mount::answer::Mounted;
 use mount::mount;
 use questions::desk::refusal;
+use refusal::Refusal;
 use run::charges::clear;
 
 // Questions 5 to 8, the rounds and the checkpoint, in a table of the pool's size.
+// Not one function with batch's: a closure for the run lends four buffers, and its contract is longer than what they share.
 fn work(
     pool: &mut [u8],
     table: &mut [u8],
@@ -27,26 +30,25 @@ fn work(
     charges: &mut [u64; PANELS],
     blocks: usize,
     rounds: usize,
-) -> Outcome
+) -> Result<usize, Refusal>
     requires { (DeskAccepts (length pool.old) (length table.old) blocks lengths.now queues.now rounds
         (length answers.old)) × (charges.old ≡ no_charges) }
     ensures { Worked pool.old pool.new table.old table.new
         (joined_bytes (lists_in lengths.now queues.now)) answers.old
-        answers.new charges.new result }
+        answers.new charges.new (outcome_of result) }
 {
-    let mounted = mount(pool, table, blocks);
-    if mounted.refused == 0 {} else {
-        return unopened(table, mounted.refused);
-    }
-    let tariff = mounted.tariff;
-    let state = mounted.state;
+    let Mounted { tariff, state } = match mount(pool, table, blocks) {
+        Ok(mounted) => mounted,
+        Err(refusal) => return unopened(table, refusal),
+    };
+    let mut flash = Flash { pool, table, state };
     let done = run_rounds(
-        pool, table, lengths, queues, answers, charges, state, tariff, rounds,
+        &mut flash, lengths, queues, answers, charges, tariff, rounds,
     );
-    close(pool, table, done, tariff)
+    Ok(close(&mut flash, done, tariff))
 }
 
-// A desk call: refused with its number, or the queues served. The charges that it finds mean nothing.
+// A desk call: refused, or the queues served; then the length of their answers is given. The charges that it finds mean nothing.
 pub fn desk(
     pool: &mut [u8],
     table: &mut [u8],
@@ -54,18 +56,17 @@ pub fn desk(
     queues: &[u8],
     answers: &mut [u8],
     charges: &mut [u64; PANELS],
-) -> Outcome
+) -> Result<usize, Refusal>
     ensures { Leaves (desk_of pool.old table.old lengths.now
-        queues.now answers.old) result pool.new table.new answers.new
+        queues.now answers.old) (outcome_of result) pool.new table.new answers.new
         charges.new }
 {
     clear(charges);
-    let asked = refusal(pool, table, lengths, queues, answers);
-    if asked.number == 0 {} else {
-        return refuse(pool, table, asked.number);
-    }
-    let blocks = pool_blocks(pool.len());
-    let bytes = TABLE_BYTES * blocks;
+    let asked = match refusal(pool, table, lengths, queues, answers) {
+        Ok(asked) => asked,
+        Err(refusal) => return refuse(pool, table, refusal),
+    };
+    let bytes = TABLE_BYTES * asked.blocks;
     work(
         pool,
         &mut table[0..bytes],
@@ -73,7 +74,7 @@ pub fn desk(
         queues,
         answers,
         charges,
-        blocks,
+        asked.blocks,
         asked.rounds,
     )
 }

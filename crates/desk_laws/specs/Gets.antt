@@ -1,7 +1,6 @@
 -- So many gets: 7 bytes each, and 11 with the command 05 before it. They are read by the law of what is spelled, not command by command. Assumes nothing.
-use Rattle.std.specs.Prelude.{◌≡◌, refl, List, [], ◌∷◌, ℕ, zero, suc, ◌*◌, ◌≤◌, length, replicate}
+use Rattle.std.specs.Prelude.{◌≡◌, refl, List, [], ◌∷◌, ℕ, zero, suc, ◌*◌, ◌≤◌, length, replicate, Some}
 use Rattle.std.proofs.Common.{ap, ◌∙◌, arith, eq-eqb}
-use Rattle.std.proofs.Math.Option.{some}
 use Rattle.std.proofs.lemmas.List.{length-replicate}
 use Rattle.laws.specs.Every.{Every, every-replicate}
 use Rattle.layout.specs.Layout.{most_batch_bytes}
@@ -35,7 +34,7 @@ room-gets zero = refl
 room-gets (suc n) = omega (arith, room-gets n)
 
 -- One queue of them, alone and joined.
-pub queue_gets : (n : ℕ) → 7 * n ≤ most_batch_bytes → queue_commands (batch_bytes (gets n)) ≡ some (gets n)
+pub queue_gets : (n : ℕ) → 7 * n ≤ most_batch_bytes → queue_commands (batch_bytes (gets n)) ≡ Some (gets n)
 unfolding queue_commands
 queue_gets n l =
     ap own_commands (commands_of-batch_bytes (gets n) (valid_gets n) (omega (arith, length-gets n))) ∙

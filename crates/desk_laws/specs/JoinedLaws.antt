@@ -1,7 +1,6 @@
 -- The batch that queues join to: what its commands are, how long it is, and what it asks for. Assumes nothing.
-use Rattle.std.specs.Prelude.{◌≡◌, refl, List, [], ◌∷◌, map, ℕ, ◌+◌, ◌*◌, ◌≤◌, ◌<◌, length}
+use Rattle.std.specs.Prelude.{◌≡◌, refl, List, [], ◌∷◌, map, ℕ, ◌+◌, ◌*◌, ◌≤◌, ◌<◌, length, None, Some}
 use Rattle.std.proofs.Common.{◌∙◌, arith, length-append}
-use Rattle.std.proofs.Math.Option.{none, some}
 use Rattle.laws.specs.BigEndian.{Bytes}
 use Rattle.laws.specs.Every.{Every, none as every-none, both, every_weaken}
 use Rattle.laws.specs.Update.{sum}
@@ -82,7 +81,7 @@ module _ (css : List (List Command)) where
       below p l = omega arith
 
   -- Question 3: joined bytes over the length limit are refused.
-  pub joined_long : most_batch_bytes < length (joined_bytes css) → commands_of (joined_bytes css) ≡ none
+  pub joined_long : most_batch_bytes < length (joined_bytes css) → commands_of (joined_bytes css) ≡ None
   joined_long l = commands_of_long (joined_bytes css) l
 
 -- Of queues made of bytes, 16 at most, that were read:
@@ -100,6 +99,6 @@ module _ {queues : List (List ℕ)} {css : List (List Command)} (bytes : Every B
   joined_length = omega (arith, bytes-joined css, read-bytes bytes r)
 
   -- Within the length limit they are read as the joined commands.
-  pub joined_short : length (joined_bytes css) ≤ most_batch_bytes → commands_of (joined_bytes css) ≡ some (joined css)
+  pub joined_short : length (joined_bytes css) ≤ most_batch_bytes → commands_of (joined_bytes css) ≡ Some (joined css)
   unfolding joined_bytes
   joined_short l = commands_of-batch_bytes (joined css) read-joined l

@@ -1,9 +1,8 @@
 -- The queues that the lengths cut from the queue buffer: at most 16, of bytes, and together as long as the buffer. Assumes nothing.
-use Rattle.std.specs.Prelude.{◌≡◌, Bool, ◌&&◌, List, map, ◌⊎◌, ℕ, zero, suc, ◌*◌, ◌≤◌, ◌<◌, eqb, leb, length}
+use Rattle.std.specs.Prelude.{◌≡◌, Bool, ◌&&◌, List, map, ◌⊎◌, ℕ, zero, suc, ◌*◌, ◌≤◌, ◌<◌, eqb, leb, length, None, Some}
 use Rattle.std.proofs.Math.Path.{refl, sym}
 use Rattle.std.proofs.Common.{ap, ◌∙◌, inl, inr, arith, eqb-true, leb-true}
 use Rattle.std.proofs.Math.Bool.{true, false}
-use Rattle.std.proofs.Math.Option.{none, some}
 use Rattle.laws.specs.BigEndian.{Bytes, bytes-part}
 use Rattle.laws.specs.Every.{Every}
 use Rattle.laws.specs.Lay.{length_part}
@@ -62,12 +61,12 @@ pub record Cut (lengths queues : List ℕ) (qs : List (List ℕ)) : Type 0 where
   pub fill : fills lengths queues ≡ true
   pub are : qs ≡ queues_in lengths queues
 
-module _ (lengths queues : List ℕ) (qs : List (List ℕ)) (e : queues_of lengths queues ≡ some qs) where
+module _ (lengths queues : List ℕ) (qs : List (List ℕ)) (e : queues_of lengths queues ≡ Some qs) where
   pub queues_cut : Cut lengths queues qs
   unfolding queues_of
   queues_cut = go (fills lengths queues) refl e
     where
-      go : (b : Bool) → fills lengths queues ≡ b → choose b (some (queues_in lengths queues)) none ≡ some qs →
+      go : (b : Bool) → fills lengths queues ≡ b → choose b (Some (queues_in lengths queues)) None ≡ Some qs →
           Cut lengths queues qs
       go true f g = record { fill = f; are = sym (some_same g) }
       go false f g = absurd (none_some g)

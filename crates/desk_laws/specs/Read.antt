@@ -1,7 +1,6 @@
 -- Queues that were read, each with its commands: these are valid, name no panel, and are spelled by the queue's own bytes. Assumes nothing.
-use Rattle.std.specs.Prelude.{◌≡◌, refl, Bool, true, false, List, [], ◌∷◌, map, ℕ, zero, suc, eqb, length, get_or}
+use Rattle.std.specs.Prelude.{◌≡◌, refl, Bool, true, false, List, [], ◌∷◌, map, ℕ, zero, suc, eqb, length, get_or, Option, None, Some}
 use Rattle.std.proofs.Common.{ap, ◌∙◌, subst, arith, eqb-true, length-append}
-use Rattle.std.proofs.Math.Option.{Option, none, some}
 use Rattle.laws.specs.BigEndian.{Bytes}
 use Rattle.laws.specs.Every.{Every, none as every-none, both}
 use Rattle.laws.specs.Options.{none_some, some_same}
@@ -20,35 +19,35 @@ use Rattle.desk_queues.specs.Joined.{own_commands, queue_commands, beside, all_c
 
 -- A QUEUE that was read is a batch by itself, without a command 05.
 pub record Own (queue : List ℕ) (cs : List Command) : Type 0 where
-  pub commands : commands_of queue ≡ some cs
+  pub commands : commands_of queue ≡ Some cs
   pub unnamed : named_in cs ≡ 0
 
-pub queue_own : (queue : List ℕ) (cs : List Command) → queue_commands queue ≡ some cs → Own queue cs
+pub queue_own : (queue : List ℕ) (cs : List Command) → queue_commands queue ≡ Some cs → Own queue cs
 unfolding queue_commands
 queue_own queue cs e = go (commands_of queue) refl e
   where
-    on : (ds : List Command) → commands_of queue ≡ some ds → (b : Bool) → eqb (named_in ds) 0 ≡ b → choose b (some ds) none ≡ some cs → Own queue cs
+    on : (ds : List Command) → commands_of queue ≡ Some ds → (b : Bool) → eqb (named_in ds) 0 ≡ b → choose b (Some ds) None ≡ Some cs → Own queue cs
     on ds f true t g = subst (Own queue) (some_same g) (record { commands = f; unnamed = eqb-true (named_in ds) 0 t })
     on ds f false t g = absurd (none_some g)
 
-    go : (o : Option (List Command)) → commands_of queue ≡ o → own_commands o ≡ some cs → Own queue cs
-    go none f g = absurd (none_some g)
-    go (some ds) f g = on ds f (eqb (named_in ds) 0) refl g
+    go : (o : Option (List Command)) → commands_of queue ≡ o → own_commands o ≡ Some cs → Own queue cs
+    go None f g = absurd (none_some g)
+    go (Some ds) f g = on ds f (eqb (named_in ds) 0) refl g
 
 -- ALL QUEUES, each with its commands.
 pub data Read : List (List ℕ) → List (List Command) → Type 0 where
   nothing : Read [] []
   next : {q : List ℕ} {qs : List (List ℕ)} {cs : List Command} {css : List (List Command)} → Own q cs → Read qs css → Read (q ∷ qs) (cs ∷ css)
 
-pub all_read : (queues : List (List ℕ)) (css : List (List Command)) → all_commands queues ≡ some css → Read queues css
+pub all_read : (queues : List (List ℕ)) (css : List (List Command)) → all_commands queues ≡ Some css → Read queues css
 all_read [] css e = subst (Read []) (some_same e) nothing
 all_read (q ∷ qs) css e = go (queue_commands q) refl (all_commands qs) refl (all_read qs) e
   where
     go : (a : Option (List Command)) → queue_commands q ≡ a → (b : Option (List (List Command))) → all_commands qs ≡ b →
-        ((ds : List (List Command)) → all_commands qs ≡ some ds → Read qs ds) → beside a b ≡ some css → Read (q ∷ qs) css
-    go none f b g rest h = absurd (none_some h)
-    go (some cs) f none g rest h = absurd (none_some h)
-    go (some cs) f (some ds) g rest h = subst (Read (q ∷ qs)) (some_same h) (next (queue_own q cs f) (rest ds g))
+        ((ds : List (List Command)) → all_commands qs ≡ Some ds → Read qs ds) → beside a b ≡ Some css → Read (q ∷ qs) css
+    go None f b g rest h = absurd (none_some h)
+    go (Some cs) f None g rest h = absurd (none_some h)
+    go (Some cs) f (Some ds) g rest h = subst (Read (q ∷ qs)) (some_same h) (next (queue_own q cs f) (rest ds g))
 
 -- As many lists of commands as queues.
 pub read_length : {queues : List (List ℕ)} {css : List (List Command)} → Read queues css → length css ≡ length queues

@@ -1,14 +1,12 @@
 -- The loop over the queues, where p of them are passed: where the next starts, that the sums are small, and that what is left, with these sums, asks
 -- for what all asks for. Assumes nothing.
-use Rattle.std.specs.Prelude.{◌≡◌, refl, List, ℕ, ◌+◌, ◌*◌, ◌≤◌, ◌<◌, length}
+use Rattle.std.specs.Prelude.{◌≡◌, refl, List, ℕ, ◌+◌, ◌*◌, ◌≤◌, ◌<◌, length, None}
 use Rattle.std.proofs.Common.{sym, ap, ap₂, ◌∙◌, subst, arith}
-use Rattle.std.proofs.Math.Option.{none}
 use Rattle.laws.specs.BigEndian.{Bytes}
 use Rattle.layout.specs.Layout.{most_batch_bytes, bound32}
 use Rattle.desk_queues.specs.Queues.{queue_count, length_at, start_at, queue_at}
 use Rattle.desk_queues.specs.Joined.{queue_commands}
 use Rattle.desk_laws.specs.QueueLaws.{Filled}
-use Rattle.desk_questions.specs.declared.Served.TheVariants.{Invalid}
 use Rattle.desk_questions.specs.declared.Sums.{Sums}
 use Rattle.desk_questions.specs.Served.{served_of}
 use Rattle.desk_questions.specs.Lengths.{start-next, queue_in, queue_size}
@@ -45,7 +43,7 @@ module _ (lengths queues : List ℕ) (f : Filled lengths queues) where
       next_in size e = omega (arith, queue_in lengths queues f p l, w.starts)
 
       -- one that is not valid spoils all;
-      pub next_invalid : queue_commands (queue_at lengths queues p) ≡ none → Invalid ≡ served_of lengths queues
+      pub next_invalid : queue_commands (queue_at lengths queues p) ≡ None → None ≡ served_of lengths queues
       next_invalid e = turn_invalid (queue_at lengths queues) (length queues) (queue_count lengths) p s (served_of lengths queues) w.asks l e
 
       -- one that may stand at the desk is added, and no sum wraps.

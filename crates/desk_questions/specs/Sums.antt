@@ -1,13 +1,11 @@
 -- What queues ask for, summed up one queue after the other, as the code does. The invariant of its loop: what is left, with the sums so far, asks for
 -- what all asks for. Assumes nothing.
-use Rattle.std.specs.Prelude.{◌≡◌, List, [], ◌∷◌, leb, length}
+use Rattle.std.specs.Prelude.{◌≡◌, List, [], ◌∷◌, leb, length, Option, None, Some}
 use Rattle.std.proofs.Math.Path.{refl, sym}
-use Rattle.std.proofs.Common.{ap, ap₂, ◌∙◌, le-leb}
-use Rattle.std.proofs.Math.Option.{Option, none, some}
+use Rattle.std.proofs.Common.{ap, ap₂, ◌∙◌}
 use Prim.Native.Nat.{ℕ, zero, suc, ◌+◌, ◌-◌, ◌*◌, ◌≤◌, ◌<◌, max}
 use Rattle.std.proofs.Math.Nat.{sub-zero}
 use native.Mathlib.Omega.{arith}
-use Rattle.std.proofs.lemmas.Bool.{lt-leb}
 use Rattle.laws.specs.Tests.{choose}
 use Rattle.laws.specs.Update.{list_below}
 use Rattle.layout.specs.Layout.{most_batch_bytes}
@@ -15,8 +13,8 @@ use Rattle.command.specs.declared.Command.{Command}
 use Rattle.command.specs.Batch.{room_for_all}
 use Rattle.desk_queues.specs.Joined.{queue_commands, beside, all_commands}
 use Rattle.desk_questions.specs.declared.Served.{Served}
-use Rattle.desk_questions.specs.declared.Served.TheVariants.{Rounds, Invalid}
 use Rattle.desk_questions.specs.declared.Sums.{Sums}
+use Rattle.desk_questions.specs.Served.{rounds_for}
 
 -- The sums of no queue, with one queue more, and with some more.
 abbrev pub no_sums : Sums
@@ -34,21 +32,12 @@ abbrev pub panel_bytes : ℕ
 panel_bytes = 4
 
 -- What queues of so many bytes ask for by their sums, where the joined bytes keep the length limit.
-unfoldable pub served_by : ℕ → Sums → Served
-served_by bytes s = choose (leb (bytes + panel_bytes * s.commands) most_batch_bytes) (Rounds s.room s.rounds) Invalid
-
-module _ (bytes : ℕ) (s : Sums) where
-  pub served_long : most_batch_bytes < bytes + panel_bytes * s.commands → Invalid ≡ served_by bytes s
-  unfolding served_by
-  served_long h = rw (lt-leb (bytes + panel_bytes * s.commands) most_batch_bytes h) refl
-
-  pub served_short : bytes + panel_bytes * s.commands ≤ most_batch_bytes → Rounds s.room s.rounds ≡ served_by bytes s
-  unfolding served_by
-  served_short h = rw (le-leb (bytes + panel_bytes * s.commands) most_batch_bytes h) refl
+unfoldable pub served_by : ℕ → Sums → Option Served
+served_by bytes s = choose (leb (bytes + panel_bytes * s.commands) most_batch_bytes) (Some (rounds_for s.room s.rounds)) None
 
 -- WHAT IS LEFT: the commands of k queues from queue p on.
 unfoldable pub commands_on : (ℕ → List ℕ) → ℕ → ℕ → Option (List (List Command))
-commands_on queue zero p = some []
+commands_on queue zero p = Some []
 commands_on queue (suc k) p = beside (queue_commands (queue p)) (commands_on queue k (p + 1))
 
 -- the same queues as a list
@@ -71,35 +60,35 @@ module _ (queue : ℕ → List ℕ) (n : ℕ) where
   unfolding commands_on
   left-next p l = let e : n - p ≡ suc (n - (p + 1)) = omega arith in rw e refl
 
-  left-none : (p : ℕ) → n ≤ p → left p ≡ some []
+  left-none : (p : ℕ) → n ≤ p → left p ≡ Some []
   unfolding commands_on
   left-none p l = let e : n - p ≡ 0 = omega arith in rw e refl
 
 -- What is asked for where such queues are left.
-unfoldable pub served_with : ℕ → Sums → Option (List (List Command)) → Served
-served_with bytes s none = Invalid
-served_with bytes s (some css) = served_by bytes (with_queues s css)
+unfoldable pub served_with : ℕ → Sums → Option (List (List Command)) → Option Served
+served_with bytes s None = None
+served_with bytes s (Some css) = served_by bytes (with_queues s css)
 
 with_queue_lem : (bytes : ℕ) (s : Sums) (cs : List Command) (r : Option (List (List Command))) →
-    served_with bytes (with_queue s (room_for_all cs) (length cs)) r ≡ served_with bytes s (beside (some cs) r)
+    served_with bytes (with_queue s (room_for_all cs) (length cs)) r ≡ served_with bytes s (beside (Some cs) r)
 unfolding served_with
-with_queue_lem bytes s cs none = refl
-with_queue_lem bytes s cs (some css) = refl
+with_queue_lem bytes s cs None = refl
+with_queue_lem bytes s cs (Some css) = refl
 
 -- A TURN of the loop, with a queue that is not valid and with one that is; and its end.
-module _ (queue : ℕ → List ℕ) (bytes n p : ℕ) (s : Sums) (r : Served) (i : served_with bytes s (left queue n p) ≡ r) where
+module _ (queue : ℕ → List ℕ) (bytes n p : ℕ) (s : Sums) (r : Option Served) (i : served_with bytes s (left queue n p) ≡ r) where
   -- the queue in front of those behind it
   here : p < n → (o : Option (List Command)) → queue_commands (queue p) ≡ o → served_with bytes s (beside o (left queue n (p + 1))) ≡ r
   here l o e =
       sym (ap (served_with bytes s) (left-next queue n p l ∙ ap (λ (q : Option (List Command)). beside q (left queue n (p + 1))) e)) ∙ i
 
-  pub turn_invalid : p < n → queue_commands (queue p) ≡ none → Invalid ≡ r
+  pub turn_invalid : p < n → queue_commands (queue p) ≡ None → None ≡ r
   unfolding served_with
-  turn_invalid l e = here l none e
+  turn_invalid l e = here l None e
 
-  pub turn_valid : p < n → (cs : List Command) → queue_commands (queue p) ≡ some cs →
+  pub turn_valid : p < n → (cs : List Command) → queue_commands (queue p) ≡ Some cs →
       served_with bytes (with_queue s (room_for_all cs) (length cs)) (left queue n (p + 1)) ≡ r
-  turn_valid l cs e = with_queue_lem bytes s cs (left queue n (p + 1)) ∙ here l (some cs) e
+  turn_valid l cs e = with_queue_lem bytes s cs (left queue n (p + 1)) ∙ here l (Some cs) e
 
   pub turns-over : n ≤ p → served_by bytes s ≡ r
   unfolding served_with

@@ -1,8 +1,7 @@
 -- The sums of all queues are what the joined commands ask for: where the loop begins, all is left. Assumes nothing.
-use Rattle.std.specs.Prelude.{◌≡◌, Bool, true, false, List, [], ◌∷◌, map, ℕ, ◌+◌, ◌*◌, ◌≤◌, max, leb, length}
+use Rattle.std.specs.Prelude.{◌≡◌, Bool, true, false, List, [], ◌∷◌, map, ℕ, ◌+◌, ◌*◌, ◌≤◌, max, leb, length, Option, None, Some}
 use Rattle.std.proofs.Math.Path.{refl, ap}
 use Rattle.std.proofs.Common.{ap₂, ◌∙◌, arith}
-use Rattle.std.proofs.Math.Option.{Option, none, some}
 use Rattle.laws.specs.BigEndian.{Bytes}
 use Rattle.laws.specs.Tests.{choose}
 use Rattle.laws.specs.Update.{length-below, sum}
@@ -17,9 +16,8 @@ use Rattle.desk_laws.specs.Read.{all_read}
 use Rattle.desk_laws.specs.JoinedLaws.{room_joined, joined_length}
 use Rattle.desk_laws.specs.QueueLaws.{Filled, queues-bytes, queues-length}
 use Rattle.desk_questions.specs.declared.Served.{Served}
-use Rattle.desk_questions.specs.declared.Served.TheVariants.{Rounds, Invalid}
 use Rattle.desk_questions.specs.declared.Sums.{Sums}
-use Rattle.desk_questions.specs.Served.{within_limit, served_as, served_of}
+use Rattle.desk_questions.specs.Served.{rounds_for, within_limit, served_as, served_of}
 use Rattle.desk_questions.specs.Sums.{no_sums, with_queue, with_queues, panel_bytes, served_by, served_with, left, left-all}
 
 -- THE SUMS over all queues.
@@ -37,17 +35,17 @@ sums-rounds s (cs ∷ css) = omega (arith, sums-rounds (with_queue s (room_for_a
 
 -- With the bytes of the queues these are what is asked for.
 served-all : (bytes : ℕ) (css : List (List Command)) → length (joined_bytes css) ≡ bytes + panel_bytes * commands_in css →
-    served_by bytes (with_queues no_sums css) ≡ served_as (within_limit (some css))
+    served_by bytes (with_queues no_sums css) ≡ served_as (within_limit (Some css))
 unfolding served_by
 served-all bytes css e =
     let s = with_queues no_sums css in
     let size : bytes + panel_bytes * s.commands ≡ length (joined_bytes css) = omega (arith, sums-commands no_sums css) in
     let room : s.room ≡ room_for_all (joined css) = omega (arith, sums-room no_sums css, room_joined css) in
     let rounds : s.rounds ≡ longest css = omega (arith, sums-rounds no_sums css) in
-    ap₂ (λ (b : Bool) (r : Served). choose b r Invalid) (ap (λ (n : ℕ). leb n most_batch_bytes) size) (ap₂ Rounds room rounds) ∙
+    ap₂ (λ (b : Bool) (r : Option Served). choose b r None) (ap (λ (n : ℕ). leb n most_batch_bytes) size) (ap₂ (λ (a b : ℕ). Some (rounds_for a b)) room rounds) ∙
     within (leb (length (joined_bytes css)) most_batch_bytes)
   where
-    within : (b : Bool) → choose b (Rounds (room_for_all (joined css)) (longest css)) Invalid ≡ served_as (choose b (some css) none)
+    within : (b : Bool) → choose b (Some (rounds_for (room_for_all (joined css)) (longest css))) None ≡ served_as (choose b (Some css) None)
     within true = refl
     within false = refl
 
@@ -59,7 +57,7 @@ module _ (lengths queues : List ℕ) (f : Filled lengths queues) (bytes : Bytes 
   lent_length : sum (map length (queues_in lengths queues)) ≡ length queues
   lent_length = queues-length lengths queues (queue_count lengths) (omega (arith, f.full)) ∙ f.full
 
-  pub lent-joined : (css : List (List Command)) → all_commands (queues_in lengths queues) ≡ some css →
+  pub lent-joined : (css : List (List Command)) → all_commands (queues_in lengths queues) ≡ Some css →
       length (joined_bytes css) ≡ length queues + panel_bytes * commands_in css
   lent-joined css e =
       joined_length (queues-bytes lengths queues (queue_count lengths) bytes) lent_few (all_read (queues_in lengths queues) css e) ∙
@@ -74,5 +72,5 @@ module _ (lengths queues : List ℕ) (f : Filled lengths queues) (bytes : Bytes 
     where
       go : (o : Option (List (List Command))) → all_commands (queues_in lengths queues) ≡ o →
           served_with (length queues) no_sums o ≡ served_as (within_limit o)
-      go none e = refl
-      go (some css) e = served-all (length queues) css (lent-joined css e)
+      go None e = refl
+      go (Some css) e = served-all (length queues) css (lent-joined css e)

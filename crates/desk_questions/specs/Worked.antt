@@ -1,5 +1,5 @@
 -- Worked lengths and queues of the request, computed (document 02, P5). Assumes nothing.
-use Rattle.std.specs.Prelude.{◌≡◌, refl, true, false, List, [], ◌∷◌, ◌++◌, map, ℕ, replicate}
+use Rattle.std.specs.Prelude.{◌≡◌, refl, true, false, List, [], ◌∷◌, ◌++◌, map, ℕ, replicate, Some, None}
 use Rattle.laws.specs.Lay.{part}
 use Rattle.laws.specs.BigEndian.{number_at, big_endian}
 use Rattle.wire.specs.Tag.{length_of, find, rows, is_node_bytes}
@@ -9,8 +9,7 @@ use Rattle.command.specs.Batch.{run, commands_from, commands_of}
 use Rattle.desk_order.specs.Turns.{turns}
 use Rattle.desk_queues.specs.Queues.{fills}
 use Rattle.desk_queues.specs.Joined.{queue_commands, joined_bytes}
-use Rattle.desk_questions.specs.declared.Served.TheVariants.{Rounds, Invalid}
-use Rattle.desk_questions.specs.Served.{served_of}
+use Rattle.desk_questions.specs.Served.{rounds_for, served_of}
 
 -- Lengths and queues, side by side.
 abbrev Lent : Type 0
@@ -39,7 +38,7 @@ pub worked_right : map (λ (x : Lent). fills x.0 x.1) right ≡ true ∷ true �
 unfolding fills number_at part
 worked_right = refl
 
-pub worked_served : map (λ (x : Lent). served_of x.0 x.1) right ≡ Rounds 28 2 ∷ Rounds 0 0 ∷ Rounds 0 0 ∷ Rounds 28 3 ∷ []
+pub worked_served : map (λ (x : Lent). served_of x.0 x.1) right ≡ Some (rounds_for 28 2) ∷ Some (rounds_for 0 0) ∷ Some (rounds_for 0 0) ∷ Some (rounds_for 28 3) ∷ []
 unfolding served_of queue_commands joined_bytes turns command_bytes field commands_of commands_from run command_at command_of in_range
     field_at length_of find rows is_node_bytes number_at part
 worked_served = refl
@@ -70,7 +69,7 @@ pub worked_wrong : map (λ (x : Lent). fills x.0 x.1) wrong ≡ true ∷ true �
 unfolding fills number_at part
 worked_wrong = refl
 
-pub worked_3 : map (λ (x : Lent). served_of x.0 x.1) wrong ≡ Invalid ∷ Invalid ∷ Invalid ∷ []
+pub worked_3 : map (λ (x : Lent). served_of x.0 x.1) wrong ≡ None ∷ None ∷ None ∷ []
 unfolding served_of queue_commands joined_bytes turns command_bytes field commands_of commands_from run command_at command_of in_range
     field_at length_of find rows is_node_bytes number_at part
 worked_3 = refl

@@ -1,7 +1,6 @@
 -- What the desk is lent (document 02, P5): "up to 16 queues, each a batch, in one lent buffer, with their four-byte lengths in another". Queue p is
 -- panel p's. Assumes nothing.
-use Rattle.std.specs.Prelude.{Bool, ◌&&◌, List, ℕ, ◌*◌, ◌/◌, eqb, leb, length}
-use Rattle.std.proofs.Math.Option.{Option, none, some}
+use Rattle.std.specs.Prelude.{Bool, ◌&&◌, List, ℕ, ◌*◌, ◌/◌, eqb, leb, length, Option, None, Some}
 use Rattle.laws.specs.BigEndian.{number_at}
 use Rattle.laws.specs.Lay.{part}
 use Rattle.laws.specs.Tests.{choose}
@@ -34,4 +33,4 @@ fills lengths queues =
 
 -- The queues, none where the lengths are wrong.
 unfoldable pub queues_of : List ℕ → List ℕ → Option (List (List ℕ))
-queues_of lengths queues = choose (fills lengths queues) (some (queues_in lengths queues)) none
+queues_of lengths queues = choose (fills lengths queues) (Some (queues_in lengths queues)) None

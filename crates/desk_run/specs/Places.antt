@@ -1,7 +1,6 @@
 -- The places of queues while they are served: what is left of each queue from its place on, and what a round leaves of that. Assumes nothing.
-use Rattle.std.specs.Prelude.{◌≡◌, refl, List, [], ◌∷◌, ◌++◌, ℕ, zero, suc, ◌<◌, length, get_or, drop}
+use Rattle.std.specs.Prelude.{◌≡◌, refl, List, [], ◌∷◌, ◌++◌, ℕ, zero, suc, ◌<◌, length, get_or, drop, Some}
 use Rattle.std.proofs.Common.{ap}
-use Rattle.std.proofs.Math.Option.{some}
 use Rattle.laws.specs.Update.{list_below}
 use Rattle.layout.specs.Layout.{panels}
 use Rattle.command.specs.declared.Command.{Command}
@@ -22,10 +21,10 @@ rests lengths queues places = list_below (queue_count lengths) (rest_at lengths 
 -- Each queue is valid from its place on.
 pub record Placed (lengths queues places : List ℕ) : Type 0 where
   pub sixteen : length places ≡ panels
-  pub left : (p : ℕ) → p < queue_count lengths → commands_from (queue_at lengths queues p) (get_or places p 0) ≡ some (rest_at lengths queues places p)
+  pub left : (p : ℕ) → p < queue_count lengths → commands_from (queue_at lengths queues p) (get_or places p 0) ≡ Some (rest_at lengths queues places p)
 
 pub rest-is : (lengths queues places : List ℕ) (p : ℕ) (cs : List Command) →
-    commands_from (queue_at lengths queues p) (get_or places p 0) ≡ some cs → rest_at lengths queues places p ≡ cs
+    commands_from (queue_at lengths queues p) (get_or places p 0) ≡ Some cs → rest_at lengths queues places p ≡ cs
 unfolding rest_at
 rest-is lengths queues places p cs e = ap list_or e
 

@@ -1,16 +1,15 @@
 -- A round, a queue at a time: the turns so far are a stretch from its start, and those of the queues ahead have what they need. Assumes nothing.
-use Rattle.std.specs.Prelude.{◌≡◌, refl, true, List, [], ◌∷◌, ◌++◌, ◌⊎◌, ℕ, suc, ◌+◌, ◌-◌, ◌*◌, ◌≤◌, ◌<◌, length, get_or, drop, set}
+use Rattle.std.specs.Prelude.{◌≡◌, refl, true, List, [], ◌∷◌, ◌++◌, ◌⊎◌, ℕ, suc, ◌+◌, ◌-◌, ◌≤◌, ◌<◌, length, get_or, drop, set, Some}
 use Rattle.std.proofs.Common.{sym, ap, ap₂, ◌∙◌, subst, append-nil, append_assoc, inl, inr, add-one, arith, length-set, get_or-set_same, get_or-set_other}
-use Rattle.std.proofs.Math.Option.{some}
 use Rattle.laws.specs.Lay.{part}
 use Rattle.laws.specs.Order.{Tri, tri, eq_or}
 use Rattle.laws.specs.Update.{length-below, below_at, below-is, drop-below, drop-below_past}
-use Rattle.layout.specs.Layout.{panels, length_bytes}
+use Rattle.layout.specs.Layout.{panels}
 use Rattle.command.specs.declared.Command.{Command}
 use Rattle.command.specs.Batch.{commands_from}
 use Rattle.flash_rows.specs.Worktable.{Worktable}
 use Rattle.flash_allocate.specs.World.{World, world}
-use Rattle.run.specs.declared.Ran.{Ran}
+use Rattle.run.specs.Session.{Ran}
 use Rattle.run.specs.Stretch.{Ready, RunOn, on_none, ready_front, ready_behind, on_append}
 use Rattle.desk_order.specs.Turns.{heads}
 use Rattle.desk_queues.specs.Queues.{queue_count, length_at, start_at, queue_at, fills}
@@ -34,7 +33,7 @@ pub record Passing (pool_length table_length : ℕ) (lengths queues : List ℕ) 
   pub ready : Ready pool_length table_length (length empty) paid there (interleaved (ahead lengths queues places₀ panel))
   pub sixteen : length places ≡ panels
   pub passed :
-      (q : ℕ) → q < panel → commands_from (queue_at lengths queues q) (get_or places q 0) ≡ some (drop 1 (rest_at lengths queues places₀ q))
+      (q : ℕ) → q < panel → commands_from (queue_at lengths queues q) (get_or places q 0) ≡ Some (drop 1 (rest_at lengths queues places₀ q))
   pub same : (q : ℕ) → panel ≤ q → get_or places q 0 ≡ get_or places₀ q 0
 
 module _ {P T : ℕ} {lengths queues : List ℕ} where
@@ -63,18 +62,12 @@ module _ {P T : ℕ} {lengths queues : List ℕ} where
     fit = filled lengths queues fill
 
     -- a queue more
-    module _ (more : length_bytes * panel < length lengths) where
-      pub passing_inside : panel < queue_count lengths
-      passing_inside = omega (arith, fit.whole, more)
-
+    module _ (more : panel < queue_count lengths) where
       pub passing_panel : panel < panels
-      passing_panel = omega (arith, passing_inside, fit.few)
-
-      pub passing_length : length_bytes * panel + 4 ≤ length lengths
-      passing_length = omega (arith, passing_inside, fit.whole)
+      passing_panel = omega (arith, more, fit.few)
 
       pub passing_end : start + length_at lengths panel ≤ length queues
-      passing_end = omega (arith, r.starts, start_le lengths (suc panel) (queue_count lengths) passing_inside, fit.full)
+      passing_end = omega (arith, r.starts, start_le lengths (suc panel) (queue_count lengths) more, fit.full)
 
       -- the bytes that are lent for its turn
       pub passing_queue : (n : ℕ) → n ≡ length_at lengths panel → part queues start (start + n - start) ≡ queue_at lengths queues panel
@@ -86,7 +79,7 @@ module _ {P T : ℕ} {lengths queues : List ℕ} where
 
       ahead-is : ahead lengths queues places₀ panel ≡ turn ++ ahead lengths queues places₀ (suc panel)
       ahead-is =
-          ap (heads panel) (drop-below (queue_count lengths) (rest_at lengths queues places₀) panel passing_inside) ∙
+          ap (heads panel) (drop-below (queue_count lengths) (rest_at lengths queues places₀) panel more) ∙
           heads-first panel (rest_at lengths queues places₀ panel) (drop (suc panel) (rests lengths queues places₀))
 
       both : Ready P T (length empty) paid there (interleaved turn ++ interleaved (ahead lengths queues places₀ (suc panel)))
@@ -99,7 +92,7 @@ module _ {P T : ℕ} {lengths queues : List ℕ} where
         taken : Taken panel queue at (rest_at lengths queues places₀ panel)
         taken =
             takes panel queue at (rest_at lengths queues places₀ panel)
-            (ap₂ commands_from is (place ∙ r.same panel (omega arith)) ∙ p.left panel passing_inside)
+            (ap₂ commands_from is (place ∙ r.same panel (omega arith)) ∙ p.left panel more)
 
         turns_are : interleaved turn ++ interleaved (ahead lengths queues places₀ (suc panel)) ≡
             turn_at panel queue at ++ interleaved (ahead lengths queues places₀ (suc panel))
@@ -117,11 +110,11 @@ module _ {P T : ℕ} {lengths queues : List ℕ} where
           place_here = get_or-set_same places panel next 0 (omega (arith, r.sixteen, passing_panel))
 
           passed_next : (q : ℕ) → q < suc panel →
-              commands_from (queue_at lengths queues q) (get_or (set places panel next) q 0) ≡ some (drop 1 (rest_at lengths queues places₀ q))
+              commands_from (queue_at lengths queues q) (get_or (set places panel next) q 0) ≡ Some (drop 1 (rest_at lengths queues places₀ q))
           passed_next q l = go (eq_or q panel)
             where
               go : (q ≡ panel) ⊎ (q ≡ panel → ⊥) →
-                  commands_from (queue_at lengths queues q) (get_or (set places panel next) q 0) ≡ some (drop 1 (rest_at lengths queues places₀ q))
+                  commands_from (queue_at lengths queues q) (get_or (set places panel next) q 0) ≡ Some (drop 1 (rest_at lengths queues places₀ q))
               go (inl f) = rw (f, place_here, e, ← is) taken.rest
               go (inr f) =
                   ap (commands_from (queue_at lengths queues q)) (get_or-set_other places panel q next 0 f) ∙ r.passed q (below q panel l f)
@@ -144,7 +137,7 @@ module _ {P T : ℕ} {lengths queues : List ℕ} where
           passing_next {P'} {T'} {pages'} {table'} {answers'} {paid'} {places'} {yonder} {start'} x s f =
               rw (add-one panel, f)
               record {
-                within = passing_inside;
+                within = more;
                 starts = s ∙ ap (λ (n : ℕ). n + length_at lengths panel) r.starts;
                 done = r.done ++ turn;
                 whole =
@@ -162,10 +155,7 @@ module _ {P T : ℕ} {lengths queues : List ℕ} where
               }
 
     -- none left: all turns of the round are done
-    module _ (none_left : length lengths ≤ length_bytes * panel) where
-      at_end : queue_count lengths ≤ panel
-      at_end = omega (arith, fit.whole, none_left)
-
+    module _ (at_end : queue_count lengths ≤ panel) where
       pub passing_all : RunOn P T pages table empty answers none paid here there (interleaved (heads 0 (rests lengths queues places₀))) w
       passing_all =
           subst (λ (xs : List (ℕ × Command)). RunOn P T pages table empty answers none paid here there (interleaved xs) w)
@@ -183,7 +173,7 @@ module _ {P T : ℕ} {lengths queues : List ℕ} where
             placed =
                 record {
                   sixteen = r.sixteen;
-                  left = λ p l. r.passed p (omega (arith, at_end)) ∙ ap some (sym (behind p l));
+                  left = λ p l. r.passed p (omega (arith, at_end)) ∙ ap Some (sym (behind p l));
                 };
             rests_are =
                 below-is (rests lengths queues places) (queue_count lengths) (λ p. drop 1 (rest_at lengths queues places₀ p)) []

@@ -11,7 +11,7 @@ use Rattle.book.specs.InTurn.{no_charges}
 use Rattle.flash_rows.specs.Worktable.{Worktable}
 use Rattle.flash_allocate.specs.World.{World, world}
 use Rattle.run_split.specs.Growing.{Growing}
-use Rattle.run.specs.declared.Ran.{Ran}
+use Rattle.run.specs.Session.{Ran}
 use Rattle.run.specs.Run.{RunAs}
 use Rattle.run.specs.Stretch.{at_start, Ready, RunOn, on_none, ready_start, ready_front, ready_behind, on_append, on_whole}
 use Rattle.desk_order.specs.Turns.{heads, tails, rounds, longest, turns}

@@ -14,7 +14,7 @@ use Rattle.flash_blocks.specs.Blank.{blank_blocks, next_blank}
 use Rattle.flash_live.specs.Live.{live_map, marked}
 use Rattle.flash_live.specs.Choose.{victim}
 use Rattle.flash_allocate.specs.Compact.{Copying, copying, copy_page, copy_live, copy_block, rename_rows, compacted, emptied, move_block, compact}
-use Rattle.flash_allocate.specs.World.{World, world, used, Good}
+use Rattle.flash_allocate.specs.World.{World, world, used, Good, Kept}
 use Rattle.flash_allocate.specs.Allocate.{behind, next_block, allocate}
 use Rattle.flash_allocate.specs.declared.state.State.{State}
 use Rattle.flash_allocate.specs.State.{in_block}
@@ -79,3 +79,16 @@ good_in_block g p t i f e =
       used = g.used;
       entries = g.entries;
     })
+
+-- A world in another block, and still good: the same blocks, nodes and checkpoint pages.
+pub kept_in_block : {P T : ℕ} {s s' : State} (w right : World) (to fill : ℕ) → w ≡ right → w.state ≡ s' → s' ≡ in_block to fill s →
+    Good P T s' → Kept P T s w right
+unfolding in_block
+kept_in_block {P} {T} {s} w right to fill is e f g =
+    record {
+      is = is;
+      good = rw e g;
+      blocks = ap (λ (x : State). x.blocks) (e ∙ f);
+      nodes = ap (λ (x : State). x.nodes) (e ∙ f);
+      checkpoint = ap (λ (x : State). x.checkpoint) (e ∙ f);
+    }

@@ -1,33 +1,29 @@
 // The place of the next page.
-ghost use Rattle.std.specs.Prelude.{length};
-ghost use Rattle.flash_allocate.specs.World.{Good, MadeIn, world_in};
+ghost use Rattle.flash_allocate.specs.World.{Kept};
 ghost use Rattle.flash_allocate.specs.Allocate as def;
+ghost use Rattle.flash_allocate.specs.Flash.{world_of, Steps};
 
 use super::compact::compact;
-use super::state::State;
+use super::flash::Flash;
 use flash_blocks::blank::{count_blank, next_blank};
 use flash_rows::table::ROWS_AT;
 use layout::PAGES_IN_BLOCK;
 
 // The current block, or the next one, with room for a page.
-pub fn allocate(pool: &mut [u8], table: &mut [u8], state: State) -> State
-    requires { Good (length pool.old) (length table.old) state }
-    ensures { MadeIn pool.new table.new result
-        (def.allocate (world_in pool.old table.old state)) }
+pub fn allocate(flash: &mut Flash)
+    ensures { Steps Kept flash.old flash.new (def.allocate (world_of flash.old)) }
 {
+    let state = flash.state;
     if state.fill < PAGES_IN_BLOCK {
-        return state;
+        return;
     }
-    let to = next_blank(pool, state.blocks, state.current);
-    if 2 <= count_blank(pool, state.blocks) {
-        return state.in_block(to, 0);
+    let to = next_blank(flash.pool(), state.blocks, state.current);
+    if 2 <= count_blank(flash.pool(), state.blocks) {
+        flash.state = state.in_block(to, 0);
+        return;
     }
-    let fill = compact(
-        pool,
-        &mut table[ROWS_AT..],
-        state.nodes + state.checkpoint,
-        state.blocks,
-        to,
-    );
-    state.in_block(to, fill)
+    let used = state.nodes + state.checkpoint;
+    let rows = &mut flash.table[ROWS_AT..];
+    let fill = compact(flash.pool, rows, used, state.blocks, to);
+    flash.state = state.in_block(to, fill);
 }

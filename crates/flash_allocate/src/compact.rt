@@ -8,7 +8,9 @@ ghost use Rattle.flash_allocate.specs.Compact as def;
 ghost use Rattle.layout.specs.Layout.{block_bytes, most_blocks, most_pages, page_bytes, pages_in_block};
 
 use flash_live::bits::is_live;
+use flash_rows::Row;
 use layout::{LIVE_BYTES, PAGES_IN_BLOCK};
+use wire::record::{read, write};
 
 // Page k of the block at `base`, where it is live, copied to the block at `first` behind the pages that went before.
 fn copy_live(
@@ -27,7 +29,7 @@ fn copy_live(
         × (result ≤ fill + 1) }
 {
     let from = base + k;
-    if is_live(live, from) {} else {
+    if !is_live(live, from) {
         return fill;
     }
     let to = first + fill;
@@ -50,11 +52,9 @@ fn copy_block(
         ≡ copy_block (marks_in live.now) base first (copying (pages_of pool.old) places.old 0))
         × (result ≤ pages_in_block) }
 {
-    let mut fill: usize = 0;
-    let mut k: usize = 0;
-    while k < PAGES_IN_BLOCK {
+    let mut fill = 0;
+    for k in 0..PAGES_IN_BLOCK {
         fill = copy_live(pool, places, live, base, first, k, fill);
-        k += 1;
     }
     fill
 }
@@ -65,11 +65,9 @@ fn rename_rows(table: &mut [u8], used: usize, base: usize, places: &[u16; PAGES_
     ensures { rows_of table.new ≡ rename_rows used base places.now
         (rows_of table.old) }
 {
-    let mut n: usize = 0;
-    while n < used {
-        let r = flash_rows::read_row(table, n);
-        flash_rows::write_row(table, n, r.moved(base, places));
-        n += 1;
+    for n in 0..used {
+        let r: Row = read(table, n);
+        write(table, n, r.moved(base, places));
     }
 }
 

@@ -3,4 +3,5 @@
 
 pub mod allocate;
 pub mod compact;
+pub mod flash;
 pub mod state;

@@ -1,5 +1,6 @@
 -- Blank blocks, and "the next blank one upwards and round" (document 01, "Pages", its last paragraph).
-use Rattle.std.specs.Prelude.{Bool, List, ℕ, ◌+◌, ◌-◌, ◌*◌, ltb}
+use Rattle.std.specs.Prelude.{◌≡◌, refl, Bool, true, false, List, ℕ, ◌+◌, ◌-◌, ◌*◌, ltb}
+use Rattle.std.specs.Int.{from_bool}
 use Rattle.laws.specs.Tests.{choose}
 use Rattle.laws.specs.Counts.{bit}
 use Rattle.laws.specs.Loops.{sum_from, first_from}
@@ -13,6 +14,11 @@ blank_block pages block = is_blank (page_at pages (pages_in_block * block))
 -- 1 for a blank block, 0 for a written one.
 unfoldable pub blank_bit : List (List ℕ) → ℕ → ℕ
 blank_bit pages block = bit (blank_block pages block)
+
+-- The library's number for a test is that bit.
+pub from_bool-bit : (b : Bool) → from_bool b ≡ bit b
+from_bool-bit true = refl
+from_bool-bit false = refl
 
 -- How many blocks are blank.
 unfoldable pub blank_blocks : ℕ → List (List ℕ) → ℕ

@@ -1,13 +1,14 @@
 // Blank blocks: how many there are, and the next one.
 ghost use Rattle.std.specs.Prelude.{◌≡◌, ◌+◌, ◌*◌, ◌≤◌, ◌<◌, length};
 ghost use Rattle.flash_blocks.specs.Pages.{pages_of};
-ghost use Rattle.flash_blocks.specs.Blank.{blank_block, blank_bit, blank_blocks, blank_from, next_blank};
+ghost use Rattle.flash_blocks.specs.Blank.{blank_block, blank_blocks, blank_from, next_blank};
 ghost use Rattle.layout.specs.Layout.{block_bytes};
 
 use super::page::is_blank;
 use layout::PAGES_IN_BLOCK;
 
 // Whether a block is blank.
+#[tactic(auto, unfolding(crate::specs::Blank::blank_block))]
 pub fn is_blank_block(pool: &[u8], block: usize) -> bool
     requires { block_bytes * block + block_bytes ≤ length pool.now }
     ensures { result ≡ blank_block (pages_of pool.now) block }
@@ -15,27 +16,14 @@ pub fn is_blank_block(pool: &[u8], block: usize) -> bool
     is_blank(pool, PAGES_IN_BLOCK * block)
 }
 
-// 1 for a blank block, 0 for a written one.
-fn blank_bit(pool: &[u8], block: usize) -> usize
-    requires { block_bytes * block + block_bytes ≤ length pool.now }
-    ensures { (result ≡ blank_bit (pages_of pool.now) block) × (result ≤ 1) }
-{
-    if is_blank_block(pool, block) {
-        return 1;
-    }
-    0
-}
-
 // How many of the blocks are blank.
 pub fn count_blank(pool: &[u8], blocks: usize) -> usize
     requires { block_bytes * blocks ≤ length pool.now }
     ensures { result ≡ blank_blocks blocks (pages_of pool.now) }
 {
-    let mut n: usize = 0;
-    let mut block: usize = 0;
-    while block < blocks {
-        n += blank_bit(pool, block);
-        block += 1;
+    let mut n = 0;
+    for block in 0..blocks {
+        n += usize::from(is_blank_block(pool, block));
     }
     n
 }
@@ -45,14 +33,13 @@ fn blank_from(pool: &[u8], blocks: usize, from: usize) -> usize
     requires { (from ≤ blocks) × (block_bytes * blocks ≤ length pool.now) }
     ensures { (result ≡ blank_from blocks from (pages_of pool.now)) × (result ≤ blocks) }
 {
-    let mut block = from;
-    while block < blocks {
+    // A loop: `(from..blocks).find(..)` left the goal open which number it is that `find` gives.
+    for block in from..blocks {
         if is_blank_block(pool, block) {
             return block;
         }
-        block += 1;
     }
-    block
+    blocks
 }
 
 // The next blank block, upwards from the current one and round.
@@ -65,8 +52,5 @@ pub fn next_blank(pool: &[u8], blocks: usize, current: usize) -> usize
         return above;
     }
     let lowest = blank_from(pool, blocks, 0);
-    if lowest < blocks {
-        return lowest;
-    }
-    0
+    if lowest < blocks { lowest } else { 0 }
 }

@@ -6,7 +6,7 @@ ghost use Rattle.flash_blocks.specs.Pages.{pages_of, page_at, copied, erased_byt
 ghost use Rattle.layout.specs.Layout.{block_bytes, page_bytes};
 
 use layout::{BLOCK_BYTES, PAGE_BYTES};
-use wire::bytes::{fill_part, lay_bytes};
+use wire::bytes::fill_part;
 
 // Whether a page lies in the pool.
 pub fn has_page(pool: &[u8], page: usize) -> bool
@@ -16,13 +16,12 @@ pub fn has_page(pool: &[u8], page: usize) -> bool
 }
 
 // The bytes of a page, where they lie.
-pub fn page_part<'a>(pool: &'a [u8], page: usize) -> &'a [u8]
+pub fn page_part(pool: &[u8], page: usize) -> &[u8]
     requires { page_bytes * page + page_bytes ≤ length pool.now }
     ensures { (result.now ≡ page_at (pages_of pool.now) page) × (length result.now ≡ page_bytes) }
 {
     let from = PAGE_BYTES * page;
-    let to = from + PAGE_BYTES;
-    &pool[from..to]
+    &pool[from..from + PAGE_BYTES]
 }
 
 // The bytes of a page, by value.
@@ -30,17 +29,9 @@ pub fn read_page(pool: &[u8], page: usize) -> [u8; PAGE_BYTES]
     requires { page_bytes * page + page_bytes ≤ length pool.now }
     ensures { result ≡ page_at (pages_of pool.now) page }
 {
-    let mut bytes = [255u8; PAGE_BYTES];
-    lay_bytes(&mut bytes, 0, page_part(pool, page));
+    let mut bytes = [255; PAGE_BYTES];
+    bytes.copy_from_slice(page_part(pool, page));
     bytes
-}
-
-// Fills the part of the pool that the page writer is lent.
-fn fill_page(part: &mut [u8], image: &[u8; PAGE_BYTES])
-    requires { length part.old ≡ page_bytes }
-    ensures { part.new ≡ image.now }
-{
-    lay_bytes(part, 0, image);
 }
 
 // Writes an image as a page of the pool.
@@ -50,7 +41,7 @@ pub fn put_page(pool: &mut [u8], page: usize, image: &[u8; PAGE_BYTES])
         × (pool.new ≡ lay pool.old (page_bytes * page) image.now) }
 {
     let from = PAGE_BYTES * page;
-    fill_page(&mut pool[from..from + PAGE_BYTES], image);
+    pool[from..from + PAGE_BYTES].copy_from_slice(image);
 }
 
 // A page copied to another place.
@@ -77,6 +68,5 @@ pub fn is_blank(pool: &[u8], page: usize) -> bool
     requires { page_bytes * page + page_bytes ≤ length pool.now }
     ensures { result ≡ is_blank (page_at (pages_of pool.now) page) }
 {
-    let bytes = page_part(pool, page);
-    bytes[0] == 255
+    page_part(pool, page)[0] == 255
 }

@@ -1,12 +1,15 @@
 -- The records of scores one behind another, the image of a checkpoint page, and the steps of a checkpoint put together. Assumes nothing.
 use mathlib.Core.Path.{◌≡◌, refl, sym, ap, ap₂, ◌∙◌}
-use mathlib.Core.Bool.{Bool}
+use Rattle.std.specs.Prelude.{Bool, true, false, IfSome}
+use Rattle.page.specs.Limits.{given}
 use mathlib.Core.List.{List, [], ◌∷◌, ◌++◌, map, append_assoc}
 use Prim.Native.Nat.{ℕ, zero, suc, ◌+◌, ◌-◌, ◌*◌, ◌≤◌, ◌<◌}
 use native.Mathlib.Nat.{add-zero, sub-zero}
 use native.Mathlib.Omega.{arith}
 use lib.Dec.{eqb}
 use lib.ListN.{length, get_or, set, take, drop, replicate, length-append}
+use Rattle.std.proofs.Common.{◌⊎◌, inl, inr, min}
+use Rattle.laws.specs.Order.{le_or}
 use borrow.Author.Tests.{le-leb, lt-leb, eq-eqb, ne_eqb}
 use Rattle.laws.specs.Every.{Every, none, both, map_back}
 use Rattle.laws.specs.Lay.{lay, part, lay-nil, lay-next, part-append, part-front}
@@ -23,10 +26,13 @@ use Rattle.page.specs.Decode.{most_scores}
 use Rattle.page.specs.Decode as decode
 use Rattle.page.specs.Spelled.{score_bytes_of, length-score_bytes}
 use Rattle.page_write.specs.Chunks.{chunks}
-use Rattle.page_checkpoint.specs.Checkpoint.{only_if, scored, scores_in, records_page}
+use Rattle.std.specs.Bool.{then_some}
+use Rattle.page_checkpoint.specs.Checkpoint.{scored, scores_in, records_page}
 use Rattle.page.specs.ImageBytes.{bytes-score}
 use Rattle.flash_allocate.specs.World.{World, world, spot, used, Good, Made, Kept}
 use Rattle.flash_allocate.specs.Allocate.{allocate}
+use Rattle.flash_allocate.specs.declared.flash.Flash.{Flash}
+use Rattle.flash_allocate.specs.Flash.{Steps}
 use Rattle.flash_allocate.specs.declared.state.State.{State}
 use Rattle.flash_log.specs.Flush.{if_room, flush}
 use Rattle.flash_log.proofs.Laws.{Beside, room_yes, room_no, allocated}
@@ -99,12 +105,12 @@ chunks_records ss n e base =
 
 -- The image made from records is the page of these scores.
 image_records : (number : ℕ) (first last : Bool) (t : Tariff) (ss : List Score) (n : ℕ) → length ss ≡ n → (base : List ℕ) (count : ℕ) →
-    image (records_page number first t n (lay base 0 (scores_bytes ss)) last count) ≡ image (page number (p.checkpoint (only_if first t) ss (only_if last count)))
+    image (records_page number (then_some first t) n (lay base 0 (scores_bytes ss)) (then_some last count)) ≡ image (page number (p.checkpoint (then_some first t) ss (then_some last count)))
 unfolding records_page scores_in image content_bytes
 image_records number first last t ss n e base count =
     ap (λ (ps : List (List ℕ)). sealed page_bytes
-    (numbered number (field_if 0x13 tariff_bytes (only_if first t) ++
-    (fields 0x14 ps ++ field_if 0x15 count_bytes (only_if last count)))))
+    (numbered number (field_if 0x13 tariff_bytes (then_some first t) ++
+    (fields 0x14 ps ++ field_if 0x15 count_bytes (then_some last count)))))
     (ap (λ (ps : List (List ℕ)). map score_bytes (map decode.score_of ps)) (chunks_records ss n e base) ∙
     map_back decode.score_of score_bytes (λ b f. score_bytes_of b f.1 f.0) (map score_bytes ss) (every-score ss))
 
@@ -115,7 +121,7 @@ most_scores_lem zero r f h = f refl
 most_scores_lem (suc k) r f h = rw (ne_eqb (suc k) 0 (λ e. omega arith)) h
 
 module _ (k nodes start : ℕ) (e : start ≡ scores_before k) (h : scores_before k ≤ nodes) where
-  pub size-full : 54 * k + 50 ≤ nodes → ScoresOfPage k nodes (54 * k + 50 - start)
+  size-full : 54 * k + 50 ≤ nodes → ScoresOfPage k nodes (54 * k + 50 - start)
   unfolding scores_of_page
   size-full l =
       record {
@@ -125,7 +131,7 @@ module _ (k nodes start : ℕ) (e : start ≡ scores_before k) (h : scores_befor
         first = most_scores_lem k _ (λ z. omega arith) (omega arith);
       }
 
-  pub size-rest : nodes < 54 * k + 50 → ScoresOfPage k nodes (nodes - start)
+  size-rest : nodes < 54 * k + 50 → ScoresOfPage k nodes (nodes - start)
   unfolding scores_of_page
   size-rest l =
       record {
@@ -135,23 +141,36 @@ module _ (k nodes start : ℕ) (e : start ≡ scores_before k) (h : scores_befor
         first = most_scores_lem k _ (λ z. omega arith) (omega arith);
       }
 
-pub checkpoint_page_put : (number : ℕ) (t : Tariff) (k nodes : ℕ) (rows : List Row) (from n count : ℕ)
-    (records bytes : List ℕ) (pages pages' : List (List ℕ)) (at : ℕ) →
+  -- up to the first of the next page, or up to the last node
+  pub size_min : (end : ℕ) → end ≡ min nodes (54 * k + 50) → ScoresOfPage k nodes (end - start)
+  size_min end m = go (le_or (54 * k + 50) nodes)
+    where
+      go : (54 * k + 50 ≤ nodes) ⊎ (nodes < 54 * k + 50) → ScoresOfPage k nodes (end - start)
+      go (inl l) = let whole : end ≡ 54 * k + 50 = omega (arith, m) in rw whole (size-full l)
+      go (inr l) = let rest : end ≡ nodes = omega (arith, m) in rw rest (size-rest l)
+
+-- What a page has, and its node count within two bytes.
+pub given-then_some : {A : Type 0} (flag : Bool) (a : A) → given (then_some flag a) ≡ flag
+given-then_some true a = refl
+given-then_some false a = refl
+
+pub count_fits : (flag : Bool) (nodes : ℕ) → nodes < 65536 → IfSome (then_some flag nodes) (λ n. n < 65536)
+count_fits true nodes h = h
+count_fits false nodes h = tt
+
+pub page_image : (number : ℕ) (t : Tariff) (k nodes : ℕ) (rows : List Row) (from n count : ℕ) (records bytes : List ℕ) →
     from ≡ scores_before k → n ≡ scores_of_page k nodes → count ≡ page_count nodes → records ≡ lay (replicate 324 0) 0
     (scores_bytes (scores_of rows from n)) →
-    bytes ≡ image (records_page number (eqb k 0) t n records (eqb (k + 1) count) nodes) → pages' ≡ set pages at bytes →
-    pages' ≡ set pages at (checkpoint_image number t k nodes rows)
+    bytes ≡ image (records_page number (then_some (eqb k 0) t) n records (then_some (eqb (k + 1) count) nodes)) → bytes ≡ checkpoint_image number t k nodes rows
 unfolding checkpoint_image
-checkpoint_page_put number t k nodes rows from n count records bytes pages pages' at f s c r b e =
-    e ∙
-    ap (set pages at)
-    (b ∙
-    ap (λ (l : List ℕ). image (records_page number (eqb k 0) t n l (eqb (k + 1) count) nodes)) r ∙
+page_image number t k nodes rows from n count records bytes f s c r b =
+    b ∙
+    ap (λ (l : List ℕ). image (records_page number (then_some (eqb k 0) t) n l (then_some (eqb (k + 1) count) nodes))) r ∙
     image_records number (eqb k 0) (eqb (k + 1) count) t (scores_of rows from n) n (length-scores_of rows from n) (replicate 324 0) nodes ∙
-    ap₂ (λ (i m : ℕ). image (page number (p.checkpoint (only_if (eqb k 0) t) (scores_of rows i m) (only_if (eqb (k + 1) count) nodes)))) f s ∙
+    ap₂ (λ (i m : ℕ). image (page number (p.checkpoint (then_some (eqb k 0) t) (scores_of rows i m) (then_some (eqb (k + 1) count) nodes)))) f s ∙
     ap (λ (m : ℕ). image (page number
-    (p.checkpoint (only_if (eqb k 0) t) (scores_of rows (scores_before k) (scores_of_page k nodes))
-    (only_if (eqb (k + 1) m) nodes)))) c)
+    (p.checkpoint (then_some (eqb k 0) t) (scores_of rows (scores_before k) (scores_of_page k nodes))
+    (then_some (eqb (k + 1) m) nodes)))) c
 
 -- The page, the row and the state of a checkpoint page put together.
 pub checkpoint_page_written : {P T P' T' : ℕ} (t : Tariff) (k : ℕ) (pages pages' : List (List ℕ))
@@ -228,40 +247,36 @@ module _ {P T : ℕ} (w : World) where
   drain_some w₁ h x = rw (ne_eqb w.state.entries 0 h) x
 
 -- What holds between two checkpoint pages.
-pub record Between (P T P₀ T₀ : ℕ) (s₀ s : State) (k count : ℕ) : Type 0 where
-  pub within : k ≤ count
-  pub good : Good P T s
-  pub blocks : s.blocks ≡ s₀.blocks
-  pub nodes : s.nodes ≡ s₀.nodes
-  pub written : s.checkpoint ≤ k
-  pub pool : P ≡ P₀
-  pub table : T ≡ T₀
+pub record Between (before now : Flash) (k : ℕ) : Type 0 where
+  pub same_pool : now.pool.ghost_name ≡ before.pool.ghost_name
+  pub same_table : now.table.ghost_name ≡ before.table.ghost_name
+  pub long : length now.table.now ≡ length before.table.now
+  pub blocks : now.state.blocks ≡ before.state.blocks
+  pub nodes : now.state.nodes ≡ before.state.nodes
+  pub written : now.state.checkpoint ≤ k
 
-pub between-begin : {P T : ℕ} (s : State) (count : ℕ) → Good P T s → s.checkpoint ≡ 0 → Between P T P T s s 0 count
-between-begin s count g h =
-    record { within = omega arith; good = g; blocks = refl; nodes = refl; written = omega arith; pool = refl; table = refl }
+pub between-begin : (f : Flash) → f.state.checkpoint ≡ 0 → Between f f 0
+between-begin f h =
+    record { same_pool = refl; same_table = refl; long = refl; blocks = refl; nodes = refl; written = omega arith }
 
-pub between_closing : {P T P₀ T₀ : ℕ} (s₀ s : State) (k count : ℕ) → Between P T P₀ T₀ s₀ s k count → count ≡ page_count s₀.nodes →
-    s₀.nodes ≤ node_limit s₀.blocks → k < count → Closing k s
-between_closing s₀ s k count b e l h =
+pub between_closing : {f g : Flash} (k count : ℕ) → Between f g k → count ≡ page_count f.state.nodes →
+    f.state.nodes ≤ node_limit f.state.blocks → k < count → Closing k g.state
+between_closing k count b e l h =
     record {
       limit = rw (b.nodes, b.blocks) l;
       needed = rw (b.nodes, ← e) h;
       before = b.written;
     }
 
-pub between_more : {P T P₀ T₀ P' T' : ℕ} (s₀ s : State) (k count : ℕ) (made right : World) → Between P T P₀ T₀ s₀ s k
-    count → k < count → P' ≡ P → T' ≡ T →
-    CheckpointPageWritten P' T' s made right → Between P' T' P₀ T₀ s₀ made.state (k + 1) count
-between_more s₀ s k count made right b h p t x =
+pub between_more : {f g h : Flash} {right : World} (k : ℕ) → Between f g k → Steps CheckpointPageWritten g h right → Between f h (k + 1)
+between_more k b x =
     record {
-      within = omega arith;
-      good = x.good;
-      blocks = x.blocks ∙ b.blocks;
-      nodes = x.nodes ∙ b.nodes;
-      written = omega (arith, x.checkpoint, b.written);
-      pool = p ∙ b.pool;
-      table = t ∙ b.table;
+      same_pool = x.same_pool ∙ b.same_pool;
+      same_table = x.same_table ∙ b.same_table;
+      long = x.long ∙ b.long;
+      blocks = x.left.blocks ∙ b.blocks;
+      nodes = x.left.nodes ∙ b.nodes;
+      written = omega (arith, x.left.checkpoint, b.written);
     }
 
 -- The buffer drained, then the checkpoint pages.

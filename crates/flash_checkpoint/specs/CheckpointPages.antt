@@ -15,7 +15,7 @@ use Rattle.page.specs.Page.{page}
 use Rattle.page.specs.Page as p
 use Rattle.page.specs.Image.{image}
 use Rattle.page.specs.Decode.{most_scores}
-use Rattle.page_checkpoint.specs.Checkpoint.{only_if}
+use Rattle.std.specs.Bool.{then_some}
 use Rattle.flash_allocate.specs.World.{World, world, spot, used, Leaves, Left, Stays, Unsaid, OneMoreAtMost}
 use Rattle.flash_allocate.specs.Allocate.{allocate}
 use Rattle.flash_allocate.specs.declared.state.State.{State}
@@ -48,7 +48,7 @@ unfoldable pub checkpoint_image : ℕ → Tariff → ℕ → ℕ → List Row �
 checkpoint_image number tariff k nodes rows =
     image
     (page number
-    (p.checkpoint (only_if (eqb k 0) tariff) (scores_of rows (scores_before k) (scores_of_page k nodes)) (only_if (eqb (k + 1) (page_count nodes)) nodes)))
+    (p.checkpoint (then_some (eqb k 0) tariff) (scores_of rows (scores_before k) (scores_of_page k nodes)) (then_some (eqb (k + 1) (page_count nodes)) nodes)))
 
 -- The row of a checkpoint page being written: it names the page, which is live by that.
 unfoldable pub checkpoint_row : ℕ → ℕ → Row

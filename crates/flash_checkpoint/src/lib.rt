@@ -3,11 +3,11 @@
 
 ghost use Rattle.std.specs.Prelude.{◌≡◌, ◌+◌, ◌*◌, ◌≤◌, ◌<◌, length, set, replicate};
 ghost use Rattle.laws.specs.Lay.{lay};
-ghost use Rattle.layout.specs.Layout.{node_limit, page_bytes, pages_in_block};
+ghost use Rattle.layout.specs.Layout.{node_limit, pages_in_block};
 ghost use Rattle.flash_rows.specs.Row.{row_bytes};
 ghost use Rattle.flash_rows.specs.Worktable.{rows_at, rows_in, table_from, with_row};
-ghost use Rattle.flash_blocks.specs.Pages.{pages_of};
-ghost use Rattle.flash_allocate.specs.World.{Good, world_in, Kept, LeftIn};
+ghost use Rattle.flash_allocate.specs.World.{Kept};
+ghost use Rattle.flash_allocate.specs.Flash.{world_of, Steps};
 ghost use Rattle.flash_checkpoint.specs.Scores.{scores_of, scores_bytes};
 ghost use Rattle.flash_checkpoint.specs.CheckpointPages as def;
 ghost use Rattle.flash_checkpoint.specs.CheckpointPages.{scores_before, ScoresOfPage, page_count, checkpoint_image, checkpoint_row};
@@ -15,13 +15,15 @@ ghost use Rattle.flash_checkpoint.specs.CheckpointPages.{write_checkpoint_page, 
 
 use account::{Mode, Tariff};
 use flash_allocate::allocate::allocate;
-use flash_allocate::state::{State, count_page, next_sequence};
+use flash_allocate::flash::Flash;
+use flash_allocate::state::{count_page, next_sequence};
 use flash_blocks::page::put_page;
 use flash_log::flush::flush;
 use flash_rows::no_row;
 use flash_rows::table::{put_row, row_at};
 use layout::{
-    FIRST_SCORES, OTHER_SCORES, PAGES_IN_BLOCK, SCORE_BYTES, SCORES_LESS, SCORES_ROUND_UP,
+    FIRST_SCORES, OTHER_SCORES, PAGE_BYTES, PAGES_IN_BLOCK, SCORE_BYTES, SCORES_LESS,
+    SCORES_ROUND_UP,
 };
 use page_checkpoint::{checkpoint_image, lay_score};
 
@@ -30,10 +32,7 @@ fn scores_before(k: usize) -> usize
     requires { k ≤ 128 }
     ensures { result ≡ scores_before k }
 {
-    if k == 0 {
-        return 0;
-    }
-    OTHER_SCORES * k - SCORES_LESS
+    (OTHER_SCORES * k).saturating_sub(SCORES_LESS)
 }
 
 // How many scores stand on checkpoint page k.
@@ -41,12 +40,8 @@ fn scores_on(k: usize, nodes: usize) -> usize
     requires { (k ≤ 128) × (scores_before k ≤ nodes) }
     ensures { ScoresOfPage k nodes result }
 {
-    let start = scores_before(k);
-    let end = OTHER_SCORES * k + FIRST_SCORES;
-    if end <= nodes {
-        return end - start;
-    }
-    nodes - start
+    let end = nodes.min(OTHER_SCORES * k + FIRST_SCORES);
+    end - scores_before(k)
 }
 
 // How many checkpoint pages hold the scores of so many nodes.
@@ -63,121 +58,95 @@ fn score_records(table: &[u8], from: usize, n: usize) -> [u8; SCORE_BYTES * OTHE
     ensures { result ≡ lay (replicate 324 0) 0 (scores_bytes (scores_of (rows_in table.now) from n)) }
 {
     let mut records = [0u8; SCORE_BYTES * OTHER_SCORES];
-    let mut i: usize = 0;
-    while i < n {
+    for i in 0..n {
         let row = row_at(table, from + i);
         lay_score(&mut records, SCORE_BYTES * i, (from + i) as u32, row.score);
-        i += 1;
     }
     records
 }
 
-// Checkpoint page k written as a page of the pool.
-fn put_checkpoint_page(
-    pool: &mut [u8],
-    table: &[u8],
-    page: usize,
-    number: u32,
-    tariff: Tariff,
-    k: usize,
-    nodes: usize,
-)
-    requires { (page_bytes * page + page_bytes ≤ length pool.old) × (rows_at + row_bytes * nodes ≤ length table.now) × (nodes ≤ 4096)
-        × (k < page_count nodes) }
-    ensures { pages_of pool.new ≡ set (pages_of pool.old) page
-        (checkpoint_image number tariff k nodes (rows_in table.now)) }
+// The image of checkpoint page k.
+fn page_image(table: &[u8], number: u32, tariff: Tariff, k: usize, nodes: usize) -> [u8; PAGE_BYTES]
+    requires rows { rows_at + row_bytes * nodes ≤ length table.now }
+    requires few { nodes ≤ 4096 }
+    requires needed { k < page_count nodes }
+    ensures { result ≡ checkpoint_image number tariff k nodes (rows_in table.now) }
 {
     let from = scores_before(k);
     let n = scores_on(k, nodes);
     let records = score_records(table, from, n);
-    let last = k + 1 == page_count(nodes);
-    let image = checkpoint_image(number, k == 0, tariff, &records, n, last, nodes as u32);
-    put_page(pool, page, &image);
+    let front = (k == 0).then_some(tariff);
+    let end = (k + 1 == page_count(nodes)).then_some(nodes as u32);
+    checkpoint_image(number, front, &records, n, end)
 }
 
 // The row of a checkpoint page, behind the nodes' rows.
+#[tactic(auto, unfolding(crate::specs::CheckpointPages::checkpoint_row))]
 fn store_checkpoint_page(table: &mut [u8], n: usize, number: u32, page: u16)
     requires { rows_at + row_bytes * n + row_bytes ≤ length table.old }
     ensures { table_from table.new ≡ with_row n (checkpoint_row number page) (table_from table.old) }
 {
-    let row = no_row().fresh(number, Mode::Disk);
-    put_row(table, n, row.note(page));
+    let row = no_row().fresh(number, Mode::Disk).note(page);
+    put_row(table, n, row);
 }
 
 // Checkpoint page k as the next page, in a block that has room.
-fn write_checkpoint_page(
-    pool: &mut [u8],
-    table: &mut [u8],
-    state: State,
-    tariff: Tariff,
-    k: usize,
-) -> State
-    requires { (Good (length pool.old) (length table.old) state) × (Closing k state) × (state.fill < pages_in_block) }
-    ensures { LeftIn CheckpointPageWritten pool.new table.new state result
-        (write_checkpoint_page tariff k (world_in pool.old table.old state)) }
+fn write_checkpoint_page(flash: &mut Flash, tariff: Tariff, k: usize)
+    requires closing { Closing k flash.old.state }
+    requires room { flash.old.state.fill < pages_in_block }
+    ensures { Steps CheckpointPageWritten flash.old flash.new (write_checkpoint_page tariff k (world_of flash.old)) }
 {
+    let state = flash.state;
     let page = PAGES_IN_BLOCK * state.current + state.fill;
     let number = next_sequence(state.last);
-    put_checkpoint_page(pool, table, page, number, tariff, k, state.nodes);
-    store_checkpoint_page(table, state.nodes + state.checkpoint, number, page as u16);
-    count_page(state, number)
+    let image = page_image(flash.table(), number, tariff, k, state.nodes);
+    put_page(flash.pool, page, &image);
+    store_checkpoint_page(
+        flash.table,
+        state.nodes + state.checkpoint,
+        number,
+        page as u16,
+    );
+    flash.state = count_page(state, number);
 }
 
 // A place, then checkpoint page k there.
-fn checkpoint_page(
-    pool: &mut [u8],
-    table: &mut [u8],
-    state: State,
-    tariff: Tariff,
-    k: usize,
-) -> State
-    requires { (Good (length pool.old) (length table.old) state) × (Closing k state) }
-    ensures { LeftIn CheckpointPageWritten pool.new table.new state result
-        (def.checkpoint_page tariff k (world_in pool.old table.old state)) }
+fn checkpoint_page(flash: &mut Flash, tariff: Tariff, k: usize)
+    requires { Closing k flash.old.state }
+    ensures { Steps CheckpointPageWritten flash.old flash.new (def.checkpoint_page tariff k (world_of flash.old)) }
 {
-    let s = allocate(pool, table, state);
-    if s.fill < PAGES_IN_BLOCK {
-        return write_checkpoint_page(pool, table, s, tariff, k);
+    allocate(flash);
+    if flash.state.fill < PAGES_IN_BLOCK {
+        write_checkpoint_page(flash, tariff, k);
     }
-    s
 }
 
 // The buffer written out where it is not empty.
-fn drain(pool: &mut [u8], table: &mut [u8], state: State) -> State
-    requires { Good (length pool.old) (length table.old) state }
-    ensures { LeftIn Kept pool.new table.new state result
-        (def.drain (world_in pool.old table.old state)) }
+fn drain(flash: &mut Flash)
+    ensures { Steps Kept flash.old flash.new (def.drain (world_of flash.old)) }
 {
-    if state.entries == 0 {
-        return state;
+    if flash.state.entries != 0 {
+        flush(flash);
     }
-    flush(pool, table, state)
 }
 
 // All checkpoint pages, one after another.
-fn checkpoint_pages(pool: &mut [u8], table: &mut [u8], state: State, tariff: Tariff) -> State
-    requires { (Good (length pool.old) (length table.old) state)
-        × (state.nodes ≤ node_limit state.blocks) × (state.checkpoint ≡ 0) }
-    ensures { LeftIn Ended pool.new table.new state result
-        (def.checkpoint_pages tariff (world_in pool.old table.old state)) }
+fn checkpoint_pages(flash: &mut Flash, tariff: Tariff)
+    requires limit { flash.old.state.nodes ≤ node_limit flash.old.state.blocks }
+    requires begun { flash.old.state.checkpoint ≡ 0 }
+    ensures { Steps Ended flash.old flash.new (def.checkpoint_pages tariff (world_of flash.old)) }
 {
-    let count = page_count(state.nodes);
-    let mut s = state;
-    let mut k: usize = 0;
-    while k < count {
-        s = checkpoint_page(pool, table, s, tariff, k);
-        k += 1;
+    for k in 0..page_count(flash.state.nodes) {
+        checkpoint_page(flash, tariff, k);
     }
-    s
 }
 
 // The end of a batch.
-pub fn checkpoint(pool: &mut [u8], table: &mut [u8], state: State, tariff: Tariff) -> State
-    requires { (Good (length pool.old) (length table.old) state)
-        × (state.nodes ≤ node_limit state.blocks) × (state.checkpoint ≡ 0) }
-    ensures { LeftIn Ended pool.new table.new state result
-        (def.checkpoint tariff (world_in pool.old table.old state)) }
+pub fn checkpoint(flash: &mut Flash, tariff: Tariff)
+    requires limit { flash.old.state.nodes ≤ node_limit flash.old.state.blocks }
+    requires begun { flash.old.state.checkpoint ≡ 0 }
+    ensures { Steps Ended flash.old flash.new (def.checkpoint tariff (world_of flash.old)) }
 {
-    let s = drain(pool, table, state);
-    checkpoint_pages(pool, table, s, tariff)
+    drain(flash);
+    checkpoint_pages(flash, tariff);
 }

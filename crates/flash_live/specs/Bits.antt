@@ -1,13 +1,14 @@
 -- The map of live pages in bytes, a bit a page: which marks the bytes stand for, how a mark is read, and how it is set. Assumes nothing.
-use Rattle.std.specs.Prelude.{◌≡◌, refl, true, false, List, [], ◌∷◌, ◌++◌, ℕ, zero, suc, ◌+◌, ◌*◌, ◌/◌, ◌%◌, ◌^◌, ◌<◌, length, get_or, set, replicate}
-use Rattle.std.proofs.Common.{sym, ap, ap₂, ◌∙◌, zero-add, mod-eq_of_lt, arith, eqb-true, get_or-append-add}
+use Rattle.std.specs.Prelude.{◌≡◌, refl, List, [], ◌∷◌, ◌++◌, ℕ, zero, suc, ◌+◌, ◌*◌, ◌/◌, ◌%◌, ◌^◌, ◌≤◌, ◌<◌, length, get_or, set, replicate}
+use Rattle.std.proofs.Common.{sym, ap, ap₂, ◌∙◌, zero-add, mod-eq_of_lt, arith, get_or-append-add}
+use Rattle.std.specs.Int.Bits.{bit_or, or_zero_r}
+use Rattle.std.proofs.lemmas.Nat.{or_mod, or_shr}
 use Rattle.std.proofs.Math.Nat.{zero-div, div-div-eq-div-mul, pow-succ'}
-use Rattle.std.proofs.lemmas.Bool.{not-true, not-false, eqb-false}
 use Rattle.std.proofs.Math.ListN.{get_or-append}
-use Rattle.std.proofs.lemmas.List.{replicate-append-replicate, set-append_left, set-get_or}
+use Rattle.std.proofs.lemmas.List.{replicate-append-replicate, set-append_left}
 use Rattle.laws.specs.Lists.{set_append_right}
 use Rattle.layout.specs.Layout.{live_bytes}
-use Rattle.flash_live.specs.Live.{most_pages, marked}
+use Rattle.flash_live.specs.Live.{most_pages}
 
 -- The powers of two.
 unfoldable pub two_to : ℕ → ℕ
@@ -45,20 +46,33 @@ bit_at zero b k h = absurd (omega arith)
 bit_at (suc n) b zero h = omega arith
 bit_at (suc n) b (suc k) h = bit_at n (b / 2) k (omega arith) ∙ ap (λ (q : ℕ). q % 2) (div-div-eq-div-mul b 2 (two_to k))
 
--- Its power added sets a bit that is 0.
-set-bit : (n b k : ℕ) → k < n → get_or (bits_of n b) k 0 ≡ 0 → bits_of n (b + two_to k) ≡ set (bits_of n b) k 1
+-- A number with a bit set: its power or-ed to it sets that bit, and no other.
+set-bit : (n b k : ℕ) → k < n → bits_of n (bit_or b (two_to k)) ≡ set (bits_of n b) k 1
 unfolding bits_of two_to
-set-bit zero b k h z = absurd (omega arith)
-set-bit (suc n) b zero h z = ap₂ {B = List ℕ} {C = List ℕ} ◌∷◌ (omega arith) (ap (bits_of n) (omega arith))
-set-bit (suc n) b (suc k) h z =
-    ap₂ {B = List ℕ} {C = List ℕ} ◌∷◌ (omega arith) (ap (bits_of n) (omega arith) ∙ set-bit n (b / 2) k (omega arith) z)
+set-bit zero b k h = absurd (omega arith)
+set-bit (suc n) b zero h =
+    ap₂ {B = List ℕ} {C = List ℕ} ◌∷◌ (or_mod b 1 1 ∙ odd (b % 2) (omega arith)) (ap (bits_of n) (or_shr b 1 1 ∙ or_zero_r (b / 2)))
+  where
+    odd : (x : ℕ) → x < 2 → bit_or x 1 ≡ 1
+    odd zero l = refl
+    odd (suc zero) l = refl
+    odd (suc (suc x)) l = absurd (omega arith)
+set-bit (suc n) b (suc k) h =
+    let even : 2 * two_to k % 2 ≡ 0 = omega arith in
+    let half : 2 * two_to k / 2 ≡ two_to k = omega arith in
+    ap₂ {B = List ℕ} {C = List ℕ} ◌∷◌ (or_mod b (2 * two_to k) 1 ∙ ap (bit_or (b % 2)) even ∙ or_zero_r (b % 2))
+    (ap (bits_of n) (or_shr b (2 * two_to k) 1 ∙ ap (bit_or (b / 2)) half) ∙ set-bit n (b / 2) k (omega arith))
 
--- And the number stays below the power above its bits.
-bit-fits : (n b k : ℕ) → k < n → b < two_to n → get_or (bits_of n b) k 0 ≡ 0 → b + two_to k < two_to n
-unfolding bits_of two_to
-bit-fits zero b k h l z = absurd (omega arith)
-bit-fits (suc n) b zero h l z = omega arith
-bit-fits (suc n) b (suc k) h l z = omega (arith, bit-fits n (b / 2) k (omega arith) (omega arith) z)
+-- The power of a bit stays below the power above the bits.
+two_to_lt : (n k : ℕ) → k < n → two_to k < two_to n
+unfolding two_to
+two_to_lt zero k h = absurd (omega arith)
+two_to_lt (suc n) zero h = omega (arith, one_or_more n)
+  where
+    one_or_more : (n : ℕ) → 1 ≤ two_to n
+    one_or_more zero = omega arith
+    one_or_more (suc n) = omega (arith, one_or_more n)
+two_to_lt (suc n) (suc k) h = omega (arith, two_to_lt n k (omega arith))
 
 -- What the two shifts of a byte are.
 pub shifted_down : (b k : ℕ) → b / 2 ^ k ≡ b / two_to k
@@ -67,31 +81,16 @@ shifted_down b k = ap (λ (x : ℕ). b / x) (two_pow k)
 pub shifted_up : (k : ℕ) → k < 8 → 1 * 2 ^ k % 2 ^ 8 ≡ two_to k
 unfolding two_to
 shifted_up k h =
-    let fits : 0 + two_to k < two_to 8 = bit-fits 8 0 k h (omega arith) (bit_at 8 0 k h ∙ ap (λ (x : ℕ). x % 2) (zero-div (two_to k))) in
     let one : 1 * 2 ^ k ≡ two_to k = omega (arith, two_pow k) in
-    ap (λ (x : ℕ). x % 256) one ∙ mod-eq_of_lt (omega (arith, fits))
+    ap (λ (x : ℕ). x % 256) one ∙ mod-eq_of_lt (omega (arith, two_to_lt 8 k h))
 
--- The same of a byte, by whether its bit is set.
+-- The same of a byte.
 module _ (b k : ℕ) (h : k < 8) where
   pub byte_bit-at : get_or (byte_bits b) k 0 ≡ b / two_to k % 2
   byte_bit-at = bit_at 8 b k h
 
-  pub byte_bit-kept : marked (get_or (byte_bits b) k 0) ≡ true → byte_bits b ≡ set (byte_bits b) k 1
-  byte_bit-kept t =
-      let n : get_or (byte_bits b) k 0 ≡ 0 → ⊥ = eqb-false (get_or (byte_bits b) k 0) 0 (not-true _ t) in
-      let e : get_or (byte_bits b) k 0 ≡ 1 = omega (arith, byte_bit-at, n) in
-      sym (set-get_or (byte_bits b) k 0) ∙ ap (λ (v : ℕ). set (byte_bits b) k v) e
-
-  module _ (f : marked (get_or (byte_bits b) k 0) ≡ false) where
-    clear : get_or (byte_bits b) k 0 ≡ 0
-    clear = eqb-true (get_or (byte_bits b) k 0) 0 (not-false _ f)
-
-    pub byte_bit-set : byte_bits (b + two_to k) ≡ set (byte_bits b) k 1
-    byte_bit-set = set-bit 8 b k h clear
-
-    pub byte_bit-fits : b < 256 → b + two_to k < 256
-    unfolding two_to
-    byte_bit-fits l = bit-fits 8 b k h l clear
+  pub byte_bit-set : byte_bits (bit_or b (1 * 2 ^ k % 2 ^ 8)) ≡ set (byte_bits b) k 1
+  byte_bit-set = ap (λ (x : ℕ). byte_bits (bit_or b x)) (shifted_up k h) ∙ set-bit 8 b k h
 
 -- By byte and bit: the mark of a page, and the marks with one byte changed by its bit. Behind the last byte there is no mark.
 place_at : (bs : List ℕ) (q k : ℕ) → k < 8 → get_or (marks_in bs) (8 * q + k) 0 ≡ get_or (byte_bits (get_or bs q 0)) k 0

@@ -6,14 +6,6 @@ ghost use Rattle.flash_live.specs.Bits.{two_to, byte_bits, marks_in};
 
 use layout::LIVE_BYTES;
 
-// The power of two of a bit of a byte.
-fn two_to(k: usize) -> u8
-    requires { k < 8 }
-    ensures { result ≡ two_to k }
-{
-    1u8 << k
-}
-
 // Whether a bit of a byte is set.
 fn has_bit(byte: u8, k: usize) -> bool
     requires { k < 8 }
@@ -27,10 +19,7 @@ fn with_bit(byte: u8, k: usize) -> u8
     requires { k < 8 }
     ensures { byte_bits result ≡ set (byte_bits byte) k 1 }
 {
-    if has_bit(byte, k) {
-        return byte;
-    }
-    byte + two_to(k)
+    byte | 1u8 << k
 }
 
 // Whether a page is live.

@@ -7,36 +7,34 @@ ghost use Rattle.flash_blocks.specs.Pages.{pages_of};
 ghost use Rattle.flash_live.specs.Live.{mark_slot, mark_row, live_map, live_in};
 ghost use Rattle.flash_live.specs.Bits.{marks_in};
 ghost use Rattle.flash_live.specs.Choose as def;
-ghost use Rattle.laws.specs.Counts.{bit};
 ghost use Rattle.layout.specs.Layout.{block_bytes, most_blocks, pages_in_block};
 
 use flash_rows::Row;
 use layout::{LIVE_BYTES, MOST_PAGES, PAGES_IN_BLOCK};
+use wire::record::read;
 
 pub mod bits;
 
 // A block, and how many live pages it has.
-#[derive(Drop)]
+#[derive(Clone, Copy, Debug, PartialEq, Eq)]
 pub struct Choice {
     pub block: usize,
     pub live: usize,
 }
 
 // Marks the page of slot k, where the slot is in use.
+#[tactic(auto, unfolding(crate::specs::Live::mark_slot))]
 fn mark_slot(live: &mut [u8; LIVE_BYTES], k: u8, pages: u8, slot: u16)
     ensures { marks_in live.new ≡ mark_slot k pages slot (marks_in live.old) }
 {
-    if k < pages {
-        let page = slot as usize;
-        if page < MOST_PAGES {
-            bits::set_live(live, page);
-            return;
-        }
-        return;
+    let page = usize::from(slot);
+    if k < pages && page < MOST_PAGES {
+        bits::set_live(live, page);
     }
 }
 
 // Marks the pages of a row.
+#[tactic(auto, unfolding(crate::specs::Live::mark_row))]
 fn mark_row(live: &mut [u8; LIVE_BYTES], r: Row)
     ensures { marks_in live.new ≡ mark_row r (marks_in live.old) }
 {
@@ -51,22 +49,10 @@ pub fn live_map(table: &[u8], used: usize) -> [u8; LIVE_BYTES]
     ensures { marks_in result ≡ live_map used (rows_of table.now) }
 {
     let mut live = [0u8; LIVE_BYTES];
-    let mut n: usize = 0;
-    while n < used {
-        mark_row(&mut live, flash_rows::read_row(table, n));
-        n += 1;
+    for n in 0..used {
+        mark_row(&mut live, read(table, n));
     }
     live
-}
-
-// 1 for a page that is live.
-fn live_bit(live: bool) -> usize
-    ensures { (result ≡ bit live) × (result ≤ 1) }
-{
-    if live {
-        return 1;
-    }
-    0
 }
 
 // How many pages of a block are live.
@@ -74,16 +60,15 @@ pub fn count_live(live: &[u8; LIVE_BYTES], block: usize) -> usize
     requires { block < most_blocks }
     ensures { (result ≡ live_in (marks_in live.now) block) × (result ≤ pages_in_block) }
 {
-    let mut n: usize = 0;
-    let mut k: usize = 0;
-    while k < PAGES_IN_BLOCK {
-        n += live_bit(bits::is_live(live, PAGES_IN_BLOCK * block + k));
-        k += 1;
+    let mut n = 0;
+    for k in 0..PAGES_IN_BLOCK {
+        n += usize::from(bits::is_live(live, PAGES_IN_BLOCK * block + k));
     }
     n
 }
 
 // The block with fewer live pages: this one, or the best before it; a blank block is none.
+#[tactic(auto, unfolding(crate::specs::Choose::weigh))]
 fn weigh(pool: &[u8], live: &[u8; LIVE_BYTES], block: usize, best: Choice) -> Choice
     requires { (block < most_blocks) × (block_bytes * block + block_bytes ≤ length pool.now) }
     ensures { def.Weighed (def.weigh (pages_of pool.now) (marks_in live.now) block best)
@@ -94,9 +79,10 @@ fn weigh(pool: &[u8], live: &[u8; LIVE_BYTES], block: usize, best: Choice) -> Ch
     }
     let n = count_live(live, block);
     if n < best.live {
-        return Choice { block, live: n };
+        Choice { block, live: n }
+    } else {
+        best
     }
-    best
 }
 
 // The written block with fewest live pages, the lowest on a tie.
@@ -105,10 +91,8 @@ pub fn victim(pool: &[u8], live: &[u8; LIVE_BYTES], blocks: usize) -> usize
     ensures { (result ≡ def.victim blocks (pages_of pool.now) (marks_in live.now)) × (result < blocks) }
 {
     let mut best = Choice { block: 0, live: 33 };
-    let mut block: usize = 0;
-    while block < blocks {
+    for block in 0..blocks {
         best = weigh(pool, live, block, best);
-        block += 1;
     }
     best.block
 }

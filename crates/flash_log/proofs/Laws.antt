@@ -1,4 +1,5 @@
 -- The cases of a claim, of room in a block and of room in the buffer, and what each step of a flush keeps. Assumes nothing.
+use Rattle.std.specs.Prelude.{Option}
 use mathlib.Core.Path.{◌≡◌, refl, sym, ap, ◌∙◌}
 use mathlib.Core.Bool.{Bool, true, false}
 use mathlib.Core.List.{List}
@@ -13,7 +14,6 @@ use Rattle.flash_rows.specs.Row.{no_row}
 use Rattle.flash_rows.specs.Worktable.{Worktable, worktable}
 use Rattle.flash_rows.specs.Step.{claim, settled}
 use Rattle.flash_rows.specs.declared.Row.{Row}
-use Rattle.flash_rows.specs.declared.Claim.{Claim}
 use Rattle.flash_blocks.specs.Blank.{blank_blocks, next_blank}
 use Rattle.node.specs.Change.{Change}
 use Rattle.page.specs.Image.{change_number, change_key, change_pointer, entry_bytes}
@@ -49,7 +49,7 @@ unfolding append
 append-full id version c t s h = rw (le-ltb s.entries 27 h) refl
 
 -- The claim of an entry whose node exists, and of one whose node does not.
-pub claim_in : (buffer : List ℕ) (nodes page k : ℕ) (rows rows' : List Row) (id version : ℕ) (r : Row) (x : Claim) →
+pub claim_in : (buffer : List ℕ) (nodes page k : ℕ) (rows rows' : List Row) (id version : ℕ) (r : Row) (x : Option Row) →
     id ≡ id_at buffer k → version ≡ version_at buffer k → id < nodes → r ≡ get_or rows id no_row → x ≡ claim version page
     r → rows' ≡ settled x id rows →
     rows' ≡ claim_entry buffer nodes page k rows
@@ -201,6 +201,23 @@ good_advanced number s g p t h =
       used = g.used;
       entries = g.entries;
     }
+
+-- So does one that empties the buffer.
+pub good_written : {P T P' T' : ℕ} {s s₁ s₂ : State} (number : ℕ) → Good P T s → P' ≡ P → T' ≡ T → s.fill < 32 →
+    s₁ ≡ advanced number s → s₂ ≡ without_entries s₁ → Good P' T' s₂
+unfolding advanced without_entries with_entries
+good_written number g p t h a b =
+    rw (b, a)
+    (record {
+      few = g.few;
+      most = g.most;
+      pool = p ∙ g.pool;
+      table = omega (arith, t, g.table);
+      inside = g.inside;
+      full = omega arith;
+      used = g.used;
+      entries = omega arith;
+    })
 
 -- The page, the claims and the state of a flush put together.
 pub buffer_written : {P T P' T' : ℕ} (pages pages' : List (List ℕ)) (w w' : Worktable) (s s₁ s₂ : State) (number : ℕ) →

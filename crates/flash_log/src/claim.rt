@@ -6,22 +6,19 @@ ghost use Rattle.flash_rows.specs.Step.{settled};
 ghost use Rattle.flash_log.specs.Claim.{claim_one, claimed};
 ghost use Rattle.layout.specs.Layout.{most_entries};
 
-use flash_rows::Claim;
+use flash_rows::Row;
 use flash_rows::table::{buffer_part, put_row, row_at};
 use layout::ENTRY_BYTES;
 use wire::number::{read16, read32};
 
 // Stores what a claim made of a row.
-fn store_claim(table: &mut [u8], n: usize, claim: Claim)
+fn store_claim(table: &mut [u8], n: usize, claim: Option<Row>)
     requires { rows_at + row_bytes * n + row_bytes ≤ length table.old }
     ensures { table_from table.new
         ≡ with_rows (settled claim n (rows_in table.old)) (table_from table.old) }
 {
-    match claim {
-        Claim::Same => {}
-        Claim::Noted(row) => {
-            put_row(table, n, row);
-        }
+    if let Some(row) = claim {
+        put_row(table, n, row);
     }
 }
 
@@ -36,7 +33,6 @@ fn claim_entry(table: &mut [u8], nodes: usize, page: u16, k: usize)
     if id < nodes {
         let row = row_at(table, id);
         store_claim(table, id, row.claim(version, page));
-        return;
     }
 }
 
@@ -45,9 +41,7 @@ pub fn claim_entries(table: &mut [u8], n: usize, nodes: usize, page: u16)
     requires { (n ≤ most_entries) × (rows_at + row_bytes * nodes ≤ length table.old) }
     ensures { table_from table.new ≡ claimed nodes page n (table_from table.old) }
 {
-    let mut k: usize = 0;
-    while k < n {
+    for k in 0..n {
         claim_entry(table, nodes, page, k);
-        k += 1;
     }
 }

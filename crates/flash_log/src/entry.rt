@@ -7,42 +7,21 @@ ghost use Rattle.flash_log.specs.Entry.{entry_of, logged, laid_at};
 ghost use Rattle.flash_rows.specs.Worktable.{rows_at, table_from};
 ghost use Rattle.layout.specs.Layout.{most_entries};
 
-use flash_allocate::state::{State, with_entries};
+use flash_allocate::state::State;
 use layout::{ENTRY_BYTES, MOST_ENTRIES};
 use node::ChangeValue;
 use page::shape_number;
 use page_write::log_page::lay_entry;
 
-// The number of a change's kind.
-fn change_number(change: ChangeValue) -> u8
-    ensures { result ≡ change_number (change_of change) }
+// The number of a change's kind, its key and its pointer, 0 where it has none.
+fn numbers(change: ChangeValue) -> (u8, u32, u32)
+    ensures { result
+        ≡ (change_number (change_of change), change_key (change_of change), change_pointer (change_of change)) }
 {
     match change {
-        ChangeValue::Put { key: _, pointer: _ } => 1,
-        ChangeValue::Delete { key: _ } => 2,
-        ChangeValue::Link { shape, link: _ } => shape_number(shape),
-    }
-}
-
-// The key of a change, 0 where it has none.
-fn change_key(change: ChangeValue) -> u32
-    ensures { result ≡ change_key (change_of change) }
-{
-    match change {
-        ChangeValue::Put { key, pointer: _ } => key,
-        ChangeValue::Delete { key } => key,
-        ChangeValue::Link { shape: _, link: _ } => 0,
-    }
-}
-
-// The pointer of a change, 0 where it has none.
-fn change_pointer(change: ChangeValue) -> u32
-    ensures { result ≡ change_pointer (change_of change) }
-{
-    match change {
-        ChangeValue::Put { key: _, pointer } => pointer,
-        ChangeValue::Delete { key: _ } => 0,
-        ChangeValue::Link { shape: _, link } => link,
+        ChangeValue::Put { key, pointer } => (1, key, pointer),
+        ChangeValue::Delete { key } => (2, key, 0),
+        ChangeValue::Link { shape, link } => (shape_number(shape), 0, link),
     }
 }
 
@@ -52,9 +31,7 @@ fn lay_change(table: &mut [u8], n: usize, id: usize, version: u32, change: Chang
     ensures { table_from table.new
         ≡ laid_at n (entry_bytes (entry_of id version (change_of change))) (table_from table.old) }
 {
-    let kind = change_number(change);
-    let key = change_key(change);
-    let pointer = change_pointer(change);
+    let (kind, key, pointer) = numbers(change);
     lay_entry(
         table,
         ENTRY_BYTES * n,
@@ -72,9 +49,12 @@ pub fn append(table: &mut [u8], state: State, id: usize, version: u32, change: C
     ensures { logged (table_from table.new) result
         ≡ def.append id version (change_of change) (logged (table_from table.old) state) }
 {
-    if state.entries < MOST_ENTRIES {
-        lay_change(table, state.entries, id, version, change);
-        return with_entries(state, state.entries + 1);
+    if state.entries >= MOST_ENTRIES {
+        return state;
     }
-    state
+    lay_change(table, state.entries, id, version, change);
+    State {
+        entries: state.entries + 1,
+        ..state
+    }
 }

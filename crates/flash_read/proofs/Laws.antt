@@ -1,14 +1,8 @@
 -- One entry more by cases, a turn of each loop, pages of the pool and none behind its end, and the cases of a row's pages. Assumes nothing.
-use mathlib.Core.Path.{◌≡◌, refl, sym, ap, ap₂, ◌∙◌}
-use mathlib.Core.Bool.{Bool, true, false}
-use mathlib.Core.List.{List, [], ◌∷◌, ◌++◌, append_assoc, append-nil}
-use Prim.Native.Nat.{ℕ, suc, ◌+◌, ◌-◌, ◌*◌, ◌≤◌, ◌<◌}
+use Rattle.std.proofs.Common.{◌≡◌, refl, sym, ap, ap₂, ◌∙◌, Bool, true, false, List, [], ◌∷◌, ◌++◌, append_assoc, append-nil, ℕ, suc, ◌+◌, ◌-◌, ◌*◌, ◌≤◌, ◌<◌, add-one, arith, length, get_or, set, take, drop, replicate, drop-cons, drop_of_length-le, take-suc-set, length-take-le, eq-eqb, ne_eqb, lt-ltb, le-ltb, le-leb}
 use native.Mathlib.Nat.{sub-zero}
-use native.Mathlib.Numerals.{add-one}
-use native.Mathlib.Omega.{arith}
-use lib.ListN.{length, get_or, set, take, drop, replicate, get_or-replicate, get_or-eq_default}
-use lib.Seq.{take-suc-set, length-take-le}
-use borrow.Author.Tests.{eq-eqb, ne_eqb, lt-ltb, le-ltb, le-leb, lt-leb}
+use lib.ListN.{get_or-replicate, get_or-eq_default}
+use borrow.Author.Tests.{lt-leb}
 use Rattle.laws.specs.Lay.{part, part-lent}
 use Rattle.laws.specs.BigEndian.{number, number_at}
 use Rattle.layout.specs.Layout.{most_entries, bound32}
@@ -39,7 +33,8 @@ use Rattle.node_replay.specs.Outline.{empty_outline, broken_at, draft_from}
 use Rattle.page.specs.Page.{Entry}
 use Rattle.page.specs.Decode as decode
 use Rattle.flash_read.specs.Replay.{is_own, redo_entry, redo_run, entry_in, stride_of, redo_from}
-use Rattle.flash_read.specs.Slots.{sequence_at, slot_at, redo_at, redo_two, redo_three}
+use Rattle.flash_read.specs.declared.slot.Slot.{Slot}
+use Rattle.flash_read.specs.Slots.{sequence_at, slot_at, redo_at, redo_each, redo_two, redo_three}
 use Rattle.flash_read.specs.NodePage.{if_ascends, node_of_payload, node_page_at}
 use Rattle.flash_read.specs.Content.{redo_pages, log_content, content_by}
 
@@ -168,6 +163,21 @@ module _ (pages : List (List ℕ)) (q : ℕ) where
       sym
       (ap (λ (b : List ℕ). redo_run id version most_entries b 7 d) (page_behind h) ∙
       run_none id version blank_page 27 7 d (omega arith) (λ e. omega (arith, ap length (payload-blank 7 0x12 (omega arith) (λ z. omega arith)))))
+
+-- A turn and the end of the loop over pages.
+module _ (pages : List (List ℕ)) (slots : List Slot) (i id version : ℕ) (d : Draft) where
+  pub each_more : i < length slots →
+      redo_each pages (drop (i + 1) slots) id version (redo_at pages (get_or slots i (record { sequence = 0; page = 0 })).page id version d) ≡
+      redo_each pages (drop i slots) id version d
+  unfolding redo_each
+  each_more h =
+      let none : Slot = record { sequence = 0; page = 0 } in
+      ap (λ (n : ℕ). redo_each pages (drop n slots) id version (redo_at pages (get_or slots i none).page id version d)) (add-one i) ∙
+      sym (ap (λ (ss : List Slot). redo_each pages ss id version d) (drop-cons slots i none h))
+
+  pub each_done : length slots ≤ i → redo_each pages (drop i slots) id version d ≡ d
+  unfolding redo_each
+  each_done h = ap (λ (ss : List Slot). redo_each pages ss id version d) (drop_of_length-le slots h)
 
 -- The pages of a row, by how many they are.
 module _ (pages : List (List ℕ)) (row : Row) (n : ℕ) (d : Draft) where

@@ -10,19 +10,17 @@ use super::content::content;
 use flash_allocate::state::State;
 use node::{DraftState, DraftValue, NodeValue, Shape, empty_node};
 
-// A branch without a key, which is in no sound tree. It keeps the arrays of another node, so that nothing is copied for its sake.
+// A branch without a key, which is in no sound tree. It keeps the arrays of another node, so that nothing is copied
+// for its sake.
 fn keyless_branch(v: NodeValue) -> NodeValue
     requires { Held v }
     ensures { Becomes result no_node }
 {
-    let keys = v.keys;
-    let pointers = v.pointers;
     NodeValue {
         shape: Shape::Branch,
         count: 0,
-        keys,
-        pointers,
         link: 0,
+        ..v
     }
 }
 
@@ -31,23 +29,20 @@ pub fn node_in(d: DraftValue) -> NodeValue
     requires { Held d.node }
     ensures { Becomes result (node_in (draft_of d)) }
 {
-    let state = d.state;
-    let v = d.node;
-    match state {
-        DraftState::Unlinked => keyless_branch(v),
-        DraftState::Made => v,
-        DraftState::Broken => keyless_branch(v),
+    match d.state {
+        DraftState::Made => d.node,
+        DraftState::Unlinked | DraftState::Broken => keyless_branch(d.node),
     }
 }
 
 // Node n of the table; behind the count there is none.
-pub fn node_at<'a>(pool: &'a [u8], table: &'a [u8], state: State, n: usize) -> NodeValue
+pub fn node_at(pool: &[u8], table: &[u8], state: State, n: usize) -> NodeValue
     requires { Readable state table.now }
     ensures { Becomes result (table_of (pages_of pool.now) (table_from table.now) state n) }
 {
     if n < state.nodes {
-        let d = content(pool, table, state, n);
-        return node_in(d);
+        node_in(content(pool, table, state, n))
+    } else {
+        empty_node(Shape::Branch, 0)
     }
-    empty_node(Shape::Branch, 0)
 }

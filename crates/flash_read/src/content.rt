@@ -12,7 +12,7 @@ ghost use Rattle.layout.specs.Layout.{most_entries};
 
 use super::node_page::node_page_at;
 use super::replay::redo_entries;
-use super::slot::{redo_one, redo_three, redo_two, slot_at};
+use super::slot::{in_order, redo_at, redo_each, slot_at};
 use account::Mode;
 use flash_allocate::state::State;
 use flash_rows::Row;
@@ -35,26 +35,27 @@ fn redo_pages(
     ensures { RedoneIn result keys.new pointers.new
         (redo_pages (pages_of pool.now) row n (draft_in outline keys.old pointers.old)) }
 {
-    if row.pages == 0 {
-        return outline;
+    match row.pages {
+        0 => outline,
+        1 => redo_at(pool, row.first, n, row.version, keys, pointers, outline),
+        2 => {
+            let (a, b) = in_order(slot_at(pool, row.first), slot_at(pool, row.second));
+            redo_each(pool, &[a, b], n, row.version, keys, pointers, outline)
+        }
+        _ => {
+            let (a, rest) = in_order(slot_at(pool, row.first), slot_at(pool, row.second));
+            let (b, c) = in_order(rest, slot_at(pool, row.third));
+            let (a, b) = in_order(a, b);
+            redo_each(pool, &[a, b, c], n, row.version, keys, pointers, outline)
+        }
     }
-    let a = slot_at(pool, row.first);
-    if row.pages == 1 {
-        return redo_one(pool, a, n, row.version, keys, pointers, outline);
-    }
-    let b = slot_at(pool, row.second);
-    if row.pages == 2 {
-        return redo_two(pool, a, b, n, row.version, keys, pointers, outline);
-    }
-    let c = slot_at(pool, row.third);
-    redo_three(pool, a, b, c, n, row.version, keys, pointers, outline)
 }
 
-// The outline of node n, whose row this is: its entries on pages, then those in the buffer. Keys and pointers end at the front, where a draft has
-// them, wherever the replay left its first key.
-fn log_outline<'a>(
-    pool: &'a [u8],
-    buffer: &'a [u8],
+// The outline of node n, whose row this is: its entries on pages, then those in the buffer. Keys and pointers end at
+// the front, where a draft has them, wherever the replay left its first key.
+fn log_outline(
+    pool: &[u8],
+    buffer: &[u8],
     entries: usize,
     row: Row,
     n: usize,
@@ -72,9 +73,9 @@ fn log_outline<'a>(
 }
 
 // The outline of node n by the mode of its row; keys and pointers lie at the front.
-fn outline_by<'a>(
-    pool: &'a [u8],
-    buffer: &'a [u8],
+fn outline_by(
+    pool: &[u8],
+    buffer: &[u8],
     entries: usize,
     row: Row,
     n: usize,
@@ -85,36 +86,28 @@ fn outline_by<'a>(
     ensures { Redone (draft_from result keys.new pointers.new)
         (content_by (pages_of pool.now) buffer.now entries row n) }
 {
-    let mode = row.mode;
-    match mode {
+    match row.mode {
         Mode::Log => log_outline(pool, buffer, entries, row, n, keys, pointers),
         Mode::Disk => node_page_at(pool, row.first, keys, pointers),
     }
 }
 
-// The content of node n, whose row this is. Both modes fill the same two arrays, and the draft is put together here alone: so its 200 bytes are not
-// copied at each return on the way.
-fn content_by<'a>(
-    pool: &'a [u8],
-    buffer: &'a [u8],
-    entries: usize,
-    row: Row,
-    n: usize,
-) -> DraftValue
+// The content of node n, whose row this is. Both modes fill the same two arrays, and the draft is put together here
+// alone: so its 200 bytes are not copied at each return on the way.
+fn content_by(pool: &[u8], buffer: &[u8], entries: usize, row: Row, n: usize) -> DraftValue
     requires { (entries ≤ most_entries) × (length buffer.now ≡ buffer_bytes) }
     ensures { Redone result (content_by (pages_of pool.now) buffer.now entries row n) }
 {
-    let mut keys = [0u32; MOST_KEYS];
-    let mut pointers = [0u32; MOST_KEYS];
+    let mut keys = [0; MOST_KEYS];
+    let mut pointers = [0; MOST_KEYS];
     let outline = outline_by(pool, buffer, entries, row, n, &mut keys, &mut pointers);
     draft_from(outline, keys, pointers)
 }
 
 // The content of node n.
-pub fn content<'a>(pool: &'a [u8], table: &'a [u8], state: State, n: usize) -> DraftValue
+pub fn content(pool: &[u8], table: &[u8], state: State, n: usize) -> DraftValue
     requires { (state.entries ≤ most_entries) × (rows_at + row_bytes * n + row_bytes ≤ length table.now) }
     ensures { Redone result (def.content (pages_of pool.now) (table_from table.now) state n) }
 {
-    let row = row_at(table, n);
-    content_by(pool, buffer_part(table), state.entries, row, n)
+    content_by(pool, buffer_part(table), state.entries, row_at(table, n), n)
 }

@@ -3,6 +3,7 @@
 
 pub mod by_id;
 pub mod content;
+pub mod lent;
 pub mod node_page;
 pub mod replay;
 pub mod slot;

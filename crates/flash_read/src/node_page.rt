@@ -1,4 +1,5 @@
-// A node read from its node page: keys and pointers into two arrays that the caller lends, at their front; the rest is the outline that is answered.
+// A node read from its node page: keys and pointers into two arrays that the caller lends, at their front; the rest
+// is the outline that is answered.
 ghost use Rattle.std.specs.Prelude.{◌≡◌, ◌+◌, ◌*◌, ◌≤◌, length};
 ghost use Rattle.flash_blocks.specs.Pages.{pages_of};
 ghost use Rattle.node.specs.Node.{node};
@@ -12,9 +13,8 @@ ghost use Rattle.layout.specs.Layout.{most_keys};
 
 use flash_blocks::page::{has_page, page_part};
 use layout::MOST_KEYS;
-use node::search::wide;
 use node::{DraftState, Shape};
-use node_replay::outline::Outline;
+use node_replay::outline::{Outline, empty_outline};
 use page::shape_of;
 use wire::field::payload;
 use wire::number::read32;
@@ -25,10 +25,7 @@ fn no_node() -> Outline
 {
     Outline {
         state: DraftState::Broken,
-        shape: Shape::Leaf,
-        first: 0,
-        count: 0,
-        link: 0,
+        ..empty_outline()
     }
 }
 
@@ -46,18 +43,15 @@ fn read_pairs(
         (if_ascends (node shape (decode.pairs_from n p.now 7) link)) }
 {
     let mut least: u64 = 0;
-    let mut i: usize = 0;
-    while i < n {
+    for i in 0..n {
         let key = read32(p, 7 + 8 * i);
-        let pointer = read32(p, 11 + 8 * i);
-        let here = wide(key);
+        let here = u64::from(key);
         if here < least {
             return no_node();
         }
         keys[i] = key;
-        pointers[i] = pointer;
+        pointers[i] = read32(p, 11 + 8 * i);
         least = here + 1;
-        i += 1;
     }
     Outline {
         state: DraftState::Made,
@@ -77,17 +71,14 @@ fn node_of_payload(
     requires { Arrays keys.old pointers.old }
     ensures { Redone (draft_from result keys.new pointers.new) (node_of_payload p.now) }
 {
-    let bytes = p.len();
-    if bytes < 7 {
+    if p.len() < 7 {
         return no_node();
     }
-    let n = (bytes - 7) / 8;
+    let n = (p.len() - 7) / 8;
     if MOST_KEYS < n {
         return no_node();
     }
-    let shape = shape_of(p[2]);
-    let link = read32(p, 3);
-    read_pairs(p, n, shape, link, keys, pointers)
+    read_pairs(p, n, shape_of(p[2]), read32(p, 3), keys, pointers)
 }
 
 // The node of a page's field 11.
@@ -95,8 +86,7 @@ fn read_node(page: &[u8], keys: &mut [u32; MOST_KEYS], pointers: &mut [u32; MOST
     requires { Arrays keys.old pointers.old }
     ensures { Redone (draft_from result keys.new pointers.new) (node_of_payload (payload_at page.now 7 0x11)) }
 {
-    let p = payload(page, 7, 0x11);
-    node_of_payload(p, keys, pointers)
+    node_of_payload(payload(page, 7, 0x11), keys, pointers)
 }
 
 // The node of a page of the pool; none behind its end.
@@ -109,9 +99,9 @@ pub fn node_page_at(
     requires { Arrays keys.old pointers.old }
     ensures { Redone (draft_from result keys.new pointers.new) (node_page_at (pages_of pool.now) page) }
 {
-    let place = page as usize;
-    if has_page(pool, place) {
-        return read_node(page_part(pool, place), keys, pointers);
+    let place = usize::from(page);
+    if !has_page(pool, place) {
+        return no_node();
     }
-    no_node()
+    read_node(page_part(pool, place), keys, pointers)
 }

@@ -14,16 +14,12 @@ use node_replay::{redo_delete, redo_link, redo_put};
 use wire::number::{read16, read32};
 
 // Whether an entry is the node's and of the version; most entries that are looked at have another id.
+#[tactic(auto, unfolding(page::specs::Decode::entry_of))]
 fn is_own(entry: &[u8], id: usize, version: u32) -> bool
     requires { length entry.now ≡ entry_size }
     ensures { result ≡ is_own id version (entry_of entry.now) }
 {
-    let own = read16(entry, 0) as usize;
-    if own == id {
-        let of = read32(entry, 2);
-        return of == version;
-    }
-    false
+    read16(entry, 0) as usize == id && read32(entry, 2) == version
 }
 
 // The change that an entry says, by its kind.
@@ -37,59 +33,51 @@ fn redo_entry(
     ensures { RedoneIn result keys.new pointers.new
         (redo (draft_in outline keys.old pointers.old) (entry_of entry.now).change) }
 {
-    let kind = entry[6];
     let key = read32(entry, 7);
     let pointer = read32(entry, 11);
-    if kind == 1 {
-        return redo_put(keys, pointers, outline, key, pointer);
+    match entry[6] {
+        1 => redo_put(keys, pointers, outline, key, pointer),
+        2 => redo_delete(keys, pointers, outline, key),
+        3 => redo_link(outline, Shape::Leaf, pointer),
+        _ => redo_link(outline, Shape::Branch, pointer),
     }
-    if kind == 2 {
-        return redo_delete(keys, pointers, outline, key);
-    }
-    if kind == 3 {
-        return redo_link(outline, Shape::Leaf, pointer);
-    }
-    redo_link(outline, Shape::Branch, pointer)
 }
 
-// The entry on a page: the payload of the field 12 at a place. Its one length and the room for it spare the tests that a field has in general.
-fn framed_at<'a>(bytes: &'a [u8], at: usize) -> &'a [u8]
+// The entry on a page: the payload of the field 12 at a place. Its one length and the room for it spare the tests
+// that a field has in general.
+fn framed_at(bytes: &[u8], at: usize) -> &[u8]
     requires { at + 18 ≤ length bytes.now }
     ensures { result.now ≡ payload_at bytes.now at 0x12 }
 {
-    if bytes[at] != 0x12 {
-        return &bytes[..0];
-    }
-    let size = read16(bytes, at + 1) as usize;
-    if size != ENTRY_BYTES {
-        return &bytes[..0];
+    if bytes[at] != 0x12 || read16(bytes, at + 1) as usize != ENTRY_BYTES {
+        return &[];
     }
     &bytes[at + 3..at + 18]
 }
 
-// The bytes of an entry: on a page the payload of the field 12 at a place, in the buffer the fifteen bytes there. Nothing where there is none.
-fn entry_at<'a>(bytes: &'a [u8], at: usize, framed: bool) -> &'a [u8]
+// The bytes of an entry: on a page the payload of the field 12 at a place, in the buffer the fifteen bytes there.
+// Where there is none it is empty, as the definition says it: the loop tests the length in any case.
+fn entry_at(bytes: &[u8], at: usize, framed: bool) -> &[u8]
     requires { at + stride_of framed ≤ length bytes.now }
     ensures { result.now ≡ entry_in framed bytes.now at }
 {
     if framed {
-        return framed_at(bytes, at);
+        framed_at(bytes, at)
+    } else {
+        &bytes[at..at + ENTRY_BYTES]
     }
-    &bytes[at..at + ENTRY_BYTES]
 }
 
 // How far one entry lies behind another: on a page a field's head is between them.
 fn stride(framed: bool) -> usize
     ensures { result ≡ stride_of framed }
 {
-    if framed {
-        return 3 + ENTRY_BYTES;
-    }
-    ENTRY_BYTES
+    if framed { 3 + ENTRY_BYTES } else { ENTRY_BYTES }
 }
 
-// At most so many entries from a place on, in order, with room for them all: so no test of the length stands in the loop. It is the one loop over
-// entries, so that the compiler keeps the outline in registers.
+// At most so many entries from a place on, in order, with room for them all: so no test of the length stands in the
+// loop. It is the one loop over entries, so that the compiler keeps the outline in registers: so `framed` is a
+// switch, and no const parameter, which would make two of it.
 fn redo_run(
     bytes: &[u8],
     at: usize,
@@ -108,14 +96,12 @@ fn redo_run(
     let step = stride(framed);
     let mut r = outline;
     let mut place = at;
-    let mut left = most;
-    while 0 < left {
+    for _ in 0..most {
         let entry = entry_at(bytes, place, framed);
         if entry.len() != ENTRY_BYTES {
             return r;
         }
         place += step;
-        left -= 1;
         if is_own(entry, id, version) {
             r = redo_entry(entry, keys, pointers, r);
         }

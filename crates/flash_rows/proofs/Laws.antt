@@ -1,39 +1,16 @@
--- The cases of a claim, a row's bytes as they are laid, and a row stored in bytes as a row set. Assumes nothing.
+-- A row's bytes as they are laid, and read back; the rows that bytes spell. Assumes nothing.
 use mathlib.Core.Path.{◌≡◌, refl, sym, ap, ◌∙◌}
-use mathlib.Core.Bool.{true, false}
-use mathlib.Core.List.{List, map, [], ◌∷◌, ◌++◌}
+use mathlib.Core.List.{List, [], ◌∷◌, ◌++◌}
 use Prim.Native.Nat.{ℕ, ◌+◌, ◌*◌, ◌/◌, ◌≤◌}
 use native.Mathlib.Omega.{arith}
-use lib.Dec.{eqb}
-use lib.ListN.{length, get_or, set, take, drop, length-map, get_or-map}
+use lib.ListN.{length, get_or, length-map, get_or-map}
 use Rattle.laws.specs.Lay.{lay, part, lay-next, lay-whole}
 use Rattle.laws.specs.BigEndian.{number_at, number-big_endian, big_endian}
-use Rattle.laws.specs.Chunks.{chunks, length-chunks, get-chunks, lay-chunks, map-set}
+use Rattle.laws.specs.Chunks.{chunks, length-chunks, get-chunks}
 use Rattle.account.specs.declared.Mode.{Mode}
 use Rattle.account.specs.declared.Mode.TheVariants.{Log, Disk}
 use Rattle.flash_rows.specs.Row.{mode_byte, mode_from, decode, encode, rows_of, no_row, Fits, row_bytes}
-use Rattle.flash_rows.specs.Step.{names, noted, by_mode, claim}
 use Rattle.flash_rows.specs.declared.Row.{Row}
-use Rattle.flash_rows.specs.declared.Claim.TheVariants.{Same, Noted}
-
-module _ (version page : ℕ) (r : Row) where
-  pub claim_disk : r.mode ≡ Disk → Same ≡ claim version page r
-  unfolding claim
-  claim_disk m = rw m refl
-
-  module _ (m : r.mode ≡ Log) where
-    pub claim-old : eqb r.version version ≡ false → Same ≡ claim version page r
-    unfolding claim
-    claim-old v = rw (m, v) refl
-
-    module _ (v : eqb r.version version ≡ true) where
-      pub claim_again : names page r ≡ true → Same ≡ claim version page r
-      unfolding claim
-      claim_again n = rw (v, n, m) refl
-
-      pub claim_new : (x : Row) → x ≡ noted page r → names page r ≡ false → Noted x ≡ claim version page r
-      unfolding claim
-      claim_new x e n = rw (v, n) (ap Noted e ∙ ap (λ (k : Mode). by_mode k (Noted (noted page r)) Same) (sym m))
 
 -- A row's numbers laid one behind another are its bytes.
 pub row_laid : (s : List ℕ) (r : Row) → length s ≡ row_bytes →
@@ -59,7 +36,7 @@ row_laid s r e =
     )
     (lay-whole s (encode r) (sym e))
 
--- Rows in bytes: what was encoded is decoded, and a row stored is a row set.
+-- What was encoded is decoded.
 mode_back : (m : Mode) → mode_from (mode_byte m) ≡ m
 unfolding mode_from
 mode_back Log = refl
@@ -84,10 +61,7 @@ decode-encode r f =
     (number-big_endian 2 r.second f.second)
     (number-big_endian 2 r.third f.third)
 
-length-encode : (r : Row) → length (encode r) ≡ 16
-unfolding encode
-length-encode r = refl
-
+-- The rows of bytes.
 pub length-rows : (table : List ℕ) → length (rows_of table) ≡ length table / 16
 unfolding rows_of
 length-rows table = length-map (chunks 16 table) decode ∙ length-chunks 16 table
@@ -95,17 +69,3 @@ length-rows table = length-map (chunks 16 table) decode ∙ length-chunks 16 tab
 pub get_rows : (table : List ℕ) (n : ℕ) → 16 * n + 16 ≤ length table → get_or (rows_of table) n no_row ≡ decode (part table (16 * n) 16)
 unfolding rows_of no_row
 get_rows table n h = get_or-map decode (chunks 16 table) n _ ∙ ap decode (get-chunks 16 table n _ (omega arith))
-
-pub lay-rows : (table : List ℕ) (n : ℕ) (r : Row) → Fits r → 16 * n + 16 ≤ length table → rows_of
-    (lay table (16 * n) (encode r)) ≡ set (rows_of table) n r
-unfolding rows_of
-lay-rows table n r f h =
-    ap (map decode) (lay-chunks 16 table n (encode r) (length-encode r) (omega arith) h) ∙
-    map-set decode (chunks 16 table) n (encode r) ∙
-    ap (set (map decode (chunks 16 table)) n) (decode-encode r f)
-
--- A row read from its part of the table.
-pub part-rows : (table : List ℕ) (n size : ℕ) → size ≡ 16 → 16 * n + 16 ≤ length table → decode
-    (take size (drop (16 * n) table)) ≡ get_or (rows_of table) n no_row
-unfolding part
-part-rows table n size e h = ap (λ (k : ℕ). decode (take k (drop (16 * n) table))) e ∙ sym (get_rows table n h)

@@ -1,6 +1,6 @@
 -- A node's row in the work table, which "holds, while a batch runs, the mode, the score and the pages of each node" (document 01,
 -- "Pool and buffers"): 16 bytes, version (4), score (4), mode (1), number of pages (1), three page numbers (2 each).
-use Rattle.std.specs.Prelude.{List, [], ◌∷◌, ◌++◌, map, ℕ, ◌<◌, eqb, get_or}
+use Rattle.std.specs.Prelude.{◌≡◌, refl, List, [], ◌∷◌, ◌++◌, map, ℕ, ◌<◌, eqb, get_or}
 use Rattle.laws.specs.Tests.{choose}
 use Rattle.laws.specs.BigEndian.{big_endian, number_at}
 use Rattle.laws.specs.Chunks.{chunks}
@@ -44,9 +44,17 @@ encode r =
 unfoldable pub rows_of : List ℕ → List Row
 rows_of table = map decode (chunks row_bytes table)
 
+pub rows_of-is : (table : List ℕ) → rows_of table ≡ map decode (chunks row_bytes table)
+unfolding rows_of
+rows_of-is table = refl
+
 -- The row of a node that lies nowhere; what is read behind the last row.
 unfoldable pub no_row : Row
 no_row = decode []
+
+pub no_row-is : no_row ≡ decode []
+unfolding no_row
+no_row-is = refl
 
 -- The numbers of a row are within their widths.
 pub record Fits (r : Row) : Type 0 where

@@ -1,11 +1,9 @@
 -- What a row says of pages, and how it follows what is written (document 01, "Pages" and "Nodes and tree").
-use Rattle.std.specs.Prelude.{◌≡◌, refl, Bool, ◌&&◌, ◌||◌, List, ℕ, ◌-◌, eqb, ltb, get_or, set}
+use Rattle.std.specs.Prelude.{◌≡◌, refl, Option, None, Some, Bool, ◌&&◌, ◌||◌, List, ℕ, ◌-◌, eqb, ltb, get_or, set}
 use Rattle.laws.specs.Tests.{choose}
 use Rattle.account.specs.declared.Mode.{Mode}
 use Rattle.account.specs.declared.Mode.TheVariants.{Log, Disk}
 use Rattle.flash_rows.specs.declared.Row.{Row}
-use Rattle.flash_rows.specs.declared.Claim.{Claim}
-use Rattle.flash_rows.specs.declared.Claim.TheVariants.{Same, Noted}
 
 -- Whether slot k is one of the slots in use and holds the page.
 unfoldable pub holds : ℕ → ℕ → ℕ → ℕ → Bool
@@ -48,14 +46,14 @@ by_mode Disk a b = b
 
 -- What an entry of a version, now on a log page, does to its node's row: the page is noted once, and only where the version is the row's,
 -- in log mode. ("A log node lies on the log pages that have an entry of its greatest version.")
-unfoldable pub claim : ℕ → ℕ → Row → Claim
+unfoldable pub claim : ℕ → ℕ → Row → Option Row
 claim version page r =
-    by_mode r.mode (choose (eqb r.version version) (choose (names page r) Same (Noted (noted page r))) Same) Same
+    by_mode r.mode (choose (eqb r.version version) (choose (names page r) None (Some (noted page r))) None) None
 
 -- The rows after a claim on row n.
-abbrev pub settled : Claim → ℕ → List Row → List Row
-settled Same n rows = rows
-settled (Noted r) n rows = set rows n r
+abbrev pub settled : Option Row → ℕ → List Row → List Row
+settled None n rows = rows
+settled (Some r) n rows = set rows n r
 
 -- Where a page lies after the 32 pages from `base` on moved to other places.
 unfoldable pub new_place : ℕ → List ℕ → ℕ → ℕ

@@ -2,20 +2,22 @@
 #![tactic(auto)]
 
 ghost use Rattle.std.specs.Prelude.{◌≡◌, ◌+◌, ◌*◌, ◌≤◌, ◌<◌, length, get_or, set};
+ghost use Rattle.std.proofs.Common.{lit≤};
 ghost use Rattle.laws.specs.BigEndian.{number_at};
 ghost use Rattle.flash_rows.specs.Row as def;
-ghost use Rattle.flash_rows.specs.Row.{mode_byte, mode_from, rows_of, no_row, row_bytes};
+ghost use Rattle.flash_rows.specs.Row.{mode_byte, mode_from, rows_of, rows_of-is, no_row, no_row-is, row_bytes};
 ghost use Rattle.flash_rows.specs.Step as step;
 
 pub mod table;
 
 use account::Mode;
 use layout::{PAGES_IN_BLOCK, ROW_BYTES};
-use wire::bytes::{lay_byte, lay_bytes};
+use wire::bytes::lay_byte;
 use wire::number::{read16, read32, write16, write32};
+use wire::record::{self, Record};
 
 // A node's row: its version, score and mode, and the one to three pages that it lies on.
-#[derive(Clone, Copy)]
+#[derive(Clone, Copy, Debug, PartialEq, Eq)]
 pub struct Row {
     pub version: u32,
     pub score: u32,
@@ -24,13 +26,6 @@ pub struct Row {
     pub first: u16,
     pub second: u16,
     pub third: u16,
-}
-
-// What a written entry does to its node's row: nothing, or the row with one page more.
-#[derive(Drop)]
-pub enum Claim {
-    Same,
-    Noted(Row),
 }
 
 // The row of a node that lies nowhere.
@@ -49,13 +44,14 @@ pub fn no_row() -> Row
 }
 
 // The mode that a byte says.
+#[tactic(auto, unfolding(crate::specs::Row::mode_from))]
 fn mode_from(byte: u8) -> Mode
     ensures { result ≡ mode_from byte }
 {
-    if byte == 0 {
-        return Mode::Log;
+    match byte {
+        0 => Mode::Log,
+        _ => Mode::Disk,
     }
-    Mode::Disk
 }
 
 // The byte that says a mode.
@@ -68,29 +64,6 @@ fn mode_byte(mode: Mode) -> u8
     }
 }
 
-// The row that sixteen bytes spell.
-fn decode(part: &[u8]) -> Row
-    requires { length part.now ≡ row_bytes }
-    ensures { result ≡ def.decode part.now }
-{
-    let version = read32(part, 0);
-    let score = read32(part, 4);
-    let mode = mode_from(part[8]);
-    let pages = part[9];
-    let first = read_page_number(part, 10);
-    let second = read_page_number(part, 12);
-    let third = read_page_number(part, 14);
-    Row {
-        version,
-        score,
-        mode,
-        pages,
-        first,
-        second,
-        third,
-    }
-}
-
 // The page number at a place.
 fn read_page_number(part: &[u8], at: usize) -> u16
     requires { at + 2 ≤ length part.now }
@@ -99,20 +72,46 @@ fn read_page_number(part: &[u8], at: usize) -> u16
     read16(part, at) as u16
 }
 
-// The sixteen bytes of a row.
-fn encode(r: Row) -> [u8; ROW_BYTES]
-    ensures { result ≡ def.encode r }
-{
-    let mode = r.mode;
-    let mut bytes = [0; ROW_BYTES];
-    write32(&mut bytes, 0, r.version);
-    write32(&mut bytes, 4, r.score);
-    lay_byte(&mut bytes, 8, mode_byte(mode));
-    lay_byte(&mut bytes, 9, r.pages);
-    write16(&mut bytes, 10, r.first as u32);
-    write16(&mut bytes, 12, r.second as u32);
-    write16(&mut bytes, 14, r.third as u32);
-    bytes
+// A row in sixteen bytes of the table.
+impl Record for Row {
+    ghost BYTES = { row_bytes };
+
+    const BYTES: usize = ROW_BYTES;
+
+    ghost decoded = { def.decode };
+
+    ghost table = { rows_of };
+
+    ghost nothing = { no_row };
+
+    #[tactic(auto, unfolding(crate::specs::Row::decode))]
+    fn decode(part: &[u8]) -> Row {
+        Row {
+            version: read32(part, 0),
+            score: read32(part, 4),
+            mode: mode_from(part[8]),
+            pages: part[9],
+            first: read_page_number(part, 10),
+            second: read_page_number(part, 12),
+            third: read_page_number(part, 14),
+        }
+    }
+
+    fn encode(self, part: &mut [u8]) {
+        write32(part, 0, self.version);
+        write32(part, 4, self.score);
+        lay_byte(part, 8, mode_byte(self.mode));
+        lay_byte(part, 9, self.pages);
+        write16(part, 10, u32::from(self.first));
+        write16(part, 12, u32::from(self.second));
+        write16(part, 14, u32::from(self.third));
+    }
+
+    ghost some_bytes = { lit≤ tt };
+
+    ghost tabled = { rows_of-is };
+
+    ghost behind = { no_row-is };
 }
 
 // The row of a node, or of a checkpoint page being written.
@@ -120,9 +119,7 @@ pub fn read_row(table: &[u8], n: usize) -> Row
     requires { row_bytes * n + row_bytes ≤ length table.now }
     ensures { result ≡ get_or (rows_of table.now) n no_row }
 {
-    let from = ROW_BYTES * n;
-    let to = from + ROW_BYTES;
-    decode(&table[from..to])
+    record::read(table, n)
 }
 
 // The row laid in its place.
@@ -130,123 +127,108 @@ pub fn write_row(table: &mut [u8], n: usize, r: Row)
     requires { row_bytes * n + row_bytes ≤ length table.old }
     ensures { rows_of table.new ≡ set (rows_of table.old) n r }
 {
-    let bytes = encode(r);
-    lay_bytes(table, ROW_BYTES * n, &bytes);
+    record::write(table, n, r);
 }
 
 // Whether slot k is one of the slots in use and holds the page.
+#[tactic(auto, unfolding(crate::specs::Step::holds))]
 fn holds(k: u8, pages: u8, slot: u16, page: u16) -> bool
     ensures { result ≡ step.holds k pages slot page }
 {
-    if k < pages {
-        return slot == page;
-    }
-    false
+    k < pages && slot == page
 }
 
 // Where a page lies after the 32 pages from `base` on moved.
+#[tactic(auto, unfolding(crate::specs::Step::new_place))]
 fn new_place(base: usize, places: &[u16; PAGES_IN_BLOCK], page: u16) -> u16
     ensures { result ≡ step.new_place base places.now page }
 {
-    let p = page as usize;
+    let p = usize::from(page);
     if p < base {
         return page;
     }
     let k = p - base;
-    if k < PAGES_IN_BLOCK {
-        return places[k];
-    }
-    page
+    if k < PAGES_IN_BLOCK { places[k] } else { page }
 }
 
 impl Row {
     // Whether the node lies on a page.
+    #[tactic(auto, unfolding(crate::specs::Step::names))]
     pub fn names(self, page: u16) -> bool
         ensures { result ≡ step.names page self }
     {
-        if holds(0, self.pages, self.first, page) {
-            return true;
-        }
-        if holds(1, self.pages, self.second, page) {
-            return true;
-        }
-        holds(2, self.pages, self.third, page)
+        holds(0, self.pages, self.first, page)
+            || holds(1, self.pages, self.second, page)
+            || holds(2, self.pages, self.third, page)
     }
 
     // The row with one page more.
+    #[tactic(auto, unfolding(crate::specs::Step::noted))]
     pub fn note(self, page: u16) -> Row
         ensures { result ≡ step.noted page self }
     {
-        let mut r = self;
-        if self.pages == 0 {
-            r.pages = 1;
-            r.first = page;
-            return r;
+        match self.pages {
+            0 => Row {
+                pages: 1,
+                first: page,
+                ..self
+            },
+            1 => Row {
+                pages: 2,
+                second: page,
+                ..self
+            },
+            2 => Row {
+                pages: 3,
+                third: page,
+                ..self
+            },
+            _ => self,
         }
-        if self.pages == 1 {
-            r.pages = 2;
-            r.second = page;
-            return r;
-        }
-        if self.pages == 2 {
-            r.pages = 3;
-            r.third = page;
-            return r;
-        }
-        self
     }
 
     // A fresh start of the node: a new version in a mode, on no page yet.
+    #[tactic(auto, unfolding(crate::specs::Step::fresh))]
     pub fn fresh(self, version: u32, mode: Mode) -> Row
         ensures { result ≡ step.fresh version mode self }
     {
         Row {
             version,
-            score: self.score,
             mode,
             pages: 0,
-            first: self.first,
-            second: self.second,
-            third: self.third,
+            ..self
         }
     }
 
     // The row with another score.
+    #[tactic(auto, unfolding(crate::specs::Step::scored))]
     pub fn scored(self, score: u32) -> Row
         ensures { result ≡ step.scored score self }
     {
-        let mut r = self;
-        r.score = score;
-        r
+        Row { score, ..self }
     }
 
-    // What an entry of a version does to the row once it stands on a log page.
-    pub fn claim(self, version: u32, page: u16) -> Claim
+    // The row with one page more, where an entry of a version, now on a log page, makes it that; none where it leaves the row as it is.
+    #[tactic(auto, unfolding(crate::specs::Step::claim))]
+    pub fn claim(self, version: u32, page: u16) -> Option<Row>
         ensures { result ≡ step.claim version page self }
     {
-        let mode = self.mode;
-        match mode {
-            Mode::Log => {
-                if self.version == version {
-                    if self.names(page) {
-                        return Claim::Same;
-                    }
-                    return Claim::Noted(self.note(page));
-                }
-                Claim::Same
-            }
-            Mode::Disk => Claim::Same,
+        if self.mode == Mode::Disk || self.version != version || self.names(page) {
+            return None;
         }
+        Some(self.note(page))
     }
 
     // The row after the 32 pages from `base` on moved.
+    #[tactic(auto, unfolding(crate::specs::Step::moved))]
     pub fn moved(self, base: usize, places: &[u16; PAGES_IN_BLOCK]) -> Row
         ensures { result ≡ step.moved base places.now self }
     {
-        let mut r = self;
-        r.first = new_place(base, places, self.first);
-        r.second = new_place(base, places, self.second);
-        r.third = new_place(base, places, self.third);
-        r
+        Row {
+            first: new_place(base, places, self.first),
+            second: new_place(base, places, self.second),
+            third: new_place(base, places, self.third),
+            ..self
+        }
     }
 }

@@ -1,11 +1,11 @@
 -- The entries of a whole content one by one, and the steps of a group, a node page and an edit put together. Assumes nothing.
 use mathlib.Core.Path.{◌≡◌, refl, sym, ap, ap₂, ◌∙◌}
 use mathlib.Core.List.{List, [], ◌∷◌, ◌++◌}
-use Prim.Native.Nat.{ℕ, zero, suc, ◌+◌, ◌-◌, ◌≤◌, ◌<◌}
-use native.Mathlib.Nat.{sub-zero}
+use Prim.Native.Nat.{ℕ, zero, suc, ◌+◌, ◌≤◌, ◌<◌}
 use native.Mathlib.Numerals.{add-one}
 use native.Mathlib.Omega.{arith}
 use lib.ListN.{length, get_or, set, take, drop}
+use Rattle.std.proofs.Common.{◌⊎◌, inl, inr}
 use lib.Seq.{drop-cons}
 use borrow.Author.Tests.{lt-ltb, le-ltb}
 use Rattle.pairs.specs.Pairs.{Pair}
@@ -49,33 +49,27 @@ unfolding pairs_in
 pairs_first v s =
     sym (zip_first v.count 0 v.keys v.pointers (omega (arith, s.size, s.key_room)) (omega (arith, s.size, s.pointer_room)))
 
--- A turn of the loop over the pairs, its start and its end.
-module _ (id version : ℕ) (keys pointers : List ℕ) (n : ℕ) where
-  pub entries-begin : (l : Logged) →
-      append_all id version (puts (first_pairs (n - 0) keys pointers 0)) l ≡ append_all id version (puts (first_pairs n keys pointers 0)) l
-  entries-begin l = rw sub-zero refl
+-- The entries of the pairs left: with one pair more, and with none.
+module _ (id version : ℕ) (l : Logged) where
+  pub entries_more : (k p : ℕ) (keys pointers keys' pointers' : List ℕ) → keys ≡ k ∷ keys' → pointers ≡ p ∷ pointers' →
+      append_all id version (puts (zip keys' pointers')) (append id version (put k p) l) ≡
+      append_all id version (puts (zip keys pointers)) l
+  unfolding append_all
+  entries_more k p keys pointers keys' pointers' e f = rw (e, f) refl
 
-  pub entries_more : (i : ℕ) (l : Logged) → i < n →
-      append_all id version (puts (first_pairs (n - (i + 1)) keys pointers (i + 1))) (append id version (put (get_or keys i 0) (get_or pointers i 0)) l) ≡
-      append_all id version (puts (first_pairs (n - i) keys pointers i)) l
-  unfolding first_pairs append_all
-  entries_more i l h =
-      let e : n - i ≡ suc (n - (i + 1)) = omega arith in
-      sym (ap (λ (k : ℕ). append_all id version (puts (first_pairs k keys pointers i)) l) e)
-
-  pub entries-done : (i : ℕ) (l : Logged) → n ≤ i → append_all id version (puts (first_pairs (n - i) keys pointers i)) l ≡ l
-  unfolding first_pairs append_all
-  entries-done i l h =
-      let e : n - i ≡ 0 = omega arith in
-      ap (λ (k : ℕ). append_all id version (puts (first_pairs k keys pointers i)) l) e
+  pub entries-done : (keys pointers : List ℕ) → (length keys ≡ 0) ⊎ (length pointers ≡ 0) → l ≡ append_all id version (puts (zip keys pointers)) l
+  unfolding append_all
+  entries-done [] pointers e = refl
+  entries-done (k ∷ keys) [] e = refl
+  entries-done (k ∷ keys) (p ∷ pointers) e = absurd (elim e [ inl f ↦ omega (arith, f) | inr f ↦ omega (arith, f) ])
 
 module _ (id version : ℕ) where
   -- one entry behind others
-  pub append_all-last : (cs : List Change) (c : Change) (l : Logged) →
+  pub append_all_last : (cs : List Change) (c : Change) (l : Logged) →
       append id version c (append_all id version cs l) ≡ append_all id version (cs ++ (c ∷ [])) l
   unfolding append_all
-  append_all-last [] c l = refl
-  append_all-last (x ∷ cs) c l = append_all-last cs c (append id version x l)
+  append_all_last [] c l = refl
+  append_all_last (x ∷ cs) c l = append_all_last cs c (append id version x l)
 
   good_append_all : {P T : ℕ} (cs : List Change) (l : Logged) → Good P T l.state → Good P T (append_all id version cs l).state
   unfolding append_all

@@ -4,13 +4,18 @@ ghost use Rattle.flash_rows.specs.Row.{row_bytes};
 ghost use Rattle.flash_rows.specs.Worktable.{rows_at, rows_for, table_from};
 ghost use Rattle.node.specs.Change.{puts, changes_of};
 ghost use Rattle.node.specs.Value.{pairs_in, node_of, Sized};
-ghost use Rattle.flash_allocate.specs.World.{Good, world_in, Kept, LeftIn};
+ghost use Rattle.flash_allocate.specs.World.{Kept};
+ghost use Rattle.flash_allocate.specs.Flash.{world_of, Steps};
 ghost use Rattle.flash_log.specs.Entry.{logged, append_all};
+ghost use Rattle.flash_allocate.specs.State.{next_sequence};
+ghost use Rattle.flash_log.specs.Flush.{room};
+ghost use Rattle.layout.specs.Layout.{most_entries};
 ghost use Rattle.flash_write.specs.Group as def;
 ghost use Rattle.flash_write.specs.Group.{started, Grown};
 
 use account::Mode;
-use flash_allocate::state::{State, next_sequence, with_nodes, with_sequence};
+use flash_allocate::flash::Flash;
+use flash_allocate::state::{State, next_sequence};
 use flash_log::entry::append;
 use flash_log::flush::make_room;
 use flash_rows::table::{put_row, row_at};
@@ -23,31 +28,29 @@ fn append_pairs(table: &mut [u8], state: State, id: usize, version: u32, v: Node
     ensures { logged (table_from table.new) result
         ≡ append_all id version (puts (pairs_in v)) (logged (table_from table.old) state) }
 {
-    let keys = v.keys;
-    let pointers = v.pointers;
+    let keys = &v.keys[..v.count];
+    let pointers = &v.pointers[..v.count];
     let mut s = state;
-    let mut i: usize = 0;
-    while i < v.count {
+    for (key, pointer) in keys.iter().zip(pointers) {
         let change = ChangeValue::Put {
-            key: keys[i],
-            pointer: pointers[i],
+            key: *key,
+            pointer: *pointer,
         };
         s = append(table, s, id, version, change);
-        i += 1;
     }
     s
 }
 
 // An entry for each pair, then the link's.
+#[tactic(auto, using(crate::proofs::Laws::append_all_last))]
 fn append_node(table: &mut [u8], state: State, id: usize, version: u32, v: NodeValue) -> State
     requires { (rows_at ≤ length table.old) × (Sized v) }
     ensures { logged (table_from table.new) result
         ≡ append_all id version (changes_of (node_of v)) (logged (table_from table.old) state) }
 {
-    let shape = v.shape;
     let s = append_pairs(table, state, id, version, v);
     let change = ChangeValue::Link {
-        shape,
+        shape: v.shape,
         link: v.link,
     };
     append(table, s, id, version, change)
@@ -60,31 +63,45 @@ fn start(table: &mut [u8], state: State, id: usize, row: Row, version: u32, v: N
         ≡ started id row version (node_of v) (table_from table.old) state }
 {
     put_row(table, id, row.fresh(version, Mode::Log));
-    append_node(table, with_sequence(state, version), id, version, v)
+    let s = State {
+        last: version,
+        ..state
+    };
+    append_node(table, s, id, version, v)
 }
 
-// The whole content of a node under a new version. A page that it forces out takes its sequence number before.
-pub fn group(pool: &mut [u8], table: &mut [u8], state: State, id: usize, v: NodeValue) -> State
-    requires { (Good (length pool.old) (length table.old) state) × (id < state.nodes) × (Sized v) }
-    ensures { LeftIn Kept pool.new table.new state result
-        (def.group id (node_of v) (world_in pool.old table.old state)) }
+// Room for so many entries, and the version behind it: a page that they force out takes its sequence number before.
+fn begin(flash: &mut Flash, entries: usize) -> u32
+    requires { entries ≤ most_entries }
+    ensures room { Steps Kept flash.old flash.new (room entries (world_of flash.old)) }
+    ensures version { result ≡ next_sequence flash.new.state.last }
 {
-    let s = make_room(pool, table, state, v.count + 1);
-    let version = next_sequence(s.last);
-    let row = row_at(table, id);
-    start(table, s, id, row, version, v)
+    make_room(flash, entries);
+    next_sequence(flash.state.last)
+}
+
+// The whole content of a node under a new version.
+pub fn group(flash: &mut Flash, id: usize, v: NodeValue)
+    requires known { id < flash.old.state.nodes }
+    requires sized { Sized v }
+    ensures { Steps Kept flash.old flash.new (def.group id (node_of v) (world_of flash.old)) }
+{
+    let version = begin(flash, v.count + 1);
+    let row = row_at(flash.table(), id);
+    flash.state = start(flash.table, flash.state, id, row, version, v);
 }
 
 // A new node, the next one, in log mode with score 0.
-pub fn create(pool: &mut [u8], table: &mut [u8], state: State, v: NodeValue) -> State
-    requires { (Good (length pool.old) (length table.old) state)
-        × (state.nodes + state.checkpoint < rows_for state.blocks) × (Sized v) }
-    ensures { LeftIn Grown pool.new table.new state result
-        (def.create (node_of v) (world_in pool.old table.old state)) }
+pub fn create(flash: &mut Flash, v: NodeValue)
+    requires room { flash.old.state.nodes + flash.old.state.checkpoint < rows_for flash.old.state.blocks }
+    requires sized { Sized v }
+    ensures { Steps Grown flash.old flash.new (def.create (node_of v) (world_of flash.old)) }
 {
-    let s = make_room(pool, table, state, v.count + 1);
-    let version = next_sequence(s.last);
-    let row = no_row();
-    let t = start(table, s, s.nodes, row, version, v);
-    with_nodes(t, s.nodes + 1)
+    let version = begin(flash, v.count + 1);
+    let nodes = flash.state.nodes;
+    let started = start(flash.table, flash.state, nodes, no_row(), version, v);
+    flash.state = State {
+        nodes: nodes + 1,
+        ..started
+    };
 }

@@ -10,3 +10,4 @@ pub mod Lay
 pub mod BigEndian
 pub mod Chunks
 pub mod Loops
+pub mod Ranges

@@ -39,8 +39,10 @@ pub const NO_LEAF: u32 = 4294967295;
 
 pub const LAST_KEY: u32 = 4294967295;
 
-// The log: entries of 15 bytes, 27 on a page and in the buffer.
+// The log: entries of 15 bytes, their field 18, 27 on a page and in the buffer.
 pub const ENTRY_BYTES: usize = 15;
+
+pub const ENTRY_FIELD: usize = 3 + ENTRY_BYTES;
 
 pub const MOST_ENTRIES: usize = 27;
 
@@ -77,8 +79,6 @@ pub const LENGTH_BYTES: usize = 4;
 
 pub const LAST_SEQUENCE: u32 = 4000000000;
 
-pub const MOST_SEQUENCE: u32 = 4294967295;
-
 // How many nodes a pool of so many blocks may have.
 pub fn node_limit(blocks: usize) -> usize
     requires { (fewest_blocks ≤ blocks) × (blocks ≤ most_blocks) }
@@ -87,19 +87,14 @@ pub fn node_limit(blocks: usize) -> usize
     10 * (blocks - 2)
 }
 
-// How many blocks a pool of so many bytes has; 0 where no pool has that length.
-pub fn pool_blocks(bytes: usize) -> usize
+// How many blocks a pool of so many bytes has, where a pool has that length.
+#[tactic(auto, unfolding(crate::specs::Blocks::blocks_if))]
+pub fn pool_blocks(bytes: usize) -> Option<usize>
     ensures { result ≡ blocks_if bytes }
 {
     let blocks = bytes / BLOCK_BYTES;
-    if blocks < FEWEST_BLOCKS {
-        return 0;
+    if blocks < FEWEST_BLOCKS || MOST_BLOCKS < blocks || BLOCK_BYTES * blocks != bytes {
+        return None;
     }
-    if MOST_BLOCKS < blocks {
-        return 0;
-    }
-    if BLOCK_BYTES * blocks == bytes {
-        return blocks;
-    }
-    0
+    Some(blocks)
 }

@@ -1,7 +1,6 @@
 -- A mount ends by the questions of the pool: it refuses with the number of the first no, or opens where there is none. Assumes nothing.
-use Rattle.std.specs.Prelude.{◌≡◌, refl, Bool, true, false, ◌&&◌, List, [], ◌∷◌, ℕ}
+use Rattle.std.specs.Prelude.{◌≡◌, refl, Bool, true, false, ◌&&◌, List, [], ◌∷◌, ℕ, Option, None, Some}
 use Rattle.std.proofs.Common.{◌∙◌, arith}
-use Rattle.std.proofs.Math.Option.{Option, none, some}
 use Rattle.account.specs.declared.Tariff.{Tariff}
 use Rattle.store.specs.Store.{Store}
 use Rattle.store.specs.Checkpoint.{checkpoint_of, tariff_in, complete}
@@ -15,7 +14,7 @@ use Rattle.model.specs.QuestionLaws.{numbered}
 use Rattle.model.specs.MountEnds.{MountEnds, unopened, mounted, FirstNo}
 
 -- Of a pool whose pages check one by one.
-cells_end : (blocks : ℕ) (c : Cells) → MountEnds (first_no (of_pages blocks (some c))) (mount_cells blocks c)
+cells_end : (blocks : ℕ) (c : Cells) → MountEnds (first_no (of_pages blocks (Some c))) (mount_cells blocks c)
 unfolding mount_cells
 cells_end blocks c = go (pages_pass blocks c) (complete (checkpoint_of st)) (tariff_in (checkpoint_of st))
   where
@@ -32,16 +31,16 @@ cells_end blocks c = go (pages_pass blocks c) (complete (checkpoint_of st)) (tar
         (ask 5 p (ask 6 q (mount_tree blocks st o)))
     go false q o = unopened 5 (omega arith) (omega arith)
     go true false o = unopened 6 (omega arith) (omega arith)
-    go true true none = unopened 6 (omega arith) (omega arith)
-    go true true (some t) = last t (TreeSound blocks t st) (numbers_left st)
+    go true true None = unopened 6 (omega arith) (omega arith)
+    go true true (Some t) = last t (TreeSound blocks t st) (numbers_left st)
 
 pub mount_ends : (pool : List ℕ) → MountEnds (first_no (of_pool pool)) (mount_of pool)
 unfolding mount_of of_pool
 mount_ends pool = go (cells_of pool)
   where
     go : (o : Option Cells) → MountEnds (first_no (of_pages (blocks_of pool) o)) (mount_by (blocks_of pool) o)
-    go none = unopened 5 (omega arith) (omega arith)
-    go (some c) = cells_end (blocks_of pool) c
+    go None = unopened 5 (omega arith) (omega arith)
+    go (Some c) = cells_end (blocks_of pool) c
 
 -- What the code of a mount says of the list.
 pub opens_yes : (pool : List ℕ) {t : Tariff} {s : State} → mount_of pool ≡ opened t s → first_no (of_pool pool) ≡ 0

@@ -1,9 +1,8 @@
 -- How a call ends: a number and its table; by what is lent, and then by what is in the pool. Assumes nothing.
-use Rattle.std.specs.Prelude.{◌≡◌, refl, ℕ, ◌≤◌, ◌<◌}
+use Rattle.std.specs.Prelude.{◌≡◌, refl, ℕ, ◌≤◌, ◌<◌, Option, None, Some}
 use Rattle.std.proofs.Math.Path.{ap}
 use Rattle.std.proofs.Common.{◌∙◌, arith, le-leb, ne_eqb}
 use mathlib.Core.List.{List, [], ◌++◌, append-nil}
-use Rattle.std.proofs.Math.Option.{Option, none, some}
 use Rattle.std.proofs.lemmas.Bool.{lt-leb}
 use Rattle.model.specs.Mount.{Mounted}
 use Rattle.model.specs.Pool.{blocks_of}
@@ -33,8 +32,8 @@ pool-table pool w table buffer = go (mount_ends pool) w
   where
     go : {n : ℕ} {m : Mounted} → MountEnds n m → (w : Option Work) → (ended n w pool table buffer).table ≡ cleared (blocks_of pool) table
     go (unopened n l h) w = rw (ended_no n (omega arith) w pool table buffer) (table-cleared n (blocks_of pool) table (omega arith))
-    go (mounted t s) none = refl
-    go (mounted t s) (some w) = refl
+    go (mounted t s) None = refl
+    go (mounted t s) (Some w) = refl
 
 -- THE CALL: by what is lent, and then by what is in the pool.
 module _ (pool : List ℕ) (c : Call) where

@@ -1,8 +1,7 @@
 -- The calls: what each is lent, what it asks, in its order, and what it runs; so, from the entry bytes of every buffer, everything that it leaves.
 -- The contracts of the entry points cite `batch_of`, `desk_of` and `prepare_of`. A call more is a case of `Call` and of the five functions below it.
 -- Assumes nothing.
-use Rattle.std.specs.Prelude.{List, [], ◌∷◌, ◌++◌, ℕ, eqb}
-use Rattle.std.proofs.Math.Option.{Option, none, some}
+use Rattle.std.specs.Prelude.{List, [], ◌∷◌, ◌++◌, ℕ, eqb, Option, None, Some}
 use Rattle.laws.specs.Tests.{choose}
 use Rattle.account.specs.declared.Tariff.{Tariff}
 use Rattle.command.specs.Batch.{commands_of}
@@ -41,8 +40,8 @@ buffer_of (desk d) = d.buffer
 
 -- The bytes that it runs. "The joined bytes run as one batch": where lengths or queues are wrong, a byte that is no command.
 abbrev pub joined_or : Option (List ℕ) → List ℕ
-joined_or none = 0 ∷ []
-joined_or (some bytes) = bytes
+joined_or None = 0 ∷ []
+joined_or (Some bytes) = bytes
 
 abbrev pub bytes_run : Call → List ℕ
 bytes_run (batch l) = l.batch

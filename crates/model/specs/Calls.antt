@@ -1,7 +1,6 @@
 -- A list of calls of any kind, "each on the pool as the last call left it", and the reference model beside it (document 01, "What demand 3
 -- compares"; document 02, P2). Assumes nothing.
-use Rattle.std.specs.Prelude.{Bool, true, false, List, [], ◌∷◌, ◌++◌, ℕ, length}
-use Rattle.std.proofs.Math.Option.{Option, none, some}
+use Rattle.std.specs.Prelude.{Bool, true, false, List, [], ◌∷◌, ◌++◌, ℕ, length, Option, None, Some}
 use Rattle.laws.specs.Tests.{choose}
 use Rattle.laws.specs.Lay.{lay}
 use Rattle.layout.specs.Layout.{node_limit}
@@ -46,24 +45,24 @@ laid (b ∷ bs) (rs ∷ rss) = laid_over b rs ∷ laid bs rss
 
 -- The book that a pool spells between calls: contents and modes by its pages, scores by its checkpoint; none where a page does not check.
 abbrev pub book_by : ℕ → Option Cells → Option Book
-book_by blocks none = none
-book_by blocks (some c) = some (book_of (state_of (reopened blocks c)))
+book_by blocks None = None
+book_by blocks (Some c) = Some (book_of (state_of (reopened blocks c)))
 
 unfoldable pub book_in : List ℕ → Option Book
 book_in pool = book_by (blocks_of pool) (cells_of pool)
 
 -- What an accepted call runs; a refused one runs nothing.
 unfoldable pub work_of : List ℕ → Call → Option Work
-work_of pool c = choose (accepted (outcome pool c)) (work_in pool c) none
+work_of pool c = choose (accepted (outcome pool c)) (work_in pool c) None
 
 -- The states that it passes: after every node request; and after every page written and every node request, with the node count then.
 abbrev pub states_by : ℕ → Option Work → List State
-states_by blocks none = []
-states_by blocks (some w) = states_passed (node_limit blocks) w.commands (at_first w.tariff) w.start
+states_by blocks None = []
+states_by blocks (Some w) = states_passed (node_limit blocks) w.commands (at_first w.tariff) w.start
 
 abbrev pub moments_by : ℕ → Option Work → List Moment
-moments_by blocks none = []
-moments_by blocks (some w) = (closed w.tariff (run (node_limit blocks) w.commands (at_first w.tariff) w.start)).run.passed
+moments_by blocks None = []
+moments_by blocks (Some w) = (closed w.tariff (run (node_limit blocks) w.commands (at_first w.tariff) w.start)).run.passed
 
 abbrev pub all_states : List ℕ → List Call → List State
 all_states pool [] = []
@@ -88,8 +87,8 @@ fed pool (c ∷ cs) = fed_of pool c ∷ fed (outcome pool c).pool cs
 -- "A refused batch changes nothing and costs 0."
 abbrev pub commands_by : Bool → Option (List Command) → List Command
 commands_by false cs = []
-commands_by true none = []
-commands_by true (some cs) = cs
+commands_by true None = []
+commands_by true (Some cs) = cs
 
 abbrev pub commands_in : Fed → List Command
 commands_in f = commands_by f.accepted (commands_of f.batch)

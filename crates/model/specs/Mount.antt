@@ -1,7 +1,6 @@
 -- Mount: from the pages of a pool to the state a batch begins with, or the number of the first question that fails (document 01,
 -- questions 5 to 8). Assumes nothing.
-use Rattle.std.specs.Prelude.{Bool, true, false, ◌&&◌, List, [], ◌∷◌, ℕ, zero, suc, leb, ltb}
-use Rattle.std.proofs.Math.Option.{Option, none, some}
+use Rattle.std.specs.Prelude.{Bool, true, false, ◌&&◌, List, [], ◌∷◌, ℕ, zero, suc, leb, ltb, Option, None, Some}
 use Rattle.layout.specs.Layout.{node_limit, most_log_pages, last_sequence}
 use Rattle.account.specs.declared.Tariff.{Tariff}
 use Rattle.account.specs.Tariff.{limit}
@@ -56,8 +55,8 @@ ask number false rest = refused number
 
 -- Questions 7 and 8 of a complete checkpoint, whose first page has the tariff.
 abbrev pub mount_tree : ℕ → Store → Option Tariff → Mounted
-mount_tree blocks st none = refused 6
-mount_tree blocks st (some t) = ask 7 (TreeSound blocks t st) (ask 8 (numbers_left st) (opened t (state_of st)))
+mount_tree blocks st None = refused 6
+mount_tree blocks st (Some t) = ask 7 (TreeSound blocks t st) (ask 8 (numbers_left st) (opened t (state_of st)))
 
 -- Question 5, of all pages together, and question 6.
 unfoldable pub mount_cells : ℕ → Cells → Mounted

@@ -1,6 +1,5 @@
 -- How a call ends (document 01, "Questions before the work"; document 02, P2): refused with a number, or its work done. Assumes nothing.
-use Rattle.std.specs.Prelude.{Bool, ◌&&◌, List, ℕ, eqb, leb, length, replicate}
-use Rattle.std.proofs.Math.Option.{Option, none, some}
+use Rattle.std.specs.Prelude.{Bool, ◌&&◌, List, ℕ, eqb, leb, length, replicate, Option, None, Some}
 use Rattle.laws.specs.Tests.{choose}
 use Rattle.laws.specs.Lay.{lay}
 use Rattle.laws.specs.Update.{sum}
@@ -62,9 +61,9 @@ pub record Work : Type 0 where
   pub start : State
 
 abbrev pub work_by : Option (List Command) → Mounted → Option Work
-work_by none m = none
-work_by (some cs) (refused n) = none
-work_by (some cs) (opened t s) = some (record { tariff = t; commands = cs; start = s })
+work_by None m = None
+work_by (Some cs) (refused n) = None
+work_by (Some cs) (opened t s) = Some (record { tariff = t; commands = cs; start = s })
 
 -- The work done: the pool with the checkpoint written, the answers laid into the answer buffer, their length and the charges.
 abbrev pub accept : ℕ → Tariff → List Command → State → List ℕ → List ℕ → Outcome
@@ -82,8 +81,8 @@ accept blocks t cs s table buffer =
 
 -- A call without work does nothing; none whose questions are all answered with yes is one (`demands` Ends).
 abbrev pub done : Option Work → List ℕ → List ℕ → List ℕ → Outcome
-done none pool table buffer = refuse 0 pool table buffer
-done (some w) pool table buffer = accept (blocks_of pool) w.tariff w.commands w.start table buffer
+done None pool table buffer = refuse 0 pool table buffer
+done (Some w) pool table buffer = accept (blocks_of pool) w.tariff w.commands w.start table buffer
 
 -- THE END, by the number of the first question that is answered with no: "a 'no' ends it with the number", else the work is done.
 abbrev pub ended : ℕ → Option Work → List ℕ → List ℕ → List ℕ → Outcome

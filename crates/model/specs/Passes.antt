@@ -1,7 +1,6 @@
 -- What is known of a call where none of its questions of what is lent is answered with no. Assumes nothing.
-use Rattle.std.specs.Prelude.{◌≡◌, refl, Bool, true, false, List, [], ◌∷◌, ◌++◌, ℕ, ◌≤◌, leb, length}
+use Rattle.std.specs.Prelude.{◌≡◌, refl, Bool, true, false, List, [], ◌∷◌, ◌++◌, ℕ, ◌≤◌, leb, length, Option, None, Some}
 use Rattle.std.proofs.Common.{sym, ◌∙◌, arith, leb-true}
-use Rattle.std.proofs.Math.Option.{Option, none, some}
 use Rattle.layout.specs.Layout.{table_bytes}
 use Rattle.wire.specs.Field.{field_at}
 use Rattle.account.specs.declared.Tariff.{Tariff}
@@ -28,16 +27,16 @@ pub record Passes (pool : List ℕ) (c : Call) : Type 0 where
   pub size : pool_length pool ≡ true
   pub table : table_bytes (blocks_of pool) ≤ length (table_of c)
   pub commands : List Command
-  pub are : commands_of (bytes_run c) ≡ some commands
+  pub are : commands_of (bytes_run c) ≡ Some commands
   pub room : room_for_all commands ≤ length (buffer_of c)
 
-no_command_lem : commands_of (0 ∷ []) ≡ none
+no_command_lem : commands_of (0 ∷ []) ≡ None
 unfolding commands_of commands_from run command_at field_at
 no_command_lem = refl
 
 pub joined-read : (o : Option (List ℕ)) → joined_read o ≡ commands_of (joined_or o)
-joined-read none = sym no_command_lem
-joined-read (some bytes) = refl
+joined-read None = sym no_command_lem
+joined-read (Some bytes) = refl
 
 -- Questions 1 and 2, and 3 and 4.
 pub record Sizes (pool table : List ℕ) : Type 0 where
@@ -54,12 +53,12 @@ sizes_yes pool table e = go (pool_length pool) refl (leb (table_bytes (blocks_of
     go true p true u f = record { size = p; enough = leb-true _ _ u }
 
 pub commands_yes : (o : Option (List Command)) (buffer : List ℕ) → first_no (of_commands o buffer) ≡ 0 →
-    (cs : List Command) × (o ≡ some cs) × (room_for_all cs ≤ length buffer)
-commands_yes none buffer e = absurd (omega (arith, e))
-commands_yes (some cs) buffer e = go (leb (room_for_all cs) (length buffer)) refl e
+    (cs : List Command) × (o ≡ Some cs) × (room_for_all cs ≤ length buffer)
+commands_yes None buffer e = absurd (omega (arith, e))
+commands_yes (Some cs) buffer e = go (leb (room_for_all cs) (length buffer)) refl e
   where
     go : (b : Bool) → leb (room_for_all cs) (length buffer) ≡ b → first_no ((4, b) ∷ []) ≡ 0 →
-        (ds : List Command) × (some cs ≡ some ds) × (room_for_all ds ≤ length buffer)
+        (ds : List Command) × (Some cs ≡ Some ds) × (room_for_all ds ≤ length buffer)
     go true r f = (cs, refl, leb-true _ _ r)
     go false r f = absurd (omega (arith, f))
 

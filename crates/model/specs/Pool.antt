@@ -1,6 +1,5 @@
 -- The bytes of a pool, as a call takes them: how many blocks they are, and what they open as. Assumes nothing.
-use Rattle.std.specs.Prelude.{Bool, ◌&&◌, List, ℕ, ◌*◌, ◌/◌, eqb, leb, length}
-use Rattle.std.proofs.Math.Option.{Option, none, some}
+use Rattle.std.specs.Prelude.{Bool, ◌&&◌, List, ℕ, ◌*◌, ◌/◌, eqb, leb, length, Option, None, Some}
 use Rattle.layout.specs.Layout.{block_bytes, fewest_blocks, most_blocks}
 use Rattle.store.specs.Reopen.{Cells}
 use Rattle.model.specs.Mount.{Mounted, refused, mount_cells}
@@ -16,8 +15,8 @@ pool_length pool =
 
 -- Questions 5 to 8 of a pool's bytes: 5 too, where a page does not check by itself.
 abbrev pub mount_by : ℕ → Option Cells → Mounted
-mount_by blocks none = refused 5
-mount_by blocks (some c) = mount_cells blocks c
+mount_by blocks None = refused 5
+mount_by blocks (Some c) = mount_cells blocks c
 
 unfoldable pub mount_of : List ℕ → Mounted
 mount_of pool = mount_by (blocks_of pool) (cells_of pool)

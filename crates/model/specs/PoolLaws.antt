@@ -1,8 +1,9 @@
 -- A buffer is a pool by its length, or is none; question 1 says which, and so does the number of blocks that the code counts. Assumes nothing.
-use Rattle.std.specs.Prelude.{◌≡◌, refl, true, false, List, ◌⊎◌, ℕ, ◌*◌, ◌/◌, ◌≤◌, ◌<◌, length}
+use Rattle.std.specs.Prelude.{◌≡◌, refl, true, false, List, ◌⊎◌, ℕ, ◌*◌, ◌/◌, ◌≤◌, ◌<◌, length, Some, None}
 use Rattle.std.proofs.Common.{sym, ap, ◌∙◌, inl, inr, arith, le-leb, eq-eqb, ne_eqb}
 use Rattle.std.proofs.Math.Nat.{mul-div_cancel_left}
 use Rattle.std.proofs.lemmas.Bool.{lt-leb}
+use Rattle.laws.specs.Options.{none_some, some_same}
 use Rattle.laws.specs.Order.{eq_or, le_or}
 use Rattle.laws.specs.Tests.{test_clash}
 use Rattle.layout.specs.Blocks.{blocks_if, too_few, too_many, whole-blocks, cut_block}
@@ -14,10 +15,10 @@ pub record IsPool (pool : List ℕ) : Type 0 where
   pub least : fewest_blocks ≤ blocks_of pool
   pub most : blocks_of pool ≤ most_blocks
   pub whole : length pool ≡ block_bytes * blocks_of pool
-  pub blocks : blocks_if (length pool) ≡ blocks_of pool
+  pub blocks : blocks_if (length pool) ≡ Some (blocks_of pool)
 
 pub data Length (pool : List ℕ) : Type 0 where
-  wrong : blocks_if (length pool) ≡ 0 → pool_length pool ≡ false → Length pool
+  wrong : blocks_if (length pool) ≡ None → pool_length pool ≡ false → Length pool
   right : IsPool pool → Length pool
 
 pub length-is : (pool : List ℕ) → Length pool
@@ -46,19 +47,22 @@ length-is pool = go (le_or fewest_blocks (blocks_of pool)) (le_or (blocks_of poo
 
 -- No block counted: no pool; some block counted: a pool. Question 1 answered with yes: a pool.
 module _ (pool : List ℕ) where
-  pub no_pool : (n : ℕ) → n ≡ blocks_if (length pool) → n ≡ 0 → pool_length pool ≡ false
-  no_pool n is z = go (length-is pool)
+  pub no_pool : None ≡ blocks_if (length pool) → pool_length pool ≡ false
+  no_pool is = go (length-is pool)
     where
       go : Length pool → pool_length pool ≡ false
       go (wrong e q) = q
-      go (right h) = absurd (omega (arith, is, h.blocks, h.least))
+      go (right h) = absurd (none_some (is ∙ h.blocks))
 
-  pub a_pool : (n : ℕ) → n ≡ blocks_if (length pool) → (n ≡ 0 → ⊥) → IsPool pool
-  a_pool n is d = go (length-is pool)
+  pub a_pool : (n : ℕ) → Some n ≡ blocks_if (length pool) → IsPool pool
+  a_pool n is = go (length-is pool)
     where
       go : Length pool → IsPool pool
-      go (wrong e q) = absurd (d (is ∙ e))
+      go (wrong e q) = absurd (none_some (sym e ∙ sym is))
       go (right h) = h
+
+  pub blocks-counted : (n : ℕ) → Some n ≡ blocks_if (length pool) → n ≡ blocks_of pool
+  blocks-counted n is = some_same (is ∙ (a_pool n is).blocks)
 
   pub is-pool : pool_length pool ≡ true → IsPool pool
   is-pool e = go (length-is pool)
@@ -76,4 +80,5 @@ whole_length pool blocks e l m = go (length-is pool) (blocks-length pool blocks 
   where
     go : Length pool → blocks_of pool ≡ blocks → pool_length pool ≡ true
     go (right h) same = h.question
-    go (wrong z q) same = absurd (omega (arith, z, whole-blocks (length pool) (omega (arith, same)) (omega (arith, same)) (omega (arith, e, same))))
+    go (wrong z q) same =
+        absurd (none_some (sym z ∙ sym (whole-blocks (length pool) (omega (arith, same)) (omega (arith, same)) (omega (arith, e, same)))))

@@ -1,7 +1,6 @@
 -- "Questions before the work", in the documents' order, each with its number and its answer. A call is defined by its list of them (Call). Assumes
 -- nothing.
-use Rattle.std.specs.Prelude.{Bool, true, false, ◌&&◌, List, [], ◌∷◌, ◌++◌, ℕ, leb, length}
-use Rattle.std.proofs.Math.Option.{Option, none, some}
+use Rattle.std.specs.Prelude.{Bool, true, false, ◌&&◌, List, [], ◌∷◌, ◌++◌, ℕ, leb, length, Option, None, Some}
 use Rattle.laws.specs.Tests.{choose}
 use Rattle.layout.specs.Layout.{table_bytes}
 use Rattle.account.specs.declared.Tariff.{Tariff}
@@ -27,8 +26,8 @@ first_no (q ∷ qs) = choose q.1 (first_no qs) q.0
 
 -- A question of what may not be there: then the answer is no.
 abbrev pub asked : {A : Type 0} → (A → Bool) → Option A → Bool
-asked f none = false
-asked f (some x) = f x
+asked f None = false
+asked f (Some x) = f x
 
 -- Questions 1 and 2 of every call: "is the pool a length named above?", "is the work table long enough?"
 abbrev pub of_sizes : List ℕ → List ℕ → List Question

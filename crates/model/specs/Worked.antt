@@ -1,7 +1,6 @@
 -- The cases that document 01 marks M, together, as one table with one theorem: the requests of one node, and batches of bytes on the pool that
 -- prepare leaves. All by computation. Assumes nothing.
-use Rattle.std.specs.Prelude.{◌≡◌, refl, List, [], ◌∷◌, ◌++◌, map, ℕ, zero, suc, ◌+◌, length, take, replicate}
-use Rattle.std.proofs.Math.Option.{Option, none, some}
+use Rattle.std.specs.Prelude.{◌≡◌, refl, List, [], ◌∷◌, ◌++◌, map, ℕ, zero, suc, ◌+◌, length, take, replicate, Option, None, Some}
 use Rattle.account.specs.declared.Mode.{Mode}
 use Rattle.account.specs.declared.Mode.TheVariants.{Log, Disk}
 use Rattle.account.specs.declared.Request.{Request}
@@ -43,8 +42,8 @@ sizes_below zero b = []
 sizes_below (suc n) b = sizes_below n b ++ (length (pairs_of (b.table n)) ∷ [])
 
 abbrev sizes_by : Option Book → List ℕ
-sizes_by none = []
-sizes_by (some b) = sizes_below b.count b
+sizes_by None = []
+sizes_by (Some b) = sizes_below b.count b
 
 abbrev pub sizes_of : List ℕ → List ℕ
 sizes_of pool = sizes_by (book_in pool)

@@ -1,5 +1,5 @@
 -- The state that a batch begins with, from the survey of its pool. Assumes nothing.
-use Rattle.std.specs.Prelude.{◌≡◌, refl, true, List, ℕ, ◌*◌, ◌≤◌, length}
+use Rattle.std.specs.Prelude.{◌≡◌, refl, Some, List, ℕ, ◌*◌, ◌≤◌, length}
 use Rattle.std.proofs.Common.{ap, ◌∙◌}
 use Rattle.layout.specs.Layout.{block_bytes, fewest_blocks, most_blocks, table_bytes}
 use Rattle.store.specs.Pool.{Blocks, block}
@@ -47,12 +47,12 @@ state_same blocks nodes current fill last current' fill' last' a b c =
     λ i. record { blocks = blocks; current = a i; fill = b i; nodes = nodes; checkpoint = 0; last = c i; entries = 0 }
 
 -- It is what the pool's store says.
-pub survey_begins : {pool : List ℕ} {blocks : ℕ} {r : Survey} {c : Cells} → Surveyed pool blocks r → r.ok ≡ true → Judged pool blocks c →
+pub survey_begins : {pool : List ℕ} {blocks : ℕ} {r : Survey} {c : Cells} → Surveyed pool blocks (Some r) → Judged pool blocks c →
     (nodes : ℕ) → first_state r blocks nodes ≡ beginning blocks nodes (reopened blocks c)
 unfolding first_state reopened
-survey_begins {pool} {blocks} {r} {c} s ok j nodes =
-    let current = s.current c j.reads ok in
+survey_begins {pool} {blocks} {r} {c} s j nodes =
+    let current = s.current c j.reads in
     let bs : Blocks = blocks_in 32 blocks c in
     state_same blocks nodes r.current r.fill r.newest _ _ _ current
-    (s.fill c j.reads ok ∙ ap (λ (i : ℕ). length (block bs i)) current)
-    (s.newest c j.reads ok)
+    (s.fill c j.reads ∙ ap (λ (i : ℕ). length (block bs i)) current)
+    (s.newest c j.reads)

@@ -1,10 +1,13 @@
 -- MOUNT in code is the model's `mount_of`: refused with the number of the first question that fails, or opened with the same tariff and a state that
 -- agrees with the model's (document 01, questions 5 to 8). Assumes nothing.
-use Rattle.std.specs.Prelude.{◌≡◌, true, false, List, ℕ, ◌≤◌, length}
+use Rattle.std.specs.Prelude.{◌≡◌, List, ℕ, length, Some, None, Result, Ok, Err, IfOk, IfErr}
 use Rattle.std.proofs.Common.{sym, ap, ◌∙◌, subst, arith}
 use Rattle.laws.specs.BigEndian.{Bytes}
 use Rattle.layout.specs.Layout.{table_bytes}
 use Rattle.account.specs.declared.Tariff.{Tariff}
+use Rattle.refusal.specs.declared.Refusal.{Refusal}
+use Rattle.refusal.specs.declared.Refusal.TheVariants.{Pages, Checkpoint}
+use Rattle.refusal.specs.Number.{number, number_some}
 use Rattle.store.specs.Reopen.{Cells, reopened}
 use Rattle.model.specs.Mount as Model
 use Rattle.model.specs.Pool.{mount_of}
@@ -13,8 +16,7 @@ use Rattle.flash_blocks.specs.Pages.{pages_of}
 use Rattle.flash_allocate.specs.declared.state.State.{State}
 use Rattle.mount_survey.specs.declared.answer.Survey.{Survey}
 use Rattle.mount_survey.specs.Surveyed.{Surveyed}
-use Rattle.mount_checkpoint.specs.Find.{checkpoint_in}
-use Rattle.mount_checkpoint.specs.declared.find.Checkpoint.TheVariants.{Complete, Incomplete}
+use Rattle.mount_checkpoint.specs.Find.{complete_as, checkpoint_in}
 use Rattle.mount_refines.specs.Checkpoint.Pool.{Judged}
 use Rattle.mount_restore.specs.Questions.{Asked}
 use Rattle.mount_refines.specs.Mount.Refusals.{refused_five, passed_five, refused_six}
@@ -22,38 +24,33 @@ use Rattle.mount_refines.specs.Mount.Known.{Known}
 use Rattle.mount_refines.specs.Rows.Fill.{beginning}
 use Rattle.mount_refines.specs.Mount.Opens.{Opens, refused-later, opened-later}
 use Rattle.mount.specs.Begin.{Sized, first_state, survey_begins}
-use Rattle.mount.specs.declared.answer.Mount.{Mount}
+use Rattle.mount.specs.declared.answer.Mounted.{Mounted}
 
 -- What a mount answers, and what it leaves in a work table of some length.
-pub record MountedAs (pool : List ℕ) (table_length blocks : ℕ) (table : Worktable) (r : Mount) : Type 0 where
-  pub refused : (r.refused ≡ 0 → ⊥) → mount_of pool ≡ Model.refused r.refused
-  pub opened : r.refused ≡ 0 → Opens pool table_length blocks table r.tariff r.state
+pub record MountedAs (pool : List ℕ) (table_length blocks : ℕ) (table : Worktable) (r : Result Mounted Refusal) : Type 0 where
+  pub refused : IfErr r (λ e. mount_of pool ≡ Model.refused (number e))
+  pub opened : IfOk r (λ m. Opens pool table_length blocks table m.tariff m.state)
 
--- A refusal is all that a refused pool says.
-refuses : (pool : List ℕ) (table_length blocks : ℕ) (table : Worktable) (r : Mount) (number : ℕ) → r.refused ≡ number → 1 ≤ number →
-    mount_of pool ≡ Model.refused number → MountedAs pool table_length blocks table r
-refuses pool table_length blocks table r number e l is =
-    record { refused = λ z. is ∙ ap Model.refused (sym e); opened = λ z. absurd (omega arith) }
-
-module _ {pool : List ℕ} {table_length blocks : ℕ} (sized : Sized (length pool) table_length blocks) (bytes : Bytes pool) {v : Survey}
-    (surveyed : Surveyed pool blocks v) (table : Worktable) (r : Mount) where
+module _ {pool : List ℕ} {table_length blocks : ℕ} (sized : Sized (length pool) table_length blocks) (bytes : Bytes pool) (table : Worktable) where
   -- Question 5 fails.
-  pub mounted_five : v.ok ≡ false → r.refused ≡ 5 → MountedAs pool table_length blocks table r
-  mounted_five fails e =
-      refuses pool table_length blocks table r 5 e (omega arith) (refused_five pool blocks sized.0 (sym surveyed.ok ∙ fails))
+  pub mounted_five : Surveyed pool blocks None → MountedAs pool table_length blocks table (Err Pages)
+  mounted_five s = record { refused = refused_five pool blocks sized.0 (sym s.ok); opened = tt }
 
-  module _ (ok : v.ok ≡ true) (width : ℕ) (wide : width ≡ table_bytes blocks) where
+  module _ {v : Survey} (surveyed : Surveyed pool blocks (Some v)) (width : ℕ) (wide : width ≡ table_bytes blocks) where
     cells : (c : Cells) × Judged pool blocks c
-    cells = passed_five pool blocks sized.0 (sym surveyed.ok ∙ ok)
+    cells = passed_five pool blocks sized.0 (sym surveyed.ok)
 
     -- Question 6 fails.
-    pub mounted_six : Incomplete ≡ checkpoint_in (pages_of pool) blocks width → r.refused ≡ 6 → MountedAs pool table_length blocks table r
-    mounted_six told e =
-        refuses pool table_length blocks table r 6 e (omega arith)
-        (refused_six cells.1 (ap (checkpoint_in (pages_of pool) blocks) (sym wide) ∙ sym told))
+    pub mounted_six : None ≡ checkpoint_in (pages_of pool) blocks width → MountedAs pool table_length blocks table (Err Checkpoint)
+    mounted_six told =
+        record {
+          refused = refused_six cells.1 (ap (checkpoint_in (pages_of pool) blocks) (sym wide) ∙ sym told);
+          opened = tt;
+        }
 
     -- The other two decide.
-    module _ (t : Tariff) (nodes since : ℕ) (told : Complete t nodes since ≡ checkpoint_in (pages_of pool) blocks width) where
+    module _ (t : Tariff) (nodes since : ℕ) (told : complete_as t nodes since ≡ checkpoint_in (pages_of pool) blocks width)
+        (s : State) (is : s ≡ first_state v blocks nodes) where
       known : Known pool blocks cells.0 t nodes since
       known =
           record {
@@ -64,20 +61,27 @@ module _ {pool : List ℕ} {table_length blocks : ℕ} (sized : Sized (length po
             told = ap (checkpoint_in (pages_of pool) blocks) (sym wide) ∙ sym told;
           }
 
-      pub mounted_by : (s : State) → s ≡ first_state v blocks nodes → (number : ℕ) → Asked t s since (pages_of pool) table number →
-          r ≡ record { refused = number; tariff = t; state = s } → MountedAs pool table_length blocks table r
-      mounted_by s is number asked e = subst (MountedAs pool table_length blocks table) (sym e) (record { refused = refused_as; opened = opened_as })
-        where
-          same : s ≡ beginning blocks nodes (reopened blocks cells.0)
-          same = is ∙ survey_begins surveyed ok cells.1 nodes
+      same : s ≡ beginning blocks nodes (reopened blocks cells.0)
+      same = is ∙ survey_begins surveyed cells.1 nodes
 
-          asked-begun : Asked t (beginning blocks nodes (reopened blocks cells.0)) since (pages_of pool) table number
-          asked-begun = subst (λ (x : State). Asked t x since (pages_of pool) table number) same asked
+      begun : (r : Result (Unit {0}) Refusal) → Asked t s since (pages_of pool) table r →
+          Asked t (beginning blocks nodes (reopened blocks cells.0)) since (pages_of pool) table r
+      begun r asked = subst (λ (x : State). Asked t x since (pages_of pool) table r) same asked
 
-          refused_as : (number ≡ 0 → ⊥) → mount_of pool ≡ Model.refused number
-          refused_as = refused-later known number asked-begun.is
+      pub mounted_refused : (e : Refusal) → Asked t s since (pages_of pool) table (Err e) → MountedAs pool table_length blocks table (Err e)
+      mounted_refused e asked =
+          record {
+            refused = refused-later known (number e) (begun (Err e) asked).is (λ z. omega (arith, number_some e));
+            opened = tt;
+          }
 
-          opened_as : number ≡ 0 → Opens pool table_length blocks table t s
-          opened_as z =
-              subst (Opens pool table_length blocks table t) (sym same)
-              (opened-later known (sym asked-begun.is ∙ z) table (asked-begun.table z) table_length sized.3)
+      pub mounted_open : Asked t s since (pages_of pool) table (Ok tt) →
+          MountedAs pool table_length blocks table (Ok (record { tariff = t; state = s }))
+      mounted_open asked =
+          let a = begun (Ok tt) asked in
+          record {
+            refused = tt;
+            opened =
+                subst (Opens pool table_length blocks table t) (sym same)
+                (opened-later known (sym a.is) table a.table table_length sized.3);
+          }

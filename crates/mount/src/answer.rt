@@ -2,19 +2,19 @@
 ghost use Rattle.std.specs.Prelude.{◌≡◌};
 ghost use Rattle.mount.specs.Begin.{first_state};
 
-use account::{Costs, Tariff};
+use account::Tariff;
 use flash_allocate::state::State;
 use mount_survey::answer::Survey;
 
-// The number of the first question that fails, or 0; then the tariff and the state to begin with.
-#[derive(Drop)]
-pub struct Mount {
-    pub refused: u32,
+// A pool mounted: its tariff, and the state to begin with.
+#[derive(Clone, Copy)]
+pub struct Mounted {
     pub tariff: Tariff,
     pub state: State,
 }
 
 // The state that a batch begins with.
+#[tactic(auto, unfolding(crate::specs::Begin::first_state))]
 pub fn first_state(found: Survey, blocks: usize, nodes: usize) -> State
     ensures { result ≡ first_state found blocks nodes }
 {
@@ -26,27 +26,5 @@ pub fn first_state(found: Survey, blocks: usize, nodes: usize) -> State
         checkpoint: 0,
         last: found.newest,
         entries: 0,
-    }
-}
-
-// A pool refused, of which nothing else is said.
-pub fn refuse(number: u32, found: Survey) -> Mount
-    ensures { result.refused ≡ number }
-{
-    let none = Costs {
-        read: 0,
-        edit: 0,
-        rewrite: 0,
-        enter: 0,
-    };
-    let tariff = Tariff {
-        log: none,
-        disk: none,
-    };
-    let state = first_state(found, 0, 0);
-    Mount {
-        refused: number,
-        tariff,
-        state,
     }
 }

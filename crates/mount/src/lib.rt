@@ -8,36 +8,24 @@ ghost use Rattle.flash_rows.specs.Worktable.{table_from};
 ghost use Rattle.mount.specs.Begin.{Sized};
 ghost use Rattle.mount.specs.Mounted.{MountedAs};
 
-use answer::{Mount, first_state, refuse};
-use mount_checkpoint::find::{Checkpoint, find_checkpoint};
+use answer::{Mounted, first_state};
+use mount_checkpoint::find::find_checkpoint;
 use mount_restore::questions::refusal;
 use mount_survey::survey;
+use refusal::Refusal;
 
-// Mounts a pool, with a table lent for the rows. Of a pool that is refused the number is said; table, tariff and state are left open.
-pub fn mount(pool: &[u8], table: &mut [u8], blocks: usize) -> Mount
+// Mounts a pool, with a table lent for the rows, which after a refusal is left open.
+pub fn mount(pool: &[u8], table: &mut [u8], blocks: usize) -> Result<Mounted, Refusal>
     requires { Sized (length pool.now) (length table.old) blocks }
     ensures { MountedAs pool.now (length table.new) blocks
         (table_from table.new) result }
 {
-    let found = survey(pool, table, blocks);
-    if found.ok {} else {
-        return refuse(5, found);
-    }
-    let checkpoint = find_checkpoint(pool, table, blocks);
-    match checkpoint {
-        Checkpoint::Complete {
-            tariff,
-            nodes,
-            since,
-        } => {
-            let state = first_state(found, blocks, nodes);
-            let refused = refusal(pool, table, state, tariff, since);
-            Mount {
-                refused,
-                tariff,
-                state,
-            }
-        }
-        Checkpoint::Incomplete => refuse(6, found),
-    }
+    let found = survey(pool, table, blocks).ok_or(Refusal::Pages)?;
+    let checkpoint = find_checkpoint(pool, table, blocks).ok_or(Refusal::Checkpoint)?;
+    let state = first_state(found, blocks, checkpoint.nodes);
+    refusal(pool, table, state, checkpoint.tariff, checkpoint.since)?;
+    Ok(Mounted {
+        tariff: checkpoint.tariff,
+        state,
+    })
 }

@@ -13,38 +13,24 @@ fn each_passes(pool: &[u8], blocks: usize, newest: u32) -> bool
     requires { block_bytes * blocks ≤ length pool.now }
     ensures { result ≡ all_from (block_passes (pages_of pool.now) newest) blocks 0 }
 {
-    let mut block: usize = 0;
-    while block < blocks {
-        if passes(pool, block, newest) {} else {
-            return false;
-        }
-        block += 1;
-    }
-    true
+    (0..blocks).all(|block| passes(pool, block, newest))
 }
 
 // Whether the blocks keep all rules.
+#[tactic(auto, unfolding(crate::specs::Rules::blocks_pass))]
 pub fn all_pass(pool: &[u8], blocks: usize, newest: u32) -> bool
     requires { block_bytes * blocks ≤ length pool.now }
     ensures { result ≡ blocks_pass blocks (pages_of pool.now) newest }
 {
-    if each_passes(pool, blocks, newest) {} else {
-        return false;
-    }
-    1 <= count_blank(pool, blocks)
+    each_passes(pool, blocks, newest) && 1 <= count_blank(pool, blocks)
 }
 
-// The block of a number, or the number of blocks.
+// The block of a number, or the number of blocks, as the definition has it: no caller asks which of the two.
 pub fn block_of(pool: &[u8], blocks: usize, number: u32) -> usize
     requires { block_bytes * blocks ≤ length pool.now }
     ensures { (result ≡ block_of blocks (pages_of pool.now) number) × (result ≤ blocks) }
 {
-    let mut block: usize = 0;
-    while block < blocks {
-        if holds(pool, block, number) {
-            return block;
-        }
-        block += 1;
-    }
-    block
+    (0..blocks)
+        .find(|&block| holds(pool, block, number))
+        .unwrap_or(blocks)
 }

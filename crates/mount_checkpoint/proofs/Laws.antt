@@ -1,10 +1,9 @@
 -- Marks and scores of one page, and the questions of a checkpoint, by cases. Assumes nothing.
-use mathlib.Core.Path.{◌≡◌, refl, sym, ap, subst, ◌∙◌}
-use mathlib.Core.Bool.{Bool, true, false}
-use mathlib.Core.List.{List, []}
-use Prim.Native.Nat.{ℕ, ◌+◌, ◌-◌, ◌*◌, ◌≤◌, ◌<◌}
-use lib.ListN.{length, get_or, set, replicate}
-use borrow.Author.Tests.{eq-eqb, ne_eqb, lt-ltb, le-ltb, le-leb, lt-leb}
+use Rattle.std.proofs.Common.{◌≡◌, refl, sym, ap, subst, ◌∙◌, Bool, true, false, ◌&&◌, List, [], length, get_or, take, drop, replicate}
+use Rattle.std.proofs.Common.{ℕ, zero, suc, ◌+◌, ◌-◌, ◌*◌, ◌≤◌, ◌<◌, add-one, arith, eq-eqb, ne_eqb, lt-ltb, le-ltb, le-leb, drop-cons}
+use Rattle.std.proofs.Math.ListN.{set}
+use Rattle.std.proofs.lemmas.Bool.{lt-leb}
+use Rattle.std.specs.List.{list_all}
 use Rattle.laws.specs.Lay.{part}
 use Rattle.laws.specs.BigEndian.{number_at}
 use Rattle.laws.specs.Loops.{all_from}
@@ -36,9 +35,9 @@ use Rattle.mount_checkpoint.specs.Marks.{
   Windowed,
   Covered,
 }
-use Rattle.mount_checkpoint.specs.Find.{tariff_at, adds_up, found_by, scratch_by, totals_in, checkpoint_in, scratch_left, Found}
+use Rattle.mount_checkpoint.specs.Find.{tariff_at, adds_up, found_by, scratch_by, totals_in, checkpoint_in, scratch_left, complete_as, Found}
 use Rattle.mount_checkpoint.specs.declared.find.Checkpoint.{Checkpoint}
-use Rattle.mount_checkpoint.specs.declared.find.Checkpoint.TheVariants.{Complete, Incomplete}
+use Rattle.std.specs.Prelude.{Option, None}
 use Rattle.mount_checkpoint.specs.Scores.{score_taken, take_scores, take_page}
 
 -- A score read where the scores of the page begin.
@@ -61,6 +60,12 @@ module _ (start id : ℕ) (marks : List ℕ) where
     pub mark_behind : length marks ≤ id - start → marks ≡ marked start id marks
     unfolding marked
     mark_behind l = rw (le-ltb id start h, le-ltb (id - start) (length marks) l) refl
+
+-- The first n marks, one after another.
+pub all_first : (g : ℕ → Bool) (xs : List ℕ) (k i : ℕ) → i + k ≤ length xs → list_all g (take k (drop i xs)) ≡ all_from (λ j. g (get_or xs j 0)) k i
+unfolding all_from
+all_first g xs zero i h = refl
+all_first g xs (suc k) i h = rw (add-one i, drop-cons xs i 0 (omega arith)) (ap (λ (t : Bool). g (get_or xs i 0) && t) (rw (sym (add-one i)) (all_first g xs k (i + 1) (omega arith))))
 
 -- The ids of a page: none where its number is below the first, else all.
 module _ (since start : ℕ) (b marks : List ℕ) (n : ℕ) (own : n ≡ number_of b) where
@@ -146,7 +151,7 @@ module _ (ps : List (List ℕ)) (n since nodes width : ℕ) (marks : List ℕ) w
 module _ (ps : List (List ℕ)) (blocks : ℕ) (scratch : List ℕ) (e : Extent) (he : e ≡ extent_of ps (32 * blocks)) where
   found-by : (t : Totals) → t ≡ totals_of ps (32 * blocks) e.since e.newest → (left : List ℕ) → left ≡ scratch_by
       ps (32 * blocks) scratch e t →
-      (r : Checkpoint) → r ≡ found_by ps (32 * blocks) (length scratch) e t → Found ps blocks scratch left r
+      (r : Option Checkpoint) → r ≡ found_by ps (32 * blocks) (length scratch) e t → Found ps blocks scratch left r
   unfolding checkpoint_in scratch_left totals_in
   found-by t ht left el r er =
       record {
@@ -156,21 +161,21 @@ module _ (ps : List (List ℕ)) (blocks : ℕ) (scratch : List ℕ) (e : Extent)
             ap (λ (x : Extent). scratch_by ps (32 * blocks) scratch x (totals_in ps (32 * blocks) x)) he;
       }
 
-  not_up : (t : Totals) → t ≡ totals_of ps (32 * blocks) e.since e.newest → adds_up e t ≡ false → Found ps blocks scratch scratch Incomplete
+  not_up : (t : Totals) → t ≡ totals_of ps (32 * blocks) e.since e.newest → adds_up e t ≡ false → Found ps blocks scratch scratch None
   unfolding found_by scratch_by
-  not_up t ht f = found-by t ht scratch (rw f refl) Incomplete (rw f refl)
+  not_up t ht f = found-by t ht scratch (rw f refl) None (rw f refl)
 
-  pub found_bare : e.since < 1 → Found ps blocks scratch scratch Incomplete
+  pub found_bare : e.since < 1 → Found ps blocks scratch scratch None
   unfolding adds_up
   found_bare h = not_up (totals_of ps (32 * blocks) e.since e.newest) refl (rw (lt-leb 1 e.since h) refl)
 
   module _ (h : 1 ≤ e.since) (t : Totals) (ht : t ≡ totals_of ps (32 * blocks) e.since e.newest) where
-    pub found-misfit : (t.misfits ≡ 0 → ⊥) → Found ps blocks scratch scratch Incomplete
+    pub found-misfit : (t.misfits ≡ 0 → ⊥) → Found ps blocks scratch scratch None
     unfolding adds_up
     found-misfit m = not_up t ht (rw (le-leb 1 e.since h, ne_eqb t.misfits 0 m) refl)
 
     module _ (m : t.misfits ≡ 0) where
-      pub found_short : (t.scores ≡ t.nodes → ⊥) → Found ps blocks scratch scratch Incomplete
+      pub found_short : (t.scores ≡ t.nodes → ⊥) → Found ps blocks scratch scratch None
       unfolding adds_up
       found_short s = not_up t ht (rw (le-leb 1 e.since h, eq-eqb t.misfits 0 m, ne_eqb t.scores t.nodes s) refl)
 
@@ -180,14 +185,14 @@ module _ (ps : List (List ℕ)) (blocks : ℕ) (scratch : List ℕ) (e : Extent)
         unfolding adds_up
         up = rw (le-leb 1 e.since h, eq-eqb t.misfits 0 m, eq-eqb t.scores t.nodes s) refl
 
-        pub found-complete : r ≡ true → (x : Tariff) → x ≡ tariff_at ps e.place → Found ps blocks scratch marks (Complete x t.nodes e.since)
+        pub found-complete : r ≡ true → (x : Tariff) → x ≡ tariff_at ps e.place → Found ps blocks scratch marks (complete_as x t.nodes e.since)
         unfolding found_by scratch_by
         found-complete f x ex =
             let g : covers_of ps (32 * blocks) e.since t.nodes (length scratch) ≡ true = sym c.is ∙ f in
-            found-by t ht marks (rw up c.marks_are) (Complete x t.nodes e.since) (rw (up, g, ex) refl)
+            found-by t ht marks (rw up c.marks_are) (complete_as x t.nodes e.since) (rw (up, g, ex) refl)
 
-        pub found_uncovered : r ≡ false → Found ps blocks scratch marks Incomplete
+        pub found_uncovered : r ≡ false → Found ps blocks scratch marks None
         unfolding found_by scratch_by
         found_uncovered f =
             let g : covers_of ps (32 * blocks) e.since t.nodes (length scratch) ≡ false = sym c.is ∙ f in
-            found-by t ht marks (rw up c.marks_are) Incomplete (rw (up, g) refl)
+            found-by t ht marks (rw up c.marks_are) None (rw (up, g) refl)

@@ -7,21 +7,18 @@ ghost use Rattle.mount_checkpoint.specs.Find.{tariff_at, Found};
 use super::marks::covers;
 use account::{Costs, Tariff};
 use flash_blocks::page::page_part;
-use layout::{PAGES_IN_BLOCK, TARIFF_BYTES};
+use layout::{FIELDS_AT, PAGES_IN_BLOCK, TARIFF_BYTES};
 use mount_checkpoint_pages::extent::extent_of;
 use mount_checkpoint_pages::totals::sum_pages;
 use page_read::value::tariff_of;
 use wire::field::payload;
 
-// A complete checkpoint: the tariff, the node count and the number of its first page; or none.
-#[derive(Drop)]
-pub enum Checkpoint {
-    Complete {
-        tariff: Tariff,
-        nodes: usize,
-        since: u32,
-    },
-    Incomplete,
+// A complete checkpoint: the tariff, the node count and the number of its first page.
+#[derive(Clone, Copy, Debug, PartialEq, Eq)]
+pub struct Checkpoint {
+    pub tariff: Tariff,
+    pub nodes: usize,
+    pub since: u32,
 }
 
 // The tariff on a page; zeros where there is none.
@@ -29,7 +26,7 @@ fn tariff_at(pool: &[u8], page: usize) -> Tariff
     requires { page_bytes * page + page_bytes ≤ length pool.now }
     ensures { result ≡ tariff_at (pages_of pool.now) page }
 {
-    let p = payload(page_part(pool, page), 7, 0x13);
+    let p = payload(page_part(pool, page), FIELDS_AT, 0x13);
     if p.len() != TARIFF_BYTES {
         let none = Costs {
             read: 0,
@@ -45,32 +42,31 @@ fn tariff_at(pool: &[u8], page: usize) -> Tariff
     tariff_of(p)
 }
 
-// Question 6: the pages of greatest sequence number, back to the newest with the tariff, as a complete checkpoint. The work table
+// Question 6: the pages of greatest sequence number, back to the newest with the tariff, where they are a complete checkpoint. The work table
 // serves as scratch.
-pub fn find_checkpoint(pool: &[u8], scratch: &mut [u8], blocks: usize) -> Checkpoint
+pub fn find_checkpoint(pool: &[u8], scratch: &mut [u8], blocks: usize) -> Option<Checkpoint>
     requires { (1 ≤ blocks) × (blocks ≤ most_blocks) × (block_bytes * blocks ≤ length pool.now) }
     ensures { Found (pages_of pool.now) blocks scratch.old scratch.new result }
 {
     let pages = PAGES_IN_BLOCK * blocks;
     let e = extent_of(pool, pages);
     if e.since < 1 {
-        return Checkpoint::Incomplete;
+        return None;
     }
     let t = sum_pages(pool, pages, e.since, e.newest);
     if t.misfits != 0 {
-        return Checkpoint::Incomplete;
+        return None;
     }
     let nodes = t.nodes as usize;
     if t.scores != nodes {
-        return Checkpoint::Incomplete;
+        return None;
     }
-    if covers(pool, scratch, pages, e.since, nodes) {
-        let tariff = tariff_at(pool, e.place);
-        return Checkpoint::Complete {
-            tariff,
-            nodes,
-            since: e.since,
-        };
+    if !covers(pool, scratch, pages, e.since, nodes) {
+        return None;
     }
-    Checkpoint::Incomplete
+    Some(Checkpoint {
+        tariff: tariff_at(pool, e.place),
+        nodes,
+        since: e.since,
+    })
 }

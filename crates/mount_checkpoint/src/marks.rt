@@ -32,13 +32,9 @@ fn mark_page(page: &[u8], marks: &mut [u8], since: u32, start: usize)
         return;
     }
     let s = scores_of(page);
-    let from = s.from;
-    let n = s.count;
-    let mut i: usize = 0;
-    while i < n {
-        let v = score_at(page, from, i);
+    for i in 0..s.count {
+        let v = score_at(page, s.from, i);
         mark(marks, start, v.id as usize);
-        i += 1;
     }
 }
 
@@ -48,10 +44,8 @@ fn mark_pages(pool: &[u8], marks: &mut [u8], pages: usize, since: u32, start: us
     ensures { marks.new ≡ mark_pages (pages_of pool.now) pages since start
         marks.old }
 {
-    let mut page: usize = 0;
-    while page < pages {
+    for page in 0..pages {
         mark_page(page_part(pool, page), marks, since, start);
-        page += 1;
     }
 }
 
@@ -60,14 +54,7 @@ fn all_set(marks: &[u8], n: usize) -> bool
     requires { n ≤ length marks.now }
     ensures { result ≡ all_from (is_marked marks.now) n 0 }
 {
-    let mut i: usize = 0;
-    while i < n {
-        if marks[i] == 0 {
-            return false;
-        }
-        i += 1;
-    }
-    true
+    marks[..n].iter().all(|mark| *mark != 0)
 }
 
 // Whether each of `size` ids from `start` on has a score.
@@ -98,12 +85,9 @@ pub fn covers(pool: &[u8], marks: &mut [u8], pages: usize, since: u32, nodes: us
     if nodes <= width {
         return window(pool, marks, pages, since, 0, nodes);
     }
-    if window(pool, marks, pages, since, 0, width) {
-        let rest = nodes - width;
-        if rest <= width {
-            return window(pool, marks, pages, since, width, rest);
-        }
+    if !window(pool, marks, pages, since, 0, width) {
         return false;
     }
-    false
+    let rest = nodes - width;
+    rest <= width && window(pool, marks, pages, since, width, rest)
 }

@@ -32,13 +32,9 @@ fn take_page(page: &[u8], table: &mut [u8], since: u32, nodes: usize)
         return;
     }
     let s = scores_of(page);
-    let from = s.from;
-    let n = s.count;
-    let mut i: usize = 0;
-    while i < n {
-        let v = score_at(page, from, i);
+    for i in 0..s.count {
+        let v = score_at(page, s.from, i);
         take_score(table, nodes, v.id as usize, v.score);
-        i += 1;
     }
 }
 
@@ -48,10 +44,7 @@ pub fn take_scores(pool: &[u8], table: &mut [u8], blocks: usize, since: u32, nod
     ensures { rows_of table.new ≡ take_pages (pages_of pool.now) (pages_in_block * blocks) since
         nodes (rows_of table.old) }
 {
-    let pages = PAGES_IN_BLOCK * blocks;
-    let mut page: usize = 0;
-    while page < pages {
+    for page in 0..PAGES_IN_BLOCK * blocks {
         take_page(page_part(pool, page), table, since, nodes);
-        page += 1;
     }
 }

@@ -2,12 +2,16 @@
 use mathlib.Core.Path.{◌≡◌, refl, sym, ap, ◌∙◌}
 use mathlib.Core.Bool.{Bool, true, false, ◌&&◌, not}
 use mathlib.Core.List.{List, []}
+use Rattle.std.proofs.Math.Bool.{and-false}
 use Prim.Native.Nat.{ℕ, ◌+◌, ◌*◌, ◌≤◌, ◌<◌, max}
 use native.Mathlib.Omega.{arith}
 use lib.Dec.{ltb}
-use lib.ListN.{length, get_or}
-use borrow.Author.Tests.{eq-eqb, ne_eqb, lt-ltb, le-ltb}
+use lib.ListN.{length}
+use borrow.Author.Tests.{lt-ltb, le-ltb}
+use Rattle.std.specs.Option.{is_some}
+use Rattle.std.specs.Prelude.{None, Some}
 use Rattle.laws.specs.Tests.{choose}
+use Rattle.laws.specs.Counts.{bit_le_one}
 use Rattle.laws.specs.BigEndian.{number}
 use Rattle.wire.specs.Field.{payload_at}
 use Rattle.page.specs.Decode.{run, found, taken, score_ok, most_scores}
@@ -57,7 +61,7 @@ module _ (b : List ℕ) (s : Scores) (h : Standing b s) where
   unfolding count_part
   count-place = rw (h.from, h.count) refl
 
-  pub checkpoint_page_open : payload_at b (s.from + 9 * s.count) 0x15 ≡ [] → Read b (record { scores = s.count; counted = false; nodes = 0 })
+  pub checkpoint_page_open : payload_at b (s.from + 9 * s.count) 0x15 ≡ [] → Read b (record { scores = s.count; nodes = None })
   unfolding checkpoint_page_of
   checkpoint_page_open z =
       let e : count_part b ≡ [] = sym count-place ∙ z in
@@ -65,41 +69,13 @@ module _ (b : List ℕ) (s : Scores) (h : Standing b s) where
 
   pub checkpoint_page_counted : (p : List ℕ) → p ≡ payload_at b (s.from + 9 * s.count) 0x15 → length p ≡ 2 →
       (n : ℕ) → n ≡ number p → n < 65536 →
-      Read b (record { scores = s.count; counted = true; nodes = n })
+      Read b (record { scores = s.count; nodes = Some n })
   unfolding checkpoint_page_of
   checkpoint_page_counted p e l n en small =
       let q : p ≡ count_part b = e ∙ count-place in
       let f : found (count_part b) ≡ true = ap found (sym q) ∙ found_true p (omega arith) in
       let m : n ≡ number (count_part b) = en ∙ ap number q in
       record { is = rw (f, m, h.count) refl; few = h.few; small = small }
-
--- ---- whether a page fits
-
-module _ (newest : ℕ) (counted : Bool) (b : List ℕ) where
-  pub fits_log : get_or b 7 0 ≡ 0x12 → false ≡ fits_in newest counted b
-  unfolding fits_in
-  fits_log e = rw (eq-eqb _ _ e) refl
-
-  module _ (no : get_or b 7 0 ≡ 0x12 → ⊥) where
-    pub fits_node_lem : get_or b 7 0 ≡ 0x11 → false ≡ fits_in newest counted b
-    unfolding fits_in
-    fits_node_lem e = rw (ne_eqb _ _ no, eq-eqb _ _ e) refl
-
-    module _ (nor : get_or b 7 0 ≡ 0x11 → ⊥) (n : ℕ) (own : n ≡ number_of b) where
-      pub fits-newest : n ≡ newest → counted ≡ fits_in newest counted b
-      unfolding fits_in
-      fits-newest e = rw (ne_eqb _ _ no, ne_eqb _ _ nor, eq-eqb (number_of b) newest (sym own ∙ e)) refl
-
-      module _ (other : n ≡ newest → ⊥) where
-        open_is : not counted ≡ fits_in newest counted b
-        unfolding fits_in
-        open_is = rw (ne_eqb _ _ no, ne_eqb _ _ nor, ne_eqb (number_of b) newest (λ e. other (own ∙ e))) refl
-
-        pub fits_early : counted ≡ true → false ≡ fits_in newest counted b
-        fits_early e = ap not (sym e) ∙ open_is
-
-        pub fits_inner : counted ≡ false → true ≡ fits_in newest counted b
-        fits_inner e = ap not (sym e) ∙ open_is
 
 -- ---- the extent, one page more
 
@@ -112,9 +88,9 @@ module _ (q : ℕ) (b : List ℕ) (e : Extent) (n m : ℕ) (own : n ≡ number_o
   unfolding extended
   extended-later l h = rw (← own, tariff-found l, lt-ltb e.since n h, most) refl
 
-  pub extended_older : length (payload_at b 7 0x13) ≡ 32 → n ≤ e.since → record { newest = m; since = e.since; place = e.place } ≡ extended q b e
+  pub extended_older : n ≤ e.since → record { newest = m; since = e.since; place = e.place } ≡ extended q b e
   unfolding extended
-  extended_older l h = rw (← own, tariff-found l, le-ltb e.since n h, most) refl
+  extended_older h = rw (← own, le-ltb e.since n h, and-false (has_tariff b), most) refl
 
   pub extended_none : payload_at b 7 0x13 ≡ [] → record { newest = m; since = e.since; place = e.place } ≡ extended q b e
   unfolding extended has_tariff
@@ -137,26 +113,15 @@ module _ (since newest : ℕ) (b : List ℕ) (t : Totals) (n : ℕ) (own : n ≡
   unfolding add_page
   add-below h = record { is = rw (← own, lt-ltb n since h) refl; misfits = omega arith; scores = omega arith; nodes = omega arith }
 
-  module _ (h : since ≤ n) (s : CheckpointPage) (r : Read b s) where
-    add_is : (fit : Bool) → fit ≡ fits_in newest s.counted b → plus fit s t ≡ add_page since newest b t
-    unfolding add_page
-    add_is fit e =
-        let f : fit ≡ fits_in newest (checkpoint_page_of b).counted b = e ∙ ap (λ (x : CheckpointPage). fits_in newest x.counted b) r.is in
-        rw (← own, le-ltb n since h, ← f, ← r.is) refl
-
-    pub add_fit : true ≡ fits_in newest s.counted b →
-        Added since newest b t (record { misfits = t.misfits; scores = t.scores + s.scores; nodes = t.nodes + s.nodes })
-    unfolding plus
-    add_fit e =
-        let z : t.misfits + 0 ≡ t.misfits = omega arith in
-        record {
-          is = ap (λ (k : ℕ). record { misfits = k; scores = t.scores + s.scores; nodes = t.nodes + s.nodes }) (sym z) ∙ add_is true e;
-          misfits = omega arith;
-          scores = omega (arith, r.few);
-          nodes = omega (arith, r.small);
-        }
-
-    pub add-misfit : false ≡ fits_in newest s.counted b →
-        Added since newest b t (record { misfits = t.misfits + 1; scores = t.scores + s.scores; nodes = t.nodes + s.nodes })
-    unfolding plus
-    add-misfit e = record { is = add_is false e; misfits = omega arith; scores = omega (arith, r.few); nodes = omega (arith, r.small) }
+  pub add-from : since ≤ n → (s : CheckpointPage) → Read b s → (fit : Bool) → fit ≡ fits_in newest (is_some s.nodes) b →
+      Added since newest b t (plus fit s t)
+  unfolding add_page plus
+  add-from h s r fit e =
+      let f : fit ≡ fits_in newest (is_some (checkpoint_page_of b).nodes) b =
+      e ∙ ap (λ (x : CheckpointPage). fits_in newest (is_some x.nodes) b) r.is in
+      record {
+        is = rw (← own, le-ltb n since h, ← f, ← r.is) refl;
+        misfits = omega (arith, bit_le_one (not fit));
+        scores = omega (arith, r.few);
+        nodes = omega (arith, r.small);
+      }

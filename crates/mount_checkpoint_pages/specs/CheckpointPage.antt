@@ -1,10 +1,11 @@
 -- What the headers of a page say of it as a page of the checkpoint (document 01, "Closing pages": "the first begins with field 13, length
 -- 32, the tariff; then fields 14 ..; the last ends with field 15, length 2, the node count"). Assumes nothing.
-use Rattle.std.specs.Prelude.{◌≡◌, Bool, true, false, not, List, ℕ, ◌+◌, ◌*◌, ◌≤◌, ◌<◌, eqb, get_or}
+use Rattle.std.specs.Prelude.{◌≡◌, refl, Bool, true, false, not, List, [], ◌∷◌, ℕ, ◌+◌, ◌*◌, ◌≤◌, ◌<◌, eqb, get_or, unwrap_or}
+use Rattle.std.specs.Option.{is_some}
 use Rattle.laws.specs.Tests.{choose}
 use Rattle.laws.specs.BigEndian.{number}
 use Rattle.wire.specs.Field.{payload_at}
-use Rattle.page.specs.Decode.{run, found, taken, score_ok, most_scores}
+use Rattle.page.specs.Decode.{run, found, taken, read_if, score_ok, most_scores}
 use Rattle.mount_checkpoint_pages.specs.declared.checkpoint_page.Scores.{Scores}
 use Rattle.mount_checkpoint_pages.specs.declared.checkpoint_page.CheckpointPage.{CheckpointPage}
 use Rattle.layout.specs.Layout.{first_scores_at}
@@ -33,14 +34,23 @@ pub record Standing (b : List ℕ) (r : Scores) : Type 0 where
   pub near : r.from ≤ first_scores_at
   pub few : r.count ≤ 54
 
--- The page as a checkpoint page of the checkpoint; a page without a node count adds none.
+-- The page as a checkpoint page of the checkpoint.
 unfoldable pub checkpoint_page_of : List ℕ → CheckpointPage
-checkpoint_page_of b = record { scores = scores_on b; counted = found (count_part b); nodes = number (count_part b) }
+checkpoint_page_of b = record { scores = scores_on b; nodes = read_if number (count_part b) }
+
+-- Whether a field has a node count, and which; a page without one adds none.
+pub found-count : (p : List ℕ) → is_some (read_if number p) ≡ found p
+found-count [] = refl
+found-count (x ∷ p) = refl
+
+pub number-count : (p : List ℕ) → unwrap_or (read_if number p) 0 ≡ number p
+number-count [] = refl
+number-count (x ∷ p) = refl
 
 pub record Read (b : List ℕ) (r : CheckpointPage) : Type 0 where
   pub is : r ≡ checkpoint_page_of b
   pub few : r.scores ≤ 54
-  pub small : r.nodes < 65536
+  pub small : unwrap_or r.nodes 0 < 65536
 
 -- Whether the node count stands where it must: on the newest page alone.
 abbrev pub count_fits : Bool → Bool → Bool

@@ -1,5 +1,6 @@
 -- The pages numbered at or above the first, added up. Assumes nothing.
-use Rattle.std.specs.Prelude.{◌≡◌, Bool, not, List, ℕ, ◌+◌, ◌*◌, ◌≤◌, ltb}
+use Rattle.std.specs.Prelude.{◌≡◌, Bool, not, List, ℕ, ◌+◌, ◌*◌, ◌≤◌, ltb, unwrap_or}
+use Rattle.std.specs.Option.{is_some}
 use Rattle.laws.specs.Tests.{choose}
 use Rattle.laws.specs.Counts.{bit}
 use Rattle.laws.specs.Loops.{steps}
@@ -11,11 +12,11 @@ use Rattle.mount_checkpoint_pages.specs.declared.totals.Totals.{Totals}
 -- A checkpoint page more, which fits or not.
 unfoldable pub plus : Bool → CheckpointPage → Totals → Totals
 plus fit s t =
-    record { misfits = t.misfits + bit (not fit); scores = t.scores + s.scores; nodes = t.nodes + s.nodes }
+    record { misfits = t.misfits + bit (not fit); scores = t.scores + s.scores; nodes = t.nodes + unwrap_or s.nodes 0 }
 
 unfoldable pub add_page : ℕ → ℕ → List ℕ → Totals → Totals
 add_page since newest b t =
-    choose (ltb (number_of b) since) t (plus (fits_in newest (checkpoint_page_of b).counted b) (checkpoint_page_of b) t)
+    choose (ltb (number_of b) since) t (plus (fits_in newest (is_some (checkpoint_page_of b).nodes) b) (checkpoint_page_of b) t)
 
 unfoldable pub nothing : Totals
 nothing = record { misfits = 0; scores = 0; nodes = 0 }

@@ -9,33 +9,33 @@ use wire::field::payload;
 use wire::number::read16;
 
 // Where the scores of a checkpoint page begin, and how many there are.
-#[derive(Drop)]
+#[derive(Clone, Copy, Debug, PartialEq, Eq)]
 pub struct Scores {
     pub from: usize,
     pub count: usize,
 }
 
-// What a checkpoint page has: so many scores, and the node count or none.
-#[derive(Drop)]
+// What a checkpoint page has: so many scores, and the node count on the last one.
+#[derive(Clone, Copy, Debug, PartialEq, Eq)]
 pub struct CheckpointPage {
     pub scores: usize,
-    pub counted: bool,
-    pub nodes: u32,
+    pub nodes: Option<u32>,
 }
 
 // The scores of a page: behind the tariff, where it has one.
 pub fn scores_of(page: &[u8]) -> Scores
     ensures { Standing page.now result }
 {
-    let tariff = payload(page, 7, 0x13);
+    let tariff = payload(page, FIELDS_AT, 0x13);
     if tariff.len() != TARIFF_BYTES {
-        let n = count_scores(page, FIELDS_AT, OTHER_SCORES);
-        return Scores { from: 7, count: n };
+        return Scores {
+            from: FIELDS_AT,
+            count: count_scores(page, FIELDS_AT, OTHER_SCORES),
+        };
     }
-    let n = count_scores(page, FIRST_SCORES_AT, FIRST_SCORES);
     Scores {
         from: FIRST_SCORES_AT,
-        count: n,
+        count: count_scores(page, FIRST_SCORES_AT, FIRST_SCORES),
     }
 }
 
@@ -45,39 +45,26 @@ pub fn checkpoint_page_of(page: &[u8]) -> CheckpointPage
 {
     let s = scores_of(page);
     let count = payload(page, s.from + SCORE_FIELD * s.count, 0x15);
-    if count.len() != 2 {
-        return CheckpointPage {
-            scores: s.count,
-            counted: false,
-            nodes: 0,
-        };
-    }
-    let nodes = read16(count, 0);
+    let nodes = if count.len() == 2 {
+        Some(read16(count, 0))
+    } else {
+        None
+    };
     CheckpointPage {
         scores: s.count,
-        counted: true,
         nodes,
     }
 }
 
 // Whether a page may stand in a checkpoint that ends with the newest page: it is no log page and no node page, and has the node
 // count exactly if it is the newest.
+#[tactic(auto, unfolding(crate::specs::CheckpointPage::fits_in))]
 pub fn fits(page: &[u8], newest: u32, counted: bool) -> bool
     requires { 7 < length page.now }
     ensures { result ≡ fits_in newest counted page.now }
 {
-    let tag = page[7];
-    if tag == 0x12 {
-        return false;
+    match page[FIELDS_AT] {
+        0x11 | 0x12 => false,
+        _ => (sequence(page) == newest) == counted,
     }
-    if tag == 0x11 {
-        return false;
-    }
-    if sequence(page) == newest {
-        return counted;
-    }
-    if counted {
-        return false;
-    }
-    true
 }

@@ -6,13 +6,12 @@ ghost use Rattle.mount_checkpoint_pages.specs.Extent.{Reach};
 ghost use Rattle.layout.specs.Layout.{page_bytes};
 
 use flash_blocks::page::page_part;
-use layout::TARIFF_BYTES;
+use layout::{FIELDS_AT, TARIFF_BYTES};
 use page_read::seal::sequence;
 use wire::field::payload;
-use wire::number::greater;
 
 // The greatest sequence number, the greatest of a page with the tariff, and where that page lies.
-#[derive(Drop)]
+#[derive(Clone, Copy, Debug, PartialEq, Eq)]
 pub struct Extent {
     pub newest: u32,
     pub since: u32,
@@ -24,22 +23,16 @@ fn extended(bytes: &[u8], page: usize, e: Extent) -> Extent
     ensures { result ≡ def.extended page bytes.now e }
 {
     let number = sequence(bytes);
-    let newest = greater(e.newest, number);
-    let tariff = payload(bytes, 7, 0x13);
-    if tariff.len() == TARIFF_BYTES {
-        if e.since < number {
-            return Extent {
-                newest,
-                since: number,
-                place: page,
-            };
-        }
+    let newest = e.newest.max(number);
+    let later = e.since < number;
+    if later && payload(bytes, FIELDS_AT, 0x13).len() == TARIFF_BYTES {
+        return Extent {
+            newest,
+            since: number,
+            place: page,
+        };
     }
-    Extent {
-        newest,
-        since: e.since,
-        place: e.place,
-    }
+    Extent { newest, ..e }
 }
 
 // The extent over all pages.
@@ -52,10 +45,8 @@ pub fn extent_of(pool: &[u8], pages: usize) -> Extent
         since: 0,
         place: 0,
     };
-    let mut page: usize = 0;
-    while page < pages {
+    for page in 0..pages {
         e = extended(page_part(pool, page), page, e);
-        page += 1;
     }
     e
 }

@@ -9,7 +9,7 @@ use flash_blocks::page::page_part;
 use page_read::seal::sequence;
 
 // Over some pages: how many do not fit, the scores on them, and the node counts.
-#[derive(Drop)]
+#[derive(Clone, Copy, Debug, PartialEq, Eq)]
 pub struct Totals {
     pub misfits: usize,
     pub scores: usize,
@@ -25,19 +25,10 @@ fn add_page(page: &[u8], since: u32, newest: u32, t: Totals) -> Totals
         return t;
     }
     let s = checkpoint_page_of(page);
-    let scores = t.scores + s.scores;
-    let nodes = t.nodes + s.nodes;
-    if fits(page, newest, s.counted) {
-        return Totals {
-            misfits: t.misfits,
-            scores,
-            nodes,
-        };
-    }
     Totals {
-        misfits: t.misfits + 1,
-        scores,
-        nodes,
+        misfits: t.misfits + usize::from(!fits(page, newest, s.nodes.is_some())),
+        scores: t.scores + s.scores,
+        nodes: t.nodes + s.nodes.unwrap_or(0),
     }
 }
 
@@ -51,10 +42,8 @@ pub fn sum_pages(pool: &[u8], pages: usize, since: u32, newest: u32) -> Totals
         scores: 0,
         nodes: 0,
     };
-    let mut page: usize = 0;
-    while page < pages {
+    for page in 0..pages {
         t = add_page(page_part(pool, page), since, newest, t);
-        page += 1;
     }
     t
 }

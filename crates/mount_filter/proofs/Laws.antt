@@ -1,21 +1,19 @@
 -- What a print laid among the marks does to what they tell. Assumes nothing.
-use mathlib.Core.Path.{◌≡◌, sym, ap, ◌∙◌}
-use mathlib.Core.Bool.{true, false}
-use mathlib.Core.Logic.{◌⊎◌, inl, inr}
-use mathlib.Core.List.{List, [], ◌∷◌, ◌++◌}
-use Prim.Native.Nat.{ℕ, ◌+◌, ◌*◌, ◌<◌, ◌≤◌}
-use native.Mathlib.Nat.{zero-add}
-use native.Mathlib.Omega.{arith}
-use lib.ListN.{length, get_or}
-use borrow.Author.Tests.{eq-eqb, ne_eqb}
+use Rattle.std.proofs.Common.{◌≡◌, sym, ap, ◌∙◌, true, false, ◌⊎◌, inl, inr, List, [], ◌∷◌, ◌++◌, length, get_or, eq-eqb, ne_eqb}
+use Rattle.std.proofs.Common.{ℕ, ◌+◌, ◌*◌, ◌<◌, ◌≤◌, zero-add, arith}
+use Rattle.std.proofs.Math.ListN.{set}
 use Rattle.laws.specs.Tests.{test_clash}
 use Rattle.laws.specs.Order.{eq_or}
-use Rattle.laws.specs.Lay.{lay, get_or-lay-one, get_or-lay-other}
+use Rattle.laws.specs.Lay.{lay, lay-nil, lay-cons, get_or-lay-one, get_or-lay-other}
 use Rattle.laws.specs.Counts.{bit, count, count-append}
 use Rattle.laws.specs.BigEndian.{number_at}
 use Rattle.mount_sequences.specs.Row.{row, row_snoc, row-lay-before}
 use Rattle.mount_sequences.specs.Strict.{is}
 use Rattle.mount_filter.specs.Marks.{mark_of, fingerprint, with_fingerprint, excludes, Room, Tells}
+
+-- A byte stored.
+pub set-lay : (t : List ℕ) (at x : ℕ) → at < length t → set t at x ≡ lay t at (x ∷ [])
+set-lay t at x h = sym (lay-nil (set t at x) (at + 1)) ∙ lay-cons t at x [] h
 
 -- The cases of a mark with one print more, and of what a mark rules out.
 module _ (mark print : ℕ) where
@@ -46,10 +44,6 @@ module _ (mark v : ℕ) where
       pub rules_same : mark ≡ fingerprint v → false ≡ excludes mark v
       unfolding excludes
       rules_same e = rw (ne_eqb mark 0 some, ne_eqb mark 255 one, eq-eqb mark (fingerprint v) e)
-
-      pub rules_other : (mark ≡ fingerprint v → ⊥) → true ≡ excludes mark v
-      unfolding excludes
-      rules_other e = rw (ne_eqb mark 0 some, ne_eqb mark 255 one, ne_eqb mark (fingerprint v) e)
 
 print_some : (x : ℕ) → fingerprint x ≡ 0 → ⊥
 unfolding fingerprint

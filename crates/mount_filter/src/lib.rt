@@ -12,67 +12,54 @@ ghost use Rattle.mount_filter.specs.Marks.{mark_of, fingerprint, excludes, marks
 
 use layout::TABLE_BYTES;
 use mount_sequences::find::has;
-use wire::bytes::{fill_part, lay_byte};
-use wire::number::{read8, read32};
+use wire::bytes::fill_part;
+use wire::number::read32;
 
 // The marks are the second half of the table: so many bytes a block.
 const MARK_BYTES: usize = TABLE_BYTES / 2;
 
-// The place of a number's mark among the marks: the more blocks, the more marks.
+// The place of a number's mark among the marks: the more blocks, the more marks. Each remainder is by a literal, which no processor has to divide by.
+#[tactic(auto, unfolding(crate::specs::Marks::mark_of))]
 fn mark_of(blocks: usize, v: u32) -> usize
     requires { fewest_blocks ≤ blocks }
     ensures { (result ≡ mark_of blocks v) × (result < marks_at blocks) }
 {
-    if 64 <= blocks {
-        return (v % 32768) as usize;
-    }
-    if 32 <= blocks {
-        return (v % 16384) as usize;
-    }
-    if 16 <= blocks {
-        return (v % 8192) as usize;
-    }
-    if 8 <= blocks {
-        return (v % 4096) as usize;
-    }
-    (v % 2048) as usize
+    let place = match blocks {
+        64.. => v % 32768,
+        32.. => v % 16384,
+        16.. => v % 8192,
+        8.. => v % 4096,
+        _ => v % 2048,
+    };
+    place as usize
 }
 
 // A number's print.
-fn fingerprint(v: u32) -> u32
-    ensures { (result ≡ fingerprint v) × (result < 256) }
+#[tactic(auto, unfolding(crate::specs::Marks::fingerprint))]
+fn fingerprint(v: u32) -> u8
+    ensures { result ≡ fingerprint v }
 {
-    v / 2048 % 254 + 1
+    (v / 2048 % 254 + 1) as u8
 }
 
 // A mark with one print more.
-fn with_fingerprint(mark: u32, print: u32) -> u32
-    requires { print < 256 }
-    ensures { (result ≡ def.with_fingerprint mark print) × (result < 256) }
+#[tactic(auto, unfolding(crate::specs::Marks::with_fingerprint))]
+fn with_fingerprint(mark: u8, print: u8) -> u8
+    ensures { result ≡ def.with_fingerprint mark print }
 {
-    if mark == 0 {
-        return print;
+    if mark == 0 || mark == print {
+        print
+    } else {
+        255
     }
-    if mark == print {
-        return print;
-    }
-    255
 }
 
 // Whether a mark says that a number is not there.
-fn excludes(mark: u32, v: u32) -> bool
+#[tactic(auto, unfolding(crate::specs::Marks::excludes))]
+fn excludes(mark: u8, v: u32) -> bool
     ensures { result ≡ excludes mark v }
 {
-    if mark == 0 {
-        return true;
-    }
-    if mark == 255 {
-        return false;
-    }
-    if mark == fingerprint(v) {
-        return false;
-    }
-    true
+    mark == 0 || (mark != 255 && mark != fingerprint(v))
 }
 
 // Takes all marks away: for speed alone, the row stays as it is.
@@ -89,13 +76,10 @@ fn set_marks(table: &mut [u8], n: usize, blocks: usize)
     requires { Room table.old n blocks }
     ensures { Marking table.old table.new n blocks }
 {
-    let mut i: usize = 0;
-    while i < n {
+    for i in 0..n {
         let v = read32(table, 4 * i);
         let at = MARK_BYTES * blocks + mark_of(blocks, v);
-        let mark = with_fingerprint(read8(table, at), fingerprint(v));
-        lay_byte(table, at, mark as u8);
-        i += 1;
+        table[at] = with_fingerprint(table[at], fingerprint(v));
     }
 }
 
@@ -113,9 +97,6 @@ pub fn has_marked(table: &[u8], n: usize, blocks: usize, v: u32) -> bool
     requires { Ascending table.now n × Marked table.now n blocks }
     ensures { result ≡ find.has (row n 0 table.now) v }
 {
-    let mark = read8(table, MARK_BYTES * blocks + mark_of(blocks, v));
-    if excludes(mark, v) {
-        return false;
-    }
-    has(table, n, v)
+    let mark = table[MARK_BYTES * blocks + mark_of(blocks, v)];
+    !excludes(mark, v) && has(table, n, v)
 }

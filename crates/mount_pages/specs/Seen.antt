@@ -1,12 +1,16 @@
 -- What the survey sees of one page: nothing, a sequence number, or bytes that do not check. Assumes nothing.
 use Rattle.std.specs.Prelude.{◌≡◌, refl, List, ℕ}
+use Rattle.std.proofs.Common.{sym, ap, ◌∙◌}
 use Rattle.page.specs.Page.{log, whole, checkpoint, page, sequence}
 use Rattle.page.specs.Decode.{Decoded, blank, written, bad, decode}
 use Rattle.page_read.specs.View as read
 use Rattle.page_read.specs.declared.view.PageView.{PageView}
 use Rattle.page_read.specs.declared.view.PageView.TheVariants as view
-use Rattle.mount_pages.specs.declared.collect.Seen.{Seen}
-use Rattle.mount_pages.specs.declared.collect.Seen.TheVariants.{Blank, Numbered, Bad}
+
+pub data Seen : Type 0 where
+  Blank : Seen
+  Numbered : ℕ → Seen
+  Bad : Seen
 
 -- A page's view in short.
 abbrev pub seen_in : PageView → Seen
@@ -31,3 +35,8 @@ seen-view (written (page s (log es))) = refl
 seen-view (written (page s (whole id n))) = refl
 seen-view (written (page s (checkpoint t ss c))) = refl
 seen-view bad = refl
+
+-- The same of the view that the code has of a page.
+pub view-seen : (b : List ℕ) (v : PageView) → v ≡ read.view_of b → seen_of b ≡ seen_in v
+unfolding seen_of read.view_of
+view-seen b v e = sym (ap seen_in e ∙ seen-view (decode b))

@@ -2,6 +2,8 @@
 use mathlib.Core.Path.{◌≡◌, refl, sym, ap, ◌∙◌}
 use mathlib.Core.Bool.{Bool, true, false, true≢false}
 use mathlib.Core.List.{List}
+use Rattle.std.specs.Prelude.{Ok, Err}
+use Rattle.refusal.specs.declared.Refusal.TheVariants.{Tree, SequenceNumbers}
 use Prim.Native.Nat.{ℕ, ◌+◌, ◌-◌, ◌*◌, ◌≤◌, ◌<◌}
 use native.Mathlib.Omega.{arith}
 use borrow.Author.Tests.{le-leb, lt-leb}
@@ -139,15 +141,15 @@ module _ (t : Tariff) (s : State) (since : ℕ) (pages : List (List ℕ)) (after
 
 -- Questions 7 and 8.
 module _ (t : Tariff) (s : State) (since : ℕ) (pages : List (List ℕ)) (after : Worktable) (answer : Bool) (j : Judged t s since pages after answer) where
-  pub refused_seven : answer ≡ false → Asked t s since pages after 7
+  pub refused_seven : answer ≡ false → Asked t s since pages after (Err Tree)
   unfolding refusal_of
-  refused_seven e = record { is = rw (sym j.is ∙ e) refl; table = λ z. absurd (omega arith) }
+  refused_seven e = record { is = rw (sym j.is ∙ e) refl; table = tt }
 
   module _ (yes : answer ≡ true) where
-    pub refused_eight : last_sequence < s.last → Asked t s since pages after 8
+    pub refused_eight : last_sequence < s.last → Asked t s since pages after (Err SequenceNumbers)
     unfolding refusal_of
-    refused_eight l = record { is = rw (sym j.is ∙ yes, lt-leb s.last last_sequence l) refl; table = λ z. absurd (omega arith) }
+    refused_eight l = record { is = rw (sym j.is ∙ yes, lt-leb s.last last_sequence l) refl; table = tt }
 
-    pub not_refused : s.last ≤ last_sequence → Asked t s since pages after 0
+    pub not_refused : s.last ≤ last_sequence → Asked t s since pages after (Ok tt)
     unfolding refusal_of
-    not_refused l = record { is = rw (sym j.is ∙ yes, le-leb s.last last_sequence l) refl; table = λ z. j.table yes }
+    not_refused l = record { is = rw (sym j.is ∙ yes, le-leb s.last last_sequence l) refl; table = j.table yes }

@@ -1,9 +1,11 @@
 -- Question 7 of document 01 over pages and rows: "Is the tree sound?", with "at most three pages a log node", the tariff in range and "scores
 -- below the limit"; and question 8: "Is the greatest stamp at most 4,000,000,000?" Assumes nothing.
-use Rattle.std.specs.Prelude.{◌≡◌, Bool, true, ◌&&◌, List, ℕ, leb}
+use Rattle.std.specs.Prelude.{◌≡◌, Bool, true, ◌&&◌, List, ℕ, leb, Result, OnOk}
 use Rattle.laws.specs.Tests.{choose}
 use Rattle.laws.specs.Loops.{all_from}
 use Rattle.layout.specs.Layout.{node_limit, last_sequence}
+use Rattle.refusal.specs.declared.Refusal.{Refusal}
+use Rattle.refusal.specs.Number.{number_of}
 use Rattle.account.specs.declared.Tariff.{Tariff}
 use Rattle.account.specs.Tariff.{limit}
 use Rattle.account.specs.Range.{in_range}
@@ -41,6 +43,6 @@ pub record Judged (t : Tariff) (s : State) (since : ℕ) (pages : List (List ℕ
   pub table : answer ≡ true → after ≡ table_for s since pages
 
 -- The same of both questions.
-pub record Asked (t : Tariff) (s : State) (since : ℕ) (pages : List (List ℕ)) (after : Worktable) (number : ℕ) : Type 0 where
-  pub is : number ≡ refusal_of t s since pages
-  pub table : number ≡ 0 → after ≡ table_for s since pages
+pub record Asked (t : Tariff) (s : State) (since : ℕ) (pages : List (List ℕ)) (after : Worktable) (answer : Result (Unit {0}) Refusal) : Type 0 where
+  pub is : number_of answer ≡ refusal_of t s since pages
+  pub table : OnOk answer (after ≡ table_for s since pages)

@@ -15,6 +15,7 @@ use flash_allocate::state::State;
 use flash_rows::table::ROWS_AT;
 use layout::{LAST_SEQUENCE, ROW_BYTES, TABLE_BYTES, node_limit};
 use mount_tree::is_sound;
+use refusal::Refusal;
 use wire::bytes::fill_part;
 
 // Whether the tree of the rows is sound. The check works behind the rows of the nodes, where no row stands, and leaves no row there.
@@ -41,13 +42,10 @@ fn rows_pass(pool: &[u8], table: &mut [u8], state: State, tariff: Tariff) -> boo
     ensures { (result ≡ rows_pass tariff state (pages_of pool.now) (table_from table.old))
         × (table_from table.new ≡ table_from table.old) }
 {
-    if tariff.in_range() {} else {
+    if !tariff.in_range() {
         return false;
     }
-    if scores_below(table, state.nodes, tariff.limit()) {} else {
-        return false;
-    }
-    tree_sound(pool, table, state)
+    scores_below(table, state.nodes, tariff.limit()) && tree_sound(pool, table, state)
 }
 
 // Question 7. A count above the limit has no rows to restore.
@@ -60,24 +58,28 @@ fn tree_passes(pool: &[u8], table: &mut [u8], state: State, tariff: Tariff, sinc
     if node_limit(state.blocks) < state.nodes {
         return false;
     }
-    if restore_rows(pool, table, state.blocks, state.nodes, since) {} else {
-        return false;
-    }
-    rows_pass(pool, table, state, tariff)
+    restore_rows(pool, table, state.blocks, state.nodes, since)
+        && rows_pass(pool, table, state, tariff)
 }
 
-// Questions 7 and 8 of a state to begin with: the number of the one that fails, or 0. After a refusal the table is left open.
-pub fn refusal(pool: &[u8], table: &mut [u8], state: State, tariff: Tariff, since: u32) -> u32
+// Questions 7 and 8 of a state to begin with. After a refusal the table is left open.
+pub fn refusal(
+    pool: &[u8],
+    table: &mut [u8],
+    state: State,
+    tariff: Tariff,
+    since: u32,
+) -> Result<(), Refusal>
     requires { (fewest_blocks ≤ state.blocks) × (state.blocks ≤ most_blocks)
         × (length pool.now ≡ block_bytes * state.blocks) × (length table.old ≡ table_bytes state.blocks)
         × (state.entries ≡ 0) }
     ensures { Asked tariff state since (pages_of pool.now) (table_from table.new) result }
 {
-    if tree_passes(pool, table, state, tariff, since) {} else {
-        return 7;
+    if !tree_passes(pool, table, state, tariff, since) {
+        return Err(Refusal::Tree);
     }
-    if state.last <= LAST_SEQUENCE {
-        return 0;
+    if LAST_SEQUENCE < state.last {
+        return Err(Refusal::SequenceNumbers);
     }
-    8
+    Ok(())
 }

@@ -7,28 +7,10 @@ ghost use Rattle.mount_restore.specs.Scores.{is_below};
 
 use flash_rows::table::row_at;
 
-// Whether the score of a row is below a limit.
-fn is_below(table: &[u8], n: usize, limit: u64) -> bool
-    requires { rows_at + row_bytes * n + row_bytes ≤ length table.now }
-    ensures { result ≡ is_below limit (rows_in table.now) n }
-{
-    let row = row_at(table, n);
-    let score = row.score as u64;
-    score < limit
-}
-
 // Whether the scores of all nodes are below a limit.
 pub fn scores_below(table: &[u8], nodes: usize, limit: u64) -> bool
     requires { rows_at + row_bytes * nodes ≤ length table.now }
     ensures { result ≡ all_from (is_below limit (rows_in table.now)) nodes 0 }
 {
-    let mut n: usize = 0;
-    while n < nodes {
-        if is_below(table, n, limit) {
-            n += 1;
-        } else {
-            return false;
-        }
-    }
-    true
+    (0..nodes).all(|n| u64::from(row_at(table, n).score) < limit)
 }

@@ -1,12 +1,10 @@
 -- The cases of a piece met on a page, and a turn of each loop. Assumes nothing.
-use mathlib.Core.Path.{◌≡◌, refl, sym, ap, ◌∙◌}
-use mathlib.Core.Bool.{Bool, true, false}
-use mathlib.Core.List.{List}
-use Prim.Native.Nat.{ℕ, suc, ◌+◌, ◌-◌, ◌≤◌, ◌<◌}
-use native.Mathlib.Omega.{arith}
-use borrow.Author.Tests.{eq-eqb, ne_eqb, lt-ltb, le-ltb, le-leb, lt-leb}
-use lib.ListN.{length, get_or, set}
-use lib.Seq.{set-get_or}
+use Rattle.std.proofs.Common.{◌≡◌, refl, sym, ap, ◌∙◌, Bool, true, false, ◌&&◌, List, length, get_or, eq-eqb, ne_eqb, lt-ltb, le-ltb, leb}
+use Rattle.std.proofs.Common.{ℕ, zero, suc, ◌+◌, ◌-◌, ◌≤◌, ◌<◌, add-zero, zero-add, arith}
+use Rattle.std.proofs.Math.Bool.{and-false}
+use Rattle.std.proofs.Math.ListN.{set}
+use Rattle.std.proofs.Math.Seq.{set-get_or}
+use Rattle.laws.specs.Loops.{all_from}
 use Rattle.laws.specs.BigEndian.{number, number_at}
 use Rattle.account.specs.declared.Mode.{Mode}
 use Rattle.account.specs.declared.Mode.TheVariants.{Log, Disk}
@@ -98,22 +96,22 @@ pub page_seen : (nodes : ℕ) (pages : List (List ℕ)) (q : ℕ) (b : List ℕ)
 unfolding seen_page
 page_seen nodes pages q b rows middle rows' is e f = rw (← is, ← e) f
 
--- The loop over the rows, from the last one down.
-module _ (rows : List Row) (left : ℕ) (r : Row) (some : 0 < left) (l : r ≡ get_or rows (left - 1) no_row) where
-  turn : left ≡ suc (left - 1)
-  turn = omega arith
+-- The rows one after another, as the definition has them from the last one down.
+abbrev pub few : List Row → ℕ → Bool
+few rows id = leb (get_or rows id no_row).pages 3
 
-  pub three_more : r.pages ≤ 3 → within_three (left - 1) rows ≡ within_three left rows
-  unfolding within_three
-  three_more h =
-      sym (ap (λ (k : ℕ). within_three k rows) turn ∙ rw (← l, le-leb r.pages 3 h, within_three) refl)
+all_last : (f : ℕ → Bool) (k i : ℕ) → all_from f (suc k) i ≡ (f (i + k) && all_from f k i)
+unfolding all_from
+all_last f zero i = rw add-zero refl
+all_last f (suc k) i =
+    let e : i + 1 + k ≡ i + suc k = omega arith in
+    rw (all_last f k (i + 1), e) (go (f i) (f (i + suc k)) (all_from f k (i + 1)))
+  where
+    go : (t u r : Bool) → (t && (u && r)) ≡ (u && (t && r))
+    go true u r = refl
+    go false u r = sym (and-false u)
 
-  pub three_stop : 3 < r.pages → within_three left rows ≡ false
-  unfolding within_three
-  three_stop h = ap (λ (k : ℕ). within_three k rows) turn ∙ rw (← l, lt-leb r.pages 3 h, within_three) refl
-
-pub three_done : (rows : List Row) (left : ℕ) → left ≤ 0 → within_three left rows ≡ true
-unfolding within_three
-three_done rows left h =
-    let over : left ≡ 0 = omega arith in
-    ap (λ (k : ℕ). within_three k rows) over
+pub three-all : (rows : List Row) (n : ℕ) → all_from (few rows) n 0 ≡ within_three n rows
+unfolding within_three all_from
+three-all rows zero = refl
+three-all rows (suc n) = rw (all_last (few rows) n 0, zero-add n, three-all rows n) refl

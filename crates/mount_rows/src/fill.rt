@@ -28,11 +28,8 @@ fn see_pages(pool: &[u8], table: &mut [u8], blocks: usize, nodes: usize)
     ensures { rows_of table.new ≡ filled blocks nodes (pages_of pool.now)
         (rows_of table.old) }
 {
-    let pages = PAGES_IN_BLOCK * blocks;
-    let mut page: usize = 0;
-    while page < pages {
+    for page in 0..PAGES_IN_BLOCK * blocks {
         see_page(pool, table, nodes, page);
-        page += 1;
     }
 }
 
@@ -41,15 +38,7 @@ fn within_three(table: &[u8], nodes: usize) -> bool
     requires { row_bytes * nodes ≤ length table.now }
     ensures { result ≡ within_three nodes (rows_of table.now) }
 {
-    let mut left = nodes;
-    while 0 < left {
-        left -= 1;
-        let row = flash_rows::read_row(table, left);
-        if 3 < row.pages {
-            return false;
-        }
-    }
-    true
+    (0..nodes).all(|id| flash_rows::read_row(table, id).pages <= 3)
 }
 
 // Fills the rows from the pages; whether no node lies on more than three of them.

@@ -6,10 +6,13 @@ ghost use Rattle.mount_rows.specs.Pieces.{seen_entry, seen_run, seen_node};
 
 use super::row::see;
 use account::Mode;
-use layout::{ENTRY_BYTES, MOST_ENTRIES};
+use layout::{ENTRY_BYTES, FIELDS_AT, MOST_ENTRIES};
 use page_read::seal::sequence;
 use wire::field::payload;
 use wire::number::{read16, read32};
+
+// How long a field with an entry is.
+const ENTRY_FIELD: usize = 3 + ENTRY_BYTES;
 
 // One entry of a log page.
 fn see_entry(entry: &[u8], table: &mut [u8], nodes: usize, page: u16)
@@ -28,16 +31,12 @@ pub fn see_entries(bytes: &[u8], table: &mut [u8], nodes: usize, page: u16)
     ensures { rows_of table.new ≡ seen_run nodes page most_entries bytes.now 7
         (rows_of table.old) }
 {
-    let mut at: usize = 7;
-    let mut left: usize = MOST_ENTRIES;
-    while 0 < left {
-        let entry = payload(bytes, at, 0x12);
+    for i in 0..MOST_ENTRIES {
+        let entry = payload(bytes, FIELDS_AT + ENTRY_FIELD * i, 0x12);
         if entry.len() != ENTRY_BYTES {
             return;
         }
         see_entry(entry, table, nodes, page);
-        at += 18;
-        left -= 1;
     }
 }
 
@@ -47,7 +46,7 @@ pub fn see_node(bytes: &[u8], table: &mut [u8], nodes: usize, page: u16)
     ensures { rows_of table.new ≡ seen_node nodes page bytes.now
         (rows_of table.old) }
 {
-    let p = payload(bytes, 7, 0x11);
+    let p = payload(bytes, FIELDS_AT, 0x11);
     if p.len() < 7 {
         return;
     }

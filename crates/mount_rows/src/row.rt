@@ -8,28 +8,23 @@ use account::Mode;
 use flash_rows::Row;
 
 // The row with one page more; where it has three, with the mark of too many.
+#[tactic(auto, unfolding(crate::specs::Seen::one_more, crate::specs::Seen::crowded))]
 fn one_more(row: Row, page: u16) -> Row
     ensures { result ≡ one_more page row }
 {
     if row.pages < 3 {
-        return row.note(page);
+        row.note(page)
+    } else {
+        Row { pages: 4, ..row }
     }
-    let mut r = row;
-    r.pages = 4;
-    r
 }
 
 // Whether a piece of a version lies on a page that the row lacks.
+#[tactic(auto, unfolding(crate::specs::Seen::lacks))]
 fn lacks(row: Row, version: u32, page: u16) -> bool
     ensures { result ≡ def.lacks version page row }
 {
-    if row.version == version {
-        if row.names(page) {
-            return false;
-        }
-        return true;
-    }
-    false
+    row.version == version && !row.names(page)
 }
 
 // The version of a node's row.
@@ -37,8 +32,7 @@ fn version_of(table: &[u8], id: usize) -> u32
     requires { row_bytes * id + row_bytes ≤ length table.now }
     ensures { result ≡ (get_or (rows_of table.now) id no_row).version }
 {
-    let row = flash_rows::read_row(table, id);
-    row.version
+    flash_rows::read_row(table, id).version
 }
 
 // The row of a node after a piece of a version was met on a page. Most pieces in an aged pool are of older versions, and of these the row's other fields
@@ -58,7 +52,6 @@ fn see_row(table: &mut [u8], id: usize, version: u32, mode: Mode, page: u16)
     }
     if lacks(row, version, page) {
         flash_rows::write_row(table, id, one_more(row, page));
-        return;
     }
 }
 
@@ -69,6 +62,5 @@ pub fn see(table: &mut [u8], nodes: usize, id: usize, version: u32, mode: Mode, 
 {
     if id < nodes {
         see_row(table, id, version, mode, page);
-        return;
     }
 }

@@ -3,11 +3,10 @@
 use mathlib.Core.Path.{◌≡◌, refl, sym, ap, subst, ◌∙◌}
 use mathlib.Core.Bool.{true, false}
 use mathlib.Core.List.{List}
-use mathlib.Core.Option.{some}
-use Prim.Native.Nat.{ℕ, ◌*◌, ◌<◌, ◌≤◌}
+use Rattle.std.specs.Prelude.{None, Some}
+use Prim.Native.Nat.{ℕ, ◌*◌}
 use native.Mathlib.Omega.{arith}
 use lib.ListN.{length}
-use borrow.Author.Tests.{lt-ltb, le-ltb}
 use Rattle.layout.specs.Layout.{block_bytes}
 use Rattle.laws.specs.BigEndian.{Bytes}
 use Rattle.flash_blocks.specs.Pages.{pages_of}
@@ -19,22 +18,11 @@ use Rattle.mount_sequences.specs.Strict.{strict}
 use Rattle.mount_sequences.specs.Differ.{differs, strict-differs}
 use Rattle.mount_sequences.specs.Find.{Ascending}
 use Rattle.mount_filter.specs.Marks.{Marking}
-use Rattle.mount_blocks.specs.Rules.{blocks_pass, block_of, fill_of}
+use Rattle.mount_blocks.specs.Rules.{blocks_pass}
 use Rattle.mount_pages.specs.Collect.{sequences_from}
 use Rattle.mount_pages.specs.Versions.{pages_apart}
-use Rattle.mount_survey_refines.specs.Passes.{numbers_pass, all_pass, fill_in}
-use Rattle.mount_survey.specs.declared.answer.Survey.{Survey}
-use Rattle.mount_survey.specs.Surveyed.{failed, found, Surveyed, apart_same, surveyed_failed, surveyed_found}
-
--- How far a block is filled.
-module _ (blocks : ℕ) (pages : List (List ℕ)) (block : ℕ) where
-  pub fill_inside : block < blocks → fill_of pages block ≡ fill_in blocks pages block
-  unfolding fill_in
-  fill_inside l = rw (lt-ltb block blocks l) refl
-
-  pub fill_behind : blocks ≤ block → 0 ≡ fill_in blocks pages block
-  unfolding fill_in
-  fill_behind l = rw (le-ltb block blocks l) refl
+use Rattle.mount_survey_refines.specs.Passes.{numbers_pass, all_pass}
+use Rattle.mount_survey.specs.Surveyed.{found, Surveyed, apart_same, surveyed_failed, surveyed_found}
 
 -- The numbers of a row, sorted.
 module _ (old new : List ℕ) (n blocks : ℕ) (sorted : Sorted old new n) where
@@ -64,28 +52,17 @@ module _ (old new : List ℕ) (n blocks : ℕ) (sorted : Sorted old new n) where
 -- The tests of all pages together, one behind the other.
 module _
     (pool : List ℕ) (bytes : Bytes pool) (blocks : ℕ) (size : length pool ≡ block_bytes * blocks) (sequences : List ℕ)
-    (e : sequences_from (pages_of pool) (32 * blocks) 0 ≡ some sequences)
+    (e : sequences_from (pages_of pool) (32 * blocks) 0 ≡ Some sequences)
   where
-    pub numbers_fail : numbers_pass blocks (pages_of pool) sequences ≡ false → Surveyed pool blocks failed
+    pub numbers_fail : numbers_pass blocks (pages_of pool) sequences ≡ false → Surveyed pool blocks None
     unfolding all_pass
     numbers_fail t = surveyed_failed pool bytes blocks size sequences e (rw t refl)
 
     module _ (t : numbers_pass blocks (pages_of pool) sequences ≡ true) where
-      pub blocks_fail : blocks_pass blocks (pages_of pool) (greatest sequences) ≡ false → Surveyed pool blocks failed
+      pub blocks_fail : blocks_pass blocks (pages_of pool) (greatest sequences) ≡ false → Surveyed pool blocks None
       unfolding all_pass
       blocks_fail u = surveyed_failed pool bytes blocks size sequences e (rw (t, u) refl)
 
-      pub all_found : blocks_pass blocks (pages_of pool) (greatest sequences) ≡ true → Surveyed pool blocks (found blocks (pages_of pool) (greatest sequences))
+      pub all_found : blocks_pass blocks (pages_of pool) (greatest sequences) ≡ true → Surveyed pool blocks (Some (found blocks (pages_of pool) (greatest sequences)))
       unfolding all_pass
       all_found u = surveyed_found pool bytes blocks size sequences e (rw (t, u) refl)
-
--- The answer field by field.
-pub found-is : (blocks : ℕ) (pages : List (List ℕ)) (s current fill : ℕ) → current ≡ block_of blocks pages s → fill ≡
-    fill_in blocks pages current →
-    record { ok = true; newest = s; current = current; fill = fill } ≡ found blocks pages s
-unfolding found
-found-is blocks pages s current fill e f =
-    rw (f, e) refl
-
-pub surveyed_by : (pool : List ℕ) (blocks : ℕ) (r s : Survey) → r ≡ s → Surveyed pool blocks s → Surveyed pool blocks r
-surveyed_by pool blocks r s e h = subst (Surveyed pool blocks) (sym e) h

@@ -1,10 +1,10 @@
 -- What the survey of a pool answers: question 5 of document 01, "Do all pages check, as under Pages?", and of a pool whose pages check the
 -- newest sequence number, the block of that page and how far the block is filled. Assumes nothing.
-use Rattle.std.specs.Prelude.{◌≡◌, Bool, true, List, ℕ, ◌*◌, ◌≤◌, ltb, length}
+use Rattle.std.specs.Prelude.{◌≡◌, Bool, true, List, ℕ, ◌*◌, ◌≤◌, ltb, length, Option, None, Some, IfSome}
+use Rattle.std.specs.Option.{is_some}
 use Rattle.std.proofs.Math.Path.{refl, sym, ap, fun_ext}
-use Rattle.std.proofs.Common.{◌∙◌, true≢false, arith}
+use Rattle.std.proofs.Common.{◌∙◌, arith}
 use Rattle.std.proofs.Math.Bool.{false}
-use Rattle.std.proofs.Math.Option.{Option, none, some}
 use Rattle.laws.specs.BigEndian.{Bytes}
 use Rattle.laws.specs.Counts.{Reordered}
 use Rattle.laws.specs.Loops.{all_from}
@@ -29,28 +29,24 @@ use Rattle.mount_survey.specs.declared.answer.Survey.{Survey}
 
 -- Document 01, question 5, of a pool's bytes.
 unfoldable pub cells_check : ℕ → Option Cells → Bool
-cells_check blocks none = false
-cells_check blocks (some c) = pages_pass blocks c
+cells_check blocks None = false
+cells_check blocks (Some c) = pages_pass blocks c
 
 unfoldable pub pages_check : ℕ → List ℕ → Bool
 pages_check blocks pool = cells_check blocks (cells_of pool)
 
--- The answer for a pool whose pages do not all check.
-abbrev pub failed : Survey
-failed = record { ok = false; newest = 0; current = 0; fill = 0 }
-
--- The answer for one whose pages check, by its newest sequence number.
+-- The answer for a pool whose pages check, by its newest sequence number.
 unfoldable pub found : ℕ → List (List ℕ) → ℕ → Survey
 found blocks pages s =
-    record { ok = true; newest = s; current = block_of blocks pages s; fill = fill_in blocks pages (block_of blocks pages s) }
+    record { newest = s; current = block_of blocks pages s; fill = fill_in blocks pages (block_of blocks pages s) }
 
 -- WHAT THE SURVEY SAYS of a pool.
-pub record Surveyed (pool : List ℕ) (blocks : ℕ) (r : Survey) : Type 0 where
-  pub ok : r.ok ≡ pages_check blocks pool
-  pub newest : (c : Cells) → cells_of pool ≡ some c → r.ok ≡ true → r.newest ≡ Model.newest (blocks_in 32 blocks c)
-  pub current : (c : Cells) → cells_of pool ≡ some c → r.ok ≡ true → r.current ≡ Model.block_of (Model.newest (blocks_in 32 blocks c)) (blocks_in 32 blocks c)
-  pub fill : (c : Cells) → cells_of pool ≡ some c → r.ok ≡ true → r.fill ≡ length (block (blocks_in 32 blocks c) r.current)
-  pub refused : r.ok ≡ false → r ≡ failed
+pub record Surveyed (pool : List ℕ) (blocks : ℕ) (r : Option Survey) : Type 0 where
+  pub ok : is_some r ≡ pages_check blocks pool
+  pub newest : (c : Cells) → cells_of pool ≡ Some c → IfSome r (λ v. v.newest ≡ Model.newest (blocks_in 32 blocks c))
+  pub current : (c : Cells) → cells_of pool ≡ Some c →
+      IfSome r (λ v. v.current ≡ Model.block_of (Model.newest (blocks_in 32 blocks c)) (blocks_in 32 blocks c))
+  pub fill : (c : Cells) → cells_of pool ≡ Some c → IfSome r (λ v. v.fill ≡ length (block (blocks_in 32 blocks c) v.current))
 
 -- A row of sequence numbers of a pool's pages, none above the newest, in a table of the pool's size.
 pub record Ready (pool table : List ℕ) (n blocks newest : ℕ) : Type 0 where
@@ -76,31 +72,24 @@ module _ (pool : List ℕ) (bytes : Bytes pool) (blocks : ℕ) (size : length po
   collected : sequences_from pages (32 * blocks) 0 ≡ sequences_of (cells_of pool)
   collected = sequences_pool pool (32 * blocks) (omega arith)
 
-  failed_surveyed : false ≡ pages_check blocks pool → Surveyed pool blocks failed
-  failed_surveyed e =
-      record {
-        ok = e;
-        newest = λ c q t. absurd (true≢false (sym t));
-        current = λ c q t. absurd (true≢false (sym t));
-        fill = λ c q t. absurd (true≢false (sym t));
-        refused = λ t. refl;
-      }
+  failed_surveyed : false ≡ pages_check blocks pool → Surveyed pool blocks None
+  failed_surveyed e = record { ok = e; newest = λ c q. tt; current = λ c q. tt; fill = λ c q. tt }
 
   -- a page does not check by itself
-  pub surveyed_bad : sequences_from pages (32 * blocks) 0 ≡ none → Surveyed pool blocks failed
+  pub surveyed_bad : sequences_from pages (32 * blocks) 0 ≡ None → Surveyed pool blocks None
   unfolding pages_check cells_check
   surveyed_bad e = failed_surveyed (go (cells_of pool) (sym collected ∙ e))
     where
-      go : (o : Option Cells) → sequences_of o ≡ none → false ≡ cells_check blocks o
-      go none q = refl
-      go (some c) q = absurd (none_some (sym q))
+      go : (o : Option Cells) → sequences_of o ≡ None → false ≡ cells_check blocks o
+      go None q = refl
+      go (Some c) q = absurd (none_some (sym q))
 
-  module _ (sequences : List ℕ) (e : sequences_from pages (32 * blocks) 0 ≡ some sequences) where
+  module _ (sequences : List ℕ) (e : sequences_from pages (32 * blocks) 0 ≡ Some sequences) where
     -- the cells are there, and the numbers are theirs
-    numbers_are : (o : Option Cells) → cells_of pool ≡ o → sequences_of o ≡ some sequences → all_pass blocks pages sequences ≡ cells_check blocks o
+    numbers_are : (o : Option Cells) → cells_of pool ≡ o → sequences_of o ≡ Some sequences → all_pass blocks pages sequences ≡ cells_check blocks o
     unfolding cells_check
-    numbers_are none q r = absurd (none_some r)
-    numbers_are (some c) q r =
+    numbers_are None q r = absurd (none_some r)
+    numbers_are (Some c) q r =
         ap (all_pass blocks pages) (sym (some_same r)) ∙ all_pass_lem pool bytes blocks size c q
 
     check_is : all_pass blocks pages sequences ≡ pages_check blocks pool
@@ -108,27 +97,26 @@ module _ (pool : List ℕ) (bytes : Bytes pool) (blocks : ℕ) (size : length po
     check_is = numbers_are (cells_of pool) refl (sym collected ∙ e)
 
     -- the tests of all pages together fail
-    pub surveyed_failed : all_pass blocks pages sequences ≡ false → Surveyed pool blocks failed
+    pub surveyed_failed : all_pass blocks pages sequences ≡ false → Surveyed pool blocks None
     surveyed_failed t = failed_surveyed (sym t ∙ check_is)
 
     -- they pass
-    pub surveyed_found : all_pass blocks pages sequences ≡ true → Surveyed pool blocks (found blocks pages (greatest sequences))
+    pub surveyed_found : all_pass blocks pages sequences ≡ true → Surveyed pool blocks (Some (found blocks pages (greatest sequences)))
     unfolding found
     surveyed_found t =
         record {
           ok = sym t ∙ check_is;
-          newest = λ c q r. ap greatest (sym (own c q)) ∙ newest-is pool bytes blocks size c q (passed c q);
-          current = λ c q r. current c q;
-          fill = λ c q r. fill_is pool bytes blocks size c q (block_of blocks pages (greatest sequences));
-          refused = λ r. absurd (true≢false r);
+          newest = λ c q. ap greatest (sym (own c q)) ∙ newest-is pool bytes blocks size c q (passes c q);
+          current = λ c q. current c q;
+          fill = λ c q. fill_is pool bytes blocks size c q (block_of blocks pages (greatest sequences));
         }
       where
-        own : (c : Cells) → cells_of pool ≡ some c → sequences_in c ≡ sequences
+        own : (c : Cells) → cells_of pool ≡ Some c → sequences_in c ≡ sequences
         own c q = some_same (ap sequences_of (sym q) ∙ sym collected ∙ e)
 
-        passed : (c : Cells) → cells_of pool ≡ some c → pages_pass blocks c ≡ true
-        passed c q = sym (ap (all_pass blocks pages) (sym (own c q)) ∙ all_pass_lem pool bytes blocks size c q) ∙ t
+        passes : (c : Cells) → cells_of pool ≡ Some c → pages_pass blocks c ≡ true
+        passes c q = sym (ap (all_pass blocks pages) (sym (own c q)) ∙ all_pass_lem pool bytes blocks size c q) ∙ t
 
-        current : (c : Cells) → cells_of pool ≡ some c → block_of blocks pages (greatest sequences) ≡ Model.block_of
+        current : (c : Cells) → cells_of pool ≡ Some c → block_of blocks pages (greatest sequences) ≡ Model.block_of
             (Model.newest (blocks_in 32 blocks c)) (blocks_in 32 blocks c)
-        current c q = ap (λ (ss : List ℕ). block_of blocks pages (greatest ss)) (sym (own c q)) ∙ current_is pool bytes blocks size c q (passed c q)
+        current c q = ap (λ (ss : List ℕ). block_of blocks pages (greatest ss)) (sym (own c q)) ∙ current_is pool bytes blocks size c q (passes c q)

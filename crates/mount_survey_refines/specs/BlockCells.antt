@@ -1,10 +1,9 @@
 -- The rules of blocks as the survey asks them of pages are the model's of cells. Assumes nothing.
-use Rattle.std.specs.Prelude.{◌≡◌, Bool, get_or, take}
+use Rattle.std.specs.Prelude.{◌≡◌, Bool, get_or, take, Option, None, Some}
 use Rattle.std.proofs.Math.Path.{refl, sym, ap, ap₂}
 use Rattle.std.proofs.Common.{◌∙◌, le_of_suc-le-suc, not-suc-le-zero, length-drop, length-take-le, get_or-take, get_or-drop, drop-drop}
 use Rattle.std.proofs.Math.Bool.{true, false, not, ◌&&◌}
 use mathlib.Core.List.{List, [], ◌∷◌}
-use Rattle.std.proofs.Math.Option.{Option, none, some}
 use Prim.Native.Nat.{ℕ, zero, suc, ◌+◌, ◌-◌, ◌*◌, ◌<◌, suc-le-suc}
 use Rattle.std.proofs.Math.Nat.{add-zero, sub-zero}
 use native.Mathlib.Omega.{arith}
@@ -29,8 +28,8 @@ use Rattle.mount_survey_refines.specs.PageCells.{vacant}
 
 -- What is read at the places of a stretch is what its cells hold.
 pub record Stretch (pages : List (List ℕ)) (at : ℕ) (d : Cells) : Type 0 where
-  pub blank : (j : ℕ) → j < length d → blank_at pages (at + j) ≡ vacant (get_or d j none)
-  pub number : (j : ℕ) (p : Page) → j < length d → get_or d j none ≡ some p → sequence_on pages (at + j) ≡ sequence p
+  pub blank : (j : ℕ) → j < length d → blank_at pages (at + j) ≡ vacant (get_or d j None)
+  pub number : (j : ℕ) (p : Page) → j < length d → get_or d j None ≡ Some p → sequence_on pages (at + j) ≡ sequence p
 
 module _ (pages : List (List ℕ)) where
   rest_stretch : (at : ℕ) (x : Option Page) (d : Cells) → Stretch pages at (x ∷ d) → Stretch pages (at + 1) d
@@ -47,7 +46,7 @@ module _ (pages : List (List ℕ)) where
   unfolding written_at
   first-written at x d r = ap not (first-blank at x d r)
 
-  first-number : (s at : ℕ) (p : Page) (d : Cells) → Stretch pages at (some p ∷ d) → numbered_at pages s at ≡ numbered s p
+  first-number : (s at : ℕ) (p : Page) (d : Cells) → Stretch pages at (Some p ∷ d) → numbered_at pages s at ≡ numbered s p
   unfolding numbered_at
   first-number s at p d r =
       ap (λ (n : ℕ). eqb n s) (ap (sequence_on pages) (sym (add-zero at)) ∙ r.number 0 p (omega arith) refl)
@@ -56,41 +55,41 @@ module _ (pages : List (List ℕ)) where
   blank-first : (d : Cells) (at : ℕ) → Stretch pages at d → first_from (blank_at pages) (length d) at ≡ at + length (block_in d)
   unfolding first_from
   blank-first [] at r = sym (add-zero at)
-  blank-first (none ∷ d) at r = rw (first-blank at none d r) (sym (add-zero at))
-  blank-first (some p ∷ d) at r =
-      rw (first-blank at (some p) d r) (blank-first d (at + 1) (rest_stretch at (some p) d r) ∙ omega arith)
+  blank-first (None ∷ d) at r = rw (first-blank at None d r) (sym (add-zero at))
+  blank-first (Some p ∷ d) at r =
+      rw (first-blank at (Some p) d r) (blank-first d (at + 1) (rest_stretch at (Some p) d r) ∙ omega arith)
 
   -- all are blank
   blank-all : (d : Cells) (at : ℕ) → Stretch pages at d → eqb (first_from (written_at pages) (length d) at) (at + length d) ≡ blank d
   unfolding first_from
   blank-all [] at r = eq-eqb at (at + 0) (sym (add-zero at))
-  blank-all (none ∷ d) at r =
+  blank-all (None ∷ d) at r =
       let e : at + suc (length d) ≡ at + 1 + length d = omega arith in
-      rw (first-written at none d r, e) (blank-all d (at + 1) (rest_stretch at none d r))
-  blank-all (some p ∷ d) at r = rw (first-written at (some p) d r) (ne_eqb at (at + suc (length d)) (λ q. omega arith))
+      rw (first-written at None d r, e) (blank-all d (at + 1) (rest_stretch at None d r))
+  blank-all (Some p ∷ d) at r = rw (first-written at (Some p) d r) (ne_eqb at (at + suc (length d)) (λ q. omega arith))
 
   -- blank ones follow written ones
   rest-filled : (d : Cells) (at : ℕ) → Stretch pages at d →
       eqb (first_from (written_at pages) (length d - length (block_in d)) (at + length (block_in d))) (at + length d) ≡ filled d
   unfolding first_from
   rest-filled [] at r = rw (add-zero at) (eq-eqb at at refl)
-  rest-filled (none ∷ d) at r = rw (sub-zero (suc (length d)), add-zero at) (blank-all (none ∷ d) at r)
-  rest-filled (some p ∷ d) at r =
+  rest-filled (None ∷ d) at r = rw (sub-zero (suc (length d)), add-zero at) (blank-all (None ∷ d) at r)
+  rest-filled (Some p ∷ d) at r =
       let e : at + suc (length (block_in d)) ≡ at + 1 + length (block_in d) = omega arith in
       let f : at + suc (length d) ≡ at + 1 + length d = omega arith in
       let g : suc (length d) - suc (length (block_in d)) ≡ length d - length (block_in d) = omega arith in
-      rw (g, e, f) (rest-filled d (at + 1) (rest_stretch at (some p) d r))
+      rw (g, e, f) (rest-filled d (at + 1) (rest_stretch at (Some p) d r))
 
   -- one of the written ones has a number
   number_held : (s : ℕ) (d : Cells) (at : ℕ) → Stretch pages at d →
       ltb (first_from (numbered_at pages s) (length (block_in d)) at) (at + length (block_in d)) ≡ ltb 0 (count (numbered s) (block_in d))
   unfolding first_from
   number_held s [] at r = le-ltb at (at + 0) (omega arith)
-  number_held s (none ∷ d) at r = le-ltb at (at + 0) (omega arith)
-  number_held s (some p ∷ d) at r =
+  number_held s (None ∷ d) at r = le-ltb at (at + 0) (omega arith)
+  number_held s (Some p ∷ d) at r =
       ap (λ (t : Bool). ltb (choose t at (first_from (numbered_at pages s) (length (block_in d)) (at + 1))) (at + suc (length (block_in d))))
       (first-number s at p d r) ∙
-      go (numbered s p) (number_held s d (at + 1) (rest_stretch at (some p) d r))
+      go (numbered s p) (number_held s d (at + 1) (rest_stretch at (Some p) d r))
     where
       go : (t : Bool) → ltb (first_from (numbered_at pages s) (length (block_in d)) (at + 1)) (at + 1 + length (block_in d)) ≡ ltb 0
           (count (numbered s) (block_in d)) →
@@ -102,10 +101,10 @@ module _ (pages : List (List ℕ)) where
           let f : 0 + count (numbered s) (block_in d) ≡ count (numbered s) (block_in d) = omega arith in
           rw (e, f) ih
 
-empty-vacant : (d : Cells) → 0 < length d → empty (block_in d) ≡ vacant (get_or d 0 none)
+empty-vacant : (d : Cells) → 0 < length d → empty (block_in d) ≡ vacant (get_or d 0 None)
 empty-vacant [] l = absurd (not-suc-le-zero l)
-empty-vacant (none ∷ d) l = refl
-empty-vacant (some p ∷ d) l = refl
+empty-vacant (None ∷ d) l = refl
+empty-vacant (Some p ∷ d) l = refl
 
 -- ---- the blocks of a pool
 
@@ -130,8 +129,8 @@ module _ (pages : List (List ℕ)) (c : Cells) (B : ℕ) (size : length c ≡ 32
   length_at : (i : ℕ) → i < B → length (cells_at c i) ≡ 32
   length_at i l = length-take-le 32 (drop (32 * i) c) (omega (arith, length-drop (32 * i) c))
 
-  cell_at : (i j : ℕ) → j < 32 → get_or (cells_at c i) j none ≡ get_or c (32 * i + j) none
-  cell_at i j l = get_or-take 32 (drop (32 * i) c) j none l ∙ get_or-drop (32 * i) c j none
+  cell_at : (i j : ℕ) → j < 32 → get_or (cells_at c i) j None ≡ get_or c (32 * i + j) None
+  cell_at i j l = get_or-take 32 (drop (32 * i) c) j None l ∙ get_or-drop (32 * i) c j None
 
   block_stretch : (i : ℕ) → i < B → Stretch pages (32 * i) (cells_at c i)
   block_stretch i l =

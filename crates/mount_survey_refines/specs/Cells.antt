@@ -1,8 +1,7 @@
 -- The pages of a pool and the cells that they spell: where every page checks, each is the bytes of its cell; and the sequence numbers
 -- that are collected are those of the cells. Assumes nothing.
-use Rattle.std.specs.Prelude.{◌≡◌, refl, List, [], ◌∷◌, ℕ, zero, suc, ◌+◌, ◌*◌, ◌/◌, ◌≤◌, ◌<◌, length, get_or, take, drop}
+use Rattle.std.specs.Prelude.{◌≡◌, refl, List, [], ◌∷◌, ℕ, zero, suc, ◌+◌, ◌*◌, ◌/◌, ◌≤◌, ◌<◌, length, get_or, take, drop, Option, None, Some}
 use Rattle.std.proofs.Common.{sym, ap, ap₂, subst, ◌∙◌, suc-le-suc, add-zero, not-suc-le-zero, le_of_suc-le-suc, arith, length-drop}
-use Rattle.std.proofs.Math.Option.{Option, none, some}
 use Rattle.laws.specs.Every.{Every, none, both}
 use Rattle.laws.specs.Lay.{part, length_part}
 use Rattle.laws.specs.BigEndian.{Bytes, bytes-part, bytes_drop}
@@ -24,7 +23,7 @@ use Rattle.mount_survey_refines.specs.Written.{sequences_in}
 
 -- The cells of a list of pages.
 abbrev pub cells_spelled : List (List ℕ) → Option Cells
-cells_spelled [] = some []
+cells_spelled [] = Some []
 cells_spelled (b ∷ ps) = joined (cell_from (decode b)) (cells_spelled ps)
 
 cells-chunks : (width k : ℕ) (s : List ℕ) → cells_from width k s ≡ cells_spelled (first_chunks width k s)
@@ -44,16 +43,16 @@ length-pool pool n e = length-first_chunks 512 (length pool / 512) pool ∙ omeg
 
 -- The sequence numbers of cells, where there are cells.
 abbrev pub sequences_of : Option Cells → Option (List ℕ)
-sequences_of none = none
-sequences_of (some c) = some (sequences_in c)
+sequences_of None = None
+sequences_of (Some c) = Some (sequences_in c)
 
 one_more_lem : (d : Decoded) (o : Option Cells) → front (seen d) (sequences_of o) ≡ sequences_of (joined (cell_from d) o)
-one_more_lem blank none = refl
-one_more_lem blank (some c) = refl
-one_more_lem (written p) none = refl
-one_more_lem (written p) (some c) = refl
-one_more_lem bad none = refl
-one_more_lem bad (some c) = refl
+one_more_lem blank None = refl
+one_more_lem blank (Some c) = refl
+one_more_lem (written p) None = refl
+one_more_lem (written p) (Some c) = refl
+one_more_lem bad None = refl
+one_more_lem bad (Some c) = refl
 
 -- A list of pages stands in the pool from a place on.
 abbrev From : List (List ℕ) → ℕ → List (List ℕ) → Type 0
@@ -83,17 +82,17 @@ sequences_pool pool n e =
 
 -- Bytes are those of a cell: of nothing, or of a page within its limits.
 pub data Spells (b : List ℕ) : Option Page → Type 0 where
-  no_page : b ≡ blank_bytes → Spells b none
-  one_page : {p : Page} → b ≡ image p → PageFits p → Spells b (some p)
+  no_page : b ≡ blank_bytes → Spells b None
+  one_page : {p : Page} → b ≡ image p → PageFits p → Spells b (Some p)
 
 pub record Whole (b : List ℕ) : Type 0 where
   pub bytes : Bytes b
   pub size : length b ≡ page_bytes
 
-spells_cell : (b : List ℕ) → Whole b → (o : Option Page) → cell_from (decode b) ≡ some o → Spells b o
+spells_cell : (b : List ℕ) → Whole b → (o : Option Page) → cell_from (decode b) ≡ Some o → Spells b o
 spells_cell b w o e = go (decode b) refl e
   where
-    go : (d : Decoded) → decode b ≡ d → cell_from d ≡ some o → Spells b o
+    go : (d : Decoded) → decode b ≡ d → cell_from d ≡ Some o → Spells b o
     go blank q r = subst (Spells b) (some_same r) (no_page (blank-decode b w.size q))
     go (written p) q r =
         subst (Spells b) (some_same r) (one_page (image-decode b w.bytes w.size p q) (decode-fits b w.bytes p q))
@@ -102,19 +101,19 @@ spells_cell b w o e = go (decode b) refl e
 -- A pool's pages spell cells, place by place.
 pub record Spelled (ps : List (List ℕ)) (c : Cells) : Type 0 where
   pub size : length c ≡ length ps
-  pub each : (q : ℕ) → q < length c → Spells (get_or ps q blank_page) (get_or c q none)
+  pub each : (q : ℕ) → q < length c → Spells (get_or ps q blank_page) (get_or c q None)
 
-joined-spelled : (b : List ℕ) (ps : List (List ℕ)) (x : Option (Option Page)) (y : Option Cells) (c : Cells) → joined x y ≡ some c →
-    ((o : Option Page) → x ≡ some o → Spells b o) → ((d : Cells) → y ≡ some d → Spelled ps d) → Spelled (b ∷ ps) c
-joined-spelled b ps none y c e f g = absurd (none_some e)
-joined-spelled b ps (some o) none c e f g = absurd (none_some e)
-joined-spelled b ps (some o) (some d) c e f g = subst (Spelled (b ∷ ps)) (some_same e) (record { size = ap suc (g d refl).size; each = each })
+joined-spelled : (b : List ℕ) (ps : List (List ℕ)) (x : Option (Option Page)) (y : Option Cells) (c : Cells) → joined x y ≡ Some c →
+    ((o : Option Page) → x ≡ Some o → Spells b o) → ((d : Cells) → y ≡ Some d → Spelled ps d) → Spelled (b ∷ ps) c
+joined-spelled b ps None y c e f g = absurd (none_some e)
+joined-spelled b ps (Some o) None c e f g = absurd (none_some e)
+joined-spelled b ps (Some o) (Some d) c e f g = subst (Spelled (b ∷ ps)) (some_same e) (record { size = ap suc (g d refl).size; each = each })
   where
-    each : (q : ℕ) → q < suc (length d) → Spells (get_or (b ∷ ps) q blank_page) (get_or (o ∷ d) q none)
+    each : (q : ℕ) → q < suc (length d) → Spells (get_or (b ∷ ps) q blank_page) (get_or (o ∷ d) q None)
     each zero l = f o refl
     each (suc q) l = (g d refl).each q (le_of_suc-le-suc l)
 
-cells-spelled : (ps : List (List ℕ)) → Every Whole ps → (c : Cells) → cells_spelled ps ≡ some c → Spelled ps c
+cells-spelled : (ps : List (List ℕ)) → Every Whole ps → (c : Cells) → cells_spelled ps ≡ Some c → Spelled ps c
 cells-spelled [] none c e = subst (Spelled []) (some_same e) (record { size = refl; each = λ q l. absurd (not-suc-le-zero l) })
 cells-spelled (b ∷ ps) (both w ws) c e =
     joined-spelled b ps (cell_from (decode b)) (cells_spelled ps) c e (spells_cell b w) (cells-spelled ps ws)
@@ -126,7 +125,7 @@ whole-chunks (suc k) s b l =
     both (record { bytes = bytes-part 0 512 b; size = length_part s 0 512 (omega arith) })
     (whole-chunks k (drop 512 s) (bytes_drop 512 b) (omega (arith, length-drop 512 s)))
 
-pub pool-spelled : (pool : List ℕ) → Bytes pool → (c : Cells) → cells_of pool ≡ some c → Spelled (pages_of pool) c
+pub pool-spelled : (pool : List ℕ) → Bytes pool → (c : Cells) → cells_of pool ≡ Some c → Spelled (pages_of pool) c
 unfolding pages_of chunks
 pool-spelled pool b c e =
     cells-spelled (pages_of pool) (whole-chunks (length pool / 512) pool b (omega arith)) c (sym (cells-pages pool) ∙ e)

@@ -1,10 +1,9 @@
 -- What the survey reads of a page that checks is what its cell holds: whether it is blank, its sequence number, and the versions of its
 -- entries. Assumes nothing.
-use Rattle.std.specs.Prelude.{◌≡◌, refl, Bool, true, false, not, ◌&&◌, ◌⊎◌, length, replicate}
+use Rattle.std.specs.Prelude.{◌≡◌, refl, Bool, true, false, not, ◌&&◌, ◌⊎◌, length, replicate, Option, None, Some}
 use Rattle.std.proofs.Math.Path.{sym, ap}
 use Rattle.std.proofs.Common.{ap₂, ◌∙◌, inl, inr, add-zero, arith, length-append}
 use mathlib.Core.List.{List, [], ◌∷◌, ◌++◌, map, append_assoc}
-use Rattle.std.proofs.Math.Option.{Option, none, some}
 use Prim.Native.Nat.{ℕ, ◌+◌, ◌-◌, ◌^◌, ◌≤◌, ◌<◌}
 use Rattle.std.proofs.Math.Dec.{eqb}
 use Rattle.std.proofs.Math.ListN.{get_or}
@@ -37,8 +36,8 @@ use Rattle.mount_survey_refines.specs.Cells.{Spells, no_page, one_page}
 
 -- A cell holds no page.
 abbrev pub vacant : Option Page → Bool
-vacant none = true
-vacant (some p) = false
+vacant None = true
+vacant (Some p) = false
 
 blank-first : is_blank blank_bytes ≡ true
 unfolding is_blank blank_bytes
@@ -132,9 +131,9 @@ whole_tag s id n = refl
 
 checkpoint_tag : (s : ℕ) (t : Option Tariff) (ss : List Score) (c : Option ℕ) → 1 ≤ length ss → get_or (image (page s (checkpoint t ss c))) 7 0 ≡ 0x12 → ⊥
 unfolding image sealed numbered content_bytes field fields
-checkpoint_tag s (some t) ss c l q = omega arith
-checkpoint_tag s none [] c l q = omega arith
-checkpoint_tag s none (x ∷ ss) c l q = omega arith
+checkpoint_tag s (Some t) ss c l q = omega arith
+checkpoint_tag s None [] c l q = omega arith
+checkpoint_tag s None (x ∷ ss) c l q = omega arith
 
 log_apart : (test : ℕ → Bool) (s : ℕ) (es : List Entry) → Fits s (log es) → apart_on test (image (page s (log es))) ≡ apart_in test es
 unfolding apart_on image sealed numbered content_bytes sums_field field
@@ -176,8 +175,8 @@ module _ (sequences : List ℕ) (bs : Blocks) (same : (v : ℕ) → count (is v)
 
   -- A cell's test: none where there is no page.
   abbrev pub cell_passes : Option Page → Bool
-  cell_passes none = true
-  cell_passes (some p) = page_passes bs p
+  cell_passes None = true
+  cell_passes (Some p) = page_passes bs p
 
   pub apart_read : (b : List ℕ) {o : Option Page} → Spells b o → apart_on (has sequences) b ≡ cell_passes o
   unfolding blank_bytes

@@ -1,11 +1,10 @@
 -- QUESTION 5: the tests that the survey makes of pages and sequence numbers are the model's of cells (document 01: "Do all pages check, as
 -- under Pages?"). Assumes nothing.
-use Rattle.std.specs.Prelude.{◌≡◌, Bool, ◌⊎◌, ℕ, suc, ◌+◌, ◌*◌, ◌≤◌, ◌<◌, eqb, leb, ltb, get_or}
+use Rattle.std.specs.Prelude.{◌≡◌, Bool, ◌⊎◌, ℕ, suc, ◌+◌, ◌*◌, ◌≤◌, ◌<◌, eqb, leb, ltb, get_or, Option, None, Some}
 use Rattle.std.proofs.Math.Path.{refl, ap, ap₂}
 use Rattle.std.proofs.Common.{sym, ◌∙◌, inl, inr, suc-le-suc, add-zero, arith}
 use Rattle.std.proofs.Math.Bool.{true, false, ◌&&◌}
 use mathlib.Core.List.{List, [], ◌∷◌, map}
-use Rattle.std.proofs.Math.Option.{Option, none, some}
 use Rattle.std.proofs.Math.ListN.{length, get_or-eq_default}
 use borrow.Author.Tests.{eq-eqb, lt-ltb, le-ltb}
 use Rattle.laws.specs.Tests.{choose, and_left}
@@ -55,16 +54,16 @@ read_stretch pages c s =
       number = λ j p l e. ap (sequence_on pages) (omega arith) ∙ number j p e (s.each j l);
     }
   where
-    number : (j : ℕ) (p : Page) → get_or c j none ≡ some p → Spells (get_or pages j blank_page) (get_or c j none) → sequence_on pages j ≡ sequence p
-    number j p e h = go (get_or c j none) e h
+    number : (j : ℕ) (p : Page) → get_or c j None ≡ Some p → Spells (get_or pages j blank_page) (get_or c j None) → sequence_on pages j ≡ sequence p
+    number j p e h = go (get_or c j None) e h
       where
-        go : (o : Option Page) → o ≡ some p → Spells (get_or pages j blank_page) o → sequence_on pages j ≡ sequence p
+        go : (o : Option Page) → o ≡ Some p → Spells (get_or pages j blank_page) o → sequence_on pages j ≡ sequence p
         go o e (no_page b) = absurd (let z : ◌≡◌ {A = ℕ} 0 1 = cc in omega arith)
         go o e (one_page {p = q} b f) = sequence-read (get_or pages j blank_page) q b f ∙ (let same : q ≡ p = cc in ap sequence same)
 
 -- The test of every page, cell by cell.
 module _ (sequences : List ℕ) (bs : Blocks) (same : (v : ℕ) → count (is v) sequences ≡ tally (numbered v) bs) (f : ℕ → Bool) where
-  each_page : (d : Cells) (at : ℕ) → ((j : ℕ) → j < length d → f (at + j) ≡ cell_passes sequences bs same (get_or d j none)) →
+  each_page : (d : Cells) (at : ℕ) → ((j : ℕ) → j < length d → f (at + j) ≡ cell_passes sequences bs same (get_or d j None)) →
       all_from f (length d) at ≡ every (page_passes bs) (pages_in d)
   unfolding all_from
   each_page [] at h = refl
@@ -73,8 +72,8 @@ module _ (sequences : List ℕ) (bs : Blocks) (same : (v : ℕ) → count (is v)
       go o
     where
       go : (o : Option Page) → (cell_passes sequences bs same o && every (page_passes bs) (pages_in d)) ≡ every (page_passes bs) (pages_in (o ∷ d))
-      go none = refl
-      go (some p) = refl
+      go None = refl
+      go (Some p) = refl
 
 pages_apart_lem : (pages : List (List ℕ)) (c : Cells) → Spelled pages c → (n : ℕ) → length c ≡ n → (bs : Blocks) → pages_in c ≡ pages_over bs →
     pages_apart (sequences_in c) n pages ≡ every_page (page_passes bs) bs
@@ -91,7 +90,7 @@ pages_apart_lem pages c s n e bs w =
 
 -- ---- a pool whose pages check one by one
 
-module _ (pool : List ℕ) (bytes : Bytes pool) (blocks : ℕ) (size : length pool ≡ 16384 * blocks) (c : Cells) (is : cells_of pool ≡ some c) where
+module _ (pool : List ℕ) (bytes : Bytes pool) (blocks : ℕ) (size : length pool ≡ 16384 * blocks) (c : Cells) (is : cells_of pool ≡ Some c) where
   abbrev pages : List (List ℕ)
   pages = pages_of pool
 

@@ -1,7 +1,5 @@
 -- What the check keeps behind the kept bytes of the work table: a slot for each node due, then a mark for each id. Assumes nothing.
-use Rattle.std.specs.Prelude.{◌≡◌, Bool, true, false, List, [], ◌∷◌, ◌++◌, ℕ, suc, ◌+◌, ◌-◌, ◌*◌, ◌≤◌, ◌<◌, length, get_or, take, drop, set}
-use Rattle.std.proofs.Math.Option.{Option, none}
-use Rattle.laws.specs.Tests.{choose}
+use Rattle.std.specs.Prelude.{◌≡◌, Bool, true, List, [], ◌∷◌, ◌++◌, ℕ, suc, ◌+◌, ◌-◌, ◌*◌, ◌≤◌, ◌<◌, length, get_or, take, drop, set, Option, None, Some, IfSome}
 use Rattle.laws.specs.Lay.{part}
 use Rattle.layout.specs.Layout.{bound32, due_bytes, work_bytes}
 use Rattle.node.specs.declared.NodeValue.{NodeValue}
@@ -41,9 +39,10 @@ walk_in kept nodes table w = record { awaited = w.awaited; marks = marks_in kept
 unfoldable pub comes_to : Table → ℕ → ℕ → List ℕ → WalkValue → Option Walk
 comes_to tree kept nodes table w = visit_all tree (drop w.top (dues_in kept nodes table)) w.low (walk_in kept nodes table w)
 
--- The walk, which did not pass.
-abbrev pub failed_at : WalkValue → WalkValue
-failed_at w = record { passed = false; awaited = w.awaited; low = w.low; top = w.top; reached = w.reached }
+-- The same behind a step: nothing, where the step gave none.
+abbrev pub goes_on : Table → ℕ → ℕ → List ℕ → Option WalkValue → Option Walk
+goes_on tree kept nodes table None = None
+goes_on tree kept nodes table (Some w) = comes_to tree kept nodes table w
 
 -- What a mark leaves of the table; and what children leave that are pushed from a base slot on, in front of what stands behind them.
 pub record Marks (kept nodes id : ℕ) (before after : List ℕ) : Type 0 where
@@ -66,11 +65,11 @@ pub record Begun (kept nodes depth : ℕ) (before after : List ℕ) : Type 0 whe
   pub marks : marks_in kept nodes after ≡ no_marks nodes
 
 -- A step of the walk: what is left, done from here, gives the whole, and one id more was reached; or nothing comes of it.
-pub record Stepped (tree : Table) (kept nodes : ℕ) (before : List ℕ) (w : WalkValue) (after : List ℕ) (r : WalkValue) : Type 0 where
+pub record Stepped (tree : Table) (kept nodes : ℕ) (before : List ℕ) (w : WalkValue) (after : List ℕ) (r : Option WalkValue) : Type 0 where
   pub same : take kept after ≡ take kept before
-  pub is : choose r.passed (comes_to tree kept nodes after r) none ≡ comes_to tree kept nodes before w
-  pub standing : r.passed ≡ true → Standing kept nodes after r
-  pub more : r.passed ≡ true → r.reached ≡ suc w.reached
+  pub is : goes_on tree kept nodes after r ≡ comes_to tree kept nodes before w
+  pub standing : IfSome r (λ v. Standing kept nodes after v)
+  pub more : IfSome r (λ v. v.reached ≡ suc w.reached)
 
 -- What a visit of the next node due is given, once that node was read and passes; and what the visit is, in every tree that has this node.
 pub record NextDue (kept nodes : ℕ) (table : List ℕ) (v : NodeValue) (due : Due) (w : WalkValue) : Type 0 where
@@ -81,7 +80,7 @@ pub record NextDue (kept nodes : ℕ) (table : List ℕ) (v : NodeValue) (due : 
   pub sized : Sized v
   pub pass : passes due.depth due.id w.low due.high (walk_in kept nodes table w) (node_of v) ≡ true
 
-abbrev pub Visits : ℕ → ℕ → List ℕ → NodeValue → Due → WalkValue → List ℕ → WalkValue → Type 0
+abbrev pub Visits : ℕ → ℕ → List ℕ → NodeValue → Due → WalkValue → List ℕ → Option WalkValue → Type 0
 Visits kept nodes before v due w after r = (tree : Table) → node_of v ≡ tree due.id → Stepped tree kept nodes before w after r
 
 -- The answer of a whole walk.

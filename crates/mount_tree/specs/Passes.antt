@@ -1,9 +1,8 @@
 -- Whether a node that is due passes by itself, and what a visit makes of one that does. Assumes nothing.
-use Rattle.std.specs.Prelude.{◌≡◌, Bool, true, ◌&&◌, List, eqb, ltb, leb, length, get_or, set}
+use Rattle.std.specs.Prelude.{◌≡◌, Bool, true, ◌&&◌, List, eqb, ltb, leb, length, get_or, set, Option, None, Some}
 use Rattle.std.proofs.Math.Path.{refl}
 use Rattle.std.proofs.Common.{sym, true≢false}
 use Rattle.std.proofs.Math.Bool.{false, and-true}
-use Rattle.std.proofs.Math.Option.{Option, none, some}
 use Prim.Native.Nat.{ℕ, zero, suc, ◌≤◌, ◌<◌}
 use borrow.Author.Tests.{lt-ltb, le-ltb, le-leb, ltb-true, eqb-true, eq-eqb, ne_eqb}
 use Rattle.laws.specs.Tests.{and_left, and_right}
@@ -45,25 +44,12 @@ of_kind zero id awaited (node Branch ks last) = false
 of_kind (suc d) id awaited (node Leaf ps next) = false
 of_kind (suc d) id awaited (node Branch ks last) = leb 1 (length ks)
 
--- The kind, by each way that the code takes.
-module _ (id awaited : ℕ) (ps : List Pair) (link : ℕ) where
-  pub kind_awaited : (depth : ℕ) (n : Node) → n ≡ node Leaf ps link → depth ≡ 0 → eqb awaited id ≡ of_kind depth id awaited n
-  unfolding of_kind
-  kind_awaited depth n e z = rw (e, z) refl
-
-  pub kind_bottom : (depth : ℕ) (n : Node) → n ≡ node Branch ps link → depth ≡ 0 → false ≡ of_kind depth id awaited n
-  unfolding of_kind
-  kind_bottom depth n e z = rw (e, z) refl
-
-  pub kind_above : (depth : ℕ) (n : Node) → n ≡ node Leaf ps link → (depth ≡ 0 → ⊥) → false ≡ of_kind depth id awaited n
-  unfolding of_kind
-  kind_above zero n e z = absurd (z refl)
-  kind_above (suc d) n e z = rw e refl
-
-  pub kind_keyed : (depth : ℕ) (n : Node) → n ≡ node Branch ps link → (depth ≡ 0 → ⊥) → leb 1 (length ps) ≡ of_kind depth id awaited n
-  unfolding of_kind
-  kind_keyed zero n e z = absurd (z refl)
-  kind_keyed (suc d) n e z = rw e refl
+-- The kind of a branch above the bottom.
+pub kind_keyed : (id awaited : ℕ) (ps : List Pair) (link depth : ℕ) (n : Node) → n ≡ node Branch ps link → (depth ≡ 0 → ⊥) →
+    leb 1 (length ps) ≡ of_kind depth id awaited n
+unfolding of_kind
+kind_keyed id awaited ps link zero n e z = absurd (z refl)
+kind_keyed id awaited ps link (suc d) n e z = rw e refl
 
 -- It passes: in order, and of that kind.
 unfoldable pub passes : ℕ → ℕ → ℕ → ℕ → Walk → Node → Bool
@@ -95,18 +81,18 @@ pass_fresh depth id low high w n e =
 
 -- What the test says of a leaf and of a branch.
 module _ (id low high : ℕ) (w : Walk) where
-  leaf-fails : (n : Node) → passes 0 id low high w n ≡ false → visit_leaf id low high w n ≡ none
+  leaf-fails : (n : Node) → passes 0 id low high w n ≡ false → visit_leaf id low high w n ≡ None
   unfolding passes of_kind visit_leaf
   leaf-fails (node Leaf ps next) e = rw (e, visit_leaf)
   leaf-fails (node Branch ks last) e = refl
 
-  leaf-passes : (n : Node) → passes 0 id low high w n ≡ true → visit_leaf id low high w n ≡ some (marked w id (link_of n))
+  leaf-passes : (n : Node) → passes 0 id low high w n ≡ true → visit_leaf id low high w n ≡ Some (marked w id (link_of n))
   unfolding passes of_kind visit_leaf
   leaf-passes (node Leaf ps next) e = rw (e, visit_leaf)
   leaf-passes (node Branch ks last) e = absurd (true≢false (sym (and_right (in_order id low high ks w.marks) false e)))
 
   module _ (d : ℕ) (next : ℕ → ℕ → ℕ → Walk → Option Walk) where
-    branch-fails : (n : Node) → passes (suc d) id low high w n ≡ false → visit_branch next id low high w n ≡ none
+    branch-fails : (n : Node) → passes (suc d) id low high w n ≡ false → visit_branch next id low high w n ≡ None
     unfolding passes of_kind visit_branch
     branch-fails (node Leaf ps l) e = refl
     branch-fails (node Branch ks l) e = rw (e, visit_branch)
@@ -119,16 +105,16 @@ module _ (id low high : ℕ) (w : Walk) where
 
 -- What a visit makes of a node of the table.
 module _ (table : Table) (depth id low high : ℕ) (w : Walk) (n : Node) (is : n ≡ table id) where
-  pub visit-fails : passes depth id low high w n ≡ false → visit depth table id low high w ≡ none
+  pub visit-fails : passes depth id low high w n ≡ false → visit depth table id low high w ≡ None
   unfolding visit
   visit-fails e = go depth e
     where
-      go : (d : ℕ) → passes d id low high w n ≡ false → visit d table id low high w ≡ none
+      go : (d : ℕ) → passes d id low high w n ≡ false → visit d table id low high w ≡ None
       go zero f = rw (← is) (leaf-fails id low high w n f)
       go (suc d) f = rw (← is) (branch-fails id low high w d (visit d table) n f)
 
   module _ (pass : passes depth id low high w n ≡ true) where
-    pub visit-leaf : depth ≡ 0 → visit depth table id low high w ≡ some (marked w id (link_of n))
+    pub visit-leaf : depth ≡ 0 → visit depth table id low high w ≡ Some (marked w id (link_of n))
     unfolding visit
     visit-leaf z = rw (z, ← is) (leaf-passes id low high w n (rw z at pass))
 

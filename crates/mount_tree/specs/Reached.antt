@@ -1,10 +1,9 @@
 -- Every visit that passes reaches at least one id more, and there are no more ids than marks: so a walk on which more nodes are due than ids are not
 -- reached does not pass. Assumes nothing.
-use Rattle.std.specs.Prelude.{◌≡◌, Bool, true, false, ℕ, zero, suc, ◌+◌, ◌≤◌, ◌<◌, eqb, length, get_or, set, replicate}
+use Rattle.std.specs.Prelude.{◌≡◌, Bool, true, false, ℕ, zero, suc, ◌+◌, ◌≤◌, ◌<◌, eqb, length, get_or, set, replicate, Option, None, Some}
 use Rattle.std.proofs.Math.Path.{refl}
 use Rattle.std.proofs.Common.{sym, ◌∙◌, arith, ne_eqb, length-set}
 use mathlib.Core.List.{List, [], ◌∷◌}
-use Rattle.std.proofs.Math.Option.{Option, none, some}
 use Prim.Native.Nat.compare
 use Rattle.laws.specs.Options.{none_some, some_same}
 use Rattle.laws.specs.Counts.{count, bit, count_le_length}
@@ -53,29 +52,29 @@ record Grown (least : ℕ) (w w' : Walk) : Type 0 where
   more : least + reached_in w.marks ≤ reached_in w'.marks
   size : length w'.marks ≡ length w.marks
 
-grown-none : (w w' : Walk) → some w ≡ some w' → Grown 0 w w'
+grown-none : (w w' : Walk) → Some w ≡ Some w' → Grown 0 w w'
 grown-none w w' e = rw (← some_same e) record { more = omega arith; size = refl }
 
 grown-then : (m n : ℕ) (w v w' : Walk) → Grown m w v → Grown n v w' → Grown (m + n) w w'
 grown-then m n w v w' a b = record { more = omega (arith, a.more, b.more); size = b.size ∙ a.size }
 
 -- One walk after another.
-grown-after : (m n : ℕ) (w w' : Walk) (o : Option Walk) (next : Walk → Option Walk) → ((v : Walk) → o ≡ some v → Grown m w v) →
-    ((v : Walk) → next v ≡ some w' → Grown n v w') → and_then o next ≡ some w' → Grown (m + n) w w'
-grown-after m n w w' none next f g e = absurd (none_some e)
-grown-after m n w w' (some v) next f g e = grown-then m n w v w' (f v refl) (g v e)
+grown-after : (m n : ℕ) (w w' : Walk) (o : Option Walk) (next : Walk → Option Walk) → ((v : Walk) → o ≡ Some v → Grown m w v) →
+    ((v : Walk) → next v ≡ Some w' → Grown n v w') → and_then o next ≡ Some w' → Grown (m + n) w w'
+grown-after m n w w' None next f g e = absurd (none_some e)
+grown-after m n w w' (Some v) next f g e = grown-then m n w v w' (f v refl) (g v e)
 
 -- The children of a branch, where a visit of each reaches one id at least; then a node of any depth.
-module _ (next : ℕ → ℕ → ℕ → Walk → Option Walk) (child : (id low high : ℕ) (w w' : Walk) → next id low high w ≡ some w' → Grown 1 w w') where
-  grown-children : (ps : List Pair) (last low high : ℕ) (w w' : Walk) → visit_children next ps last low high w ≡ some w' → Grown 1 w w'
+module _ (next : ℕ → ℕ → ℕ → Walk → Option Walk) (child : (id low high : ℕ) (w w' : Walk) → next id low high w ≡ Some w' → Grown 1 w w') where
+  grown-children : (ps : List Pair) (last low high : ℕ) (w w' : Walk) → visit_children next ps last low high w ≡ Some w' → Grown 1 w w'
   unfolding visit_children
   grown-children [] last low high w w' e = child last low high w w' e
   grown-children (p ∷ ps) last low high w w' e = go (next p.1 low p.0 w) refl (grown-children ps last p.0 high)
     where
       go : (o : Option Walk) → next p.1 low p.0 w ≡ o →
-          ((v v' : Walk) → visit_children next ps last p.0 high v ≡ some v' → Grown 1 v v') → Grown 1 w w'
-      go none f r = absurd (none_some (rw (f, visit_children) at e))
-      go (some v) f r =
+          ((v v' : Walk) → visit_children next ps last p.0 high v ≡ Some v' → Grown 1 v v') → Grown 1 w w'
+      go None f r = absurd (none_some (rw (f, visit_children) at e))
+      go (Some v) f r =
           let g = grown-then 1 1 w v w' (child p.1 low p.0 w v f) (r v w' (rw (f, visit_children) at e)) in
           record { more = omega (arith, g.more); size = g.size }
 
@@ -92,7 +91,7 @@ grown_mark depth table id low high w awaited e =
       size = length-set w.marks id 1;
     }
 
-grown-visit : (depth : ℕ) (table : Table) (id low high : ℕ) (w w' : Walk) → visit depth table id low high w ≡ some w' → Grown 1 w w'
+grown-visit : (depth : ℕ) (table : Table) (id low high : ℕ) (w w' : Walk) → visit depth table id low high w ≡ Some w' → Grown 1 w w'
 grown-visit zero table id low high w w' e = go (passes 0 id low high w (table id)) refl
   where
     go : (b : Bool) → passes 0 id low high w (table id) ≡ b → Grown 1 w w'
@@ -103,7 +102,7 @@ grown-visit zero table id low high w w' e = go (passes 0 id low high w (table id
 grown-visit (suc d) table id low high w w' e = go (passes (suc d) id low high w (table id)) refl (grown-visit d table)
   where
     go : (b : Bool) → passes (suc d) id low high w (table id) ≡ b →
-        ((id low high : ℕ) (w w' : Walk) → visit d table id low high w ≡ some w' → Grown 1 w w') → Grown 1 w w'
+        ((id low high : ℕ) (w w' : Walk) → visit d table id low high w ≡ Some w' → Grown 1 w w') → Grown 1 w w'
     go false f r = absurd (none_some (sym (visit-fails table (suc d) id low high w (table id) refl f) ∙ e))
     go true f r =
         let v = marked w id w.awaited in
@@ -113,7 +112,7 @@ grown-visit (suc d) table id low high w w' e = go (passes (suc d) id low high w 
         record { more = omega (arith, g.more); size = g.size }
 
 -- So a walk over all nodes due reaches one id for each of them at least.
-grown-all : (table : Table) (ds : List Due) (low : ℕ) (w w' : Walk) → visit_all table ds low w ≡ some w' → Grown (length ds) w w'
+grown-all : (table : Table) (ds : List Due) (low : ℕ) (w w' : Walk) → visit_all table ds low w ≡ Some w' → Grown (length ds) w w'
 unfolding visit_all
 grown-all table [] low w w' e = grown-none w w' e
 grown-all table (d ∷ ds) low w w' e =
@@ -122,9 +121,9 @@ grown-all table (d ∷ ds) low w w' e =
     record { more = omega (arith, g.more); size = g.size }
 
 pub crowded-none : (table : Table) (ds : List Due) (low : ℕ) (w : Walk) → length w.marks < length ds + reached_in w.marks →
-    visit_all table ds low w ≡ none
+    visit_all table ds low w ≡ None
 crowded-none table ds low w l = go (visit_all table ds low w) refl
   where
-    go : (o : Option Walk) → visit_all table ds low w ≡ o → visit_all table ds low w ≡ none
-    go none e = e
-    go (some v) e = let g = grown-all table ds low w v e in absurd (omega (arith, g.more, g.size, reached_le v.marks))
+    go : (o : Option Walk) → visit_all table ds low w ≡ o → visit_all table ds low w ≡ None
+    go None e = e
+    go (Some v) e = let g = grown-all table ds low w v e in absurd (omega (arith, g.more, g.size, reached_le v.marks))

@@ -1,11 +1,10 @@
 -- Dues in bytes: what was encoded is decoded, one laid in its slot is an element set, and children pushed stand in front. Assumes nothing.
-use Rattle.std.specs.Prelude.{◌≡◌, refl, List, [], ◌∷◌, ◌++◌, map, ℕ, zero, suc, ◌+◌, ◌*◌, ◌/◌, ◌%◌, ◌≤◌, ◌<◌, length, get_or, set, take, drop}
+use Rattle.std.specs.Prelude.{◌≡◌, refl, List, [], ◌∷◌, ◌++◌, ℕ, zero, suc, ◌+◌, ◌*◌, ◌/◌, ◌%◌, ◌≤◌, ◌<◌, length, get_or, set, drop}
 use Rattle.std.proofs.Common.{sym, ap, ap₂, ◌∙◌, arith, length-set, drop_of_length-le, drop-cons, drop-set-lt, get_or-set_same}
 use Rattle.std.proofs.lemmas.List.{length-map}
-use Rattle.std.proofs.Math.ListN.{get_or-map}
 use Rattle.laws.specs.Lay.{lay, part, lay-next, lay-whole}
 use Rattle.laws.specs.BigEndian.{number_at, number-big_endian, big_endian}
-use Rattle.laws.specs.Chunks.{chunks, length-chunks, get-chunks, lay-chunks, map-set}
+use Rattle.laws.specs.Chunks.{chunks, length-chunks}
 use Rattle.layout.specs.Layout.{bound32, due_bytes}
 use Rattle.pairs.specs.Pairs.{Pair}
 use Rattle.node.specs.Search.{key_at, pointer_at}
@@ -50,32 +49,9 @@ due_laid s d e =
     )
     (lay-whole s (encode d) (sym e))
 
-length-encode : (d : Due) → length (encode d) ≡ due_bytes
-unfolding encode
-length-encode d = refl
-
 pub length_dues : (stack : List ℕ) → length (dues_of stack) ≡ length stack / due_bytes
 unfolding dues_of
 length_dues stack = length-map (chunks due_bytes stack) decode ∙ length-chunks due_bytes stack
-
-get_dues : (stack : List ℕ) (slot : ℕ) → due_bytes * slot + due_bytes ≤ length stack →
-    get_or (dues_of stack) slot no_due ≡ decode (part stack (due_bytes * slot) due_bytes)
-unfolding dues_of no_due
-get_dues stack slot h = get_or-map decode (chunks due_bytes stack) slot _ ∙ ap decode (get-chunks due_bytes stack slot _ (omega arith))
-
-pub lay_dues : (stack : List ℕ) (slot : ℕ) (d : Due) → Fits d → due_bytes * slot + due_bytes ≤ length stack →
-    dues_of (lay stack (due_bytes * slot) (encode d)) ≡ set (dues_of stack) slot d
-unfolding dues_of
-lay_dues stack slot d f h =
-    ap (map decode) (lay-chunks due_bytes stack slot (encode d) (length-encode d) (omega arith) h) ∙
-    map-set decode (chunks due_bytes stack) slot (encode d) ∙
-    ap (set (map decode (chunks due_bytes stack)) slot) (decode-encode d f)
-
--- One read from its part of the stack.
-pub part_dues : (stack : List ℕ) (slot size : ℕ) → size ≡ due_bytes → due_bytes * slot + due_bytes ≤ length stack →
-    decode (take size (drop (due_bytes * slot) stack)) ≡ get_or (dues_of stack) slot no_due
-unfolding part
-part_dues stack slot size e h = ap (λ (k : ℕ). decode (take k (drop (due_bytes * slot) stack))) e ∙ sym (get_dues stack slot h)
 
 -- The children of a branch: as many as its keys and one more.
 pub length-children : (depth : ℕ) (ps : List Pair) (last high : ℕ) → length (children_of depth ps last high) ≡ suc (length ps)

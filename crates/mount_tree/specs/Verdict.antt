@@ -1,9 +1,8 @@
 -- The answer: a count past the limit, no node, or the end of the walk. Assumes nothing.
-use Rattle.std.specs.Prelude.{◌≡◌, Bool, true, false, ℕ, ◌-◌, ◌≤◌, ◌<◌, take}
+use Rattle.std.specs.Prelude.{◌≡◌, Bool, false, ℕ, ◌-◌, ◌≤◌, ◌<◌, take, None}
 use Rattle.std.proofs.Math.Path.{refl, ap}
 use Rattle.std.proofs.Common.{sym, ◌∙◌, arith}
 use mathlib.Core.List.{List, []}
-use Rattle.std.proofs.Math.Option.{none}
 use borrow.Author.Tests.{le-leb, lt-leb}
 use Rattle.layout.specs.Layout.{bound32}
 use Rattle.node.specs.Node.{pairs_of}
@@ -21,7 +20,7 @@ past_limit limit nodes tree l = rw (lt-leb nodes limit l)
 
 -- The walk that begins at the root.
 abbrev pub start_at : ℕ → ℕ → WalkValue
-start_at nodes leaf = record { passed = true; awaited = leaf; low = 0; top = nodes - 1; reached = 0 }
+start_at nodes leaf = record { awaited = leaf; low = 0; top = nodes - 1; reached = 0 }
 
 module _ (kept nodes depth : ℕ) (before middle : List ℕ) (begun : Begun kept nodes depth before middle) (leaf : ℕ) where
   pub start_standing : Standing kept nodes middle (start_at nodes leaf)
@@ -48,7 +47,7 @@ module _ (kept nodes depth : ℕ) (before middle : List ℕ) (begun : Begun kept
 
 -- No node at all: the root is not there.
 module _ (limit : ℕ) (tree : Table) where
-  no_root : visit 0 tree 0 0 bound32 (record { awaited = 0; marks = [] }) ≡ none
+  no_root : visit 0 tree 0 0 bound32 (record { awaited = 0; marks = [] }) ≡ None
   no_root =
       let w : Walk = record { awaited = 0; marks = [] } in
       visit-fails tree 0 0 0 bound32 w (tree 0) refl

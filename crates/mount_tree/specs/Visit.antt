@@ -1,9 +1,8 @@
 -- A step of the walk by each way that the code takes: the next node due does not pass, is a leaf, or a branch. Assumes nothing.
-use Rattle.std.specs.Prelude.{◌≡◌, refl, true, false, length, get_or, drop, set}
-use Rattle.std.proofs.Common.{sym, ◌∙◌, true≢false, length-set, length-append, length-drop, drop-cons}
+use Rattle.std.specs.Prelude.{◌≡◌, refl, false, length, get_or, drop, set, None, Some}
+use Rattle.std.proofs.Common.{sym, ◌∙◌, length-set, length-append, length-drop, drop-cons}
 use Rattle.std.proofs.Math.Path.{ap}
 use mathlib.Core.List.{List, ◌∷◌, ◌++◌}
-use Rattle.std.proofs.Math.Option.{none}
 use Prim.Native.Nat.{ℕ, suc, ◌+◌, ◌-◌, ◌≤◌, ◌<◌}
 use Rattle.std.proofs.Math.Numerals.{add-one}
 use native.Mathlib.Omega.{arith}
@@ -18,12 +17,12 @@ use Rattle.mount_tree.specs.Passes.{passes, marked, pass_inside, pass_fresh}
 use Rattle.mount_tree.specs.Pending.{visit_all, all-fails, all-leaf, all-branch}
 use Rattle.mount_tree.specs.Reached.{reached_in, reached-set, crowded-none}
 use Rattle.layout.specs.Layout.{work_bytes}
-use Rattle.mount_tree.specs.Area.{dues_in, marks_in, walk_in, comes_to, failed_at, Marks, Pushes, Stepped, NextDue}
+use Rattle.mount_tree.specs.Area.{dues_in, marks_in, walk_in, comes_to, Marks, Pushes, Stepped, NextDue}
 use Rattle.mount_tree.specs.AreaLaws.{length-dues_in, length-marks_in}
 
 module _ (tree : Table) (kept nodes : ℕ) (before : List ℕ) (w : WalkValue) where
-  fails : (r : WalkValue) → r ≡ failed_at w → comes_to tree kept nodes before w ≡ none → Stepped tree kept nodes before w before r
-  fails r e f = rw e record { same = refl; is = sym f; standing = λ p. absurd (true≢false (sym p)); more = λ p. absurd (true≢false (sym p)) }
+  fails : comes_to tree kept nodes before w ≡ None → Stepped tree kept nodes before w before None
+  fails f = record { same = refl; is = sym f; standing = tt; more = tt }
 
   module _ (v : NodeValue) (due : Due) (is-node : node_of v ≡ tree due.id) where
     abbrev rest : List Due
@@ -39,9 +38,9 @@ module _ (tree : Table) (kept nodes : ℕ) (before : List ℕ) (w : WalkValue) w
 
     pub step_failed : kept + work_bytes nodes ≤ length before → w.top < nodes → due ≡ get_or (dues_in kept nodes before) w.top no_due →
         passes due.depth due.id w.low due.high (walk_in kept nodes before w) (node_of v) ≡ false →
-        (r : WalkValue) → r ≡ failed_at w → Stepped tree kept nodes before w before r
-    step_failed room inside is fail r e =
-        fails r e (whole room inside is ∙ all-fails tree due rest w.low (walk_in kept nodes before w) (node_of v) is-node fail)
+        Stepped tree kept nodes before w before None
+    step_failed room inside is fail =
+        fails (whole room inside is ∙ all-fails tree due rest w.low (walk_in kept nodes before w) (node_of v) is-node fail)
 
     module _ (given : NextDue kept nodes before v due w) where
       reached_more : reached_in (set (marks_in kept nodes before) due.id 1) ≡ suc w.reached
@@ -53,7 +52,7 @@ module _ (tree : Table) (kept nodes : ℕ) (before : List ℕ) (w : WalkValue) w
 
       pub step_leaf : due.depth ≡ 0 → (after : List ℕ) → Marks kept nodes due.id before after →
           Stepped tree kept nodes before w after
-          (record { passed = true; awaited = v.link; low = due.high; top = w.top + 1; reached = w.reached + 1 })
+          (Some (record { awaited = v.link; low = due.high; top = w.top + 1; reached = w.reached + 1 }))
       unfolding comes_to
       step_leaf z after m =
           record {
@@ -64,12 +63,12 @@ module _ (tree : Table) (kept nodes : ℕ) (before : List ℕ) (w : WalkValue) w
                 (whole given.room given.inside given.is ∙
                 all-leaf tree due rest w.low (walk_in kept nodes before w) (node_of v) is-node given.pass z));
             standing =
-                λ p. record {
+                record {
                   top = omega (arith, given.inside);
                   free = omega (arith, given.standing.free);
                   reached = omega (arith, ap reached_in m.marks, reached_more);
                 };
-            more = λ p. add-one w.reached;
+            more = add-one w.reached;
           }
 
       module _ (below : ℕ) (deep : due.depth ≡ suc below) where
@@ -82,9 +81,9 @@ module _ (tree : Table) (kept nodes : ℕ) (before : List ℕ) (w : WalkValue) w
             whole given.room given.inside given.is ∙
             all-branch tree due rest w.low (walk_in kept nodes before w) (node_of v) is-node given.pass below deep
 
-        pub step_crowded : w.top < v.count + (w.reached + 1) → (r : WalkValue) → r ≡ failed_at w → Stepped tree kept nodes before w before r
-        step_crowded l r e =
-            fails r e
+        pub step_crowded : w.top < v.count + (w.reached + 1) → Stepped tree kept nodes before w before None
+        step_crowded l =
+            fails
             (entered ∙
             crowded-none tree (children ++ rest) w.low (marked (walk_in kept nodes before w) due.id w.awaited)
             (omega (
@@ -103,7 +102,7 @@ module _ (tree : Table) (kept nodes : ℕ) (before : List ℕ) (w : WalkValue) w
         pub step_branch : v.count + (w.reached + 1) ≤ w.top → (middle after : List ℕ) → Marks kept nodes due.id before middle →
             Pushes kept nodes (w.top - v.count) (w.top - v.count + v.count + 1) children middle after →
             Stepped tree kept nodes before w after
-            (record { passed = true; awaited = w.awaited; low = w.low; top = w.top - v.count; reached = w.reached + 1 })
+            (Some (record { awaited = w.awaited; low = w.low; top = w.top - v.count; reached = w.reached + 1 }))
         unfolding comes_to
         step_branch l middle after m p =
             let behind : w.top - v.count + v.count + 1 ≡ suc w.top = omega arith in
@@ -111,12 +110,12 @@ module _ (tree : Table) (kept nodes : ℕ) (before : List ℕ) (w : WalkValue) w
               same = p.same ∙ m.same;
               is = rw (p.dues, p.marks, m.marks, m.dues, behind) (sym entered);
               standing =
-                  λ q. record {
+                  record {
                     top = omega (arith, given.inside);
                     free = omega arith;
                     reached = omega (arith, ap reached_in (p.marks ∙ m.marks), reached_more);
                   };
-              more = λ q. add-one w.reached;
+              more = add-one w.reached;
             }
 
 -- An id that passes is below the count.

@@ -1,13 +1,11 @@
 -- The whole walk: a turn of its loop, and its end. Assumes nothing.
-use Rattle.std.specs.Prelude.{◌≡◌, Bool, true, false, ℕ, ◌≤◌, ◌+◌, take}
+use Rattle.std.specs.Prelude.{◌≡◌, false, ℕ, ◌≤◌, ◌+◌, take, Option, None, Some}
 use Rattle.std.proofs.Math.Path.{refl, sym, ap, ap₂}
 use Rattle.std.proofs.Common.{subst, ◌∙◌, arith, drop_of_length-le}
 use mathlib.Core.List.{List}
-use Rattle.std.proofs.Math.Option.{Option, none, some}
 use borrow.Author.Tests.{eq-eqb, ne_eqb}
 use Rattle.std.proofs.Math.Dec.{eqb}
 use Rattle.std.proofs.Math.ListN.{length}
-use Rattle.laws.specs.Tests.{choose}
 use Rattle.layout.specs.Layout.{no_leaf, work_bytes}
 use Rattle.tree.specs.Table.{Table}
 use Rattle.tree.specs.Sound.{Walk, complete}
@@ -17,7 +15,7 @@ use Rattle.mount_tree.specs.declared.due.Due.{Due}
 use Rattle.mount_tree.specs.declared.walk.WalkValue.{WalkValue}
 use Rattle.mount_tree.specs.Pending.{visit_all, all_none}
 use Rattle.mount_tree.specs.Reached.{all-reached}
-use Rattle.mount_tree.specs.Area.{dues_in, marks_in, Checkable, Standing, walk_in, comes_to, Stepped}
+use Rattle.mount_tree.specs.Area.{dues_in, marks_in, Checkable, Standing, walk_in, comes_to, goes_on, Stepped}
 use Rattle.mount_tree.specs.AreaLaws.{length-dues_in, length-marks_in}
 
 -- What a check asks is asked of the kept bytes and the length alone.
@@ -26,24 +24,25 @@ pub checkable_same : (s : State) (kept : ℕ) (before after : List ℕ) → leng
 checkable_same s kept before after l e c = record { readable = subst (Readable s) (sym e) c.readable; room = omega (arith, c.room) }
 
 -- A turn, in the tree that the kept bytes say: these bytes are the first ones still.
-module _ (tree_of : List ℕ → Table) (kept nodes : ℕ) (first table after : List ℕ) (w r : WalkValue) (same : take kept table ≡ take kept first)
-    (step : Stepped (tree_of (take kept table)) kept nodes table w after r) (all : Option Walk)
-    (far : comes_to (tree_of (take kept first)) kept nodes table w ≡ all) where
-  turn : choose r.passed (comes_to (tree_of (take kept first)) kept nodes after r) none ≡ all
-  turn =
-      subst (λ (k : List ℕ). choose r.passed (comes_to (tree_of k) kept nodes after r) none ≡ comes_to (tree_of k) kept nodes table w) same step.is ∙ far
+module _ (tree_of : List ℕ → Table) (kept nodes : ℕ) (first table after : List ℕ) (w : WalkValue) (same : take kept table ≡ take kept first)
+    (all : Option Walk) (far : comes_to (tree_of (take kept first)) kept nodes table w ≡ all) where
+  turn : (r : Option WalkValue) → Stepped (tree_of (take kept table)) kept nodes table w after r →
+      goes_on (tree_of (take kept first)) kept nodes after r ≡ all
+  turn r step =
+      subst (λ (k : List ℕ). goes_on (tree_of k) kept nodes after r ≡ comes_to (tree_of k) kept nodes table w) same step.is ∙ far
 
-  pub turn_passed : r.passed ≡ true → comes_to (tree_of (take kept first)) kept nodes after r ≡ all
-  turn_passed p = ap (λ (b : Bool). choose b (comes_to (tree_of (take kept first)) kept nodes after r) none) (sym p) ∙ turn
+  pub turn_passed : (v : WalkValue) → Stepped (tree_of (take kept table)) kept nodes table w after (Some v) →
+      comes_to (tree_of (take kept first)) kept nodes after v ≡ all
+  turn_passed v step = turn (Some v) step
 
-  pub turn-failed : r.passed ≡ false → false ≡ complete all
+  pub turn-failed : Stepped (tree_of (take kept table)) kept nodes table w after None → false ≡ complete all
   unfolding complete
-  turn-failed p = ap (λ (b : Bool). complete (choose b (comes_to (tree_of (take kept first)) kept nodes after r) none)) (sym p) ∙ ap complete turn
+  turn-failed step = ap complete (turn None step)
 
 -- The end: no node is due.
 module _ (tree : Table) (kept nodes : ℕ) (table : List ℕ) (w : WalkValue) (room : kept + work_bytes nodes ≤ length table)
     (standing : Standing kept nodes table w) (end : nodes ≤ w.top) (all : Option Walk) (far : comes_to tree kept nodes table w ≡ all) where
-  ended : some (walk_in kept nodes table w) ≡ all
+  ended : Some (walk_in kept nodes table w) ≡ all
   unfolding comes_to
   ended =
       let l : length (dues_in kept nodes table) ≤ w.top = omega (arith, length-dues_in kept nodes table room) in

@@ -1,6 +1,5 @@
 -- A worked case, run by the definitions alone: a branch over two leaves, its walk from the root, and the children due once the root is entered.
-use Rattle.std.specs.Prelude.{◌≡◌, refl, List, [], ◌∷◌, map, ℕ, zero, suc}
-use Rattle.std.proofs.Math.Option.{some}
+use Rattle.std.specs.Prelude.{◌≡◌, refl, List, [], ◌∷◌, map, ℕ, zero, suc, Some}
 use Rattle.laws.specs.Lay.{part}
 use Rattle.laws.specs.BigEndian.{number_at}
 use Rattle.layout.specs.Layout.{no_leaf, bound32}
@@ -18,7 +17,7 @@ three zero = node Branch ((5, 1) ∷ []) 2
 three (suc zero) = node Leaf ((3, 30) ∷ []) 2
 three (suc (suc i)) = node Leaf ((7, 70) ∷ []) no_leaf
 
-walked : visit_all three (root_due 1 ∷ []) 0 (record { awaited = 1; marks = no_marks 3 }) ≡ some (record { awaited = no_leaf; marks = 1 ∷ 1 ∷ 1 ∷ [] })
+walked : visit_all three (root_due 1 ∷ []) 0 (record { awaited = 1; marks = no_marks 3 }) ≡ Some (record { awaited = no_leaf; marks = 1 ∷ 1 ∷ 1 ∷ [] })
 unfolding visit_all visit visit_branch visit_children visit_leaf in_order ascends three
 walked = refl
 

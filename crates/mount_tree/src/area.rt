@@ -5,10 +5,11 @@ ghost use Rattle.node.specs.Value.{pairs_in, Sized};
 ghost use Rattle.mount_tree.specs.Due.{no_due, children_of};
 ghost use Rattle.mount_tree.specs.Area.{dues_in, Marks, Pushes, root_due, Begun};
 
-use super::due::{Due, push_children, read_due, write_due};
+use super::due::{Due, push_children};
 use layout::DUE_BYTES;
 use node::NodeValue;
 use wire::bytes::fill_part;
+use wire::record::{read, write};
 
 // The node due in a slot.
 pub fn due_at(table: &[u8], kept: usize, nodes: usize, slot: usize) -> Due
@@ -16,7 +17,7 @@ pub fn due_at(table: &[u8], kept: usize, nodes: usize, slot: usize) -> Due
     ensures { result ≡ get_or (dues_in kept nodes table.now) slot no_due }
 {
     let end = kept + DUE_BYTES * nodes;
-    read_due(&table[kept..end], slot)
+    read(&table[kept..end], slot)
 }
 
 // Marks an id as reached.
@@ -57,7 +58,7 @@ fn push_root(table: &mut [u8], kept: usize, nodes: usize, depth: u32)
         depth,
         high: 4294967296,
     };
-    write_due(&mut table[kept..end], nodes - 1, root);
+    write(&mut table[kept..end], nodes - 1, root);
 }
 
 // No id reached, and the root alone due.

@@ -8,31 +8,30 @@ ghost use Rattle.mount_tree.specs.FirstLeaf.{leftmost_of};
 
 use super::kept::node_of;
 use flash_allocate::state::State;
+use node::Shape;
 use node::search::pointer;
-use node::{Shape, same_shape};
 
-#[derive(Drop)]
+// The first leaf and how deep it lies.
+#[derive(Clone, Copy, Debug, PartialEq, Eq)]
 pub struct FirstLeaf {
     pub depth: u32,
     pub leaf: u32,
 }
 
 // No more nodes are read than there are: a search that goes on leads round in a circle.
-pub fn first_leaf<'a>(pool: &'a [u8], table: &'a [u8], kept: usize, state: State) -> FirstLeaf
+pub fn first_leaf(pool: &[u8], table: &[u8], kept: usize, state: State) -> FirstLeaf
     requires { (Readable state (take kept table.now)) × (kept ≤ length table.now) }
     ensures { leftmost_of result
         ≡ leftmost state.nodes (table_of (pages_of pool.now) (table_from (take kept table.now)) state) 0 0 }
 {
-    let mut depth: u32 = 0;
-    let mut leaf: u32 = 0;
-    while (depth as usize) < state.nodes {
+    let nodes = state.nodes as u32;
+    let mut leaf = 0;
+    for depth in 0..nodes {
         let v = node_of(pool, table, kept, state, leaf);
-        let shape = v.shape;
-        if same_shape(shape, Shape::Leaf) {
-            return FirstLeaf { depth, leaf };
+        match v.shape {
+            Shape::Leaf => return FirstLeaf { depth, leaf },
+            Shape::Branch => leaf = pointer(v, 0),
         }
-        leaf = pointer(v, 0);
-        depth += 1;
     }
-    FirstLeaf { depth, leaf }
+    FirstLeaf { depth: nodes, leaf }
 }

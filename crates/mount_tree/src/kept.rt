@@ -10,7 +10,7 @@ use flash_read::by_id::node_at;
 use node::NodeValue;
 
 // The node of an id.
-pub fn node_of<'a>(pool: &'a [u8], table: &'a [u8], kept: usize, state: State, id: u32) -> NodeValue
+pub fn node_of(pool: &[u8], table: &[u8], kept: usize, state: State, id: u32) -> NodeValue
     requires { (Readable state (take kept table.now)) × (kept ≤ length table.now) }
     ensures { Becomes result (table_of (pages_of pool.now) (table_from (take kept table.now)) state id) }
 {

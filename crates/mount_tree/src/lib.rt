@@ -36,7 +36,6 @@ pub fn is_sound(pool: &[u8], table: &mut [u8], kept: usize, state: State, limit:
     let first = first_leaf(pool, table, kept, state);
     begin(table, kept, state.nodes, first.depth);
     let start = WalkValue {
-        passed: true,
         awaited: first.leaf,
         low: 0,
         top: state.nodes - 1,

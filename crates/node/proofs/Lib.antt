@@ -1,1 +1,4 @@
+pub mod Copied
 pub mod Says
+pub mod Searched
+pub mod Shapes

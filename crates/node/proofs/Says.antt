@@ -1,11 +1,9 @@
 -- The search in a node says what it should, and no other answer does: its place is the first at or above the wanted key, and the only one. Keys
 -- need not ascend for it. Assumes nothing.
-use Rattle.std.specs.Prelude.{◌≡◌, refl, Bool, true, false, List, [], ◌∷◌, ◌⊎◌, ℕ, zero, suc, ◌≤◌, ◌<◌, length}
+use Rattle.std.specs.Prelude.{◌≡◌, refl, Bool, true, false, List, [], ◌∷◌, ◌⊎◌, ℕ, zero, suc, ◌≤◌, ◌<◌, length, Result, Ok, Err}
 use Rattle.std.proofs.Common.{sym, ap, ◌∙◌, inl, inr, arith}
 use Rattle.laws.specs.Order.{le_or}
 use Rattle.pairs.specs.Pairs.{Pair}
-use Rattle.node.specs.declared.Found.{Found}
-use Rattle.node.specs.declared.Found.TheVariants.{At, Above}
 use Rattle.node.specs.Search.{place, key_at, place-below, place-first, place_le, place_le_length, Present, Absent}
 use Rattle.node.specs.Found.{present, found, found_as, true_present, false_absent, found-present, found-absent}
 use Rattle.node.specs.Says.{First, Says}
@@ -59,12 +57,12 @@ module _ (wanted : ℕ) (ps : List Pair) where
       go false e = (first-place, λ l. omega (arith, here_place wanted ps l, (false_absent wanted ps e).other l))
 
   -- No other answer does.
-  pub search_only : (r : Found) → Says wanted ps r → r ≡ found wanted ps
-  search_only (At i) s =
+  pub search_only : (r : Result ℕ ℕ) → Says wanted ps r → r ≡ found wanted ps
+  search_only (Ok i) s =
       let e = first-only i s.0 in
       let w : Present wanted ps = record { inside = omega (arith, s.1); equal = ap (key_at ps) (sym e) ∙ s.2 } in
-      ap At e ∙ sym (found-present wanted ps w)
-  search_only (Above i) s =
+      ap Ok e ∙ sym (found-present wanted ps w)
+  search_only (Err i) s =
       let e = first-only i s.0 in
       let a : Absent wanted ps = record { other = λ l f. omega (arith, s.1 (omega arith), ap (key_at ps) e) } in
-      ap Above e ∙ sym (found-absent wanted ps a)
+      ap Err e ∙ sym (found-absent wanted ps a)

@@ -1,9 +1,7 @@
 -- Whether the keys of a node ascend, as a test (document 01, "Sound": keys ascending and in bounds). Assumes nothing.
-use Rattle.std.specs.Prelude.{◌≡◌, refl, Bool, true, false, ◌&&◌, leb, ltb, length, drop}
-use mathlib.Core.List.{List, [], ◌∷◌}
-use Prim.Native.Nat.{ℕ, zero, suc, ◌≤◌, ◌<◌}
-use Rattle.std.proofs.Common.{arith, drop_of_length-le}
-use borrow.Author.Tests.{lt-ltb, le-ltb, le-leb, lt-leb, leb-true, ltb-true}
+use Rattle.std.specs.Prelude.{◌≡◌, Bool, true, false, ◌&&◌, leb, ltb, length, drop, List, [], ◌∷◌, ℕ, zero, suc, ◌≤◌, ◌<◌}
+use Rattle.std.proofs.Common.{refl, arith, drop_of_length-le, lt-ltb, le-ltb, le-leb, leb-true, ltb-true}
+use borrow.Author.Tests.{lt-leb}
 use Rattle.laws.specs.Tests.{and_left, and_right}
 use Rattle.pairs.specs.Pairs.{Pair, Within}
 use Rattle.node.specs.Search.{key_at}

@@ -1,7 +1,6 @@
 -- What a draft and a change by value stand for, and what the replay of each change makes of a draft. Assumes nothing.
-use Rattle.std.specs.Prelude.{◌≡◌, refl, true, false, ℕ, ◌≤◌, ◌<◌, length}
-use Rattle.std.proofs.Math.Path.{sym, ap}
-use Rattle.std.proofs.Common.{◌∙◌}
+use Rattle.std.specs.Prelude.{◌≡◌, true, false, ℕ, ◌≤◌, ◌<◌, length}
+use Rattle.std.proofs.Common.{refl, sym, ap, ◌∙◌}
 use Rattle.layout.specs.Layout.{most_keys}
 use Rattle.pairs.specs.Pairs.{insert}
 use Rattle.node.specs.declared.Shape.{Shape}

@@ -1,9 +1,6 @@
 -- What the edited arrays of a node stand for, and that an edit keeps the keys ascending. Assumes nothing.
-use Rattle.std.specs.Prelude.{◌≡◌, refl, ℕ, suc, ◌+◌, ◌-◌, ◌≤◌, ◌<◌, length, set}
-use Rattle.std.proofs.Common.{sym, ap₂, ◌∙◌, arith}
-use Rattle.std.proofs.Math.Path.{ap}
-use mathlib.Core.List.{List}
-use Rattle.std.proofs.Math.ListN.{get_or, take, length-set}
+use Rattle.std.specs.Prelude.{◌≡◌, ℕ, suc, ◌+◌, ◌-◌, ◌≤◌, ◌<◌, length, set, Ok, Err, List, get_or, take}
+use Rattle.std.proofs.Common.{refl, sym, ap₂, ◌∙◌, arith, ap, length-set}
 use Rattle.std.proofs.lemmas.List.{set-get_or}
 use Rattle.layout.specs.Layout.{most_keys, bound32}
 use Rattle.pairs.specs.Pairs.{Pair, insert, Within}
@@ -13,7 +10,6 @@ use Rattle.node.specs.declared.NodeValue.{NodeValue}
 use Rattle.node.specs.Node.{Node, node, pairs_of}
 use Rattle.node.specs.Change.{put, remove, change}
 use Rattle.node.specs.Splice.{zip, insert_at, remove_at, length-insert_at}
-use Rattle.node.specs.declared.Found.TheVariants.{At, Above}
 use Rattle.node.specs.Found.{found, at-present, at_place, above-absent, above_place}
 use Rattle.node.specs.Search.{place, place_le_length, key_at, insert-present, insert-absent, delete-present, delete-absent}
 use Rattle.node.specs.Value.{pairs_in, node_of, Sized, Held, Stands, Becomes, length-pairs_in, key_at-pairs_in, pairs-insert_at, pairs-remove_at, pairs_set}
@@ -70,7 +66,7 @@ becomes r n m s e w =
 
 module _ (v r : NodeValue) (h : Held v) (key i : ℕ) where
   pub becomes_replaced :
-      (p : ℕ) → key < bound32 → found key (pairs_in v) ≡ At i →
+      (p : ℕ) → key < bound32 → found key (pairs_in v) ≡ Ok i →
       Stands r (node v.shape (set (pairs_in v) i (key_at (pairs_in v) i, p)) v.link) → Becomes r (change (put key p) (node_of v))
   becomes_replaced p l e s =
       let w = at-present key (pairs_in v) i e in
@@ -82,7 +78,7 @@ module _ (v r : NodeValue) (h : Held v) (key i : ℕ) where
       (within_insert key p 0 bound32 (pairs_in v) (omega arith) l h.ascending)
 
   pub becomes_added :
-      (p : ℕ) → key < bound32 → found key (pairs_in v) ≡ Above i →
+      (p : ℕ) → key < bound32 → found key (pairs_in v) ≡ Err i →
       Stands r (node v.shape (insert_at i (key, p) (pairs_in v)) v.link) → Becomes r (change (put key p) (node_of v))
   becomes_added p l e s =
       becomes r _ _ s
@@ -91,7 +87,7 @@ module _ (v r : NodeValue) (h : Held v) (key i : ℕ) where
       (within_insert key p 0 bound32 (pairs_in v) (omega arith) l h.ascending)
 
   pub becomes_removed :
-      found key (pairs_in v) ≡ At i →
+      found key (pairs_in v) ≡ Ok i →
       Stands r (node v.shape (remove_at i (pairs_in v)) v.link) → Becomes r (change (remove key) (node_of v))
   becomes_removed e s =
       becomes r _ _ s
@@ -101,29 +97,29 @@ module _ (v r : NodeValue) (h : Held v) (key i : ℕ) where
 
 module _ (v : NodeValue) (h : Held v) (key i : ℕ) where
   -- the place that the search found is within the node
-  pub at-inside : found key (pairs_in v) ≡ At i → i < v.count
+  pub at-inside : found key (pairs_in v) ≡ Ok i → i < v.count
   at-inside e =
       omega (arith, at_place key (pairs_in v) i e, (at-present key (pairs_in v) i e).inside, length-pairs_in v h.sized)
 
-  pub above-inside : found key (pairs_in v) ≡ Above i → i ≤ v.count
+  pub above-inside : found key (pairs_in v) ≡ Err i → i ≤ v.count
   above-inside e =
       omega (arith, above_place key (pairs_in v) i e, place_le_length key (pairs_in v), length-pairs_in v h.sized)
 
   -- how many pairs a put leaves: as many where the key is there, one more where it is not
-  pub length-put-at : (p : ℕ) → found key (pairs_in v) ≡ At i → length (insert key p (pairs_in v)) ≡ v.count
+  pub length-put-at : (p : ℕ) → found key (pairs_in v) ≡ Ok i → length (insert key p (pairs_in v)) ≡ v.count
   length-put-at p e =
       ap length (insert-present key p (pairs_in v) (at-present key (pairs_in v) i e)) ∙
       length-set (pairs_in v) (place key (pairs_in v)) (key, p) ∙
       length-pairs_in v h.sized
 
-  pub length-put-above : (p : ℕ) → found key (pairs_in v) ≡ Above i → length (insert key p (pairs_in v)) ≡ suc v.count
+  pub length-put-above : (p : ℕ) → found key (pairs_in v) ≡ Err i → length (insert key p (pairs_in v)) ≡ suc v.count
   length-put-above p e =
       ap length (insert-absent key p (pairs_in v) (above-absent key (pairs_in v) i e)) ∙
       length-insert_at (place key (pairs_in v)) (key, p) (pairs_in v) ∙
       ap suc (length-pairs_in v h.sized)
 
   -- A delete of an absent key changes nothing.
-  pub becomes_same : found key (pairs_in v) ≡ Above i → Becomes v (change (remove key) (node_of v))
+  pub becomes_same : found key (pairs_in v) ≡ Err i → Becomes v (change (remove key) (node_of v))
   becomes_same e =
       record {
         is =

@@ -1,29 +1,26 @@
 -- What the code's search answers, by cases. Assumes nothing.
-use Rattle.std.specs.Prelude.{◌≡◌, refl, Bool, true, false, ◌&&◌, List, ℕ, eqb, ltb, length}
-use Rattle.std.proofs.Common.{sym, ◌∙◌, arith}
-use borrow.Author.Tests.{lt-ltb, ltb-true, eqb-true, eq-eqb}
+use Rattle.std.specs.Prelude.{◌≡◌, Bool, true, false, ◌&&◌, List, ℕ, eqb, ltb, length, Result, Ok, Err}
+use Rattle.std.proofs.Common.{refl, sym, ◌∙◌, arith, lt-ltb, ltb-true, eqb-true, eq-eqb}
 use Rattle.laws.specs.Tests.{and_left, and_right, and_both, test_clash}
 use Rattle.pairs.specs.Pairs.{Pair}
-use Rattle.node.specs.declared.Found.{Found}
-use Rattle.node.specs.declared.Found.TheVariants.{At, Above}
 use Rattle.node.specs.Search.{place, key_at, Present, Absent}
 
 -- whether the key at its place is the key itself
 unfoldable pub present : ℕ → List Pair → Bool
 present key ps = ltb (place key ps) (length ps) && eqb (key_at ps (place key ps)) key
 
-abbrev pub found_as : Bool → ℕ → Found
-found_as true i = At i
-found_as false i = Above i
+abbrev pub found_as : Bool → ℕ → Result ℕ ℕ
+found_as true i = Ok i
+found_as false i = Err i
 
 -- the place of the first key at or above the wanted one, and whether it is equal
-abbrev pub found : ℕ → List Pair → Found
+abbrev pub found : ℕ → List Pair → Result ℕ ℕ
 found key ps = found_as (present key ps) (place key ps)
 
 -- the place that an answer names, whether the key there is equal or above
-abbrev pub place_of : Found → ℕ
-place_of (At i) = i
-place_of (Above i) = i
+abbrev pub place_of : Result ℕ ℕ → ℕ
+place_of (Ok i) = i
+place_of (Err i) = i
 
 place_of_as : (b : Bool) (i : ℕ) → place_of (found_as b i) ≡ i
 place_of_as true i = refl
@@ -58,29 +55,29 @@ module _ (key : ℕ) (ps : List Pair) where
       go true e = absurd (a.other (true_present e).inside (true_present e).equal)
       go false e = refl
 
-  pub found-present : Present key ps → found key ps ≡ At (place key ps)
+  pub found-present : Present key ps → found key ps ≡ Ok (place key ps)
   found-present w = rw (present_true w)
 
-  pub found-absent : Absent key ps → found key ps ≡ Above (place key ps)
+  pub found-absent : Absent key ps → found key ps ≡ Err (place key ps)
   found-absent a = rw (absent_false a)
 
   -- from the answer back to what it says
-  pub at-present : (i : ℕ) → found key ps ≡ At i → Present key ps
+  pub at-present : (i : ℕ) → found key ps ≡ Ok i → Present key ps
   at-present i e = true_present (go (present key ps) refl)
     where
       go : (b : Bool) → present key ps ≡ b → b ≡ true
       go true f = refl
-      go false f = absurd (let g : Above (place key ps) ≡ At i = rw f at e in let z : ◌≡◌ {A = ℕ} 0 1 = cc in omega arith)
+      go false f = absurd (let g : Err (place key ps) ≡ Ok i = rw f at e in let z : ◌≡◌ {A = ℕ} 0 1 = cc in omega arith)
 
-  pub at_place : (i : ℕ) → found key ps ≡ At i → i ≡ place key ps
-  at_place i e = let g : At (place key ps) ≡ At i = sym (found-present (at-present i e)) ∙ e in cc
+  pub at_place : (i : ℕ) → found key ps ≡ Ok i → i ≡ place key ps
+  at_place i e = let g : Ok (place key ps) ≡ Ok i = sym (found-present (at-present i e)) ∙ e in cc
 
-  pub above-absent : (i : ℕ) → found key ps ≡ Above i → Absent key ps
+  pub above-absent : (i : ℕ) → found key ps ≡ Err i → Absent key ps
   above-absent i e = false_absent (go (present key ps) refl)
     where
       go : (b : Bool) → present key ps ≡ b → b ≡ false
-      go true f = absurd (let g : At (place key ps) ≡ Above i = rw f at e in let z : ◌≡◌ {A = ℕ} 0 1 = cc in omega arith)
+      go true f = absurd (let g : Ok (place key ps) ≡ Err i = rw f at e in let z : ◌≡◌ {A = ℕ} 0 1 = cc in omega arith)
       go false f = refl
 
-  pub above_place : (i : ℕ) → found key ps ≡ Above i → i ≡ place key ps
-  above_place i e = let g : Above (place key ps) ≡ Above i = sym (found-absent (above-absent i e)) ∙ e in cc
+  pub above_place : (i : ℕ) → found key ps ≡ Err i → i ≡ place key ps
+  above_place i e = let g : Err (place key ps) ≡ Err i = sym (found-absent (above-absent i e)) ∙ e in cc

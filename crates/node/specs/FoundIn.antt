@@ -1,31 +1,23 @@
 -- What a search in the keys alone finds, whatever the pointers beside them are. Assumes nothing.
-use Rattle.std.specs.Prelude.{◌≡◌, List, ◌⊎◌, ℕ, ◌-◌, ◌≤◌, ◌<◌, get_or}
+use Rattle.std.specs.Prelude.{◌≡◌, List, ◌⊎◌, ℕ, ◌-◌, ◌≤◌, ◌<◌, get_or, Result, Ok, Err}
 use Rattle.std.proofs.Common.{sym, ap, ◌∙◌, inl, inr, arith}
 use Rattle.laws.specs.Order.{le_or}
 use Rattle.layout.specs.Layout.{bound32}
 use Rattle.node.specs.declared.NodeValue.{NodeValue}
-use Rattle.node.specs.declared.Found.{Found}
-use Rattle.node.specs.declared.Found.TheVariants.{At, Above}
 use Rattle.node.specs.Found.{found}
 use Rattle.node.specs.Search.{place}
 use Rattle.node.specs.Value.{pairs_in, Held, length-pairs_in, key_at-pairs_in, place-value, found-at-value, found-above-value, found_end_value}
 use Rattle.node.specs.Repoint.{place-key_at}
 
--- A place among the first keys: the key before it is below the wanted one, and the key there is not.
-pub record PlaceIn (keys : List ℕ) (count wanted i : ℕ) : Type 0 where
-  pub inside : i ≤ count
-  pub before : 0 < i → get_or keys (i - 1) 0 < wanted
-  pub behind : i < count → wanted ≤ get_or keys i 0
-
 -- Every node with these keys, ascending, has the key where the answer says.
-pub record FoundIn (keys : List ℕ) (count key : ℕ) (r : Found) : Type 0 where
+pub record FoundIn (keys : List ℕ) (count key : ℕ) (r : Result ℕ ℕ) : Type 0 where
   pub is : (v : NodeValue) → Held v → v.keys ≡ keys → v.count ≡ count → found key (pairs_in v) ≡ r
 
 -- The key stands at the place.
-pub found_in_at : (keys : List ℕ) (count key i : ℕ) → i < count → get_or keys i 0 ≡ key → FoundIn keys count key (At i)
+pub found_in_at : (keys : List ℕ) (count key i : ℕ) → i < count → get_or keys i 0 ≡ key → FoundIn keys count key (Ok i)
 found_in_at keys count key i l e = record { is = go }
   where
-    go : (v : NodeValue) → Held v → v.keys ≡ keys → v.count ≡ count → found key (pairs_in v) ≡ At i
+    go : (v : NodeValue) → Held v → v.keys ≡ keys → v.count ≡ count → found key (pairs_in v) ≡ Ok i
     go v h k n =
         let inside : i < v.count = omega arith in
         let same : get_or v.keys i 0 ≡ key = ap (λ (ks : List ℕ). get_or ks i 0) k ∙ e in
@@ -35,7 +27,7 @@ found_in_at keys count key i l e = record { is = go }
 
 -- The key before the place is below it, and the key there above it.
 module _ (keys : List ℕ) (count key i : ℕ) (l : i ≤ count) (before : 0 < i → get_or keys (i - 1) 0 < key) (behind : i < count → key < get_or keys i 0) where
-  above : (v : NodeValue) → Held v → v.keys ≡ keys → v.count ≡ count → found key (pairs_in v) ≡ Above i
+  above : (v : NodeValue) → Held v → v.keys ≡ keys → v.count ≡ count → found key (pairs_in v) ≡ Err i
   above v h k n = go (le_or count i)
     where
       same : (j : ℕ) → get_or v.keys j 0 ≡ get_or keys j 0
@@ -46,9 +38,9 @@ module _ (keys : List ℕ) (count key i : ℕ) (l : i ≤ count) (before : 0 < i
           place-value v h key i (omega arith) (λ z. omega (arith, same (i - 1), before z))
           (λ z. omega (arith, same i, behind (omega arith)))
 
-      go : (count ≤ i) ⊎ (i < count) → found key (pairs_in v) ≡ Above i
+      go : (count ≤ i) ⊎ (i < count) → found key (pairs_in v) ≡ Err i
       go (inl m) = sym (found_end_value v h key i here (omega arith))
       go (inr m) = sym (found-above-value v h key i here (omega arith) (λ e. omega (arith, same i, behind m)))
 
-  pub found_in_above : FoundIn keys count key (Above i)
+  pub found_in_above : FoundIn keys count key (Err i)
   found_in_above = record { is = above }

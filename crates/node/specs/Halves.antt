@@ -1,8 +1,7 @@
 -- A node of 25 keys in two (document 01, "Nodes and tree"). One definition of each half for both kinds of node, and their sizes.
 -- Assumes nothing.
 use Rattle.std.specs.Prelude.{◌≡◌, List, [], ◌∷◌, ◌++◌, ℕ, zero, suc, ◌+◌, ◌≤◌, length, take, drop}
-use Rattle.std.proofs.Common.{arith, take-append-drop}
-use Rattle.std.proofs.Math.ListN.{length-take, length-drop}
+use Rattle.std.proofs.Common.{arith, take-append-drop, length-take, length-drop}
 use Rattle.layout.specs.Layout.{most_keys, kept_keys, bound32}
 use Rattle.pairs.specs.Pairs.{Pair, Within}
 use Rattle.pairs.proofs.Bounds.{within_weaken}

@@ -1,9 +1,7 @@
 -- The change that makes the pointer at a place name another node: at a key, kind 1 with that key; behind all keys, the link
 -- (document 01: "the old pointer to the left names the right"). Assumes nothing.
-use Rattle.std.specs.Prelude.{◌≡◌, true, false, ℕ, zero, suc, ◌≤◌, ◌<◌, ltb, set}
+use Rattle.std.specs.Prelude.{◌≡◌, true, false, ℕ, zero, suc, ◌≤◌, ◌<◌, ltb, set, List, [], ◌∷◌, length}
 use Rattle.std.proofs.Common.{sym, ap, ◌∙◌, arith, lt-ltb, le-ltb}
-use mathlib.Core.List.{List, [], ◌∷◌}
-use Rattle.std.proofs.Math.ListN.{length}
 use Rattle.layout.specs.Layout.{bound32}
 use Rattle.pairs.specs.Pairs.{Pair, insert, Within}
 use Rattle.pairs.proofs.Bounds.{within_insert}

@@ -1,8 +1,7 @@
 -- The one search in a node: which key is the first at or above the wanted one, and whether it is equal. Reads, edits, scans and
 -- the way down the tree all rest on it (document 01, "Nodes and tree"; document 02, P3). Assumes nothing.
-use Rattle.std.specs.Prelude.{◌≡◌, refl, true, false, List, [], ◌∷◌, ◌⊎◌, ℕ, zero, suc, ◌-◌, ◌≤◌, ◌<◌, ltb, length, get_or, set}
+use Rattle.std.specs.Prelude.{◌≡◌, refl, true, false, List, [], ◌∷◌, ◌⊎◌, ℕ, zero, suc, ◌-◌, ◌≤◌, ◌<◌, ltb, length, get_or, set, None, Some}
 use Rattle.std.proofs.Common.{sym, ap, ◌∙◌, inl, inr, arith, lt-ltb, le-ltb}
-use Rattle.std.proofs.Math.Option.{none, some}
 use Rattle.laws.specs.Order.{Tri, less, same, more, tri, eq_or, le_or}
 use Rattle.pairs.specs.Pairs.{Pair, lookup, insert, delete, Within}
 use Rattle.pairs.specs.Clauses.{lookup_same, lookup-other, delete_same, delete-other, insert-before, insert_same, insert-behind}
@@ -215,24 +214,24 @@ delete-absent key low high (p ∷ ps) w a = go (tri key p.0) (delete-absent key 
     go (more h) r = delete-other key p ps (omega arith) ∙ ap {B = List Pair} (p ∷◌) (r (absent-tail key p ps h a))
 
 -- A read answers the value at the key's place, or nothing.
-pub lookup-present : (key last : ℕ) (ps : List Pair) → Present key ps → lookup key ps ≡ some (pointer_at ps last (place key ps))
+pub lookup-present : (key last : ℕ) (ps : List Pair) → Present key ps → lookup key ps ≡ Some (pointer_at ps last (place key ps))
 lookup-present key last [] w = absurd (present-nil key w)
 lookup-present key last (p ∷ ps) w = go (tri key p.0) (lookup-present key last ps)
   where
     go :
         Tri key p.0 →
-        (Present key ps → lookup key ps ≡ some (pointer_at ps last (place key ps))) →
-        lookup key (p ∷ ps) ≡ some (pointer_at (p ∷ ps) last (place key (p ∷ ps)))
+        (Present key ps → lookup key ps ≡ Some (pointer_at ps last (place key ps))) →
+        lookup key (p ∷ ps) ≡ Some (pointer_at (p ∷ ps) last (place key (p ∷ ps)))
     go (less h) r = absurd (present-first key p ps h w)
     go (same h) r = rw (lookup_same key p ps h, place-first key p ps (omega arith))
     go (more h) r = rw (lookup-other key p ps (omega arith), place-below key p ps h) (r (present-tail key p ps h w))
 
-pub lookup_absent : (key low high : ℕ) (ps : List Pair) → Within low high ps → Absent key ps → lookup key ps ≡ none
+pub lookup_absent : (key low high : ℕ) (ps : List Pair) → Within low high ps → Absent key ps → lookup key ps ≡ None
 unfolding Within lookup
 lookup_absent key low high [] w a = refl
 lookup_absent key low high (p ∷ ps) w a = go (tri key p.0) (lookup_absent key (suc p.0) high ps w.2)
   where
-    go : Tri key p.0 → (Absent key ps → lookup key ps ≡ none) → lookup key (p ∷ ps) ≡ none
+    go : Tri key p.0 → (Absent key ps → lookup key ps ≡ None) → lookup key (p ∷ ps) ≡ None
     go (less h) r =
         lookup-other key p ps (omega arith) ∙ lookup-below key (suc p.0) high ps (omega arith) w.2
     go (same h) r = absurd (absent-first key p ps h a)

@@ -1,16 +1,14 @@
 -- The node that a node by value stands for. Assumes nothing.
-use Rattle.std.specs.Prelude.{◌≡◌, List, ℕ, ◌-◌, ◌≤◌, ◌<◌, length, get_or, take, set}
-use Rattle.std.proofs.Math.Path.{sym, ap₂}
-use Rattle.std.proofs.Common.{ap, ◌∙◌, arith, length-take-le, get_or-take}
+use Rattle.std.specs.Prelude.{◌≡◌, List, ℕ, ◌-◌, ◌≤◌, ◌<◌, length, get_or, take, set, None, Some, Ok, Err}
+use Rattle.std.proofs.Common.{sym, ap₂, ap, ◌∙◌, arith, length-take-le, get_or-take}
 use Rattle.std.proofs.Math.Seq.{take-set-lt}
 use Rattle.layout.specs.Layout.{most_keys, bound32}
-use Rattle.pairs.specs.Pairs.{Pair, Within}
+use Rattle.pairs.specs.Pairs.{Pair, Within, lookup}
 use Rattle.node.specs.declared.NodeValue.{NodeValue}
 use Rattle.node.specs.Node.{Node, node}
 use Rattle.node.specs.Splice.{zip, length-zip, get_d_zip, insert_at, remove_at, zip-insert_at, zip-remove_at, zip-set}
-use Rattle.node.specs.declared.Found.TheVariants.{At, Above}
-use Rattle.node.specs.Search.{place, key_at, pointer_at, key_at-get_or, pointer_at-get_or, place_is, Present, Absent}
-use Rattle.node.specs.Found.{found, found-present, found-absent}
+use Rattle.node.specs.Search.{place, key_at, pointer_at, key_at-get_or, pointer_at-get_or, place_is, Present, Absent, lookup-present, lookup_absent}
+use Rattle.node.specs.Found.{found, found-present, found-absent, at-present, at_place, above-absent}
 
 -- its pairs: the first `count` keys with the pointers beside them
 unfoldable pub pairs_in : NodeValue → List Pair
@@ -106,7 +104,7 @@ place-value v h wanted i l before behind =
 
 -- What the search finds, known by the key at the place.
 module _ (v : NodeValue) (h : Held v) (key i : ℕ) (e : i ≡ place key (pairs_in v)) where
-  pub found-at-value : i < v.count → get_or v.keys i 0 ≡ key → At i ≡ found key (pairs_in v)
+  pub found-at-value : i < v.count → get_or v.keys i 0 ≡ key → Ok i ≡ found key (pairs_in v)
   found-at-value l f =
       let w : Present key (pairs_in v) =
       record {
@@ -115,13 +113,23 @@ module _ (v : NodeValue) (h : Held v) (key i : ℕ) (e : i ≡ place key (pairs_
       } in
       rw (found-present key (pairs_in v) w, e)
 
-  pub found-above-value : i < v.count → (get_or v.keys i 0 ≡ key → ⊥) → Above i ≡ found key (pairs_in v)
+  pub found-above-value : i < v.count → (get_or v.keys i 0 ≡ key → ⊥) → Err i ≡ found key (pairs_in v)
   found-above-value l f =
       let a : Absent key (pairs_in v) =
       record { other = λ z g. f (sym (key_at-pairs_in v h.sized i l) ∙ ap (λ (j : ℕ). key_at (pairs_in v) j) e ∙ g) } in
       rw (found-absent key (pairs_in v) a, e)
 
-  pub found_end_value : v.count ≤ i → Above i ≡ found key (pairs_in v)
+  pub found_end_value : v.count ≤ i → Err i ≡ found key (pairs_in v)
   found_end_value l =
       let a : Absent key (pairs_in v) = record { other = λ z g. omega (arith, length-pairs_in v h.sized) } in
       rw (found-absent key (pairs_in v) a, e)
+
+-- What stands at a key: the pointer at its place, or nothing.
+module _ (v : NodeValue) (h : Held v) (k i : ℕ) where
+  pub value_there : (p : ℕ) → found k (pairs_in v) ≡ Ok i → p ≡ pointer_at (pairs_in v) v.link i → Some p ≡ lookup k (pairs_in v)
+  value_there p e f =
+      ap Some (f ∙ ap (λ (j : ℕ). pointer_at (pairs_in v) v.link j) (at_place k (pairs_in v) i e)) ∙
+      sym (lookup-present k v.link (pairs_in v) (at-present k (pairs_in v) i e))
+
+  pub value_missing : found k (pairs_in v) ≡ Err i → None ≡ lookup k (pairs_in v)
+  value_missing e = sym (lookup_absent k 0 bound32 (pairs_in v) h.ascending (above-absent k (pairs_in v) i e))

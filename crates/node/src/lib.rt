@@ -1,9 +1,8 @@
 // A tree node by value: the search in it, and its edits.
 #![tactic(auto)]
 
-ghost use Rattle.std.specs.Prelude.{◌≡◌, []};
+ghost use Rattle.std.specs.Prelude.{[]};
 ghost use Rattle.node.specs.Node.{node};
-ghost use Rattle.node.specs.Replay.{same_shape};
 ghost use Rattle.node.specs.Value.{Becomes};
 
 use layout::MOST_KEYS;
@@ -15,7 +14,7 @@ pub mod splice;
 
 // Document 01's types 3 and 4: a leaf holds the map's pairs and a link to the next leaf, a branch holds keys with child
 // pointers and a last pointer.
-#[derive(Clone, Copy)]
+#[derive(Clone, Copy, Debug, PartialEq, Eq)]
 pub enum Shape {
     Leaf,
     Branch,
@@ -31,15 +30,8 @@ pub struct NodeValue {
     pub link: u32,
 }
 
-// What a search for a key finds: its place, or the place of the first key above it.
-#[derive(Drop)]
-pub enum Found {
-    At(usize),
-    Above(usize),
-}
-
 // How far the replay of a node has come: no link yet; a node; or no node, since its entries break a rule.
-#[derive(Clone, Copy)]
+#[derive(Clone, Copy, Debug, PartialEq, Eq)]
 pub enum DraftState {
     Unlinked,
     Made,
@@ -54,7 +46,7 @@ pub struct DraftValue {
 }
 
 // One change of a node: what one log entry says.
-#[derive(Clone, Copy)]
+#[derive(Clone, Copy, Debug, PartialEq, Eq)]
 pub enum ChangeValue {
     Put { key: u32, pointer: u32 },
     Delete { key: u32 },
@@ -68,24 +60,8 @@ pub fn empty_node(shape: Shape, to: u32) -> NodeValue
     NodeValue {
         shape,
         count: 0,
-        keys: [0u32; MOST_KEYS],
-        pointers: [0u32; MOST_KEYS],
+        keys: [0; MOST_KEYS],
+        pointers: [0; MOST_KEYS],
         link: to,
-    }
-}
-
-// Whether two shapes are the same.
-pub fn same_shape(a: Shape, b: Shape) -> bool
-    ensures { result ≡ same_shape a b }
-{
-    match a {
-        Shape::Leaf => match b {
-            Shape::Leaf => true,
-            Shape::Branch => false,
-        },
-        Shape::Branch => match b {
-            Shape::Leaf => false,
-            Shape::Branch => true,
-        },
     }
 }

@@ -11,13 +11,8 @@ pub fn insert(a: &mut [u32; MOST_KEYS], count: usize, at: usize, x: u32)
     ensures { (take (count + 1) a.new ≡ insert_at at x (take count a.old))
         × (length a.new ≡ most_keys) }
 {
-    let mut i = count;
-    while at < i {
-        let y = a[i - 1];
-        a[i] = y;
-        i -= 1;
-    }
-    a[i] = x;
+    a.copy_within(at..count, at + 1);
+    a[at] = x;
 }
 
 // The first `count` values without the one at a place: those behind it move down.
@@ -26,10 +21,5 @@ pub fn remove(a: &mut [u32; MOST_KEYS], count: usize, at: usize)
     ensures { (take (count - 1) a.new ≡ remove_at at (take count a.old))
         × (length a.new ≡ most_keys) }
 {
-    let mut i = at;
-    while i + 1 < count {
-        let y = a[i + 1];
-        a[i] = y;
-        i += 1;
-    }
+    a.copy_within(at + 1..count, at);
 }

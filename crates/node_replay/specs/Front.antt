@@ -1,10 +1,8 @@
 -- Values that stand in an array from a place on, moved down to its front; and what is known of keys by the first and the last of them. Assumes nothing.
-use Rattle.std.specs.Prelude.{Bool, true, ◌&&◌, ◌||◌, ◌≡◌, refl, ℕ, zero, suc, ◌+◌, ◌-◌, ◌≤◌, ◌<◌, eqb, ltb}
-use Rattle.std.proofs.Math.Path.{sym, ap}
-use Rattle.std.proofs.Common.{◌∙◌, add-one, arith, length-set, take-append-drop, length-take-le, take-suc, take-suc-set, drop-cons}
-use mathlib.Core.List.{List, [], ◌∷◌, ◌++◌}
-use Rattle.std.proofs.Math.ListN.{get_or-append, length, get_or, take, drop, set, length-drop, length-append}
-use Rattle.std.proofs.Math.Seq.{take_at, take-set-lt, get_or-take, get_or-drop, get_or-append-add, set_at, append_snoc}
+use Rattle.std.specs.Prelude.{Bool, true, ◌&&◌, ◌||◌, ◌≡◌, ℕ, zero, suc, ◌+◌, ◌-◌, ◌≤◌, ◌<◌, eqb, ltb, List, [], ◌∷◌, ◌++◌, length, get_or, take, drop, set}
+use Rattle.std.proofs.Common.{refl, sym, ap, ◌∙◌, add-one, arith, length-set, take-append-drop, length-take-le, take-suc-set, drop-cons, length-drop, length-append, take_at, get_or-take, get_or-drop}
+use Rattle.std.proofs.Math.ListN.{get_or-append}
+use Rattle.std.proofs.Math.Seq.{take-set-lt}
 use Rattle.std.proofs.lemmas.List.{drop-set-add}
 use Rattle.layout.specs.Layout.{most_keys}
 use Rattle.node.specs.Splice.{insert_at, remove_at}
@@ -64,36 +62,6 @@ module _ (first count : ℕ) (xs : List ℕ) (h : first + count ≤ length xs) w
       get_or-append (take count (drop first xs)) (drop count xs) 0 i (omega (arith, length_front)) ∙
       get_or-take count (drop first xs) i 0 l ∙
       get_or-drop first xs i 0
-
--- A turn of the loop that moves them.
-module _ (first i : ℕ) (xs : List ℕ) (h : first + i < length xs) where
-  length_moved : length (take i (drop first xs)) ≡ i
-  length_moved = length-take-le i (drop first xs) (omega (arith, length-drop first xs))
-
-  get_d_moved : get_or (lowered first i xs) (first + i) 0 ≡ get_or xs (first + i) 0
-  unfolding lowered
-  get_d_moved =
-      let e : first + i ≡ length (take i (drop first xs)) + first = omega (arith, length_moved) in
-      ap (λ (j : ℕ). get_or (take i (drop first xs) ++ drop i xs) j 0) e ∙
-      get_or-append-add (take i (drop first xs)) (drop i xs) first 0 ∙
-      get_or-drop i xs first 0 ∙
-      ap (λ (j : ℕ). get_or xs j 0) (omega arith)
-
-  lowered_step : set (lowered first i xs) i (get_or (lowered first i xs) (first + i) 0) ≡ lowered first (suc i) xs
-  unfolding lowered
-  lowered_step =
-      let v = get_or xs (first + i) 0 in
-      ap (λ (y : ℕ). set (take i (drop first xs) ++ drop i xs) i y) get_d_moved ∙
-      ap (λ (r : List ℕ). set (take i (drop first xs) ++ r) i v) (drop-cons xs i 0 (omega arith)) ∙
-      set_at (take i (drop first xs)) (get_or xs i 0) (drop (suc i) xs) v i length_moved ∙
-      sym (append_snoc (take i (drop first xs)) v (drop (suc i) xs)) ∙
-      ap (λ (r : List ℕ). r ++ drop (suc i) xs)
-      (ap (λ (y : ℕ). take i (drop first xs) ++ (y ∷ [])) (sym (get_or-drop first xs i 0)) ∙
-      sym (take-suc (drop first xs) i 0 (omega (arith, length-drop first xs))))
-
-pub lowered-turn : (first i : ℕ) (xs b : List ℕ) → first + i < length xs → b ≡ lowered first i xs →
-    set b i (get_or b (first + i) 0) ≡ lowered first (i + 1) xs
-lowered-turn first i xs b h e = rw (add-one i, e) (lowered_step first i xs h)
 
 -- One more behind them, the first one gone, and the first one replaced.
 module _ (first count : ℕ) (xs : List ℕ) where

@@ -1,10 +1,7 @@
 -- A draft taken apart: its keys, its pointers, and its outline, which is the rest; and what the replay of each change makes of the three, where keys
 -- and pointers stand at the front, and where they stand from a place on. Assumes nothing.
-use Rattle.std.specs.Prelude.{◌≡◌, Bool, ℕ, ◌+◌, ◌-◌, ◌≤◌, ◌<◌, ltb, length, get_or, take, set}
-use Rattle.std.proofs.Math.Path.{refl, ap₂}
-use Rattle.std.proofs.Common.{ap, ◌∙◌, arith, lt-ltb, le-ltb, length-set}
-use Rattle.std.proofs.Math.Bool.{true, false}
-use mathlib.Core.List.{List, []}
+use Rattle.std.specs.Prelude.{◌≡◌, ℕ, ◌+◌, ◌-◌, ◌≤◌, ◌<◌, length, get_or, take, set, Option, None, Some, Ok, Err, true, false, List, []}
+use Rattle.std.proofs.Common.{refl, ap₂, ap, ◌∙◌, arith, length-set}
 use Rattle.layout.specs.Layout.{most_keys, bound32}
 use Rattle.pairs.specs.Pairs.{Pair, Within}
 use Rattle.node.specs.declared.Shape.{Shape}
@@ -13,7 +10,6 @@ use Rattle.node.specs.declared.NodeValue.{NodeValue}
 use Rattle.node.specs.declared.DraftState.{DraftState}
 use Rattle.node.specs.declared.DraftState.TheVariants.{Unlinked, Made, Broken}
 use Rattle.node.specs.declared.DraftValue.{DraftValue}
-use Rattle.node.specs.declared.Found.TheVariants.{At, Above}
 use Rattle.node.specs.Change.{put, remove, link}
 use Rattle.node.specs.Node.{node}
 use Rattle.node.specs.Splice.{zip, insert_at, remove_at}
@@ -50,16 +46,13 @@ linked_at o shape to = record { state = Made; shape = shape; first = o.first; co
 abbrev pub broken_at : Outline → Outline
 broken_at o = record { state = Broken; shape = o.shape; first = o.first; count = o.count; link = o.link }
 
--- With the keys at the front, and with so many of them there: more than fit break it.
+-- With the keys at the front, and with so many of them there: more than fit, of which there is no number, break it.
 abbrev pub settled_at : Outline → Outline
 settled_at o = record { state = o.state; shape = o.shape; first = 0; count = o.count; link = o.link }
 
-abbrev counted_by : Bool → Outline → ℕ → Outline
-counted_by true o n = broken_at (settled_at o)
-counted_by false o n = counted_at (settled_at o) n
-
-unfoldable pub counted_to : Outline → ℕ → Outline
-counted_to o n = counted_by (ltb most_keys n) o n
+abbrev pub counted_to : Outline → Option ℕ → Outline
+counted_to o (Some n) = counted_at (settled_at o) n
+counted_to o None = broken_at (settled_at o)
 
 -- Without the first key.
 abbrev pub ahead_at : Outline → Outline
@@ -89,34 +82,14 @@ pub record Links (o : Outline) (shape : Shape) (to : ℕ) (r : Outline) : Type 0
   pub first : r.first ≡ o.first
   pub count : r.count ≡ o.count
 
--- The outline of so many keys, where they fit and where not.
-module _ (o : Outline) (n : ℕ) where
-  counted_fits : n ≤ most_keys → counted_to o n ≡ counted_at (settled_at o) n
-  unfolding counted_to
-  counted_fits h = rw (le-ltb most_keys n h) refl
-
-  counted_over : most_keys < n → counted_to o n ≡ broken_at (settled_at o)
-  unfolding counted_to
-  counted_over h = rw (lt-ltb most_keys n h) refl
-
-  pub redone_fits : n ≤ most_keys → (ks ps : List ℕ) (d : Draft) → Redone (draft_from (counted_at o n) ks ps) d → Redone (draft_from (counted_to o n) ks ps) d
-  redone_fits h ks ps d x = rw (counted_fits h) x
-
-  pub redone_over : most_keys < n → (ks ps : List ℕ) (d : Draft) → Redone (draft_from (broken_at o) ks ps) d → Redone (draft_from (counted_to o n) ks ps) d
-  redone_over h ks ps d x = rw (counted_over h) x
-
-  counted_first : (counted_to o n).first ≡ 0
-  unfolding counted_to
-  counted_first = go (ltb most_keys n)
-    where
-      go : (b : Bool) → (counted_by b o n).first ≡ 0
-      go true = refl
-      go false = refl
+counted_first : (o : Outline) (n : Option ℕ) → (counted_to o n).first ≡ 0
+counted_first o (Some n) = refl
+counted_first o None = refl
 
 -- A put, by what the search found.
 module _ (o : Outline) (ks ps : List ℕ) (h : Held (node_from o ks ps)) (key i p : ℕ) where
   pub redone_replaced :
-      key < bound32 → found key (pairs_in (node_from o ks ps)) ≡ At i →
+      key < bound32 → found key (pairs_in (node_from o ks ps)) ≡ Ok i →
       Redone (draft_from o ks (set ps i p)) (redo (draft_of (draft_from o ks ps)) (put key p))
   redone_replaced l e =
       let v = node_from o ks ps in
@@ -124,7 +97,7 @@ module _ (o : Outline) (ks ps : List ℕ) (h : Held (node_from o ks ps)) (key i 
       redone_put v w key p o.state (becomes_replaced v w h key i p l e (stands_repointed v h.sized i p (at-inside v h key i e)))
       (omega (arith, length-put-at v h key i p e, h.sized.size))
 
-  module _ (e : found key (pairs_in (node_from o ks ps)) ≡ Above i) where
+  module _ (e : found key (pairs_in (node_from o ks ps)) ≡ Err i) where
     pub redone_added :
         key < bound32 → o.count < most_keys → (ks' ps' : List ℕ) →
         (take (o.count + 1) ks' ≡ insert_at i key (take o.count ks)) × (length ks' ≡ most_keys) →
@@ -145,7 +118,7 @@ module _ (o : Outline) (ks ps : List ℕ) (h : Held (node_from o ks ps)) (key i 
 -- A removal, by what the search found.
 module _ (o : Outline) (ks ps : List ℕ) (h : Held (node_from o ks ps)) (key i : ℕ) where
   pub redone_removed :
-      found key (pairs_in (node_from o ks ps)) ≡ At i → (ks' ps' : List ℕ) →
+      found key (pairs_in (node_from o ks ps)) ≡ Ok i → (ks' ps' : List ℕ) →
       (take (o.count - 1) ks' ≡ remove_at i (take o.count ks)) × (length ks' ≡ most_keys) →
       (take (o.count - 1) ps' ≡ remove_at i (take o.count ps)) × (length ps' ≡ most_keys) →
       Redone (draft_from (counted_at o (o.count - 1)) ks' ps') (redo (draft_of (draft_from o ks ps)) (remove key))
@@ -155,7 +128,7 @@ module _ (o : Outline) (ks ps : List ℕ) (h : Held (node_from o ks ps)) (key i 
       redone_delete v w key 0 o.state
       (becomes_removed v w h key i e (stands_removed v h.sized i ks' ps' k.0 q.0 k.1 q.1))
 
-  pub redone_kept : found key (pairs_in (node_from o ks ps)) ≡ Above i → Redone (draft_from o ks ps) (redo (draft_of (draft_from o ks ps)) (remove key))
+  pub redone_kept : found key (pairs_in (node_from o ks ps)) ≡ Err i → Redone (draft_from o ks ps) (redo (draft_of (draft_from o ks ps)) (remove key))
   redone_kept e = let v = node_from o ks ps in redone_delete v v key 0 o.state (becomes_same v h key i e)
 
 -- A link, by the state of the draft.
@@ -201,7 +174,7 @@ redone_settled o ks ps d e x =
       held = record { room = omega (arith, e, s.size); key_room = s.key_room; pointer_room = s.pointer_room; held = rw (same ks, same ps) x.held };
     }
 
-pub redone_counted : (o : Outline) (n : ℕ) (ks ps : List ℕ) (d : Draft) → Redone (draft_from (counted_to o n) ks ps) d → RedoneIn (counted_to o n) ks ps d
+pub redone_counted : (o : Outline) (n : Option ℕ) (ks ps : List ℕ) (d : Draft) → Redone (draft_from (counted_to o n) ks ps) d → RedoneIn (counted_to o n) ks ps d
 redone_counted o n ks ps d x = redone_settled (counted_to o n) ks ps d (counted_first o n) x
 
 -- Nothing replayed yet: the arrays may hold anything.
@@ -260,14 +233,14 @@ module _ (o : Outline) (ks ps : List ℕ) (h : HeldIn o ks ps) (key : ℕ) where
   beside : o.first + o.count ≤ length ps
   beside = omega (arith, h.room, h.pointer_room)
 
-  found_first : 0 < o.count → get_or ks o.first 0 ≡ key → found key (pairs_in (node_from o (down_in o ks) (down_in o ps))) ≡ At 0
+  found_first : 0 < o.count → get_or ks o.first 0 ≡ key → found key (pairs_in (node_from o (down_in o ks) (down_in o ps))) ≡ Ok 0
   found_first l e =
       let here : get_or (down_in o ks) 0 0 ≡ key =
       get_or-lowered o.first o.count ks inside 0 l ∙ ap (λ (n : ℕ). get_or ks n 0) (omega arith) ∙ e in
       (found_in_at (down_in o ks) o.count key 0 l here).is (node_from o (down_in o ks) (down_in o ps)) h.held refl refl
 
   found-behind : (0 < o.count → get_or ks (o.first + o.count - 1) 0 < key) →
-      found key (pairs_in (node_from o (down_in o ks) (down_in o ps))) ≡ Above o.count
+      found key (pairs_in (node_from o (down_in o ks) (down_in o ps))) ≡ Err o.count
   found-behind f =
       let before : 0 < o.count → get_or (down_in o ks) (o.count - 1) 0 < key = λ z.
       rw (get_or-lowered o.first o.count ks inside (o.count - 1) (omega arith))

@@ -10,39 +10,37 @@ ghost use Rattle.node_replay.specs.Outline.{node_from, draft_from, counted_to, d
 use front::{is_behind, is_first, settle};
 use layout::MOST_KEYS;
 use node::search::{find_behind, find_in_replay};
-use node::{ChangeValue, DraftState, DraftValue, Found, Shape, same_shape, splice};
-use outline::{Outline, broken, counted, draft_from, linked, outline_of};
+use node::{ChangeValue, DraftState, DraftValue, Shape, splice};
+use outline::{Outline, counted, draft_from, outline_of};
 
 pub mod front;
 pub mod outline;
 
-// One put more into a draft whose keys stand at the front. The answer is how many they are then: a 25th is not put in.
+// One put more into a draft whose keys stand at the front. The answer is how many they are then; none where a 25th
+// would be put in.
 fn put_in(
     keys: &mut [u32; MOST_KEYS],
     pointers: &mut [u32; MOST_KEYS],
     outline: Outline,
     key: u32,
     pointer: u32,
-) -> usize
+) -> Option<usize>
     requires { Held (node_from outline keys.old pointers.old) }
     ensures { Redone (draft_from (counted_to outline result) keys.new pointers.new)
         (redo (draft_of (draft_from outline keys.old pointers.old)) (put key pointer)) }
 {
     let count = outline.count;
-    let found = find_behind(keys, count, key);
-    match found {
-        Found::At(i) => {
+    match find_behind(keys, count, key) {
+        Ok(i) => {
             pointers[i] = pointer;
-            return count;
+            Some(count)
         }
-        Found::Above(i) => {
-            if count < MOST_KEYS {
-                splice::insert(keys, count, i, key);
-                splice::insert(pointers, count, i, pointer);
-                return count + 1;
-            }
-            return MOST_KEYS + 1;
+        Err(i) if count < MOST_KEYS => {
+            splice::insert(keys, count, i, key);
+            splice::insert(pointers, count, i, pointer);
+            Some(count + 1)
         }
+        Err(_) => None,
     }
 }
 
@@ -54,20 +52,17 @@ fn delete_in(
     key: u32,
 ) -> usize
     requires { Held (node_from outline keys.old pointers.old) }
-    ensures { Redone (draft_from (counted_to outline result) keys.new pointers.new)
+    ensures { Redone (draft_from (counted_to outline (Some result)) keys.new pointers.new)
         (redo (draft_of (draft_from outline keys.old pointers.old)) (remove key)) }
 {
     let count = outline.count;
-    let found = find_in_replay(keys, count, key);
-    match found {
-        Found::At(i) => {
+    match find_in_replay(keys, count, key) {
+        Ok(i) => {
             splice::remove(keys, count, i);
             splice::remove(pointers, count, i);
-            return count - 1;
+            count - 1
         }
-        Found::Above(_) => {
-            return count;
-        }
+        Err(_) => count,
     }
 }
 
@@ -83,23 +78,21 @@ pub fn redo_put(
     ensures { RedoneIn result keys.new pointers.new
         (redo (draft_in outline keys.old pointers.old) (put key pointer)) }
 {
-    let mut r = outline;
-    let first = outline.first;
-    let count = outline.count;
+    let Outline { first, count, .. } = outline;
     if is_behind(keys, first, count, key) {
-        let end = first + count;
-        keys[end] = key;
-        pointers[end] = pointer;
-        r.count = count + 1;
-        return r;
+        keys[first + count] = key;
+        pointers[first + count] = pointer;
+        return Outline {
+            count: count + 1,
+            ..outline
+        };
     }
     if is_first(keys, first, count, key) {
         pointers[first] = pointer;
-        return r;
+        return outline;
     }
     settle(keys, pointers, first, count);
-    let n = put_in(keys, pointers, outline, key, pointer);
-    counted(outline, n)
+    counted(outline, put_in(keys, pointers, outline, key, pointer))
 }
 
 // One removal more. Leaves are emptied in key order.
@@ -113,38 +106,38 @@ pub fn redo_delete(
     ensures { RedoneIn result keys.new pointers.new
         (redo (draft_in outline keys.old pointers.old) (remove key)) }
 {
-    let mut r = outline;
-    let first = outline.first;
-    let count = outline.count;
+    let Outline { first, count, .. } = outline;
     if is_first(keys, first, count, key) {
-        r.first = first + 1;
-        r.count = count - 1;
-        return r;
+        return Outline {
+            first: first + 1,
+            count: count - 1,
+            ..outline
+        };
     }
     settle(keys, pointers, first, count);
-    let n = delete_in(keys, pointers, outline, key);
-    counted(outline, n)
+    counted(outline, Some(delete_in(keys, pointers, outline, key)))
 }
 
 // One link more, whatever the keys and pointers: the first makes the node, one of the other shape breaks it.
 pub fn redo_link(outline: Outline, shape: Shape, to: u32) -> Outline
     ensures { Links outline shape to result }
 {
-    let state = outline.state;
-    let own = outline.shape;
-    match state {
-        DraftState::Unlinked => {
-            return linked(outline, shape, to);
-        }
-        DraftState::Made => {
-            if same_shape(own, shape) {
-                return linked(outline, own, to);
-            }
-            return broken(outline);
-        }
-        DraftState::Broken => {
-            return outline;
-        }
+    match outline.state {
+        DraftState::Unlinked => Outline {
+            state: DraftState::Made,
+            shape,
+            link: to,
+            ..outline
+        },
+        DraftState::Made if outline.shape == shape => Outline {
+            link: to,
+            ..outline
+        },
+        DraftState::Made => Outline {
+            state: DraftState::Broken,
+            ..outline
+        },
+        DraftState::Broken => outline,
     }
 }
 
@@ -160,14 +153,14 @@ fn redo_change(
         (redo (draft_of (draft_from outline keys.old pointers.old)) (change_of change)) }
 {
     match change {
-        ChangeValue::Put { key, pointer } => {
-            let n = put_in(keys, pointers, outline, key, pointer);
-            counted(outline, n)
-        }
-        ChangeValue::Delete { key } => {
-            let n = delete_in(keys, pointers, outline, key);
-            counted(outline, n)
-        }
+        ChangeValue::Put { key, pointer } => counted(
+            outline,
+            put_in(keys, pointers, outline, key, pointer),
+        ),
+        ChangeValue::Delete { key } => counted(
+            outline,
+            Some(delete_in(keys, pointers, outline, key)),
+        ),
         ChangeValue::Link { shape, link } => redo_link(outline, shape, link),
     }
 }
@@ -177,9 +170,8 @@ pub fn redo(d: DraftValue, change: ChangeValue) -> DraftValue
     requires { Held d.node }
     ensures { Redone result (redo (draft_of d) (change_of change)) }
 {
-    let v = d.node;
-    let mut keys = v.keys;
-    let mut pointers = v.pointers;
+    let mut keys = d.node.keys;
+    let mut pointers = d.node.pointers;
     let outline = redo_change(&mut keys, &mut pointers, outline_of(d), change);
     draft_from(outline, keys, pointers)
 }

@@ -1,13 +1,14 @@
-// A draft taken apart: its keys and pointers lie in arrays of their own, to be changed in place, and its outline is the rest. They stand from `first`
-// on: a removal of the first key, as of leaves that are emptied in key order, moves none.
+// A draft taken apart: its keys and pointers lie in arrays of their own, to be changed in place, and its outline is
+// the rest. They stand from `first` on: a removal of the first key, as of leaves that are emptied in key order, moves
+// none. No struct holds all three: the outline goes by value, so that it stays in registers.
 ghost use Rattle.std.specs.Prelude.{◌≡◌};
-ghost use Rattle.node_replay.specs.Outline.{empty_outline, outline_of, broken_at, linked_at, counted_to, draft_from};
+ghost use Rattle.node_replay.specs.Outline.{empty_outline, outline_of, counted_to, draft_from};
 
 use layout::MOST_KEYS;
 use node::{DraftState, DraftValue, NodeValue, Shape};
 
 // A draft but for its keys and pointers.
-#[derive(Clone, Copy)]
+#[derive(Clone, Copy, Debug, PartialEq, Eq)]
 pub struct Outline {
     pub state: DraftState,
     pub shape: Shape,
@@ -33,56 +34,32 @@ pub fn empty_outline() -> Outline
 pub fn outline_of(d: DraftValue) -> Outline
     ensures { result ≡ outline_of d }
 {
-    let state = d.state;
-    let v = d.node;
-    let shape = v.shape;
     Outline {
-        state,
-        shape,
+        state: d.state,
+        shape: d.node.shape,
         first: 0,
-        count: v.count,
-        link: v.link,
+        count: d.node.count,
+        link: d.node.link,
     }
 }
 
-// The outline of a broken draft.
-pub fn broken(outline: Outline) -> Outline
-    ensures { result ≡ broken_at outline }
-{
-    let shape = outline.shape;
-    Outline {
-        state: DraftState::Broken,
-        shape,
-        first: outline.first,
-        count: outline.count,
-        link: outline.link,
-    }
-}
-
-// The outline of a draft that is made, with a shape and a link.
-pub fn linked(outline: Outline, shape: Shape, to: u32) -> Outline
-    ensures { result ≡ linked_at outline shape to }
-{
-    Outline {
-        state: DraftState::Made,
-        shape,
-        first: outline.first,
-        count: outline.count,
-        link: to,
-    }
-}
-
-// The outline of a draft whose keys stand at the front, with so many of them; more than fit break it.
-pub fn counted(outline: Outline, n: usize) -> Outline
+// The outline of a draft whose keys stand at the front, with so many of them; it is broken where there would be more
+// than fit.
+pub fn counted(outline: Outline, n: Option<usize>) -> Outline
     ensures { result ≡ counted_to outline n }
 {
-    let mut r = outline;
-    r.first = 0;
-    if MOST_KEYS < n {
-        return broken(r);
+    match n {
+        Some(count) => Outline {
+            first: 0,
+            count,
+            ..outline
+        },
+        None => Outline {
+            state: DraftState::Broken,
+            first: 0,
+            ..outline
+        },
     }
-    r.count = n;
-    r
 }
 
 // The draft put together, its keys and pointers at the front.
@@ -93,14 +70,19 @@ pub fn draft_from(
 ) -> DraftValue
     ensures { result ≡ draft_from outline keys pointers }
 {
-    let state = outline.state;
-    let shape = outline.shape;
+    let Outline {
+        state,
+        shape,
+        count,
+        link,
+        ..
+    } = outline;
     let node = NodeValue {
         shape,
-        count: outline.count,
+        count,
         keys,
         pointers,
-        link: outline.link,
+        link,
     };
     DraftValue { state, node }
 }

@@ -1,11 +1,6 @@
 -- The halves of a full node with a pair more, made from its arrays without the 25 pairs ever standing in one. Assumes nothing.
-use Rattle.std.specs.Prelude.{◌≡◌, get_or, set}
-use Rattle.std.proofs.Common.{sym, ◌∙◌, arith, add-one, take-suc, take-suc-set, get_or-drop}
-use Rattle.std.proofs.Math.Path.{ap, ap₂}
-use mathlib.Core.List.{List, [], ◌∷◌, ◌++◌}
-use Prim.Native.Nat.{ℕ, suc, ◌+◌, ◌≤◌, ◌<◌}
-use Rattle.std.proofs.Math.ListN.{length, take, drop, length-drop}
-use Rattle.std.proofs.Math.Seq.{take_all}
+use Rattle.std.specs.Prelude.{◌≡◌, get_or, set, List, [], ◌∷◌, ◌++◌, ℕ, suc, ◌+◌, ◌≤◌, ◌<◌, length, take, drop}
+use Rattle.std.proofs.Common.{sym, ◌∙◌, arith, add-one, take-suc, take-suc-set, get_or-drop, ap, ap₂, length-drop, take_all}
 use Rattle.layout.specs.Layout.{most_keys, kept_keys, bound32}
 use Rattle.pairs.specs.Pairs.{Pair, insert, Within}
 use Rattle.pairs.proofs.Bounds.{within_insert}

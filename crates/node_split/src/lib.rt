@@ -11,6 +11,7 @@ ghost use Rattle.node_split.specs.Split.{Splits};
 
 use layout::{KEPT_KEYS, MOST_KEYS};
 use node::{NodeValue, Shape};
+use std::cmp::Ordering;
 
 // The pairs that are split, and the first of them past the middle one, which a branch hands upwards.
 const SPLIT_KEYS: usize = MOST_KEYS + 1;
@@ -18,32 +19,27 @@ const SPLIT_KEYS: usize = MOST_KEYS + 1;
 const PAST_MIDDLE: usize = KEPT_KEYS + 1;
 
 // The value at an index of the array with one more at a place.
-fn value_at(a: [u32; MOST_KEYS], at: usize, x: u32, i: usize) -> u32
+fn value_at(a: &[u32; MOST_KEYS], at: usize, x: u32, i: usize) -> u32
     requires { (at ≤ most_keys) × (i ≤ most_keys) }
-    ensures { result ≡ get_or (insert_at at x a) i 0 }
+    ensures { result ≡ get_or (insert_at at x a.now) i 0 }
 {
-    if i < at {
-        return a[i];
+    match i.cmp(&at) {
+        Ordering::Less => a[i],
+        Ordering::Equal => x,
+        Ordering::Greater => a[i - 1],
     }
-    if i == at {
-        return x;
-    }
-    a[i - 1]
 }
 
-// The n values from an index on of the array with one more at a place. In a frame of its own, since the longest chain of calls comes by
-// here.
+// The n values from an index on of the array with one more at a place. In a frame of its own, since the longest chain
+// of calls comes by here.
 #[inline(never)]
-fn values_from(a: [u32; MOST_KEYS], at: usize, x: u32, from: usize, n: usize) -> [u32; MOST_KEYS]
+fn values_from(a: &[u32; MOST_KEYS], at: usize, x: u32, from: usize, n: usize) -> [u32; MOST_KEYS]
     requires { (at ≤ most_keys) × (n ≤ most_keys) × (from + n ≤ most_keys + 1) }
-    ensures { (take n result ≡ take n (drop from (insert_at at x a))) × (length result ≡ most_keys) }
+    ensures { (take n result ≡ take n (drop from (insert_at at x a.now))) × (length result ≡ most_keys) }
 {
-    let mut b = [0u32; MOST_KEYS];
-    let mut i: usize = 0;
-    while i < n {
-        let y = value_at(a, at, x, from + i);
-        b[i] = y;
-        i += 1;
+    let mut b = [0; MOST_KEYS];
+    for i in 0..n {
+        b[i] = value_at(a, at, x, from + i);
     }
     b
 }
@@ -68,53 +64,43 @@ fn upper_from(shape: Shape) -> usize
     }
 }
 
+#[tactic(auto, using(crate::specs::Split::splits_at))]
 // The lower half of the node with a pair more, which keeps the first 12 pairs; `upper` is the id of the upper one.
 pub fn lower(v: NodeValue, at: usize, key: u32, pointer: u32, upper: u32) -> NodeValue
     requires { Splits v at key }
     ensures { Becomes result (lower_half (change (put key pointer) (node_of v)) upper) }
 {
-    let shape = v.shape;
-    let old_keys = v.keys;
-    let old_pointers = v.pointers;
-    let keys = values_from(old_keys, at, key, 0, KEPT_KEYS);
-    let pointers = values_from(old_pointers, at, pointer, 0, KEPT_KEYS);
-    let rising = value_at(old_pointers, at, pointer, KEPT_KEYS);
-    let link = lower_link(shape, upper, rising);
+    let rising = value_at(&v.pointers, at, pointer, KEPT_KEYS);
     NodeValue {
-        shape,
         count: KEPT_KEYS,
-        keys,
-        pointers,
-        link,
+        keys: values_from(&v.keys, at, key, 0, KEPT_KEYS),
+        pointers: values_from(&v.pointers, at, pointer, 0, KEPT_KEYS),
+        link: lower_link(v.shape, upper, rising),
+        ..v
     }
 }
 
+#[tactic(auto, using(crate::specs::Split::splits_at))]
 // The upper half of the node with a pair more: the last 13 pairs of a leaf, the last 12 of a branch.
 pub fn upper(v: NodeValue, at: usize, key: u32, pointer: u32) -> NodeValue
     requires { Splits v at key }
     ensures { Becomes result (upper_half (change (put key pointer) (node_of v))) }
 {
-    let shape = v.shape;
-    let old_keys = v.keys;
-    let old_pointers = v.pointers;
-    let from = upper_from(shape);
+    let from = upper_from(v.shape);
     let count = SPLIT_KEYS - from;
-    let keys = values_from(old_keys, at, key, from, count);
-    let pointers = values_from(old_pointers, at, pointer, from, count);
     NodeValue {
-        shape,
         count,
-        keys,
-        pointers,
-        link: v.link,
+        keys: values_from(&v.keys, at, key, from, count),
+        pointers: values_from(&v.pointers, at, pointer, from, count),
+        ..v
     }
 }
 
 // The key between the halves.
+#[tactic(auto, using(crate::specs::Split::splits_at))]
 pub fn middle(v: NodeValue, at: usize, key: u32, pointer: u32) -> u32
     requires { Splits v at key }
     ensures { result ≡ middle_key (change (put key pointer) (node_of v)) }
 {
-    let old_keys = v.keys;
-    value_at(old_keys, at, key, KEPT_KEYS)
+    value_at(&v.keys, at, key, KEPT_KEYS)
 }

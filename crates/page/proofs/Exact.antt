@@ -1,11 +1,10 @@
 -- Bytes that check are the image of the page that they spell, which is within its limits: `decode b ≡ written p` gives
 -- `b ≡ image p`. Each field that was found stands there, from the front to the sums. Assumes nothing.
-use Rattle.std.specs.Prelude.{◌≡◌, Bool, false, ◌&&◌, ◌||◌, ℕ, ◌+◌, ◌*◌, ◌≤◌, ◌<◌, leb, get_or}
+use Rattle.std.specs.Prelude.{◌≡◌, Bool, false, ◌&&◌, ◌||◌, ℕ, ◌+◌, ◌*◌, ◌≤◌, ◌<◌, leb, get_or, Option, None, Some}
 use Rattle.std.proofs.Math.Path.{refl, sym, ap, ap₂, subst}
 use Rattle.std.proofs.Common.{◌∙◌, true≢false, arith}
 use Rattle.std.proofs.Math.Bool.{true}
 use mathlib.Core.List.{List, [], ◌∷◌, ◌++◌, map}
-use Rattle.std.proofs.Math.Option.{Option, none, some}
 use Rattle.std.proofs.Math.Dec.{eqb}
 use Rattle.std.proofs.Math.ListN.{length, take, length-map}
 use borrow.Author.Tests.{eqb-true, eqb-false, leb-true, leb-false}
@@ -75,7 +74,7 @@ module _ {A : Type 0} (b : List ℕ) (bs : Bytes b) (at tag len : ℕ) (of : Lis
           ap (field tag) (e ∙ sym (back (x ∷ p) y l))
 
   if_fits_lem : (P : Option A → Type 0) → ((n : ℕ) → allowed (length_of tag) n ≡ true → n ≡ len) →
-      (found payload ≡ false → P none) → ((p : List ℕ) → Bytes p → length p ≡ len → P (some (of p))) → P (read_if of payload)
+      (found payload ≡ false → P None) → ((p : List ℕ) → Bytes p → length p ≡ len → P (Some (of p))) → P (read_if of payload)
   if_fits_lem P only nothing something = go payload refl
     where
       go : (p : List ℕ) → payload ≡ p → P (read_if of p)

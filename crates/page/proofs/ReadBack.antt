@@ -1,10 +1,9 @@
 -- A page within its limits is read back from its bytes: `decode (image p) ≡ written p`. Each field is found where it was laid,
 -- and the field behind it has another tag. Assumes nothing.
-use Rattle.std.specs.Prelude.{◌≡◌, true, false, ◌||◌, ℕ, ◌+◌, ◌-◌, ◌*◌, ◌%◌, ◌^◌, ◌≤◌, ◌<◌, eqb, replicate}
+use Rattle.std.specs.Prelude.{◌≡◌, true, false, ◌||◌, ℕ, ◌+◌, ◌-◌, ◌*◌, ◌%◌, ◌^◌, ◌≤◌, ◌<◌, eqb, replicate, Option, None, Some}
 use Rattle.std.proofs.Math.Path.{refl, sym, ap}
 use Rattle.std.proofs.Common.{ap₂, ◌∙◌, not-suc-le-zero, length-append, eq-eqb, le-leb}
 use mathlib.Core.List.{List, [], ◌∷◌, ◌++◌, map, append_assoc}
-use Rattle.std.proofs.Math.Option.{Option, none, some}
 use native.Mathlib.Omega.{arith}
 use Rattle.std.proofs.Math.ListN.{length, get_or}
 use Rattle.std.proofs.lemmas.List.{length-map}
@@ -199,20 +198,20 @@ module _ (s id : ℕ) (shape : Shape) (ps : List Pair) (l n : ℕ) (h : Fits s (
 
 -- The payload of a field that may be there.
 abbrev payload_if : {A : Type 0} → (A → List ℕ) → Option A → List ℕ
-payload_if bytes none = []
-payload_if bytes (some a) = bytes a
+payload_if bytes None = []
+payload_if bytes (Some a) = bytes a
 
 -- It is found, or nothing is where another field is in its place.
 module _ {A : Type 0} (tag len : ℕ) (bytes : A → List ℕ) (fits : len < 256 ^ 2) (may : allowed (length_of tag) len ≡ true)
     (size : (a : A) → length (bytes a) ≡ len) where
   if_found : (o : Option A) (front rest : List ℕ) → payload_at (front ++ rest) (length front) tag ≡ [] →
       payload_at (front ++ (field_if tag bytes o ++ rest)) (length front) tag ≡ payload_if bytes o
-  if_found none front rest other = other
-  if_found (some a) front rest other = payload_at-field front tag (bytes a) rest (rw (size a) fits) (rw (size a) may)
+  if_found None front rest other = other
+  if_found (Some a) front rest other = payload_at-field front tag (bytes a) rest (rw (size a) fits) (rw (size a) may)
 
   length_if : 1 ≤ len → (o : Option A) → length (field_if tag bytes o) ≡ taken (payload_if bytes o)
-  length_if h none = refl
-  length_if h (some a) = length-field tag (bytes a) ∙ sym (taken-found (bytes a) (omega (arith, size a)))
+  length_if h None = refl
+  length_if h (Some a) = length-field tag (bytes a) ∙ sym (taken-found (bytes a) (omega (arith, size a)))
 
 module _ (s : ℕ) (t : Option Tariff) (x : Score) (xs : List Score) (c : Option ℕ) (n : ℕ) (h : Fits s (checkpoint t (x ∷ xs) c)) where
   abbrev scores : List (List ℕ)
@@ -273,8 +272,8 @@ module _ (s : ℕ) (t : Option Tariff) (x : Score) (xs : List Score) (c : Option
   no_score f = go c
     where
       go : (o : Option ℕ) → payload_at (f ++ (field_if 0x15 count_bytes o ++ after)) (length f) 0x14 ≡ []
-      go none = other_than_sums s content n f 0x14 (λ z. omega arith)
-      go (some k) = payload_at-other f 0x15 (count_bytes k) after 0x14 (λ z. omega arith)
+      go None = other_than_sums s content n f 0x14 (λ z. omega arith)
+      go (Some k) = payload_at-other f 0x15 (count_bytes k) after 0x14 (λ z. omega arith)
 
   -- the payloads found, and where
   tariff-found : payload_at bytes 7 0x13 ≡ tariff
@@ -301,8 +300,8 @@ module _ (s : ℕ) (t : Option Tariff) (x : Score) (xs : List Score) (c : Option
   found-tariff = go t
     where
       go : (o : Option Tariff) → found (payload_if tariff_bytes o) ≡ given o
-      go none = refl
-      go (some y) = refl
+      go None = refl
+      go (Some y) = refl
 
   run-scores : run score_ok 0x14 9 (most_scores (found tariff)) bytes (7 + taken tariff) ≡ length scores
   run-scores =
@@ -348,15 +347,15 @@ module _ (s : ℕ) (t : Option Tariff) (x : Score) (xs : List Score) (c : Option
   tariff_back = go t h.content.tariff
     where
       go : (o : Option Tariff) → TariffIfFits o → read_if tariff_of (payload_if tariff_bytes o) ≡ o
-      go none f = refl
-      go (some y) f = ap some (tariff_of-bytes y f)
+      go None f = refl
+      go (Some y) f = ap Some (tariff_of-bytes y f)
 
   count_back : read_if number count ≡ c
   count_back = go c h.content.filled
     where
       go : (o : Option ℕ) → Filled (most_scores (given t)) (length (x ∷ xs)) o → read_if number (payload_if count_bytes o) ≡ o
-      go none f = refl
-      go (some k) f = ap some (number-big_endian 2 k f)
+      go None f = refl
+      go (Some k) f = ap Some (number-big_endian 2 k f)
 
   scores_back : map score_of scores ≡ x ∷ xs
   scores_back = map_back score_bytes score_of score_of-bytes (x ∷ xs) h.content.scores
@@ -366,8 +365,8 @@ module _ (s : ℕ) (t : Option Tariff) (x : Score) (xs : List Score) (c : Option
     where
       go : (o : Option ℕ) → Filled (most_scores (given t)) (length (x ∷ xs)) o →
           (found (payload_if count_bytes o) || eqb (length scores) (most_scores (found tariff))) ≡ true
-      go none f = eq-eqb _ _ (length-scores ∙ f ∙ ap most_scores (sym found-tariff))
-      go (some k) f = refl
+      go None f = eq-eqb _ _ (length-scores ∙ f ∙ ap most_scores (sym found-tariff))
+      go (Some k) f = refl
 
   -- the tag behind field 10
   not_tag : (tag : ℕ) → (0x13 ≡ tag → ⊥) → (0x14 ≡ tag → ⊥) → get_or (content ++ after) 0 0 ≡ tag → ⊥
@@ -375,8 +374,8 @@ module _ (s : ℕ) (t : Option Tariff) (x : Score) (xs : List Score) (c : Option
   not_tag tag p q = go t
     where
       go : (o : Option Tariff) → get_or ((field_if 0x13 tariff_bytes o ++ (fields 0x14 scores ++ last)) ++ after) 0 0 ≡ tag → ⊥
-      go none e = q e
-      go (some y) e = p e
+      go None e = q e
+      go (Some y) e = p e
 
   checkpoint_back : decode bytes ≡ written (page s (checkpoint t (x ∷ xs) c))
   unfolding decode_checkpoint decode_counted decode_scores when

@@ -1,7 +1,6 @@
 -- A page within its limits fits the page's size; blank bytes are read as blank, and nothing else is. Assumes nothing.
-use Rattle.std.specs.Prelude.{◌≡◌, refl, Bool, true, false, List, ◌++◌, map, ℕ, ◌+◌, ◌*◌, ◌≤◌, eqb, leb, length, get_or, replicate}
+use Rattle.std.specs.Prelude.{◌≡◌, refl, Bool, true, false, List, ◌++◌, map, ℕ, ◌+◌, ◌*◌, ◌≤◌, eqb, leb, length, get_or, replicate, Option, None, Some}
 use Rattle.std.proofs.Common.{sym, ap, ◌∙◌, arith, length-append, eqb-true, leb-true, leb-false}
-use Rattle.std.proofs.Math.Option.{Option, none, some}
 use Rattle.std.proofs.lemmas.List.{length-map}
 use Rattle.std.proofs.lemmas.Bool.{eqb-false}
 use Rattle.laws.specs.Every.{every-map-by}
@@ -33,13 +32,13 @@ use Rattle.page.proofs.ReadBack.{length_fields}
 
 length_tariff_if : (t : Option Tariff) → length (field_if 0x13 tariff_bytes t) + 9 * most_scores (given t) ≤ 493
 unfolding field
-length_tariff_if none = omega arith
-length_tariff_if (some t) = omega (arith, length-tariff_bytes t)
+length_tariff_if None = omega arith
+length_tariff_if (Some t) = omega (arith, length-tariff_bytes t)
 
 length_count_if : (c : Option ℕ) → length (field_if 0x15 count_bytes c) ≤ 5
 unfolding field
-length_count_if none = omega arith
-length_count_if (some n) = omega arith
+length_count_if None = omega arith
+length_count_if (Some n) = omega arith
 
 -- A content leaves room for field 10 and the sums.
 length-content : (s : ℕ) (c : Content) → ContentFits s c → length (content_bytes c) ≤ 498

@@ -1,6 +1,5 @@
 -- The page that bytes spell, as question 5 of document 01 judges one page: a parser from field to field. Assumes nothing.
-use Rattle.std.specs.Prelude.{Bool, true, false, ◌&&◌, ◌||◌, List, [], ◌∷◌, map, ℕ, zero, suc, ◌+◌, ◌-◌, ◌*◌, ◌/◌, eqb, leb, ltb, length, get_or, take, drop}
-use Rattle.std.proofs.Math.Option.{Option, none, some}
+use Rattle.std.specs.Prelude.{Bool, true, false, ◌&&◌, ◌||◌, List, [], ◌∷◌, map, ℕ, zero, suc, ◌+◌, ◌-◌, ◌*◌, ◌/◌, eqb, leb, ltb, length, get_or, take, drop, Option, None, Some}
 use Rattle.laws.specs.Tests.{choose}
 use Rattle.laws.specs.BigEndian.{number, number_at}
 use Rattle.layout.specs.Layout.{most_entries, first_scores, other_scores}
@@ -116,7 +115,7 @@ score_of p = record { id = number_at 2 p 0; score = number_at 4 p 2 }
 
 -- What a payload spells, where it was found.
 abbrev pub read_if : {A : Type 0} → (List ℕ → A) → List ℕ → Option A
-read_if of p = choose (found p) (some (of p)) none
+read_if of p = choose (found p) (Some (of p)) None
 
 -- A page that passed a test.
 unfoldable pub when : Bool → Page → Decoded

@@ -1,6 +1,5 @@
 -- The bytes of a page (document 01, "Pages"): every field, the sums behind them, FF to the end. Assumes nothing.
-use Rattle.std.specs.Prelude.{List, [], ◌∷◌, ◌++◌, map, ℕ, ◌-◌, length, replicate}
-use Rattle.std.proofs.Math.Option.{Option, none, some}
+use Rattle.std.specs.Prelude.{List, [], ◌∷◌, ◌++◌, map, ℕ, ◌-◌, length, replicate, Option, None, Some}
 use Rattle.laws.specs.BigEndian.{big_endian}
 use Rattle.layout.specs.Layout.{page_bytes}
 use Rattle.pairs.specs.Pairs.{Pair}
@@ -76,8 +75,8 @@ fields tag (p ∷ ps) = field tag p ++ fields tag ps
 
 -- A field that may be there.
 abbrev pub field_if : {A : Type 0} → ℕ → (A → List ℕ) → Option A → List ℕ
-field_if tag bytes none = []
-field_if tag bytes (some a) = field tag (bytes a)
+field_if tag bytes None = []
+field_if tag bytes (Some a) = field tag (bytes a)
 
 -- The content: a log page's fields 12; a node page's field 11; a checkpoint page's field 13 where it is the first, its fields
 -- 14, and its field 15 where it is the last.

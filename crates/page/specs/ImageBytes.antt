@@ -1,7 +1,6 @@
 -- A page's image is made of bytes: tags and kinds are small numbers, and every other number is laid down in bytes. Assumes nothing.
 use mathlib.Core.List.{List, [], ◌∷◌, ◌++◌, map}
-use Rattle.std.proofs.Math.Option.{Option, none, some}
-use Rattle.std.specs.Prelude.{ℕ, ◌-◌, ◌<◌, length}
+use Rattle.std.specs.Prelude.{Option, None, Some, ℕ, ◌-◌, ◌<◌, length}
 use Rattle.std.proofs.Common.{arith}
 use Rattle.laws.specs.Every.{none, both, every_append, every-replicate}
 use Rattle.laws.specs.BigEndian.{big_endian, Bytes, bytes-big_endian}
@@ -92,8 +91,8 @@ module _ {A : Type 0} (tag : ℕ) (l : tag < 256) (of : A → List ℕ) (bytes :
   bytes-fields (x ∷ xs) = every_append (bytes-field tag (of x) l (bytes x)) (bytes-fields xs)
 
   bytes-field_if : (o : Option A) → Bytes (field_if tag of o)
-  bytes-field_if none = none
-  bytes-field_if (some a) = bytes-field tag (of a) l (bytes a)
+  bytes-field_if None = none
+  bytes-field_if (Some a) = bytes-field tag (of a) l (bytes a)
 
 bytes-content : (c : Content) → Bytes (content_bytes c)
 unfolding content_bytes

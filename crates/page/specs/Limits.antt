@@ -1,6 +1,5 @@
 -- The pages that document 01 allows: what every number of a page has to keep to, and how many fields it has. Assumes nothing.
-use Rattle.std.specs.Prelude.{Bool, true, false, List, ◌≡◌, ℕ, ◌≤◌, ◌<◌, length}
-use Rattle.std.proofs.Math.Option.{Option, none, some}
+use Rattle.std.specs.Prelude.{Bool, true, false, List, ◌≡◌, ℕ, ◌≤◌, ◌<◌, length, Option, None, Some}
 use Rattle.laws.specs.Every.{Every}
 use Rattle.layout.specs.Layout.{most_entries, most_keys, bound32}
 use Rattle.pairs.specs.Pairs.{Pair}
@@ -43,17 +42,17 @@ pub record ScoreFits (s : Score) : Type 0 where
 
 -- Whether there is one.
 abbrev pub given : {A : Type 0} → Option A → Bool
-given none = false
-given (some a) = true
+given None = false
+given (Some a) = true
 
 abbrev pub TariffIfFits : Option Tariff → Type 0
-TariffIfFits none = Unit {0}
-TariffIfFits (some t) = TariffFits t
+TariffIfFits None = Unit {0}
+TariffIfFits (Some t) = TariffFits t
 
 -- A last page has a count; any other is full.
 abbrev pub Filled : ℕ → ℕ → Option ℕ → Type 0
-Filled most n none = n ≡ most
-Filled most n (some c) = c < bound16
+Filled most n None = n ≡ most
+Filled most n (Some c) = c < bound16
 
 pub record LogFits (s : ℕ) (es : List Entry) : Type 0 where
   pub some : 1 ≤ length es

@@ -1,6 +1,5 @@
 -- A written page of the pool: its sequence number and one kind of content (document 01, "Pages"). Assumes nothing.
-use Rattle.std.specs.Prelude.{List, ℕ}
-use Rattle.std.proofs.Math.Option.{Option}
+use Rattle.std.specs.Prelude.{List, ℕ, Option}
 use Rattle.account.specs.declared.Tariff.{Tariff}
 use Rattle.node.specs.Node.{Node}
 use Rattle.node.specs.Change.{Change}

@@ -1,7 +1,6 @@
 -- Pages whose bytes are known, and what bytes read back as: the pages that prepare and the worked batch of document 01 leave, a leaf's and a
 -- branch's, pages at which each sum passes its modulus, and the limits of every kind of page. Assumes nothing.
-use Rattle.std.specs.Prelude.{◌≡◌, refl, Bool, true, false, List, [], ◌∷◌, ◌++◌, map, ℕ, zero, suc, ◌+◌, length, take, drop, replicate}
-use Rattle.std.proofs.Math.Option.{none, some}
+use Rattle.std.specs.Prelude.{◌≡◌, refl, Bool, true, false, List, [], ◌∷◌, ◌++◌, map, ℕ, zero, suc, ◌+◌, length, take, drop, replicate, None, Some}
 use Rattle.laws.specs.Lay.{part}
 use Rattle.laws.specs.BigEndian.{number_at}
 use Rattle.account.specs.declared.Costs.{Costs}
@@ -57,7 +56,7 @@ abbrev pub prepared_node : Page
 prepared_node = page 2 (log (entry 0 1 (link Leaf 0xFFFFFFFF) ∷ []))
 
 abbrev pub prepared_checkpoint : Page
-prepared_checkpoint = page 3 (checkpoint (some worked_tariff) (record { id = 0; score = 0 } ∷ []) (some 1))
+prepared_checkpoint = page 3 (checkpoint (Some worked_tariff) (record { id = 0; score = 0 } ∷ []) (Some 1))
 
 -- The worked batch's log page: 7 put with 100, and deleted.
 abbrev pub worked_log : Page
@@ -132,16 +131,16 @@ scores zero = []
 scores (suc n) = record { id = n; score = 1000 + n } ∷ scores n
 
 abbrev first_of : ℕ → Page
-first_of n = page 9 (checkpoint (some worked_tariff) (scores n) none)
+first_of n = page 9 (checkpoint (Some worked_tariff) (scores n) None)
 
 abbrev other_of : ℕ → Page
-other_of n = page 9 (checkpoint none (scores n) none)
+other_of n = page 9 (checkpoint None (scores n) None)
 
 abbrev first_last : ℕ → Page
-first_last n = page 9 (checkpoint (some worked_tariff) (scores n) (some n))
+first_last n = page 9 (checkpoint (Some worked_tariff) (scores n) (Some n))
 
 abbrev other_last : ℕ → Page
-other_last n = page 9 (checkpoint none (scores n) (some n))
+other_last n = page 9 (checkpoint None (scores n) (Some n))
 
 -- Pages that check: those of the table, and each kind at its limits. "1 to 27 fields 12", "k from 0 to 24", "1 to 50 fields 14 on the first page, 1
 -- to 54 on others; a page is filled before the next".

@@ -1,8 +1,7 @@
 -- The page that the checkpoint writer writes, and its pieces laid one behind another. Assumes nothing.
-use Rattle.std.specs.Prelude.{◌≡◌, Bool, true, false, List, ◌++◌, map, ℕ, ◌+◌, ◌*◌, ◌≤◌}
+use Rattle.std.specs.Prelude.{◌≡◌, List, ◌++◌, map, ℕ, ◌+◌, ◌*◌, ◌≤◌, Option, None, Some}
 use Rattle.std.proofs.Math.Path.{refl}
 use Rattle.std.proofs.Common.{sym, ap, ◌∙◌, arith, length-append}
-use Rattle.std.proofs.Math.Option.{Option, none, some}
 use Rattle.std.proofs.Math.ListN.{length}
 use Rattle.laws.specs.Lay.{lay, lay-next, length-lay}
 use Rattle.laws.specs.BigEndian.{Bytes, big_endian}
@@ -13,6 +12,7 @@ use Rattle.wire.specs.FieldLaws.{lay-field, length-field}
 use Rattle.page.specs.Page.{Score, checkpoint, Page, page}
 use Rattle.page.specs.Image.{tariff_bytes, score_bytes, count_bytes, fields, field_if, content_bytes, numbered}
 use Rattle.page.specs.Decode.{most_scores, score_of}
+use Rattle.page.specs.Limits.{given}
 use Rattle.page.specs.Spelled.{score_bytes_of, length-tariff_bytes}
 use Rattle.page_write.specs.Chunks.{chunks, every_chunk, length_chunk_fields}
 use Rattle.page_write.specs.Laid.{numbered-laid}
@@ -23,18 +23,13 @@ use Rattle.layout.specs.Layout.{first_scores_at}
 abbrev pub scored : ℕ → ℕ → Score
 scored id score = record { id = id; score = score }
 
--- What there is where a flag says so.
-abbrev pub only_if : {A : Type 0} → Bool → A → Option A
-only_if true a = some a
-only_if false a = none
-
 -- The scores that a buffer of records spells.
 unfoldable pub scores_in : ℕ → List ℕ → List Score
 scores_in n records = map score_of (chunks 6 n records 0)
 
--- The page of the first n records: with the tariff where it is the first, with the node count where it is the last.
-unfoldable pub records_page : ℕ → Bool → Tariff → ℕ → List ℕ → Bool → ℕ → Page
-records_page s first t n records last count = page s (checkpoint (only_if first t) (scores_in n records) (only_if last count))
+-- The page of the first n records, with the tariff and the node count that it has.
+unfoldable pub records_page : ℕ → Option Tariff → ℕ → List ℕ → Option ℕ → Page
+records_page s tariff n records count = page s (checkpoint tariff (scores_in n records) count)
 
 pub scores_in-bytes : (n : ℕ) (records : List ℕ) → Bytes records → 6 * n ≤ length records → map score_bytes (scores_in n records) ≡ chunks 6 n records 0
 unfolding scores_in
@@ -84,29 +79,29 @@ module _ (s : List ℕ) (at : ℕ) (t : Tariff) (h : at + 35 ≤ length s) where
       lay-next s₁ (at + 3) logs (disks ++ enters) (at + 15) (omega arith) (omega arith) ∙
       lay-field s at 0x13 32 (tariff_bytes t) (omega arith) refl
 
-pub length_tariff_if : (b : Bool) (t : Tariff) → length (field_if 0x13 tariff_bytes (only_if b t)) ≤ 35
-length_tariff_if true t = omega (arith, length-field 0x13 (tariff_bytes t), length-tariff_bytes t)
-length_tariff_if false t = omega arith
+pub length_tariff_if : (t : Option Tariff) → length (field_if 0x13 tariff_bytes t) ≤ 35
+length_tariff_if (Some t) = omega (arith, length-field 0x13 (tariff_bytes t), length-tariff_bytes t)
+length_tariff_if None = omega arith
 
 -- ---- checkpoint pages
 
 -- The scores leave room for the count and the sums; so does the count for the sums.
-pub scores-room : (first : Bool) (t : Tariff) (n : ℕ) → n ≤ most_scores first → length (field_if 0x13 tariff_bytes (only_if first t)) + 9 * n ≤ 493
-scores-room true t n h = omega (arith, length-field 0x13 (tariff_bytes t), length-tariff_bytes t)
-scores-room false t n h = omega arith
+pub scores-room : (t : Option Tariff) (n : ℕ) → n ≤ most_scores (given t) → length (field_if 0x13 tariff_bytes t) + 9 * n ≤ 493
+scores-room (Some t) n h = omega (arith, length-field 0x13 (tariff_bytes t), length-tariff_bytes t)
+scores-room None n h = omega arith
 
-pub count_room : (last : Bool) (count : ℕ) → length (field_if 0x15 count_bytes (only_if last count)) ≤ 5
-count_room true count = omega (arith, length-field 0x15 (count_bytes count))
-count_room false count = omega arith
+pub count_room : (count : Option ℕ) → length (field_if 0x15 count_bytes count) ≤ 5
+count_room (Some count) = omega (arith, length-field 0x15 (count_bytes count))
+count_room None = omega arith
 
-pub length_checkpoint_body : (s : ℕ) (first : Bool) (t : Tariff) (n : ℕ) (records : List ℕ) (last : Bool) (count at end : ℕ) →
-    Bytes records → 6 * n ≤ length records → at ≡ 7 + length (field_if 0x13 tariff_bytes (only_if first t)) →
-    end ≡ at + 9 * n + length (field_if 0x15 count_bytes (only_if last count)) → end ≡ length (body_of (records_page s first t n records last count))
+pub length_checkpoint_body : (s : ℕ) (t : Option Tariff) (n : ℕ) (records : List ℕ) (count : Option ℕ) (at end : ℕ) →
+    Bytes records → 6 * n ≤ length records → at ≡ 7 + length (field_if 0x13 tariff_bytes t) →
+    end ≡ at + 9 * n + length (field_if 0x15 count_bytes count) → end ≡ length (body_of (records_page s t n records count))
 unfolding body_of records_page content_bytes numbered
-length_checkpoint_body s first t n records last count at end b h ea ee =
-    let f = field_if 0x13 tariff_bytes (only_if first t) in
+length_checkpoint_body s t n records count at end b h ea ee =
+    let f = field_if 0x13 tariff_bytes t in
     let m = fields 0x14 (map score_bytes (scores_in n records)) in
-    let z = field_if 0x15 count_bytes (only_if last count) in
+    let z = field_if 0x15 count_bytes count in
     let lm : length m ≡ 9 * n = ap (λ (ps : List (List ℕ)). length (fields 0x14 ps)) (scores_in-bytes n records b h) ∙ length_chunk_fields 0x14 6 n records h in
     omega (
       arith,
@@ -118,22 +113,22 @@ length_checkpoint_body s first t n records last count at end b h ea ee =
 
 -- The tariff, the scores and the count one behind another, behind field 10.
 pub checkpoint-laid :
-    (p : List ℕ) (s : ℕ) (first : Bool) (t : Tariff) (n : ℕ) (records : List ℕ) (last : Bool) (count at end : ℕ) →
+    (p : List ℕ) (s : ℕ) (t : Option Tariff) (n : ℕ) (records : List ℕ) (count : Option ℕ) (at end : ℕ) →
     Bytes records → 6 * n ≤ length records → first_scores_at ≤ length p →
-    at ≡ 7 + length (field_if 0x13 tariff_bytes (only_if first t)) → end ≡ at + 9 * n → end ≤ length p →
-    lay (lay (lay (lay p 0 (field 0x10 (big_endian 4 s))) 7 (field_if 0x13 tariff_bytes (only_if first t))) at (fields 0x14 (chunks 6 n records 0))) end
-    (field_if 0x15 count_bytes (only_if last count)) ≡
-    lay p 0 (body_of (records_page s first t n records last count))
+    at ≡ 7 + length (field_if 0x13 tariff_bytes t) → end ≡ at + 9 * n → end ≤ length p →
+    lay (lay (lay (lay p 0 (field 0x10 (big_endian 4 s))) 7 (field_if 0x13 tariff_bytes t)) at (fields 0x14 (chunks 6 n records 0))) end
+    (field_if 0x15 count_bytes count) ≡
+    lay p 0 (body_of (records_page s t n records count))
 unfolding body_of records_page content_bytes
-checkpoint-laid p s first t n records last count at end b h l ea ee le =
-    let f = field_if 0x13 tariff_bytes (only_if first t) in
+checkpoint-laid p s t n records count at end b h l ea ee le =
+    let f = field_if 0x13 tariff_bytes t in
     let m = fields 0x14 (chunks 6 n records 0) in
-    let z = field_if 0x15 count_bytes (only_if last count) in
+    let z = field_if 0x15 count_bytes count in
     let p₁ = lay p 0 (field 0x10 (big_endian 4 s)) in
     let p₂ = lay p₁ 7 f in
     let k : length (field 0x10 (big_endian 4 s)) ≡ 7 = length-field 0x10 (big_endian 4 s) in
     let l₁ : length p₁ ≡ length p = length-lay p 0 (field 0x10 (big_endian 4 s)) (omega arith) in
-    let l₂ : length p₂ ≡ length p₁ = length-lay p₁ 7 f (omega (arith, length_tariff_if first t)) in
+    let l₂ : length p₂ ≡ length p₁ = length-lay p₁ 7 f (omega (arith, length_tariff_if t)) in
     let lm : length m ≡ 9 * n = length_chunk_fields 0x14 6 n records h in
     lay-next p₂ at m z end (omega arith) (ee ∙ ap (λ (i : ℕ). at + i) (sym lm)) ∙
     lay-next p₁ 7 f (m ++ z) at (omega arith) ea ∙

@@ -1,35 +1,30 @@
 -- Whether bytes are all FF: byte by byte, and sixteen at a time by their sum. Assumes nothing.
 use Rattle.std.specs.Prelude.{◌≡◌, Bool, true, false, ◌&&◌, List, [], ◌∷◌, ◌++◌, length, take}
 use Rattle.std.proofs.Math.Path.{refl, ap}
-use Rattle.std.proofs.Common.{sym, ◌∙◌, add-zero, length-drop, drop_of_length-le, take-append-drop, drop-cons, drop-drop, take_all}
+use Rattle.std.proofs.Common.{sym, ◌∙◌, add-zero, length-drop, take-append-drop, drop-drop, take_all}
 use Rattle.std.proofs.Math.Bool.{and-true, and_assoc}
-use Prim.Native.Nat.{ℕ, suc, ◌+◌, ◌-◌, ◌*◌, ◌≤◌, ◌<◌}
+use Prim.Native.Nat.{ℕ, zero, suc, ◌+◌, ◌-◌, ◌*◌, ◌≤◌, ◌<◌}
 use Rattle.std.proofs.Math.Nat.{sub-zero}
-use Rattle.std.proofs.Math.Numerals.{add-one}
 use native.Mathlib.Omega.{arith}
 use Rattle.std.proofs.Math.Dec.{eqb}
 use Rattle.std.proofs.Math.ListN.{get_or, drop}
-use borrow.Author.Tests.{eqb-true, eq-eqb, ne_eqb}
+use borrow.Author.Tests.{eqb-true, eq-eqb}
 use Rattle.laws.specs.Tests.{test_same, and_left, and_right, and_both}
 use Rattle.laws.specs.Lay.{part, part-cons}
 use Rattle.page.specs.Decode.{all_blank}
 
 -- ---- byte by byte
 
-module _ (s : List ℕ) (i : ℕ) where
-  pub blank-next : i < length s → get_or s i 0 ≡ 255 → all_blank (drop (i + 1) s) ≡ all_blank (drop i s)
-  unfolding all_blank
-  blank-next h e =
-      let d : drop i s ≡ get_or s i 0 ∷ drop (i + 1) s = rw add-one (drop-cons s i 0 h) in
-      rw (d, eq-eqb _ _ e)
+pub all_each : (s : List ℕ) → ((k : ℕ) → k < length s → get_or s k 0 ≡ 255) → all_blank s ≡ true
+unfolding all_blank
+all_each [] h = refl
+all_each (x ∷ s) h = rw (eq-eqb _ _ (h 0 (omega arith))) (all_each s (λ k l. h (suc k) (omega arith)))
 
-  pub blank_stop : i < length s → (get_or s i 0 ≡ 255 → ⊥) → false ≡ all_blank (drop i s)
-  unfolding all_blank
-  blank_stop h e = rw (drop-cons s i 0 h, ne_eqb _ _ e)
-
-  pub blank_end : length s ≤ i → true ≡ all_blank (drop i s)
-  unfolding all_blank
-  blank_end h = rw (drop_of_length-le s {i = i} h)
+pub each_all : (s : List ℕ) → all_blank s ≡ true → (k : ℕ) → k < length s → get_or s k 0 ≡ 255
+unfolding all_blank
+each_all [] t k l = absurd (omega arith)
+each_all (x ∷ s) t zero l = eqb-true x 255 (and_left (eqb x 255) (all_blank s) t)
+each_all (x ∷ s) t (suc k) l = each_all s (and_right (eqb x 255) (all_blank s) t) k (omega arith)
 
 -- ---- sixteen bytes at a time
 

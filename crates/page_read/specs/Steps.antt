@@ -1,5 +1,5 @@
 -- The reader's loops and tests, a step at a time. Assumes nothing.
-use Rattle.std.specs.Prelude.{◌≡◌, Bool, true, false, ◌||◌, List, map, ℕ, suc, ◌+◌, ◌-◌, ◌*◌, ◌≤◌, ◌<◌, eqb, get_or, take, drop}
+use Rattle.std.specs.Prelude.{◌≡◌, None, Some, Bool, true, false, ◌||◌, List, map, ℕ, suc, ◌+◌, ◌-◌, ◌*◌, ◌≤◌, ◌<◌, eqb, get_or, take, drop}
 use Rattle.std.proofs.Common.{sym, ◌∙◌, add-zero}
 use Rattle.std.proofs.Math.Path.{ap}
 use native.Mathlib.Omega.{arith}
@@ -16,8 +16,7 @@ use Rattle.page.specs.Limits.{given}
 use Rattle.page.specs.Runs.{run_goes, run_stops, length-payloads}
 use Rattle.page.specs.SpelledNode.{length-pairs_from}
 use Rattle.page.specs.Cases.{when_true, when_false}
-use Rattle.page_read.specs.View.{view, nodes_of}
-use Rattle.page_read.specs.declared.view.Nodes.TheVariants.{Count, Open}
+use Rattle.page_read.specs.View.{view}
 use Rattle.page_read.specs.declared.view.PageView.TheVariants.{Log, NodePage, Checkpoint, Bad}
 
 -- ---- the sums
@@ -149,17 +148,17 @@ module _ (s : ℕ) (t : List ℕ) (at n : ℕ) (c b : List ℕ) where
       scores_unsealed e = view_bad _ _ (rw (le-leb _ _ h, m, e))
 
       pub scores-sealed : sealed_at b (at + 9 * n + taken c) ≡ true →
-          Checkpoint s (given (read_if tariff_of t)) n (nodes_of (read_if number c)) ≡ view (decode_scores s t at n c b)
+          Checkpoint s (given (read_if tariff_of t)) n (read_if number c) ≡ view (decode_scores s t at n c b)
       unfolding decode_scores
       scores-sealed e =
           let k : length (map score_of (payloads 0x14 9 n b at)) ≡ n = length-map (payloads 0x14 9 n b at) score_of ∙ length-payloads 0x14 9 n b at in
-          ap (λ (i : ℕ). Checkpoint s (given (read_if tariff_of t)) i (nodes_of (read_if number c))) (sym k) ∙
+          ap (λ (i : ℕ). Checkpoint s (given (read_if tariff_of t)) i (read_if number c)) (sym k) ∙
           view_page _ (page s (checkpoint (read_if tariff_of t) (map score_of (payloads 0x14 9 n b at)) (read_if number c))) (rw (le-leb _ _ h, m, e))
 
-pub nodes-none : (c : List ℕ) → found c ≡ false → Open ≡ nodes_of (read_if number c)
+pub nodes-none : (c : List ℕ) → found c ≡ false → None ≡ read_if number c
 nodes-none c f = rw f
 
-pub nodes_some : (c : List ℕ) → found c ≡ true → Count (number c) ≡ nodes_of (read_if number c)
+pub nodes_some : (c : List ℕ) → found c ≡ true → Some (number c) ≡ read_if number c
 nodes_some c f = rw f
 
 -- The rest of a checkpoint page, from where its scores begin.

@@ -1,25 +1,17 @@
 -- What the page reader answers, read off the page that the bytes spell. Assumes nothing.
 use Rattle.std.specs.Prelude.{List, ℕ, length}
-use Rattle.std.proofs.Math.Option.{Option, none, some}
 use Rattle.node.specs.Node.{shape_of, pairs_of}
 use Rattle.page.specs.Page.{Content, log, whole, checkpoint, Page, page}
 use Rattle.page.specs.Decode.{Decoded, blank, written, bad, decode}
 use Rattle.page.specs.Limits.{given}
-use Rattle.page_read.specs.declared.view.Nodes.{Nodes}
-use Rattle.page_read.specs.declared.view.Nodes.TheVariants.{Count, Open}
 use Rattle.page_read.specs.declared.view.PageView.{PageView}
 use Rattle.page_read.specs.declared.view.PageView.TheVariants.{Blank, Log, NodePage, Checkpoint, Bad}
-
--- The node count of a last checkpoint page, or none.
-abbrev pub nodes_of : Option ℕ → Nodes
-nodes_of none = Open
-nodes_of (some n) = Count n
 
 -- Sequence number and counts of each kind of content.
 abbrev pub content_view : ℕ → Content → PageView
 content_view s (log es) = Log s (length es)
 content_view s (whole id n) = NodePage s id (shape_of n) (length (pairs_of n))
-content_view s (checkpoint t ss c) = Checkpoint s (given t) (length ss) (nodes_of c)
+content_view s (checkpoint t ss c) = Checkpoint s (given t) (length ss) c
 
 abbrev pub page_view : Page → PageView
 page_view (page s c) = content_view s c

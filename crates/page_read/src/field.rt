@@ -1,10 +1,11 @@
 // The fields of a content: log entries and scores, how many stand one behind another, and the values in them.
-ghost use Rattle.std.specs.Prelude.{◌≡◌, ◌+◌, ◌≤◌, ◌<◌, eqb};
+ghost use Rattle.std.specs.Prelude.{◌≡◌, List, ℕ, Bool, ◌+◌, ◌*◌, ◌^◌, ◌≤◌, ◌<◌, eqb};
+ghost use Rattle.std.specs.Fn.{FnReturnsAt};
 ghost use Rattle.laws.specs.Tests.{choose};
 ghost use Rattle.layout.specs.Layout.{most_entries};
 ghost use Rattle.page.specs.Decode.{change_ok, entry_ok, score_ok, run};
 
-use layout::{ENTRY_BYTES, MOST_ENTRIES, SCORE_FIELD};
+use layout::{ENTRY_BYTES, ENTRY_FIELD, FIELDS_AT, MOST_ENTRIES, SCORE_BYTES, SCORE_FIELD};
 use wire::field::payload;
 use wire::number::read32;
 
@@ -12,13 +13,11 @@ use wire::number::read32;
 fn unused(kind: u8, key: u32, pointer: u32) -> u32
     ensures { result ≡ choose (eqb kind 1) 0 (choose (eqb kind 2) pointer key) }
 {
-    if kind == 1 {
-        return 0;
+    match kind {
+        1 => 0,
+        2 => pointer,
+        _ => key,
     }
-    if kind == 2 {
-        return pointer;
-    }
-    key
 }
 
 // Whether a log entry's kind, key and pointer may stand together. No branch is on the kind, which changes from entry to entry: a number is picked, and
@@ -26,10 +25,7 @@ fn unused(kind: u8, key: u32, pointer: u32) -> u32
 fn change_ok(kind: u8, key: u32, pointer: u32) -> bool
     ensures { result ≡ change_ok kind key pointer }
 {
-    if kind < 1 {
-        return false;
-    }
-    if 4 < kind {
+    if kind < 1 || 4 < kind {
         return false;
     }
     unused(kind, key, pointer) == 0
@@ -43,33 +39,48 @@ pub fn entry_ok(p: &[u8], sequence: u32) -> bool
         return false;
     }
     let version = read32(p, 2);
-    if version < 1 {
+    if version < 1 || sequence <= version {
         return false;
     }
-    if version >= sequence {
-        return false;
+    change_ok(p[6], read32(p, 7), read32(p, 11))
+}
+
+// How many fields of a tag stand one behind another from a place on, each of so many bytes and with a payload that passes; at most so many.
+fn count_fields<F: Fn(&[u8]) -> bool>(
+    page: &[u8],
+    from: usize,
+    tag: u8,
+    size: usize,
+    most: usize,
+    passes: F,
+) -> usize
+    requires passes { F.IsAlwaysCallable passes }
+    requires room { from + size * most < 2 ^ 64 }
+    ensures { ((test : List ℕ → Bool) → ((p : List ℕ) (r : Bool) → FnReturnsAt F.Fn passes p r → r ≡ test p) →
+        result ≡ run test tag size most page.now from) × (result ≤ most) }
+{
+    let mut at = from;
+    for n in 0..most {
+        if !passes(payload(page, at, tag)) {
+            return n;
+        }
+        at += size;
     }
-    let kind = p[6];
-    let key = read32(p, 7);
-    let pointer = read32(p, 11);
-    change_ok(kind, key, pointer)
+    most
 }
 
 // How many fields 12 stand behind field 10 that a page of this sequence number may have.
 pub fn count_entries(page: &[u8], sequence: u32) -> usize
     ensures { (result ≡ run (entry_ok sequence) 0x12 18 most_entries page.now 7) × (result ≤ most_entries) }
 {
-    let mut n: usize = 0;
-    let mut at: usize = 7;
-    while n < MOST_ENTRIES {
-        let p = payload(page, at, 0x12);
-        if entry_ok(p, sequence) {} else {
-            return n;
-        }
-        n += 1;
-        at += 18;
-    }
-    n
+    count_fields(
+        page,
+        FIELDS_AT,
+        0x12,
+        ENTRY_FIELD,
+        MOST_ENTRIES,
+        |p| entry_ok(p, sequence),
+    )
 }
 
 // How many fields 14 stand from a place on, at most so many.
@@ -77,15 +88,12 @@ pub fn count_scores(page: &[u8], from: usize, most: usize) -> usize
     requires { (from ≤ 4096) × (most ≤ 4096) }
     ensures { (result ≡ run score_ok 0x14 9 most page.now from) × (result ≤ most) }
 {
-    let mut n: usize = 0;
-    let mut at = from;
-    while n < most {
-        let p = payload(page, at, 0x14);
-        if p.len() != 6 {
-            return n;
-        }
-        n += 1;
-        at += SCORE_FIELD;
-    }
-    n
+    count_fields(
+        page,
+        from,
+        0x14,
+        SCORE_FIELD,
+        most,
+        |p| p.len() == SCORE_BYTES,
+    )
 }

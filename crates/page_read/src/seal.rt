@@ -7,7 +7,7 @@ ghost use Rattle.wire.specs.Field.{payload_at};
 ghost use Rattle.page.specs.Decode.{all_blank, sealed_at};
 
 use wire::field::payload;
-use wire::number::{read8, read16, read32};
+use wire::number::{read16, read32};
 use wire::sum::sum_bytes;
 
 // Whether sixteen bytes from a place on are FF: then, and only then, they add up to 16 times 255. A sum of fixed length takes a few wide
@@ -17,10 +17,8 @@ fn sixteen_blank(s: &[u8], at: usize) -> bool
     ensures { result ≡ all_blank (part s.now at 16) }
 {
     let mut sum: u32 = 0;
-    let mut k: usize = 0;
-    while k < 16 {
-        sum += read8(s, at + k);
-        k += 1;
+    for k in 0..16 {
+        sum += u32::from(s[at + k]);
     }
     sum == 4080
 }
@@ -29,14 +27,7 @@ fn sixteen_blank(s: &[u8], at: usize) -> bool
 fn few_blank(s: &[u8]) -> bool
     ensures { result ≡ all_blank s.now }
 {
-    let mut i: usize = 0;
-    while i < s.len() {
-        if s[i] != 255 {
-            return false;
-        }
-        i += 1;
-    }
-    true
+    s.iter().all(|byte| *byte == 255)
 }
 
 // Whether every byte is FF: sixteen at a time, then the last sixteen, some of them for the second time. Fewer than sixteen go byte by byte.
@@ -47,9 +38,10 @@ pub fn all_blank(s: &[u8]) -> bool
         return few_blank(s);
     }
     let last = s.len() - 16;
-    let mut i: usize = 0;
+    // A `while`: `(0..last).step_by(16)` needs a measure as well, and is no plainer.
+    let mut i = 0;
     while i < last {
-        if sixteen_blank(s, i) {} else {
+        if !sixteen_blank(s, i) {
             return false;
         }
         i += 16;
@@ -78,10 +70,7 @@ pub fn is_sealed(page: &[u8], end: usize) -> bool
         return false;
     }
     let s = sum_bytes(&page[..end]);
-    if read16(p, 0) != s.b {
-        return false;
-    }
-    if read16(p, 2) != s.a {
+    if read16(p, 0) != s.b || read16(p, 2) != s.a {
         return false;
     }
     all_blank(&page[end + 7..])

@@ -6,11 +6,12 @@ ghost use Rattle.page.specs.Decode.{tariff_of};
 ghost use Rattle.page_read.specs.Value.{score_value, costs_at};
 
 use account::{Costs, Tariff};
+use layout::{SCORE_BYTES, SCORE_FIELD};
 use wire::field::payload;
 use wire::number::{read16, read32};
 
 // A node's score.
-#[derive(Drop)]
+#[derive(Clone, Copy, Debug, PartialEq, Eq)]
 pub struct ScoreValue {
     pub id: u32,
     pub score: u32,
@@ -21,13 +22,14 @@ pub fn score_at(page: &[u8], from: usize, i: usize) -> ScoreValue
     requires { (from ≤ first_scores_at) × (i < other_scores) }
     ensures { result ≡ score_value (payload_at page.now (from + 9 * i) 0x14) }
 {
-    let p = payload(page, from + 9 * i, 0x14);
-    if p.len() != 6 {
+    let p = payload(page, from + SCORE_FIELD * i, 0x14);
+    if p.len() != SCORE_BYTES {
         return ScoreValue { id: 0, score: 0 };
     }
-    let id = read16(p, 0);
-    let score = read32(p, 2);
-    ScoreValue { id, score }
+    ScoreValue {
+        id: read16(p, 0),
+        score: read32(p, 2),
+    }
 }
 
 // What reads, edits and rewrites cost in one mode, and what it costs to enter it.
@@ -35,15 +37,11 @@ fn costs_at(p: &[u8], at: usize, enter: usize) -> Costs
     requires { (at + 12 ≤ length p.now) × (enter + 4 ≤ length p.now) }
     ensures { result ≡ costs_at p.now at enter }
 {
-    let read = read32(p, at);
-    let edit = read32(p, at + 4);
-    let rewrite = read32(p, at + 8);
-    let enters = read32(p, enter);
     Costs {
-        read,
-        edit,
-        rewrite,
-        enter: enters,
+        read: read32(p, at),
+        edit: read32(p, at + 4),
+        rewrite: read32(p, at + 8),
+        enter: read32(p, enter),
     }
 }
 
@@ -52,7 +50,8 @@ pub fn tariff_of(p: &[u8]) -> Tariff
     requires { 32 ≤ length p.now }
     ensures { result ≡ tariff_of p.now }
 {
-    let log = costs_at(p, 0, 28);
-    let disk = costs_at(p, 12, 24);
-    Tariff { log, disk }
+    Tariff {
+        log: costs_at(p, 0, 28),
+        disk: costs_at(p, 12, 24),
+    }
 }

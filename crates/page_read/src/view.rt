@@ -8,21 +8,16 @@ ghost use Rattle.page_read.specs.Asked.{Asked};
 
 use super::field::{count_entries, count_scores};
 use super::seal::{all_blank, is_sealed, sequence};
-use layout::{FIELDS_AT, FIRST_SCORES, FIRST_SCORES_AT, OTHER_SCORES, SCORE_FIELD, TARIFF_BYTES};
+use layout::{
+    ENTRY_FIELD, FIELDS_AT, FIRST_SCORES, FIRST_SCORES_AT, OTHER_SCORES, SCORE_FIELD, TARIFF_BYTES,
+};
 use node::Shape;
 use page::shape_of;
 use wire::field::payload;
 use wire::number::read16;
 
-// The node count on the last page of a checkpoint; any other is open.
-#[derive(Drop)]
-pub enum Nodes {
-    Count(u32),
-    Open,
-}
-
 // A page in short.
-#[derive(Drop)]
+#[derive(Clone, Copy)]
 pub enum PageView {
     Blank,
     // A log page and how many entries it has.
@@ -37,12 +32,12 @@ pub enum PageView {
         shape: Shape,
         keys: usize,
     },
-    // A checkpoint page: whether it begins with the tariff, how many scores it has, and the node count or none.
+    // A checkpoint page: whether it begins with the tariff, how many scores it has, and on the last page of a checkpoint the node count.
     Checkpoint {
         sequence: u32,
         first: bool,
         scores: usize,
-        nodes: Nodes,
+        nodes: Option<u32>,
     },
     // Bytes that do not check.
     Bad,
@@ -54,28 +49,21 @@ fn view_log(page: &[u8], sequence: u32) -> PageView
     ensures { result ≡ view (decode_log sequence
         (run (entry_ok sequence) 0x12 18 most_entries page.now 7) page.now) }
 {
-    let n = count_entries(page, sequence);
-    if n < 1 {
+    let entries = count_entries(page, sequence);
+    if entries < 1 {
         return PageView::Bad;
     }
-    if is_sealed(page, 7 + 18 * n) {
-        PageView::Log {
-            sequence,
-            entries: n,
-        }
-    } else {
-        PageView::Bad
+    if !is_sealed(page, FIELDS_AT + ENTRY_FIELD * entries) {
+        return PageView::Bad;
     }
+    PageView::Log { sequence, entries }
 }
 
 // Whether a number says leaf or branch.
 fn is_shape(number: u8) -> bool
     ensures { result ≡ (eqb number 3 || eqb number 4) }
 {
-    if number == 3 {
-        return true;
-    }
-    number == 4
+    matches!(number, 3 | 4)
 }
 
 // A node page.
@@ -83,24 +71,23 @@ fn view_node(page: &[u8], sequence: u32) -> PageView
     requires { length page.now ≡ page_bytes }
     ensures { result ≡ view (decode_node sequence (payload_at page.now 7 0x11) page.now) }
 {
-    let p = payload(page, 7, 0x11);
+    let p = payload(page, FIELDS_AT, 0x11);
     let bytes = p.len();
     if bytes < 7 {
         return PageView::Bad;
     }
-    let number = p[2];
-    if is_shape(number) {} else {
+    if !is_shape(p[2]) {
         return PageView::Bad;
     }
-    if is_sealed(page, 10 + bytes) {
-        return PageView::NodePage {
-            sequence,
-            id: read16(p, 0),
-            shape: shape_of(number),
-            keys: (bytes - 7) / 8,
-        };
+    if !is_sealed(page, FIELDS_AT + 3 + bytes) {
+        return PageView::Bad;
     }
-    PageView::Bad
+    PageView::NodePage {
+        sequence,
+        id: read16(p, 0),
+        shape: shape_of(p[2]),
+        keys: (bytes - 7) / 8,
+    }
 }
 
 // A checkpoint page whose n scores stand from a place on.
@@ -125,26 +112,25 @@ fn view_scores(
         if n != most {
             return PageView::Bad;
         }
-        if is_sealed(page, end) {
-            return PageView::Checkpoint {
-                sequence,
-                first,
-                scores: n,
-                nodes: Nodes::Open,
-            };
+        if !is_sealed(page, end) {
+            return PageView::Bad;
         }
-        return PageView::Bad;
-    }
-    if is_sealed(page, end + 5) {
-        let count = read16(c, 0);
         return PageView::Checkpoint {
             sequence,
             first,
             scores: n,
-            nodes: Nodes::Count(count),
+            nodes: None,
         };
     }
-    PageView::Bad
+    if !is_sealed(page, end + 5) {
+        return PageView::Bad;
+    }
+    PageView::Checkpoint {
+        sequence,
+        first,
+        scores: n,
+        nodes: Some(read16(c, 0)),
+    }
 }
 
 // A checkpoint page.
@@ -152,7 +138,7 @@ fn view_checkpoint(page: &[u8], sequence: u32) -> PageView
     requires { length page.now ≡ page_bytes }
     ensures { result ≡ view (decode_checkpoint sequence (payload_at page.now 7 0x13) page.now) }
 {
-    let t = payload(page, 7, 0x13);
+    let t = payload(page, FIELDS_AT, 0x13);
     if t.len() != TARIFF_BYTES {
         let n = count_scores(page, FIELDS_AT, OTHER_SCORES);
         return view_scores(page, sequence, false, FIELDS_AT, n, OTHER_SCORES);
@@ -173,12 +159,9 @@ pub fn view_page(page: &[u8]) -> PageView
     if s < 1 {
         return PageView::Bad;
     }
-    let tag = page[7];
-    if tag == 0x12 {
-        return view_log(page, s);
+    match page[FIELDS_AT] {
+        0x12 => view_log(page, s),
+        0x11 => view_node(page, s),
+        _ => view_checkpoint(page, s),
     }
-    if tag == 0x11 {
-        return view_node(page, s);
-    }
-    view_checkpoint(page, s)
 }

@@ -26,11 +26,9 @@ pub fn lay_sums(p: &mut [u8], end: usize)
     ensures { p.new ≡ lay p.old end (sums_field (take end p.old)) }
 {
     let s = sum_bytes(&p[..end]);
-    let a = s.a;
-    let b = s.b;
     lay_head(p, end, 0x1F, 4);
-    write16(p, end + 3, b);
-    write16(p, end + 5, a);
+    write16(p, end + 3, s.b);
+    write16(p, end + 5, s.a);
 }
 
 // Lays a field of a tag for each of n records of a size in a buffer.
@@ -40,13 +38,8 @@ pub fn lay_run(p: &mut [u8], at: usize, tag: u8, records: &[u8], size: usize, n:
     requires size_bound { size < 65536 }
     ensures { p.new ≡ lay p.old at (fields tag (chunks size n records.now 0)) }
 {
-    let mut place = at;
-    let mut from: usize = 0;
-    let mut left = n;
-    while 0 < left {
-        lay_field(p, place, tag, &records[from..from + size]);
-        place += 3 + size;
-        from += size;
-        left -= 1;
+    for k in 0..n {
+        let from = size * k;
+        lay_field(p, at + (3 + size) * k, tag, &records[from..from + size]);
     }
 }

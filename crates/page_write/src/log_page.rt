@@ -6,7 +6,7 @@ ghost use Rattle.page_write.specs.Laid.{summed};
 ghost use Rattle.page_write.specs.Pages.{entry_record, log_body, log_image};
 
 use super::frame::{lay_run, lay_sequence, lay_sums};
-use layout::{ENTRY_BYTES, PAGE_BYTES};
+use layout::{ENTRY_BYTES, ENTRY_FIELD, FIELDS_AT, PAGE_BYTES};
 use wire::bytes::lay_byte;
 use wire::number::{write16, write32};
 
@@ -36,8 +36,8 @@ fn lay_log(p: &mut [u8], sequence: u32, buffer: &[u8], n: usize)
     ensures { p.new ≡ lay p.old 0 (summed (log_body sequence n buffer.now)) }
 {
     lay_sequence(p, sequence);
-    lay_run(p, 7, 0x12, buffer, ENTRY_BYTES, n);
-    lay_sums(p, 7 + 18 * n);
+    lay_run(p, FIELDS_AT, 0x12, buffer, ENTRY_BYTES, n);
+    lay_sums(p, FIELDS_AT + ENTRY_FIELD * n);
 }
 
 // The image of a log page of the first n entries of a buffer.
@@ -45,7 +45,7 @@ pub fn log_image(sequence: u32, buffer: &[u8], n: usize) -> [u8; PAGE_BYTES]
     requires { (n ≤ most_entries) × (entry_size * n ≤ length buffer.now) }
     ensures { result ≡ log_image sequence n buffer.now }
 {
-    let mut p = [255u8; PAGE_BYTES];
+    let mut p = [255; PAGE_BYTES];
     lay_log(&mut p, sequence, buffer, n);
     p
 }

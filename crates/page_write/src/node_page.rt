@@ -8,7 +8,7 @@ ghost use Rattle.page_write.specs.Pages.{first_pairs, body_of, node_page};
 ghost use Rattle.page_write.specs.Parts.{node_head};
 
 use super::frame::{lay_sequence, lay_sums};
-use layout::PAGE_BYTES;
+use layout::{FIELDS_AT, PAGE_BYTES};
 use node::Shape;
 use page::shape_number;
 use wire::bytes::lay_byte;
@@ -20,11 +20,9 @@ fn lay_node_head(p: &mut [u8], at: usize, id: u32, shape: Shape, link: u32, n: u
     requires { (at + 10 ≤ length p.old) × ((id < 65536) × (n ≤ most_keys)) }
     ensures { p.new ≡ lay p.old at (node_head id shape link n) }
 {
-    let bytes = (7 + 8 * n) as u32;
-    let number = shape_number(shape);
-    lay_head(p, at, 0x11, bytes);
+    lay_head(p, at, 0x11, (7 + 8 * n) as u32);
     write16(p, at + 3, id);
-    lay_byte(p, at + 5, number);
+    lay_byte(p, at + 5, shape_number(shape));
     write32(p, at + 6, link);
 }
 
@@ -34,13 +32,9 @@ fn lay_pairs(p: &mut [u8], at: usize, keys: &[u32], pointers: &[u32], n: usize)
     ensures { p.new ≡ lay p.old at
         (pairs_bytes (first_pairs n keys.now pointers.now 0)) }
 {
-    let mut place = at;
-    let mut i = 0;
-    while i < n {
-        write32(p, place, keys[i]);
-        write32(p, place + 4, pointers[i]);
-        place += 8;
-        i += 1;
+    for i in 0..n {
+        write32(p, at + 8 * i, keys[i]);
+        write32(p, at + 8 * i + 4, pointers[i]);
     }
 }
 
@@ -61,7 +55,7 @@ fn lay_node(
         (summed (body_of (node_page sequence id shape n keys.now pointers.now link))) }
 {
     lay_sequence(p, sequence);
-    lay_node_head(p, 7, id, shape, link, n);
+    lay_node_head(p, FIELDS_AT, id, shape, link, n);
     lay_pairs(p, 17, keys, pointers, n);
     lay_sums(p, 17 + 8 * n);
 }
@@ -82,7 +76,7 @@ pub fn node_image(
     requires n_in_bounds { (n ≤ length keys.now) × (n ≤ length pointers.now) }
     ensures { result ≡ image (node_page sequence id shape n keys.now pointers.now link) }
 {
-    let mut p = [255u8; PAGE_BYTES];
+    let mut p = [255; PAGE_BYTES];
     lay_node(&mut p, sequence, id, shape, keys, pointers, n, link);
     p
 }

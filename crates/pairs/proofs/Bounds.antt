@@ -1,7 +1,6 @@
 -- Pairs within bounds: weaker bounds, two lists one behind the other, and what a change at one key keeps. Assumes nothing.
-use Rattle.std.specs.Prelude.{◌≡◌, refl, List, [], ◌∷◌, ◌++◌, ◌⊎◌, ℕ, suc, ◌≤◌, ◌<◌}
+use Rattle.std.specs.Prelude.{◌≡◌, refl, List, [], ◌∷◌, ◌++◌, ◌⊎◌, ℕ, suc, ◌≤◌, ◌<◌, None}
 use Rattle.std.proofs.Common.{◌∙◌, inl, inr, arith}
-use Rattle.std.proofs.Math.Option.{none}
 use Rattle.laws.specs.Order.{eq_or, Tri, less, same, more, tri}
 use Rattle.pairs.specs.Pairs.{Pair, lookup, insert, delete, Within}
 use Rattle.pairs.specs.Clauses.{lookup-other, delete_same, delete-other, insert-before, insert_same, insert-behind}
@@ -23,7 +22,7 @@ unfolding Within
 within_append low middle high [] qs a b v w = within_weaken middle low high high qs a (omega arith) w
 within_append low middle high (p ∷ ps) qs a b v w = (v.0, omega arith, within_append (suc p.0) middle high ps qs v.1 b v.2 w)
 
-pub lookup-below : (k low high : ℕ) (ps : List Pair) → k < low → Within low high ps → lookup k ps ≡ none
+pub lookup-below : (k low high : ℕ) (ps : List Pair) → k < low → Within low high ps → lookup k ps ≡ None
 unfolding Within lookup
 lookup-below k low high [] l w = refl
 lookup-below k low high (p ∷ ps) l w = lookup-other k p ps (omega arith) ∙ lookup-below k (suc p.0) high ps (omega arith) w.2

@@ -1,8 +1,7 @@
 -- The next key up (document 02, P3: "that route or the nearest above"): what it is, that nothing else is it, and that it is the first pair of a range
 -- up to the greatest key. Assumes nothing.
-use Rattle.std.specs.Prelude.{◌≡◌, refl, List, [], ◌∷◌, ◌⊎◌, ℕ, suc, ◌≤◌, ◌<◌}
+use Rattle.std.specs.Prelude.{◌≡◌, refl, List, [], ◌∷◌, ◌⊎◌, ℕ, suc, ◌≤◌, ◌<◌, Option, None, Some}
 use Rattle.std.proofs.Common.{sym, ap, ◌∙◌, inl, inr, arith, le-leb}
-use Rattle.std.proofs.Math.Option.{Option, none, some}
 use Rattle.std.proofs.lemmas.Bool.{lt-leb}
 use Rattle.laws.specs.Options.{some_same, none_some}
 use Rattle.laws.specs.Order.{le_or, Tri, less, same, more, tri}
@@ -12,7 +11,7 @@ use Rattle.pairs.proofs.Bounds.{lookup-below}
 use Rattle.pairs.specs.Ceiling.{CeilingIs}
 
 module _ (k : ℕ) (p : Pair) (ps : List Pair) where
-  pub ceiling-here : k ≤ p.0 → ceiling k (p ∷ ps) ≡ some p
+  pub ceiling-here : k ≤ p.0 → ceiling k (p ∷ ps) ≡ Some p
   unfolding ceiling
   ceiling-here l = rw (le-leb k p.0 l, ceiling)
 
@@ -22,8 +21,8 @@ module _ (k : ℕ) (p : Pair) (ps : List Pair) where
 
 -- behind a pair that is below the key
 is_later : (k : ℕ) (p : Pair) (ps : List Pair) → p.0 < k → (o : Option Pair) → CeilingIs lookup k ps o → CeilingIs lookup k (p ∷ ps) o
-is_later k p ps l none h = λ j m. lookup-other j p ps (omega arith) ∙ h j m
-is_later k p ps l (some q) h =
+is_later k p ps l None h = λ j m. lookup-other j p ps (omega arith) ∙ h j m
+is_later k p ps l (Some q) h =
     record {
       above = h.above;
       there = lookup-other q.0 p ps (omega (arith, h.above)) ∙ h.there;
@@ -49,21 +48,21 @@ ceiling-is k low high (p ∷ ps) w = go (le_or k p.0) (ceiling-is k (suc p.0) hi
 -- Nothing else is: two answers to which this applies are one.
 pub nearest_one : (lookup : ℕ → List Pair → Option ℕ) (k : ℕ) (ps : List Pair) (o o' : Option Pair) → CeilingIs lookup k ps o →
     CeilingIs lookup k ps o' → o ≡ o'
-nearest_one lookup k ps none none h h' = refl
-nearest_one lookup k ps none (some q) h h' = absurd (none_some (sym (h q.0 h'.above) ∙ h'.there))
-nearest_one lookup k ps (some p) none h h' = absurd (none_some (sym (h' p.0 h.above) ∙ h.there))
-nearest_one lookup k ps (some p) (some q) h h' = go (tri p.0 q.0)
+nearest_one lookup k ps None None h h' = refl
+nearest_one lookup k ps None (Some q) h h' = absurd (none_some (sym (h q.0 h'.above) ∙ h'.there))
+nearest_one lookup k ps (Some p) None h h' = absurd (none_some (sym (h' p.0 h.above) ∙ h.there))
+nearest_one lookup k ps (Some p) (Some q) h h' = go (tri p.0 q.0)
   where
-    go : Tri p.0 q.0 → some p ≡ some q
+    go : Tri p.0 q.0 → Some p ≡ Some q
     go (less l) = absurd (none_some (sym (h'.between p.0 h.above l) ∙ h.there))
     go (more l) = absurd (none_some (sym (h.between q.0 h'.above l) ∙ h'.there))
     go (same e) =
         let value : p.1 ≡ q.1 = some_same (sym h.there ∙ ap (λ (j : ℕ). lookup j ps) e ∙ h'.there) in
-        ap (λ (x : ℕ). some (x, p.1)) e ∙ ap (λ (x : ℕ). some (q.0, x)) value
+        ap (λ (x : ℕ). Some (x, p.1)) e ∙ ap (λ (x : ℕ). Some (q.0, x)) value
 
 -- "80 if none is at or above", exactly then.
-pub ceiling-none : (k low high : ℕ) (ps : List Pair) → Within low high ps → ((j : ℕ) → k ≤ j → lookup j ps ≡ none) → ceiling k ps ≡ none
-ceiling-none k low high ps w h = nearest_one lookup k ps (ceiling k ps) none (ceiling-is k low high ps w) h
+pub ceiling-none : (k low high : ℕ) (ps : List Pair) → Within low high ps → ((j : ℕ) → k ≤ j → lookup j ps ≡ None) → ceiling k ps ≡ None
+ceiling-none k low high ps w h = nearest_one lookup k ps (ceiling k ps) None (ceiling-is k low high ps w) h
 
 -- It is the first pair of the range from the key to a high one that no key is above.
 pub range-ceiling : (k low top high : ℕ) (ps : List Pair) → Within low top ps → top ≤ suc high → first (range k high 1 ps) ≡ ceiling k ps

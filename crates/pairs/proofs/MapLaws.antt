@@ -1,9 +1,8 @@
 -- The plain map obeys the laws of an ordered map, and the laws are enough: whatever else obeys them does the same to ascending pairs. Assumes nothing.
-use Rattle.std.specs.Prelude.{◌≡◌, refl, Bool, true, false, ◌&&◌, ◌⊎◌, ℕ, zero, suc, ◌≤◌, ◌<◌, leb, take}
+use Rattle.std.specs.Prelude.{◌≡◌, refl, Bool, true, false, ◌&&◌, ◌⊎◌, ℕ, zero, suc, ◌≤◌, ◌<◌, leb, take, Option, None, Some}
 use Rattle.std.proofs.Common.{sym, ◌∙◌, inl, inr, arith, le-leb}
 use Rattle.std.proofs.Math.Path.{ap}
 use mathlib.Core.List.{List, [], ◌∷◌}
-use Rattle.std.proofs.Math.Option.{Option, none, some}
 use Rattle.std.proofs.lemmas.Bool.{lt-leb}
 use Rattle.laws.specs.Counts.{cons_if, filter}
 use Rattle.laws.specs.Options.{some_same, none_some}
@@ -20,12 +19,12 @@ unfolding insert Within
 insert-first k v high [] w = refl
 insert-first k v high (p ∷ ps) w = insert-before k v p ps (omega arith)
 
-pub lookup-insert : (k v : ℕ) (ps : List Pair) → lookup k (insert k v ps) ≡ some v
+pub lookup-insert : (k v : ℕ) (ps : List Pair) → lookup k (insert k v ps) ≡ Some v
 unfolding insert
 lookup-insert k v [] = lookup_same k (k, v) [] refl
 lookup-insert k v (p ∷ ps) = go (tri k p.0) (lookup-insert k v ps)
   where
-    go : Tri k p.0 → lookup k (insert k v ps) ≡ some v → lookup k (insert k v (p ∷ ps)) ≡ some v
+    go : Tri k p.0 → lookup k (insert k v ps) ≡ Some v → lookup k (insert k v (p ∷ ps)) ≡ Some v
     go (less l) r = ap (lookup k) (insert-before k v p ps l) ∙ lookup_same k (k, v) (p ∷ ps) refl
     go (same e) r = ap (lookup k) (insert_same k v p ps e) ∙ lookup_same k (k, v) ps refl
     go (more l) r = ap (lookup k) (insert-behind k v p ps l) ∙ lookup-other k p (insert k v ps) (omega arith) ∙ r
@@ -49,12 +48,12 @@ lookup-insert-other j k v (p ∷ ps) d = go (tri k p.0) (lookup-insert-other j k
         ap (lookup j) (insert_same k v p ps e) ∙ lookup-other j (k, v) ps d ∙ sym (lookup-other j p ps (λ z. d (z ∙ sym e)))
     go (more l) r = ap (lookup j) (insert-behind k v p ps l) ∙ lookup-behind j p ps (insert k v ps) r
 
-pub lookup-delete : (k low high : ℕ) (ps : List Pair) → Within low high ps → lookup k (delete k ps) ≡ none
+pub lookup-delete : (k low high : ℕ) (ps : List Pair) → Within low high ps → lookup k (delete k ps) ≡ None
 unfolding delete Within lookup
 lookup-delete k low high [] w = refl
 lookup-delete k low high (p ∷ ps) w = go (eq_or k p.0) (lookup-delete k (suc p.0) high ps w.2)
   where
-    go : (k ≡ p.0) ⊎ (k ≡ p.0 → ⊥) → lookup k (delete k ps) ≡ none → lookup k (delete k (p ∷ ps)) ≡ none
+    go : (k ≡ p.0) ⊎ (k ≡ p.0 → ⊥) → lookup k (delete k ps) ≡ None → lookup k (delete k (p ∷ ps)) ≡ None
     go (inl e) r = ap (lookup k) (delete_same k p ps e) ∙ lookup-below k (suc p.0) high ps (omega arith) w.2
     go (inr e) r = ap (lookup k) (delete-other k p ps e) ∙ lookup-other k p (delete k ps) e ∙ r
 
@@ -129,7 +128,7 @@ same_pairs low high (p ∷ ps) [] v w e = absurd (none_some (sym (e p.0) ∙ loo
 same_pairs low high (p ∷ ps) (q ∷ qs) v w e = go (tri p.0 q.0) (same_pairs (suc p.0) high ps qs v.2)
   where
     -- a key below the first is in no list
-    below : (k : ℕ) (r : Pair) (rs : List Pair) → Within (suc r.0) high rs → k < r.0 → lookup k (r ∷ rs) ≡ none
+    below : (k : ℕ) (r : Pair) (rs : List Pair) → Within (suc r.0) high rs → k < r.0 → lookup k (r ∷ rs) ≡ None
     below k r rs x l = lookup-other k r rs (omega arith) ∙ lookup-below k (suc r.0) high rs (omega arith) x
 
     -- the rests agree at every key
@@ -197,8 +196,8 @@ module _ (lookup' : ℕ → List Pair → Option ℕ) (insert' : ℕ → ℕ →
       (looked (ceiling k ps) (ceiling-is k low high ps w))
     where
       looked : (o : Option Pair) → CeilingIs lookup k ps o → CeilingIs lookup' k ps o
-      looked none h = λ j m. only-lookup j low high ps w ∙ h j m
-      looked (some p) h =
+      looked None h = λ j m. only-lookup j low high ps w ∙ h j m
+      looked (Some p) h =
           record {
             above = h.above;
             there = only-lookup p.0 low high ps w ∙ h.there;

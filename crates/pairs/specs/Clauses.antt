@@ -1,13 +1,12 @@
 -- What lookup, insert, delete and range make of a first pair, by how its key stands to the one asked for: so that no later
 -- proof opens their tests. Assumes nothing.
-use Rattle.std.specs.Prelude.{◌≡◌, refl, List, [], ◌∷◌, ℕ, suc, ◌≤◌, ◌<◌}
-use Rattle.std.proofs.Math.Option.{some}
+use Rattle.std.specs.Prelude.{◌≡◌, refl, List, [], ◌∷◌, ℕ, suc, ◌≤◌, ◌<◌, Some}
 use Rattle.std.proofs.Common.{arith}
 use borrow.Author.Tests.{lt-ltb, le-ltb, eq-eqb, ne_eqb}
 use Rattle.pairs.specs.Pairs.{Pair, lookup, insert, delete, range}
 
 module _ (k : ℕ) (p : Pair) (ps : List Pair) where
-  pub lookup_same : k ≡ p.0 → lookup k (p ∷ ps) ≡ some p.1
+  pub lookup_same : k ≡ p.0 → lookup k (p ∷ ps) ≡ Some p.1
   unfolding lookup
   lookup_same e = rw (eq-eqb k p.0 e, lookup)
 

@@ -1,8 +1,7 @@
 -- The laws of an ordered map. By them a reader knows lookup, insert, delete, range and ceiling without reading their text: whatever else obeys
 -- them does the same to ascending pairs. Assumes nothing.
-use Rattle.std.specs.Prelude.{◌≡◌, Bool, ◌&&◌, ℕ, suc, ◌≤◌, ◌<◌, leb, take}
+use Rattle.std.specs.Prelude.{◌≡◌, Bool, ◌&&◌, ℕ, suc, ◌≤◌, ◌<◌, leb, take, Option, None, Some}
 use mathlib.Core.List.{List, [], ◌∷◌}
-use Rattle.std.proofs.Math.Option.{Option, none, some}
 use Rattle.laws.specs.Counts.{filter}
 use Rattle.pairs.specs.Pairs.{Pair, Within}
 use Rattle.pairs.specs.Ceiling.{CeilingIs}
@@ -15,15 +14,15 @@ inside low high p = leb low p.0 && leb p.0 high
 pub record OrderedMap (lookup : ℕ → List Pair → Option ℕ) (insert : ℕ → ℕ → List Pair → List Pair) (delete : ℕ → List Pair → List Pair)
     (range : ℕ → ℕ → ℕ → List Pair → List Pair) (ceiling : ℕ → List Pair → Option Pair) : Type 0 where
   -- "No such route": the map without a pair has no key.
-  pub empty : (k : ℕ) → lookup k [] ≡ none
+  pub empty : (k : ℕ) → lookup k [] ≡ None
   -- "Pairs ascending": a key below all others comes first.
   pub first : (k v high : ℕ) (ps : List Pair) → Within (suc k) high ps → insert k v ps ≡ (k, v) ∷ ps
   -- "Hang: route, word", then "look up": the word hung last, whether it is new or there was an old one.
-  pub inserted : (k v : ℕ) (ps : List Pair) → lookup k (insert k v ps) ≡ some v
+  pub inserted : (k v : ℕ) (ps : List Pair) → lookup k (insert k v ps) ≡ Some v
   -- .. and every other route as it was.
   pub inserted_other : (j k v : ℕ) (ps : List Pair) → (j ≡ k → ⊥) → lookup j (insert k v ps) ≡ lookup j ps
   -- "Strip: route", then "look up": no such route.
-  pub deleted : (k low high : ℕ) (ps : List Pair) → Within low high ps → lookup k (delete k ps) ≡ none
+  pub deleted : (k low high : ℕ) (ps : List Pair) → Within low high ps → lookup k (delete k ps) ≡ None
   -- .. and every other route as it was.
   pub deleted_other : (j k : ℕ) (ps : List Pair) → (j ≡ k → ⊥) → lookup j (delete k ps) ≡ lookup j ps
   -- "Sweep: route and word pairs, ascending, from low to high inclusive, the first `most` of them."

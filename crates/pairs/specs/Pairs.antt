@@ -1,15 +1,14 @@
 -- The plain ordered map: pairs of a key and a value, by ascending key. It is what demand 2 compares the book with, and what a
 -- tree node holds (document 01: "route, word"; in a branch the value is a pointer). Assumes nothing.
-use Rattle.std.specs.Prelude.{Bool, true, false, ◌||◌, List, [], ◌∷◌, ℕ, zero, suc, ◌≤◌, ◌<◌, eqb, leb, ltb}
-use Rattle.std.proofs.Math.Option.{Option, none, some}
+use Rattle.std.specs.Prelude.{Bool, true, false, ◌||◌, List, [], ◌∷◌, ℕ, zero, suc, ◌≤◌, ◌<◌, eqb, leb, ltb, Option, None, Some}
 
 abbrev pub Pair : Type 0
 Pair = ℕ × ℕ
 
 -- the value at a key
 unfoldable pub lookup : ℕ → List Pair → Option ℕ
-lookup k [] = none
-lookup k (p ∷ ps) = elim (eqb k p.0) [ true ↦ some p.1 | false ↦ lookup k ps ]
+lookup k [] = None
+lookup k (p ∷ ps) = elim (eqb k p.0) [ true ↦ Some p.1 | false ↦ lookup k ps ]
 
 -- the map with a value at a key, added or replaced
 unfoldable pub insert : ℕ → ℕ → List Pair → List Pair
@@ -37,13 +36,13 @@ range low high (suc most) (p ∷ ps) =
 
 -- the first pair with a key at or above this one, if there is any (document 02, command 07: "that route or the nearest above")
 unfoldable pub ceiling : ℕ → List Pair → Option Pair
-ceiling k [] = none
-ceiling k (p ∷ ps) = elim (leb k p.0) [ true ↦ some p | false ↦ ceiling k ps ]
+ceiling k [] = None
+ceiling k (p ∷ ps) = elim (leb k p.0) [ true ↦ Some p | false ↦ ceiling k ps ]
 
 -- the first of some pairs, if there is any
 abbrev pub first : List Pair → Option Pair
-first [] = none
-first (p ∷ ps) = some p
+first [] = None
+first (p ∷ ps) = Some p
 
 -- whether a key is above the high one
 unfoldable pub has_above : ℕ → List Pair → Bool

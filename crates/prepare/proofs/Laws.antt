@@ -1,6 +1,6 @@
 -- The two pages as the writers make them, and the ways out of prepare. Assumes nothing.
+use Rattle.std.specs.Prelude.{Some}
 use mathlib.Core.Path.{◌≡◌, refl, sym, ap, ◌∙◌}
-use mathlib.Core.Bool.{true}
 use mathlib.Core.List.{List, [], ◌∷◌}
 use Prim.Native.Nat.{ℕ, ◌+◌, ◌*◌}
 use native.Mathlib.Omega.{arith}
@@ -42,7 +42,7 @@ root-image buffer e = ap (λ (p : List ℕ). sealed page_bytes (numbered 2 (fiel
     whole : part buffer 0 15 ≡ entry_bytes root
     whole = part-whole buffer 15 (ap length is ∙ length-entry_bytes root) ∙ is
 
-pub checkpoint_page_lem : (t : Tariff) → Writer.records_page 3 true t 1 (replicate 6 0) true 1 ≡ checkpoint_page t
+pub checkpoint_page_lem : (t : Tariff) → Writer.records_page 3 (Some t) 1 (replicate 6 0) (Some 1) ≡ checkpoint_page t
 unfolding Writer.records_page scores_in chunks score_of number_at part
 checkpoint_page_lem t = refl
 

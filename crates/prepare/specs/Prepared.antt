@@ -1,9 +1,8 @@
 -- What prepare leaves, by bytes: all FF but the first two pages; and that these are the bytes of the prepared pool. Assumes nothing.
-use Rattle.std.specs.Prelude.{◌≡◌, refl}
+use Rattle.std.specs.Prelude.{◌≡◌, refl, Some}
 use Rattle.std.proofs.Common.{sym, ap₂, ◌∙◌, arith}
 use Rattle.std.proofs.Math.Path.{ap}
 use mathlib.Core.List.{List, [], ◌∷◌, ◌++◌, append_assoc}
-use Rattle.std.proofs.Math.Option.{some}
 use Prim.Native.Nat.{ℕ, zero, suc, ◌+◌, ◌-◌, ◌*◌, ◌≤◌}
 use Rattle.std.proofs.Math.ListN.{length, replicate, length-append, length-replicate}
 use Rattle.std.proofs.lemmas.List.{replicate-append-replicate}
@@ -26,7 +25,7 @@ abbrev pub root_page : Page
 root_page = page 2 (log (record { id = 0; version = 1; change = link Leaf no_leaf } ∷ []))
 
 abbrev pub checkpoint_page : Tariff → Page
-checkpoint_page t = page 3 (checkpoint (some t) (record { id = 0; score = 0 } ∷ []) (some 1))
+checkpoint_page t = page 3 (checkpoint (Some t) (record { id = 0; score = 0 } ∷ []) (Some 1))
 
 -- Two images laid over erased bytes.
 unfoldable pub first_bytes : ℕ → List ℕ → List ℕ → List ℕ

@@ -4,16 +4,18 @@
 
 ghost use Rattle.std.specs.Prelude.{◌≡◌, ◌*◌, ◌≤◌, length, replicate};
 ghost use Rattle.layout.specs.Layout.{block_bytes};
+ghost use Rattle.refusal.specs.Number.{number_of};
 ghost use Rattle.page.specs.Image.{image};
 ghost use Rattle.model.specs.Call.{prepare_of};
 ghost use Rattle.prepare.specs.Prepared.{root_page, checkpoint_page, first_bytes, Leaves};
 
 use account::Tariff;
 use flash_blocks::page::{erase_block, put_page};
-use layout::{ENTRY_BYTES, NO_LEAF, PAGE_BYTES, pool_blocks};
+use layout::{ENTRY_BYTES, NO_LEAF, PAGE_BYTES, SCORE_BYTES};
 use page_checkpoint::checkpoint_image;
 use page_write::log_page::{lay_entry, log_image};
 use questions::prepare::refusal;
+use refusal::Refusal;
 
 // The first page: node 0 as an empty leaf.
 fn root_page() -> [u8; PAGE_BYTES]
@@ -28,8 +30,8 @@ fn root_page() -> [u8; PAGE_BYTES]
 fn checkpoint_page(tariff: Tariff) -> [u8; PAGE_BYTES]
     ensures { result ≡ image (checkpoint_page tariff) }
 {
-    let records = [0u8; 6];
-    checkpoint_image(3, true, tariff, &records, 1, true, 1)
+    let records = [0; SCORE_BYTES];
+    checkpoint_image(3, Some(tariff), &records, 1, Some(1))
 }
 
 // All blocks erased, one after another.
@@ -37,10 +39,8 @@ fn erase_all(pool: &mut [u8], blocks: usize)
     requires { length pool.old ≡ block_bytes * blocks }
     ensures { pool.new ≡ replicate (length pool.old) 255 }
 {
-    let mut block: usize = 0;
-    while block < blocks {
+    for block in 0..blocks {
         erase_block(pool, block);
-        block += 1;
     }
 }
 
@@ -60,14 +60,10 @@ fn write_first(
 }
 
 // A pool prepared, or refused for its length or for a tariff number out of range.
-pub fn prepare(pool: &mut [u8], tariff: Tariff) -> u32
-    ensures { Leaves (prepare_of pool.old tariff) result pool.new }
+pub fn prepare(pool: &mut [u8], tariff: Tariff) -> Result<(), Refusal>
+    ensures { Leaves (prepare_of pool.old tariff) (number_of result) pool.new }
 {
-    let number = refusal(pool, tariff);
-    if number == 0 {} else {
-        return number;
-    }
-    let blocks = pool_blocks(pool.len());
+    let blocks = refusal(pool, tariff)?;
     write_first(pool, blocks, &root_page(), &checkpoint_page(tariff));
-    0
+    Ok(())
 }

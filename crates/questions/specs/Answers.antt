@@ -1,14 +1,13 @@
 -- What each answer of the code says of a list of questions. Assumes nothing.
-use Rattle.std.specs.Prelude.{◌≡◌, true, false, List, ◌++◌, ℕ, ◌≤◌, ◌<◌, length}
+use Rattle.std.specs.Prelude.{◌≡◌, true, false, List, ◌++◌, ℕ, ◌≤◌, ◌<◌, length, Option, None, Some}
 use Rattle.std.proofs.Math.Path.{refl}
 use Rattle.std.proofs.Common.{sym, ap, ◌∙◌, arith, le-leb}
-use Rattle.std.proofs.Math.Option.{Option, none, some}
 use Rattle.std.proofs.lemmas.Bool.{lt-leb}
+use Rattle.laws.specs.Options.{none_some, some_same}
 use Rattle.layout.specs.Layout.{table_bytes}
 use Rattle.account.specs.declared.Tariff.{Tariff}
 use Rattle.account.specs.Range.{in_range}
 use Rattle.command.specs.declared.Asked.{Asked}
-use Rattle.command.specs.declared.Asked.TheVariants as asked
 use Rattle.command.specs.declared.Command.{Command}
 use Rattle.command.specs.Batch.{commands_of, room_for_all, asked_as, asked_of}
 use Rattle.model.specs.Pool.{blocks_of, pool_length}
@@ -38,10 +37,10 @@ module _ (pool table : List ℕ) where
 
 -- 3, 4, or neither.
 module _ (buffer : List ℕ) where
-  pub three : (o : Option (List Command)) → o ≡ none → 3 ≡ first_no (of_commands o buffer)
+  pub three : (o : Option (List Command)) → o ≡ None → 3 ≡ first_no (of_commands o buffer)
   three o e = rw e refl
 
-  module _ (o : Option (List Command)) (cs : List Command) (e : o ≡ some cs) where
+  module _ (o : Option (List Command)) (cs : List Command) (e : o ≡ Some cs) where
     pub four : length buffer < room_for_all cs → 4 ≡ first_no (of_commands o buffer)
     four l = rw (e, lt-leb (room_for_all cs) (length buffer) l) refl
 
@@ -49,28 +48,22 @@ module _ (buffer : List ℕ) where
     none_left l = rw (e, le-leb (room_for_all cs) (length buffer) l) refl
 
 -- What `asked` tells of the commands of a batch.
-told_none : (o : Option (List Command)) → asked.Invalid ≡ asked_as o → o ≡ none
-told_none none e = refl
-told_none (some cs) e = cc
+told_none : (o : Option (List Command)) → None ≡ asked_as o → o ≡ None
+told_none None e = refl
+told_none (Some cs) e = absurd (none_some e)
 
-told_some : (o : Option (List Command)) (room n m : ℕ) → asked.Bytes room n m ≡ asked_as o →
-    (cs : List Command) × (o ≡ some cs) × (room_for_all cs ≡ room)
-told_some none room n m e = let z : ◌≡◌ {A = ℕ} 0 1 = cc in absurd (omega arith)
-told_some (some cs) room n m e = (cs, refl, sym (ap bytes e))
-  where
-    bytes : Asked → ℕ
-    bytes (asked.Bytes k i j) = k
-    bytes asked.Invalid = 0
+told_some : (o : Option (List Command)) (wanted : Asked) → Some wanted ≡ asked_as o → (cs : List Command) × (o ≡ Some cs) × (room_for_all cs ≡ wanted.room)
+told_some None wanted e = absurd (none_some (sym e))
+told_some (Some cs) wanted e = (cs, refl, sym (ap (λ (a : Asked). a.room) (some_same e)))
 
 module _ (batch : List ℕ) where
-  pub not_valid : asked.Invalid ≡ asked_of batch → commands_of batch ≡ none
+  pub not_valid : None ≡ asked_of batch → commands_of batch ≡ None
   unfolding asked_of
   not_valid e = told_none (commands_of batch) e
 
-  pub asks_for : (room n m : ℕ) → asked.Bytes room n m ≡ asked_of batch →
-      (cs : List Command) × (commands_of batch ≡ some cs) × (room_for_all cs ≡ room)
+  pub asks_for : (wanted : Asked) → Some wanted ≡ asked_of batch → (cs : List Command) × (commands_of batch ≡ Some cs) × (room_for_all cs ≡ wanted.room)
   unfolding asked_of
-  asks_for room n m e = told_some (commands_of batch) room n m e
+  asks_for wanted e = told_some (commands_of batch) wanted e
 
 -- Of a prepare: 1, 10, or neither.
 module _ (pool : List ℕ) (t : Tariff) where

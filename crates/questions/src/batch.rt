@@ -1,33 +1,24 @@
 // What is lent to a batch: 1 and 2, then 3 and 4, of its commands.
-ghost use Rattle.std.specs.Prelude.{◌≡◌};
+ghost use Rattle.std.specs.Prelude.{◌≡◌, IfOk};
+ghost use Rattle.refusal.specs.Number.{number_of};
+ghost use Rattle.model.specs.Pool.{blocks_of};
 ghost use Rattle.model.specs.Questions.{first_no, of_buffers};
 
 use super::sizes;
-use command::Asked;
 use command::batch::asked;
+use refusal::Refusal;
 
-pub fn refusal(pool: &[u8], table: &[u8], commands: &[u8], answers: &[u8]) -> u32
-    ensures { result ≡ first_no (of_buffers pool.now table.now commands.now
-        answers.now) }
+// The blocks of the pool, where all answers are yes.
+pub fn refusal(pool: &[u8], table: &[u8], commands: &[u8], answers: &[u8]) -> Result<usize, Refusal>
+    ensures number { number_of result ≡ first_no (of_buffers pool.now table.now commands.now answers.now) }
+    ensures blocks { IfOk result (λ blocks. blocks ≡ blocks_of pool.now) }
 {
-    let number = sizes::refusal(pool, table);
-    if number == 0 {} else {
-        return number;
+    let blocks = sizes::refusal(pool, table)?;
+    let Some(wanted) = asked(commands) else {
+        return Err(Refusal::Batch);
+    };
+    if answers.len() < wanted.room {
+        return Err(Refusal::AnswerRoom);
     }
-    let wanted = asked(commands);
-    match wanted {
-        Asked::Invalid => {
-            return 3;
-        }
-        Asked::Bytes {
-            room,
-            commands: _,
-            named: _,
-        } => {
-            if answers.len() < room {
-                return 4;
-            }
-            return 0;
-        }
-    }
+    Ok(blocks)
 }

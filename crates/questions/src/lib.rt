@@ -1,4 +1,4 @@
-// What a caller lends, asked about in the documents' order before anything is stored: the number of the first no, or 0.
+// What a caller lends, asked about in the documents' order before anything is stored: the first no is the refusal.
 #![tactic(auto)]
 
 pub mod batch;

@@ -1,6 +1,5 @@
 -- No reply is longer than the room that question 4 asks for its command. Assumes nothing.
-use Rattle.std.specs.Prelude.{Bool, true, false, List, [], ◌++◌, ℕ, zero, suc, ◌-◌, ◌≤◌, ltb, length}
-use Rattle.std.proofs.Math.Option.{Option, none, some}
+use Rattle.std.specs.Prelude.{Bool, true, false, List, [], ◌++◌, ℕ, zero, suc, ◌-◌, ◌≤◌, ltb, length, Option, None, Some}
 use Rattle.std.proofs.Common.{arith, length-append}
 use Rattle.layout.specs.Layout.{last_key}
 use Rattle.account.specs.declared.Tariff.{Tariff}
@@ -51,8 +50,8 @@ scan_few t low high most w = go (ltb high low)
 
 -- A ceiling's reply is 80 or 87.
 ceiling-room : (o : Option Pair) → length (reply_bytes (ceiling_reply o)) ≤ 11
-ceiling-room none = omega (arith, length-absent)
-ceiling-room (some p) = omega (arith, length-ceiling_bytes p)
+ceiling-room None = omega (arith, length-absent)
+ceiling-room (Some p) = omega (arith, length-ceiling_bytes p)
 
 pub reply-room : (n : Session) (c : Command) (w : World) → length (reply_bytes (command_reply n c w)) ≤ room_for c
 reply-room n (Get k) w = length-answer_bytes (value_or Got (value_in n.tariff k w))

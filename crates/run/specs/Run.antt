@@ -13,16 +13,20 @@ use Rattle.book.specs.Command.{Reply, short, listed, silent, ceiling_reply, repl
 use Rattle.book.specs.Session.{Session, at_first}
 use Rattle.book.specs.InTurn.{each_panel, after_all, replies_to, charge_on}
 use Rattle.flash_rows.specs.Worktable.{Worktable}
+use Rattle.flash_allocate.specs.declared.state.State.{State}
+use Rattle.flash_allocate.specs.declared.flash.Flash.{Flash}
 use Rattle.flash_allocate.specs.World.{World, world}
-use Rattle.run_serve.specs.Step.{ChargedAs}
+use Rattle.flash_allocate.specs.Flash.{world_of}
+use Rattle.run_serve.specs.Step.{Charged, ChargedAs, InBytes}
 use Rattle.run_path.specs.Descend.{descent}
 use Rattle.run_lookup.specs.Value.{value_in}
 use Rattle.run_lookup.specs.Delete.{delete, delete_charge}
 use Rattle.run_scan.specs.Scan.{scan_world, scan_charge, scan_pairs}
 use Rattle.run_split.specs.Growing.{Grew}
 use Rattle.run_put.specs.Put.{put, most_served}
-use Rattle.run.specs.declared.Progress.{Progress}
-use Rattle.run.specs.declared.Ran.{Ran}
+use Rattle.run.specs.declared.Progress as code
+use Rattle.run.specs.declared.Ran as code_ran
+use Rattle.run.specs.Session.{Ran, ran_in}
 
 -- One command in a session: the world after it, its charge, its reply.
 abbrev pub command_world : Session → Command → World → World
@@ -62,6 +66,14 @@ run_charge = charge_on command_reply command_world command_charge
 abbrev pub run_charges : List Command → Session → World → List ℕ
 run_charges cs n w = each_panel (λ q. run_charge q cs n w)
 
+-- How far a command has come: the state, what was charged, and how many bytes of answers are laid.
+pub record Progress : Type 0 where
+  pub charged : Charged
+  pub at : ℕ
+
+abbrev pub progress_in : State → code.Progress → Progress
+progress_in s r = record { charged = record { state = s; charge = r.charge }; at = r.at }
+
 -- What the code of one command leaves: this world, this charge, and its reply laid at a place of the answer buffer.
 pub record CommandAs (pool_length table_length : ℕ) (pages : List (List ℕ)) (table : Worktable) (before after : List ℕ) (r : Progress) (n : Session)
     (c : Command) (at : ℕ) (w : World) : Type 0 where
@@ -76,3 +88,12 @@ pub record RunAs (pool_length table_length : ℕ) (pages : List (List ℕ)) (tab
   pub paid : charges ≡ run_charges cs (at_first t) w
   pub answers : after ≡ lay before 0 (replies_bytes (run_replies cs (at_first t) w))
   pub behind : r.at ≡ length (replies_bytes (run_replies cs (at_first t) w))
+
+-- The same of lent buffers and a state.
+abbrev pub Commands : Flash → Flash → List ℕ → List ℕ → code.Progress → Session → Command → ℕ → Type 0
+Commands before behind empty after r n c at =
+    InBytes CommandAs behind.pool.now behind.table.now empty after (progress_in behind.state r) n c at (world_of before)
+
+abbrev pub Runs : Flash → Flash → List ℕ → List ℕ → List ℕ → code_ran.Ran → Tariff → List Command → Type 0
+Runs before behind empty after charges r t cs =
+    InBytes RunAs behind.pool.now behind.table.now empty after charges (ran_in behind.state r) t cs (world_of before)

@@ -1,34 +1,33 @@
 -- A batch a command at a time: the commands run so far are a stretch from its start, and those left have what they need. Assumes nothing.
-use Rattle.std.specs.Prelude.{◌≡◌, refl, List, [], ◌∷◌, ◌++◌, ℕ, ◌≤◌, ◌<◌, length}
-use Rattle.std.proofs.Common.{sym, ap, ◌∙◌, subst, append-nil, append_assoc, arith}
-use Rattle.std.proofs.Math.Option.{Option, none, some}
+use Rattle.std.specs.Prelude.{◌≡◌, refl, List, [], ◌∷◌, ◌++◌, ℕ, ◌≤◌, ◌<◌, length, ◌⊎◌, Option, None, Some}
+use Rattle.std.proofs.Common.{sym, ap, ◌∙◌, subst, append-nil, append_assoc, inl, inr, arith}
 use Rattle.laws.specs.Options.{none_some}
+use Rattle.laws.specs.Order.{le_or}
 use Rattle.account.specs.declared.Tariff.{Tariff}
 use Rattle.account.specs.Range.{Ranged}
 use Rattle.command.specs.declared.Command.{Command}
-use Rattle.command.specs.declared.Step.TheVariants.{Next, Invalid}
 use Rattle.command.specs.Command.{InRange, Onward, command_at}
-use Rattle.command.specs.CommandLaws.{command_at_onward}
+use Rattle.command.specs.CommandLaws.{command_at_onward, command_at_past}
 use Rattle.command.specs.Batch.{before, commands_from}
 use Rattle.command.specs.BatchLaws.{commands_from_end, commands_from-next, commands_from_invalid, commands_from_few}
 use Rattle.book.specs.InTurn.{no_charges}
 use Rattle.flash_rows.specs.Worktable.{Worktable}
 use Rattle.flash_allocate.specs.World.{World, world}
 use Rattle.run_split.specs.Growing.{Growing}
-use Rattle.run.specs.declared.Ran.{Ran}
+use Rattle.run.specs.Session.{Ran}
 use Rattle.run.specs.Run.{RunAs}
 use Rattle.run.specs.Stretch.{at_start, alone, Ready, RunOn, on_none, ready_front, ready_behind, on_append, ready_start, on_whole}
 use Rattle.run.specs.Valid.{list_or, commands_in, Fits}
 
 -- Before the command at a place of the batch.
 pub record Running (pool_length table_length : ℕ) (t : Tariff) (batch empty : List ℕ) (from : ℕ) (start : World) (pages : List (List ℕ))
-    (table : Worktable) (answers none paid : List ℕ) (here : Ran) : Type 0 where
+    (table : Worktable) (answers unpaid paid : List ℕ) (here : Ran) : Type 0 where
   pub within : from ≤ length batch
   pub done : List Command
   pub rest : List Command
-  pub left : commands_from batch from ≡ some rest
+  pub left : commands_from batch from ≡ Some rest
   pub whole : done ++ rest ≡ commands_in batch
-  pub ran : RunOn pool_length table_length pages table empty answers none paid (at_start start.state t) here done start
+  pub ran : RunOn pool_length table_length pages table empty answers unpaid paid (at_start start.state t) here done start
   pub ready : Ready pool_length table_length (length empty) paid here rest
 
 pub running-start : (P T : ℕ) (t : Tariff) (batch empty charges : List ℕ) (w : World) → Growing P T w.state → Ranged t → Fits batch (length empty) →
@@ -49,21 +48,24 @@ running-start P T t batch empty charges w g ranged f e =
 -- A first command and those behind it.
 record Behind (c : Command) (o : Option (List Command)) (rest : List Command) : Type 0 where
   pub tail : List Command
-  pub is : o ≡ some tail
+  pub is : o ≡ Some tail
   pub whole : c ∷ tail ≡ rest
 
-behind-first : (c : Command) (o : Option (List Command)) (rest : List Command) → before c o ≡ some rest → Behind c o rest
-behind-first c none rest e = absurd (none_some e)
-behind-first c (some tail) rest e = record { tail = tail; is = refl; whole = ap list_or e }
+behind-first : (c : Command) (o : Option (List Command)) (rest : List Command) → before c o ≡ Some rest → Behind c o rest
+behind-first c None rest e = absurd (none_some e)
+behind-first c (Some tail) rest e = record { tail = tail; is = refl; whole = ap list_or e }
 
 module _ {P T : ℕ} {t : Tariff} {batch empty : List ℕ} {from : ℕ} {start : World} {pages : List (List ℕ)} {table : Worktable}
-    {answers none paid : List ℕ} {here : Ran} (r : Running P T t batch empty from start pages table answers none paid here) where
+    {answers unpaid paid : List ℕ} {here : Ran} (r : Running P T t batch empty from start pages table answers unpaid paid here) where
   -- a command more
-  module _ (inside : from < length batch) (c : Command) (next : ℕ) (step : command_at batch from ≡ Next c next) where
+  module _ (c : Command) (next : ℕ) (step : command_at batch from ≡ Some (c, next)) where
+    inside : from < length batch
+    inside = elim (le_or (length batch) from) [ inl l ↦ absurd (none_some (command_at_past batch from l ∙ step)) | inr l ↦ l ]
+
     first : Behind c (commands_from batch next) r.rest
     first = behind-first c (commands_from batch next) r.rest (sym (commands_from-next batch from inside c next step) ∙ r.left)
 
-    onward : Onward batch from (Next c next)
+    onward : Onward batch from (Some (c, next))
     onward = subst (Onward batch from) step (command_at_onward batch from)
 
     pub running-further : (from < next) × (next ≤ length batch)
@@ -80,7 +82,7 @@ module _ {P T : ℕ} {t : Tariff} {batch empty : List ℕ} {from : ℕ} {start :
 
     pub running-next : {P' T' : ℕ} {pages' : List (List ℕ)} {table' : Worktable} {answers' paid' : List ℕ} {there : Ran} →
         RunOn P' T' pages' table' answers answers' paid paid' here there (alone c) (world pages table here.state) →
-        Running P' T' t batch empty next start pages' table' answers' none paid' there
+        Running P' T' t batch empty next start pages' table' answers' unpaid paid' there
     running-next x =
         record {
           within = onward.1;
@@ -93,14 +95,23 @@ module _ {P T : ℕ} {t : Tariff} {batch empty : List ℕ} {from : ℕ} {start :
         }
 
   -- in a valid batch no command is not valid
-  pub running_valid : from < length batch → command_at batch from ≡ Invalid → ⊥
+  pub running_valid : from < length batch → command_at batch from ≡ None → ⊥
   running_valid inside e = none_some (sym (commands_from_invalid batch from inside e) ∙ r.left)
 
   -- none left
-  pub running_end : length batch ≤ from → none ≡ no_charges → RunAs P T pages table empty answers paid here t (commands_in batch) start
+  pub running_end : length batch ≤ from → unpaid ≡ no_charges → RunAs P T pages table empty answers paid here t (commands_in batch) start
   running_end l e =
       let nothing : r.rest ≡ [] = ap list_or (sym r.left ∙ commands_from_end batch from l) in
       let whole : r.done ≡ commands_in batch =
       sym (append-nil r.done) ∙ ap (λ (cs : List Command). r.done ++ cs) (sym nothing) ∙ r.whole in
       on_whole e
-      (subst (λ (cs : List Command). RunOn P T pages table empty answers none paid (at_start start.state t) here cs start) whole r.ran)
+      (subst (λ (cs : List Command). RunOn P T pages table empty answers unpaid paid (at_start start.state t) here cs start) whole r.ran)
+
+  -- where no command stands, none is left
+  pub running_over : command_at batch from ≡ None → unpaid ≡ no_charges → RunAs P T pages table empty answers paid here t (commands_in batch) start
+  running_over f = go (le_or (length batch) from)
+    where
+      go : (length batch ≤ from) ⊎ (from < length batch) → unpaid ≡ no_charges →
+          RunAs P T pages table empty answers paid here t (commands_in batch) start
+      go (inl l) e = running_end l e
+      go (inr l) e = absurd (running_valid l f)

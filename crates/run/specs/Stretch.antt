@@ -19,15 +19,16 @@ use Rattle.book.specs.EachPanel.{length_each, each_at, each_are}
 use Rattle.flash_rows.specs.Worktable.{Worktable}
 use Rattle.flash_allocate.specs.declared.state.State.{State}
 use Rattle.flash_allocate.specs.World.{World, world}
-use Rattle.run_serve.specs.Step.{ChargedAs}
+use Rattle.flash_allocate.specs.declared.flash.Flash.{Flash}
+use Rattle.flash_allocate.specs.Flash.{world_of}
+use Rattle.run_serve.specs.Step.{ChargedAs, InBytes}
 use Rattle.run_split.specs.Growing.{Growing, Grew}
 use Rattle.run_put.specs.Put.{most_served}
-use Rattle.run.specs.declared.Progress.{Progress}
-use Rattle.run.specs.declared.Ran.{Ran}
+use Rattle.run.specs.declared.Ran as code
 use Rattle.run.specs.declared.Session.{Session as Held}
-use Rattle.run.specs.Session.{session_of, held_first, held_after, session_at}
+use Rattle.run.specs.Session.{Ran, ran_in, session_of, held_first, held_after, session_at}
 use Rattle.run.specs.Charges.{most64, added, added-at}
-use Rattle.run.specs.Run.{command_world, command_charge, command_reply, run_world, run_charge, run_replies, CommandAs, RunAs}
+use Rattle.run.specs.Run.{command_world, command_charge, command_reply, run_world, run_charge, run_replies, Progress, CommandAs, RunAs}
 use Rattle.run.specs.Room.{reply-room}
 
 -- Where every batch begins: "at panel 0", with the tariff of its pool.
@@ -75,6 +76,14 @@ pub record RunOn (pool_length table_length : ℕ) (pages : List (List ℕ)) (tab
       (rest : List Command) (q : ℕ) → q < panels →
       get_or paid q 0 + run_charge q (cs ++ rest) (session_at here) w ≡
       get_or paid' q 0 + run_charge q rest (session_at there) (world pages table there.state)
+
+-- The same of lent buffers and a state.
+abbrev pub Starts : Flash → ℕ → List ℕ → code.Ran → List Command → Type 0
+Starts f answers charges here cs = Ready (length f.pool.now) (length f.table.now) answers charges (ran_in f.state here) cs
+
+abbrev pub RunsOn : Flash → Flash → List ℕ → List ℕ → List ℕ → List ℕ → code.Ran → code.Ran → List Command → Type 0
+RunsOn f g before after paid paid' here there cs =
+    InBytes RunOn g.pool.now g.table.now before after paid paid' (ran_in f.state here) (ran_in g.state there) cs (world_of f)
 
 -- No command.
 pub on_none : {P T n : ℕ} {paid answers : List ℕ} {here : Ran} {cs : List Command} (w : World) → w.state ≡ here.state →

@@ -15,16 +15,8 @@ pub fn panel_after(command: Command, session: Session) -> usize
     ensures { result ≡ panel_after (session_of session) command }
 {
     match command {
-        Command::Get { key: _ } => session.panel,
-        Command::Put { key: _, value: _ } => session.panel,
-        Command::Delete { key: _ } => session.panel,
-        Command::Scan {
-            low: _,
-            high: _,
-            most: _,
-        } => session.panel,
-        Command::Panel { panel: named } => named,
-        Command::Ceiling { key: _ } => session.panel,
+        Command::Panel { panel } => panel,
+        _ => session.panel,
     }
 }
 
@@ -32,16 +24,18 @@ pub fn panel_after(command: Command, session: Session) -> usize
 pub fn session_after(command: Command, session: Session) -> Session
     ensures { result ≡ held_after command session }
 {
-    let panel = panel_after(command, session);
-    let tariff = session.tariff;
-    Session { panel, tariff }
+    Session {
+        panel: panel_after(command, session),
+        ..session
+    }
 }
 
 // Nothing charged to any panel.
+#[tactic(auto, unfolding(book::specs::InTurn::each_panel))]
 pub fn clear(charges: &mut [u64; PANELS])
     ensures { charges.new ≡ no_charges }
 {
-    *charges = [0u64; PANELS];
+    *charges = [0; PANELS];
 }
 
 // Adds to a panel's charge.

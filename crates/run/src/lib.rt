@@ -7,13 +7,11 @@ pub mod replies;
 pub mod run;
 
 use account::Tariff;
-use flash_allocate::state::State;
-use run_serve::charged::Charged;
 
-// How far a command has come: the state and what was charged, and how many bytes of answers are laid.
+// How far a command has come: what was charged, and how many bytes of answers are laid.
 #[derive(Drop)]
 pub struct Progress {
-    pub charged: Charged,
+    pub charge: u64,
     pub at: usize,
 }
 
@@ -24,10 +22,9 @@ pub struct Session {
     pub tariff: Tariff,
 }
 
-// Where a batch stands, beside its buffers: the state, the session, and how many bytes of answers are laid.
+// Where a batch stands, beside its buffers: the session, and how many bytes of answers are laid.
 #[derive(Drop)]
 pub struct Ran {
-    pub state: State,
     pub session: Session,
     pub at: usize,
 }

@@ -16,53 +16,42 @@ use run_serve::charged::Answered;
 // The answer of a get, a put or a delete.
 pub fn reply(answers: &mut [u8], at: usize, done: Answered) -> Progress
     requires { at + 7 ≤ length answers.old }
-    ensures { RepliedAs answers.old answers.new result done.charged at
+    ensures { RepliedAs answers.old answers.new result done.charge at
         (answer_bytes done.answer) }
 {
-    let charged = done.charged;
-    let answer = done.answer;
-    let behind = lay_answer(answers, at, answer);
     Progress {
-        charged,
-        at: behind,
+        charge: done.charge,
+        at: lay_answer(answers, at, done.answer),
     }
 }
 
 // The pair of a ceiling, the first that was found, or that there is none.
 pub fn reply_ceiling(answers: &mut [u8], at: usize, done: Scanned) -> Progress
     requires { (Sized done.pairs) × (at + 11 ≤ length answers.old) }
-    ensures { RepliedAs answers.old answers.new result done.charged at
+    ensures { RepliedAs answers.old answers.new result done.charge at
         (reply_bytes (ceiling_reply (first (pairs_of done.pairs)))) }
 {
-    let charged = done.charged;
-    let pairs = done.pairs;
-    if pairs.count == 0 {
-        let behind = lay_answer(answers, at, Answer::Absent);
-        return Progress {
-            charged,
-            at: behind,
-        };
-    }
-    let keys = pairs.keys;
-    let values = pairs.values;
-    let behind = lay_ceiling(answers, at, keys[0], values[0]);
-    Progress {
-        charged,
-        at: behind,
+    if done.pairs.count == 0 {
+        Progress {
+            charge: done.charge,
+            at: lay_answer(answers, at, Answer::Absent),
+        }
+    } else {
+        Progress {
+            charge: done.charge,
+            at: lay_ceiling(answers, at, done.pairs.keys[0], done.pairs.values[0]),
+        }
     }
 }
 
 // The pairs of a scan.
 pub fn reply_pairs(answers: &mut [u8], at: usize, done: Scanned) -> Progress
     requires { (Sized done.pairs) × (at + (3 + 8 * done.pairs.count) ≤ length answers.old) }
-    ensures { RepliedAs answers.old answers.new result done.charged at
+    ensures { RepliedAs answers.old answers.new result done.charge at
         (scan_bytes (pairs_of done.pairs)) }
 {
-    let charged = done.charged;
-    let pairs = done.pairs;
-    let behind = lay_scan(answers, at, pairs);
     Progress {
-        charged,
-        at: behind,
+        charge: done.charge,
+        at: lay_scan(answers, at, done.pairs),
     }
 }

@@ -1,6 +1,5 @@
 -- STRIP (document 01, command 03; "strip of a present route" is one edit, and of an absent one the reads alone). Assumes nothing.
-use Rattle.std.specs.Prelude.{List, ℕ, ◌+◌}
-use Rattle.std.proofs.Math.Option.{Option, none, some}
+use Rattle.std.specs.Prelude.{List, ℕ, ◌+◌, Option, None, Some}
 use Rattle.layout.specs.Layout.{node_limit, most_blocks}
 use Rattle.account.specs.declared.Tariff.{Tariff}
 use Rattle.node.specs.Node.{Node}
@@ -10,20 +9,19 @@ use Rattle.command.specs.declared.Answer.TheVariants.{Deleted}
 use Rattle.command.specs.Answer.{value_or}
 use Rattle.flash_rows.specs.Worktable.{Worktable}
 use Rattle.flash_allocate.specs.World.{World, Kept}
-use Rattle.run_serve.specs.Step.{AnsweredAs}
-use Rattle.run_serve.specs.declared.charged.Answered.{Answered}
+use Rattle.run_serve.specs.Step.{Answered, AnsweredAs}
 use Rattle.run_serve.specs.Serve.{serve_holding, charge}
 use Rattle.run_path.specs.Descend.{descent}
 use Rattle.run_lookup.specs.Value.{value_in}
 
 -- The edit of a leaf with the content x in hand, for a key with this value there; and its charge.
 abbrev pub deletion : Tariff → Option ℕ → ℕ → Node → ℕ → World → World
-deletion t none leaf x k w = w
-deletion t (some old) leaf x k w = serve_holding t leaf x (edit (remove k)) w
+deletion t None leaf x k w = w
+deletion t (Some old) leaf x k w = serve_holding t leaf x (edit (remove k)) w
 
 abbrev pub deletion_charge : Tariff → Option ℕ → ℕ → ℕ → World → ℕ
-deletion_charge t none leaf k w = 0
-deletion_charge t (some old) leaf k w = charge t leaf (edit (remove k)) w
+deletion_charge t None leaf k w = 0
+deletion_charge t (Some old) leaf k w = charge t leaf (edit (remove k)) w
 
 -- The walk down, then the edit of the leaf that it ends at.
 unfoldable pub delete : Tariff → ℕ → World → World

@@ -6,8 +6,7 @@ use Rattle.command.specs.declared.Answer.TheVariants.{Got}
 use Rattle.command.specs.Answer.{value_or}
 use Rattle.flash_rows.specs.Worktable.{Worktable}
 use Rattle.flash_allocate.specs.World.{World, Kept}
-use Rattle.run_serve.specs.Step.{AnsweredAs}
-use Rattle.run_serve.specs.declared.charged.Answered.{Answered}
+use Rattle.run_serve.specs.Step.{Answered, AnsweredAs}
 use Rattle.run_path.specs.Descend.{descent}
 use Rattle.run_lookup.specs.Value.{value_in}
 

@@ -1,50 +1,40 @@
 // Delete (document 01: strip).
-ghost use Rattle.std.specs.Prelude.{◌≤◌, length};
+ghost use Rattle.std.specs.Prelude.{◌≤◌};
 ghost use Rattle.layout.specs.Layout.{node_limit, most_blocks};
 ghost use Rattle.account.specs.Range.{Ranged};
-ghost use Rattle.flash_allocate.specs.World.{Good, world_in};
-ghost use Rattle.run_serve.specs.Step.{InBytes};
+ghost use Rattle.flash_allocate.specs.Flash.{world_of, Same};
+ghost use Rattle.run_serve.specs.Step.{AnsweredIn};
 ghost use Rattle.run_lookup.specs.Delete.{DeletedAs};
 
-use super::value::{Value, value_at};
 use account::Tariff;
 use command::Answer;
-use flash_allocate::state::State;
+use flash_allocate::flash::Flash;
 use node::ChangeValue;
+use node::search::value_at;
 use run_path::descend::descend;
-use run_serve::charged::{Answered, Charged};
+use run_serve::charged::Answered;
 use run_serve::request::serve_edit_holding;
 
 // The walk down to the leaf, then one edit of it, with its content in hand, where the key is there.
-pub fn delete(pool: &mut [u8], table: &mut [u8], state: State, tariff: Tariff, key: u32) -> Answered
-    requires { (Good (length pool.old) (length table.old) state) × (Ranged tariff)
-        × (state.nodes ≤ node_limit most_blocks) }
-    ensures { InBytes DeletedAs pool.new table.new result tariff key
-        (world_in pool.old table.old state) }
+pub fn delete(flash: &mut Flash, tariff: Tariff, key: u32) -> Answered
+    requires ranged { Ranged tariff }
+    requires limited { flash.old.state.nodes ≤ node_limit most_blocks }
+    ensures buffers { Same flash.old flash.new }
+    ensures served { AnsweredIn DeletedAs flash.new result tariff key (world_of flash.old) }
 {
-    let down = descend(pool, table, state, tariff, key);
-    let leaf = down.leaf;
-    let read = down.charged;
-    let s = read.state;
-    let value = value_at(leaf, key);
-    match value {
-        Value::There(old) => {
+    let down = descend(flash, tariff, key);
+    match value_at(down.leaf, key) {
+        Some(old) => {
             let deletion = ChangeValue::Delete { key };
-            let edit = serve_edit_holding(pool, table, s, tariff, down.id, leaf, deletion);
-            let t = edit.state;
-            let charged = Charged {
-                state: t,
-                charge: read.charge + edit.charge,
-            };
-            let answer = Answer::Deleted(old);
-            Answered { charged, answer }
-        }
-        Value::Missing => {
-            let answer = Answer::Absent;
+            let edit = serve_edit_holding(flash, tariff, down.id, down.leaf, deletion);
             Answered {
-                charged: read,
-                answer,
+                charge: down.charge + edit,
+                answer: Answer::Deleted(old),
             }
         }
+        None => Answered {
+            charge: down.charge,
+            answer: Answer::Absent,
+        },
     }
 }

@@ -1,8 +1,7 @@
 -- A walk down a node at a time: what is left of it from a node gives the whole. Assumes nothing.
-use Rattle.std.specs.Prelude.{◌≡◌, List}
+use Rattle.std.specs.Prelude.{◌≡◌, List, None, Some}
 use Rattle.std.proofs.Math.Path.{refl}
 use Rattle.std.proofs.Common.{sym, ap, ap₂, ◌∙◌, zero-add, arith}
-use Rattle.std.proofs.Math.Option.{none, some}
 use Prim.Native.Nat.{ℕ, zero, suc, ◌+◌, ◌-◌, ◌*◌, ◌≤◌, ◌<◌}
 use Rattle.std.proofs.Math.Nat.{sub-zero}
 use Rattle.layout.specs.Layout.{node_limit, most_blocks}
@@ -18,15 +17,15 @@ use Rattle.tree.specs.Table.{child_for}
 use Rattle.store.specs.Serve.{read}
 use Rattle.flash_rows.specs.Worktable.{Worktable}
 use Rattle.flash_allocate.specs.World.{World, world, Good}
+use Rattle.run_serve.specs.Step.{Charged}
 use Rattle.run_serve.specs.Serve.{serve, charge, ServedAs}
-use Rattle.run_serve.specs.declared.charged.Charged.{Charged}
 use Rattle.run_path.specs.Path.{table_in, steps_in}
 use Rattle.run_path.specs.Steps.{slot-place}
 use Rattle.run_path.specs.Descend.{Descent, ended, further, descend, descent, DescendedAs}
 
 -- A walk from a node: it ends there, or goes on at the child.
 module _ (t : Tariff) (k id : ℕ) (w : World) where
-  pub descend-leaf : child_for k (table_in w id) ≡ none → (fuel : ℕ) → descend fuel t k id w ≡ ended t id w
+  pub descend-leaf : child_for k (table_in w id) ≡ None → (fuel : ℕ) → descend fuel t k id w ≡ ended t id w
   unfolding descend
   descend-leaf e zero = refl
   descend-leaf e (suc fuel) = rw (e, descend) refl
@@ -35,7 +34,7 @@ module _ (t : Tariff) (k id : ℕ) (w : World) where
   unfolding descend
   descend_out = refl
 
-  pub descend_step : (child fuel : ℕ) → child_for k (table_in w id) ≡ some child →
+  pub descend_step : (child fuel : ℕ) → child_for k (table_in w id) ≡ Some child →
       descend (suc fuel) t k id w ≡ further (charge t id read w) (descend fuel t k child (serve t id read w))
   unfolding descend
   descend_step child fuel e = rw (e, descend) refl
@@ -79,8 +78,8 @@ module _ {p q : ℕ} {t : Tariff} {k : ℕ} {start : World} {i id : ℕ} {now : 
   pub descending_next : (ks : List Pair) (last child : ℕ) → table_in now id ≡ node Branch ks last → child ≡ pointer_at ks last (child_place k ks) →
       i + 1 < start.state.nodes → Descending p' q' t k start (i + 1) child after (paid + c.charge)
   descending_next ks last child e f l =
-      let leads : child_for k (table_in now id) ≡ some child =
-      ap (child_for k) e ∙ ap (λ (j : ℕ). some (pointer_at ks last j)) (slot-place k ks) ∙ ap some (sym f) in
+      let leads : child_for k (table_in now id) ≡ Some child =
+      ap (child_for k) e ∙ ap (λ (j : ℕ). Some (pointer_at ks last j)) (slot-place k ks) ∙ ap Some (sym f) in
       let fuel : steps_in start - i ≡ suc (steps_in start - (i + 1)) = omega arith in
       let left : ℕ = steps_in start - (i + 1) in
       record {

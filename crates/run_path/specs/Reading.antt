@@ -7,8 +7,8 @@ use Rattle.account.specs.ServeLaws.{most_charge}
 use Rattle.flash_rows.specs.Worktable.{Worktable}
 use Rattle.store.specs.Serve.{read}
 use Rattle.flash_allocate.specs.World.{World, world, Good}
+use Rattle.run_serve.specs.Step.{Charged}
 use Rattle.run_serve.specs.Serve.{ServedAs}
-use Rattle.run_serve.specs.declared.charged.Charged.{Charged}
 use Rattle.run_path.specs.Reads.{read_all, read_charges, ReadAs}
 
 -- After i reads of these nodes.
@@ -75,3 +75,7 @@ pub reads-part : {p q : ℕ} {pages : List (List ℕ)} {table : Worktable} {c : 
     n ≤ length ns →
     ReadAs p q pages table c t (length (take (n - 0) ns)) (take (n - 0) ns) w → ReadAs p q pages table c t n (take n ns) w
 reads-part t w n ns l r = rw (sub-zero, length-take-le n ns l) at r
+
+pub reads-front : {p q : ℕ} {pages : List (List ℕ)} {table : Worktable} {c : Charged} (t : Tariff) (w : World) (n : ℕ) (ns : List ℕ) →
+    n ≤ length ns → ReadAs p q pages table c t (length (take n ns)) (take n ns) w → ReadAs p q pages table c t n (take n ns) w
+reads-front t w n ns l r = rw (length-take-le n ns l) at r

@@ -5,8 +5,7 @@ use Rattle.flash_rows.specs.Worktable.{Worktable}
 use Rattle.store.specs.Serve.{read}
 use Rattle.flash_allocate.specs.World.{World, Kept}
 use Rattle.run_serve.specs.Serve.{serve, charge}
-use Rattle.run_serve.specs.Step.{ChargedAs}
-use Rattle.run_serve.specs.declared.charged.Charged.{Charged}
+use Rattle.run_serve.specs.Step.{Charged, ChargedAs}
 
 -- The world after reads of these nodes, and what they are charged.
 abbrev pub read_all : Tariff → List ℕ → World → World

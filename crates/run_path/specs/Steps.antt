@@ -1,8 +1,7 @@
 -- A way down a step at a time: what is left of it from a node gives the whole. Assumes nothing.
-use Rattle.std.specs.Prelude.{◌≡◌, refl, Bool, true, false, List, [], ◌∷◌, ◌++◌, ℕ, suc, ◌+◌, ◌-◌, ◌≤◌, ◌<◌, ltb, length, take, set}
+use Rattle.std.specs.Prelude.{◌≡◌, refl, Bool, true, false, List, [], ◌∷◌, ◌++◌, ℕ, suc, ◌+◌, ◌-◌, ◌≤◌, ◌<◌, ltb, length, take, set, None}
 use Rattle.std.proofs.Common.{sym, ap, ◌∙◌, append_assoc, add-one, ltb-true, ltb-false, length-set, get_or-set_same, take-suc-set}
 use native.Mathlib.Omega.{arith}
-use Rattle.std.proofs.Math.Option.{none}
 use Rattle.layout.specs.Layout.{node_limit, most_blocks}
 use Rattle.pairs.specs.Pairs.{Pair}
 use Rattle.node.specs.declared.Shape.TheVariants.{Leaf, Branch}
@@ -99,7 +98,7 @@ module _ {table : Table} {steps k : ℕ} {ids : List ℕ} {id i : ℕ} (d : Down
 
     pub down_leaf : (ps : List Pair) (next : ℕ) → table id ≡ node Leaf ps next → PathTo table steps k (set ids i id) (record { length = i + 1; leaf = v })
     down_leaf ps n e =
-        let ends : child_for k (table id) ≡ none = ap (child_for k) e in
+        let ends : child_for k (table id) ≡ None = ap (child_for k) e in
         down_end (path-leaf table k (steps - i) id ends) (leaf_for-leaf table k (steps - i) id ends)
 
     pub down_last : steps ≤ i → PathTo table steps k (set ids i id) (record { length = i + 1; leaf = v })

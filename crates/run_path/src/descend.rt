@@ -1,59 +1,43 @@
 // The walk down from the root to the leaf of a key: each node is read, as a request, when it is come to. Nothing is kept but the node in hand.
-ghost use Rattle.std.specs.Prelude.{◌≤◌, length};
+ghost use Rattle.std.specs.Prelude.{◌≤◌};
 ghost use Rattle.layout.specs.Layout.{node_limit, most_blocks};
 ghost use Rattle.account.specs.Range.{Ranged};
-ghost use Rattle.flash_allocate.specs.World.{Good, world_in};
-ghost use Rattle.run_serve.specs.Step.{InBytes};
-ghost use Rattle.run_path.specs.Descend.{DescendedAs};
+ghost use Rattle.flash_allocate.specs.Flash.{Same};
+ghost use Rattle.run_path.specs.Descend.{Descends};
 
 use account::Tariff;
-use flash_allocate::state::State;
-use flash_read::by_id::node_at;
+use flash_allocate::flash::Flash;
+use flash_read::lent::read_node;
 use node::search::child;
-use node::{NodeValue, Shape, same_shape};
-use run_serve::charged::Charged;
-use run_serve::id::wide;
+use node::{NodeValue, Shape};
 use run_serve::request::serve_read;
 
-// A walk at its end: the reads of its nodes, and the last of them, with its id, as it was before its read.
+// A walk at its end: what the reads of its nodes were charged, and the last of them, with its id, as it was before its read.
 #[derive(Drop)]
 pub struct Descended {
-    pub charged: Charged,
+    pub charge: u64,
     pub id: usize,
     pub leaf: NodeValue,
 }
 
 // No more nodes are read than there are: no path of a sound tree is longer.
-pub fn descend(
-    pool: &mut [u8],
-    table: &mut [u8],
-    state: State,
-    tariff: Tariff,
-    key: u32,
-) -> Descended
-    requires { (Good (length pool.old) (length table.old) state) × (Ranged tariff)
-        × (state.nodes ≤ node_limit most_blocks) }
-    ensures { InBytes DescendedAs pool.new table.new result tariff key
-        (world_in pool.old table.old state) }
+pub fn descend(flash: &mut Flash, tariff: Tariff, key: u32) -> Descended
+    requires ranged { Ranged tariff }
+    requires limited { flash.old.state.nodes ≤ node_limit most_blocks }
+    ensures buffers { Same flash.old flash.new }
+    ensures served { Descends flash.old flash.new result tariff key }
 {
-    let mut s = state;
-    let mut charge: u64 = 0;
-    let mut id: usize = 0;
-    let mut i: usize = 0;
-    loop {
-        let leaf = node_at(pool, table, s, id);
-        let read = serve_read(pool, table, s, tariff, id);
-        s = read.state;
-        charge += read.charge;
-        i += 1;
-        let charged = Charged { state: s, charge };
-        let shape = leaf.shape;
-        if same_shape(shape, Shape::Leaf) {
-            return Descended { charged, id, leaf };
+    let nodes = flash.state.nodes;
+    let mut id = 0;
+    let mut leaf = read_node(flash, id);
+    let mut charge = serve_read(flash, tariff, id);
+    for _reads in 1..nodes {
+        if leaf.shape == Shape::Leaf {
+            break;
         }
-        if state.nodes <= i {
-            return Descended { charged, id, leaf };
-        }
-        id = wide(child(leaf, key));
+        id = child(leaf, key) as usize;
+        leaf = read_node(flash, id);
+        charge += serve_read(flash, tariff, id);
     }
+    Descended { charge, id, leaf }
 }

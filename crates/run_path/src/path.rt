@@ -1,16 +1,14 @@
 // The path from the root to the leaf of a key.
-ghost use Rattle.std.specs.Prelude.{◌≡◌, ◌-◌, length};
+ghost use Rattle.std.specs.Prelude.{◌≡◌, ◌-◌, ◌≤◌, length};
 ghost use Rattle.layout.specs.Layout.{node_limit, most_blocks};
-ghost use Rattle.flash_rows.specs.Worktable.{table_from};
-ghost use Rattle.flash_blocks.specs.Pages.{pages_of};
-ghost use Rattle.flash_read.specs.NodeTable.{table_of, Readable};
-ghost use Rattle.run_path.specs.Path.{PathTo};
+ghost use Rattle.flash_allocate.specs.Flash.{world_of};
+ghost use Rattle.run_path.specs.Path.{PathTo, table_in};
 
-use flash_allocate::state::State;
-use flash_read::by_id::node_at;
+use flash_allocate::flash::Flash;
+use flash_read::lent::read_node;
 use layout::MOST_NODES;
 use node::search::child;
-use node::{NodeValue, Shape, same_shape};
+use node::{NodeValue, Shape};
 
 // How many nodes the path has, and the leaf at its end.
 #[derive(Drop)]
@@ -21,31 +19,22 @@ pub struct Path {
 
 // The ids of the path are laid into `ids`, from the root on: they are lent, since a stack is small. No more nodes are read than there are: no path
 // of a sound tree is longer.
-pub fn path_to<'a>(
-    pool: &'a [u8],
-    table: &'a [u8],
-    ids: &mut [u32; MOST_NODES],
-    state: State,
-    key: u32,
-) -> Path
-    requires { (Readable state table.now) × (length ids.old ≡ node_limit most_blocks) }
-    ensures { PathTo (table_of (pages_of pool.now) (table_from table.now) state)
-        (state.nodes - 1) key ids.new result }
+pub fn path_to(flash: &Flash, ids: &mut [u32; MOST_NODES], key: u32) -> Path
+    requires limited { flash.now.state.nodes ≤ node_limit most_blocks }
+    requires room { length ids.old ≡ node_limit most_blocks }
+    ensures { PathTo (table_in (world_of flash.now)) (flash.now.state.nodes - 1) key ids.new result }
 {
-    let mut id: u32 = 0;
-    let mut i: usize = 0;
-    loop {
+    ids[0] = 0;
+    let mut length = 1;
+    let mut leaf = read_node(flash, 0);
+    for i in 1..flash.state.nodes {
+        if leaf.shape == Shape::Leaf {
+            break;
+        }
+        let id = child(leaf, key);
         ids[i] = id;
-        let length = i + 1;
-        let leaf = node_at(pool, table, state, id as usize);
-        let shape = leaf.shape;
-        if same_shape(shape, Shape::Leaf) {
-            return Path { length, leaf };
-        }
-        if state.nodes <= length {
-            return Path { length, leaf };
-        }
-        id = child(leaf, key);
-        i = length;
+        length = i + 1;
+        leaf = read_node(flash, id as usize);
     }
+    Path { length, leaf }
 }

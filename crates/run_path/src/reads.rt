@@ -2,36 +2,24 @@
 ghost use Rattle.std.specs.Prelude.{◌≤◌, length};
 ghost use Rattle.layout.specs.Layout.{node_limit, most_blocks};
 ghost use Rattle.account.specs.Range.{Ranged};
-ghost use Rattle.flash_allocate.specs.World.{Good, world_in};
-ghost use Rattle.run_serve.specs.Step.{InBytes};
+ghost use Rattle.flash_allocate.specs.Flash.{world_of, Same};
+ghost use Rattle.run_serve.specs.Step.{InFlash};
 ghost use Rattle.run_path.specs.Reads.{ReadAs};
 
 use account::Tariff;
-use flash_allocate::state::State;
-use run_serve::charged::Charged;
+use flash_allocate::flash::Flash;
 use run_serve::request::serve_read;
 
-// Reads of these nodes, in order.
-pub fn read_nodes(
-    pool: &mut [u8],
-    table: &mut [u8],
-    state: State,
-    tariff: Tariff,
-    ids: &[u32],
-) -> Charged
-    requires { (Good (length pool.old) (length table.old) state) × (Ranged tariff)
-        × (length ids.now ≤ node_limit most_blocks) }
-    ensures { InBytes ReadAs pool.new table.new result tariff (length ids.now)
-        ids.now (world_in pool.old table.old state) }
+// Reads of these nodes, in order; the answer is what they are charged.
+pub fn read_nodes(flash: &mut Flash, tariff: Tariff, ids: &[u32]) -> u64
+    requires ranged { Ranged tariff }
+    requires few { length ids.now ≤ node_limit most_blocks }
+    ensures buffers { Same flash.old flash.new }
+    ensures served { InFlash ReadAs flash.new result tariff (length ids.now) ids.now (world_of flash.old) }
 {
-    let mut s = state;
-    let mut charge: u64 = 0;
-    let mut i: usize = 0;
-    while i < ids.len() {
-        let read = serve_read(pool, table, s, tariff, ids[i] as usize);
-        s = read.state;
-        charge += read.charge;
-        i += 1;
+    let mut charge = 0;
+    for id in ids {
+        charge += serve_read(flash, tariff, *id as usize);
     }
-    Charged { state: s, charge }
+    charge
 }

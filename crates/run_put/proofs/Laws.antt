@@ -1,26 +1,21 @@
 -- The steps of a put put together. Assumes nothing.
 use mathlib.Core.Path.{◌≡◌, refl, sym, ap, ap₂, ◌∙◌, subst}
 use mathlib.Core.List.{List}
-use mathlib.Core.Option.{some}
+use Rattle.std.specs.Prelude.{Result, Ok, Err}
 use Prim.Native.Nat.{ℕ, ◌+◌, ◌-◌, ◌≤◌, ◌<◌}
-use native.Mathlib.Nat.{sub-zero}
 use native.Mathlib.Omega.{arith}
 use borrow.Author.Tests.{lt-ltb, le-ltb}
 use lib.ListN.{length, get_or, take}
 use lib.Seq.{get_or-take, length-take-le}
-use Rattle.layout.specs.Layout.{node_limit, most_blocks, most_keys, bound32}
+use Rattle.layout.specs.Layout.{node_limit, most_blocks, most_keys}
 use Rattle.account.specs.declared.Tariff.{Tariff}
 use Rattle.command.specs.declared.Answer.{Answer}
 use Rattle.command.specs.declared.Answer.TheVariants.{Absent, Replaced, Refused}
 use Rattle.command.specs.Answer.{value_or}
 use Rattle.pairs.specs.Pairs.{Pair, lookup}
-use Rattle.node.specs.declared.Found.TheVariants.{At, Above}
-use Rattle.node.specs.declared.NodeValue.{NodeValue}
 use Rattle.node.specs.Node.{Node, pairs_of}
 use Rattle.node.specs.Change as Change
-use Rattle.node.specs.Search.{pointer_at, lookup-present, lookup_absent}
-use Rattle.node.specs.Found.{found, at-present, at_place, above-absent}
-use Rattle.node.specs.Value.{pairs_in, node_of, Held}
+use Rattle.node.specs.Value.{pairs_in, node_of}
 use Rattle.tree.specs.Table.{Table, path, leaf_for}
 use Rattle.tree.specs.Put.{ids_needed}
 use Rattle.tree_laws.specs.IdsNeeded.{size_at}
@@ -28,33 +23,15 @@ use Rattle.flash_rows.specs.Worktable.{Worktable}
 use Rattle.store.specs.Serve.{edit}
 use Rattle.flash_allocate.specs.declared.state.State.{State}
 use Rattle.flash_allocate.specs.World.{World, world}
-use Rattle.run_serve.specs.declared.charged.Charged.{Charged}
-use Rattle.run_serve.specs.declared.charged.Answered.{Answered}
-use Rattle.run_serve.specs.Step.{kept_then, charged-none, charged-is, both, then}
+use Rattle.run_serve.specs.Step.{Charged, Answered, uncharged, kept_then, charged-none, charged-is, both, then}
 use Rattle.run_serve.specs.Serve.{serve_holding, charge, ServedHolding}
 use Rattle.run_path.specs.declared.path.Path.{Path}
 use Rattle.run_path.specs.Path.{table_in, steps_in, PathTo}
 use Rattle.run_path.specs.Reads.{ReadAs}
-use Rattle.node.specs.declared.fit.Fitting.{Fitting}
-use Rattle.node.specs.declared.fit.Fitting.TheVariants.{Room, Full}
 use Rattle.node.specs.Fit.{fit_of, full-above}
 use Rattle.run_split.specs.Growing.{Growing, grew_same, grew_charged, grew_then}
 use Rattle.run_split.specs.SplitUpwards.{split_upwards, SplitUpwardsAs}
 use Rattle.run_put.specs.Put.{last_of, read_and_edit, read_and_split, Doing, answering, refused, put_splitting, put_in, put, RequestsAs, DoneAs}
-
--- The old value, by what the search found.
-module _ (v : NodeValue) (h : Held v) (key : ℕ) where
-  pub old_there : (i old : ℕ) → found key (pairs_in v) ≡ At i → old ≡ pointer_at (pairs_in v) v.link i → Replaced
-      old ≡ value_or Replaced (lookup key (pairs_in v))
-  old_there i old e f =
-      let there : lookup key (pairs_in v) ≡ some old =
-      lookup-present key v.link (pairs_in v) (at-present key (pairs_in v) i e) ∙
-      ap (λ (j : ℕ). some (pointer_at (pairs_in v) v.link j)) (sym (at_place key (pairs_in v) i e)) ∙
-      ap some (sym f) in
-      rw there refl
-
-  pub old-none : (i : ℕ) → found key (pairs_in v) ≡ Above i → Absent ≡ value_or Replaced (lookup key (pairs_in v))
-  old-none i e = rw (lookup_absent key 0 bound32 (pairs_in v) h.ascending (above-absent key (pairs_in v) i e)) refl
 
 -- The reads, then the edit or the splits.
 module _ {P₀ T₀ P₁ T₁ : ℕ} (t : Tariff) (key value : ℕ) (on_path : List ℕ) (w : World) (g : Growing P₀ T₀ w.state)
@@ -85,7 +62,7 @@ done-is {P} {T} {pages} {held} {r} {s} e k = subst (λ (z : Doing). DoneAs P T p
 -- A new key: refused, or put with the splits.
 module _ (t : Tariff) (on_path : List ℕ) (needed counted key value : ℕ) (w : World) (e : needed ≡ counted) where
   pub new_refused : {P T : ℕ} → node_limit w.state.blocks < w.state.nodes + needed → Growing P T w.state →
-      DoneAs P T w.pages w.table (record { charged = record { state = w.state; charge = 0 }; answer = Refused 9 }) w.state
+      DoneAs P T w.pages w.table (record { charged = uncharged w.state; answer = Refused 9 }) w.state
       (put_splitting t on_path counted key value w)
   unfolding put_splitting
   new_refused l g =
@@ -105,13 +82,10 @@ module _ (t : Tariff) (on_path : List ℕ) (needed counted key value : ℕ) (w :
 -- The way down: the ids of the path are lent on as the front of the lent array.
 module _ (key : ℕ) (w : World) (p : Path) (lent : List ℕ) (to : PathTo (table_in w) (steps_in w) key lent p) where
   abbrev ids : List ℕ
-  ids = take (p.length - 0) lent
-
-  part : ids ≡ take p.length lent
-  part = ap (λ (n : ℕ). take n lent) (sub-zero p.length)
+  ids = take p.length lent
 
   many : length ids ≡ p.length
-  many = ap length part ∙ length-take-le p.length lent (omega (arith, to.few, to.room))
+  many = length-take-le p.length lent (omega (arith, to.few, to.room))
 
   pub ids_some : 1 ≤ length ids
   ids_some = omega (arith, many, to.some)
@@ -129,16 +103,16 @@ module _ (key : ℕ) (w : World) (p : Path) (lent : List ℕ) (to : PathTo (tabl
   on_path = path (steps_in w) table key 0
 
   path-is : ids ≡ on_path
-  path-is = part ∙ to.ids
+  path-is = to.ids
 
   last-is : last_of ids ≡ leaf
   last-is =
-      ap₂ (λ (xs : List ℕ) (n : ℕ). get_or xs (n - 1) 0) part many ∙
+      ap (λ (n : ℕ). get_or ids (n - 1) 0) many ∙
       get_or-take p.length lent (p.length - 1) 0 (omega (arith, to.some)) ∙
       to.end
 
   -- The put, by what its leaf says.
-  module _ (t : Tariff) (value : ℕ) (f : Fitting) (e : f ≡ fit_of key (pairs_in p.leaf)) where
+  module _ (t : Tariff) (value : ℕ) (f : Result (Unit {0}) ℕ) (e : f ≡ fit_of key (pairs_in p.leaf)) where
     pairs_are : pairs_in p.leaf ≡ pairs_of (table leaf)
     pairs_are = ap pairs_of to.leaf.is
 
@@ -146,7 +120,7 @@ module _ (key : ℕ) (w : World) (p : Path) (lent : List ℕ) (to : PathTo (tabl
     fit_is = ap (fit_of key) (sym pairs_are) ∙ sym e
 
     -- it fits
-    pub put-edit : {P T : ℕ} (pages : List (List ℕ)) (held : Worktable) (answer : Answer) (r : Charged) → f ≡ Room →
+    pub put-edit : {P T : ℕ} (pages : List (List ℕ)) (held : Worktable) (answer : Answer) (r : Charged) → f ≡ Ok tt →
         answer ≡ value_or Replaced (lookup key (pairs_in p.leaf)) →
         RequestsAs P T pages held r w.state (read_and_edit t ids (last_of ids) (node_of p.leaf) key value w) →
         DoneAs P T pages held (record { charged = r; answer = answer }) w.state (put t key value w)
@@ -160,7 +134,7 @@ module _ (key : ℕ) (w : World) (p : Path) (lent : List ℕ) (to : PathTo (tabl
         done-is done (record { charged = k; answer = refl })
 
     -- it does not
-    module _ (at : ℕ) (full : f ≡ Full at) where
+    module _ (at : ℕ) (full : f ≡ Err at) where
       pub leaf-full : most_keys ≤ size_at table (last_of ids)
       leaf-full =
           omega (

@@ -17,9 +17,7 @@ use Rattle.flash_rows.specs.Worktable.{Worktable}
 use Rattle.store.specs.Serve.{edit}
 use Rattle.flash_allocate.specs.declared.state.State.{State}
 use Rattle.flash_allocate.specs.World.{World}
-use Rattle.run_serve.specs.declared.charged.Charged.{Charged}
-use Rattle.run_serve.specs.declared.charged.Answered.{Answered}
-use Rattle.run_serve.specs.Step.{ChargedAs, AnsweredAs}
+use Rattle.run_serve.specs.Step.{Charged, Answered, ChargedAs, AnsweredAs}
 use Rattle.run_serve.specs.Serve.{serve_holding, charge}
 use Rattle.run_path.specs.Path.{table_in, steps_in}
 use Rattle.run_path.specs.Reads.{read_all, read_charges}

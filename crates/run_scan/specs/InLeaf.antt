@@ -1,12 +1,11 @@
 -- The pairs of one leaf taken a key at a time, from the place of the low key on: what is left of it from here gives what the whole leaf gives. Assumes
 -- nothing.
-use Rattle.std.specs.Prelude.{◌≡◌, refl, true, false, List, [], ◌∷◌, ◌++◌, ◌⊎◌, ℕ, zero, suc, ◌+◌, ◌-◌, ◌≤◌, ◌<◌, length, get_or, drop, set}
+use Rattle.std.specs.Prelude.{◌≡◌, refl, true, false, List, [], ◌∷◌, ◌++◌, ◌⊎◌, ℕ, zero, suc, ◌+◌, ◌-◌, ◌≤◌, ◌<◌, length, get_or, drop, set, Result}
 use Rattle.std.proofs.Common.{sym, ap, ap₂, ◌∙◌, append-nil, append_assoc, inl, inr, add-one, arith, lt-ltb, le-ltb, length-set, drop_of_length-le, drop-cons}
 use Rattle.laws.specs.Order.{le_or}
 use Rattle.pairs.specs.Pairs.{Pair, range, has_above}
 use Rattle.pairs.specs.Clauses.{range-zero, range_skip, range_stop, range-take}
 use Rattle.node.specs.declared.NodeValue.{NodeValue}
-use Rattle.node.specs.declared.Found.{Found}
 use Rattle.node.specs.Search.{place, place-below, place-first, place_le_length, lt_place, key_at-get_or, pointer_at-get_or}
 use Rattle.node.specs.Found.{found, place_of, place_of-found}
 use Rattle.node.specs.Value.{pairs_in, Sized, Held, length-pairs_in, key_at-pairs_in, pointer_at-pairs_in}
@@ -84,7 +83,7 @@ above_from low high (p ∷ ps) o = go (le_or low p.0) (above_from low high ps o)
 
 -- At the place that the search for the low key answers: a sweep rests on it (document 02, P3).
 pub taking_start : (low high most : ℕ) (leaf : NodeValue) (keys values : List ℕ) (count : ℕ) → low ≤ high → Held leaf →
-    length keys ≡ most_pairs → length values ≡ most_pairs → count < most → (r : Found) → r ≡ found low (pairs_in leaf) → (i : ℕ) → i ≡ place_of r →
+    length keys ≡ most_pairs → length values ≡ most_pairs → count < most → (r : Result ℕ ℕ) → r ≡ found low (pairs_in leaf) → (i : ℕ) → i ≡ place_of r →
     Taking low high most leaf keys values count keys values count i
 taking_start low high most leaf keys values count o h e f l r is i of =
     let at : i ≡ place low (pairs_in leaf) = of ∙ ap place_of is ∙ place_of-found low (pairs_in leaf) in

@@ -10,15 +10,16 @@ use Rattle.pairs.specs.Pairs.{Pair}
 use Rattle.tree.specs.Scan.{pairs_from, leaves_after}
 use Rattle.flash_rows.specs.Worktable.{Worktable}
 use Rattle.flash_allocate.specs.World.{World, world, Good, Kept}
-use Rattle.run_serve.specs.Step.{ChargedAs, kept_same, kept_then, charged-none, charged-is, both, then}
-use Rattle.run_serve.specs.declared.charged.Charged.{Charged}
-use Rattle.run_path.specs.declared.descend.Descended.{Descended}
+use Rattle.flash_allocate.specs.declared.state.State.{State}
+use Rattle.flash_allocate.specs.declared.flash.Flash.{Flash}
+use Rattle.flash_allocate.specs.Flash.{world_of}
+use Rattle.run_serve.specs.Step.{Charged, InBytes, ChargedAs, kept_same, kept_then, charged-none, charged-is, both, then}
 use Rattle.run_path.specs.Path.{table_in}
 use Rattle.run_path.specs.Reads.{read_all, read_charges, ReadAs}
-use Rattle.run_path.specs.Descend.{Descent, descent, DescendedAs}
+use Rattle.run_path.specs.Descend.{Descent, descent, Arrived, DescendedAs}
 use Rattle.run_scan.specs.declared.Pairs.{Pairs}
 use Rattle.run_scan.specs.declared.gather.Gathered.{Gathered}
-use Rattle.run_scan.specs.declared.scan.Scanned.{Scanned}
+use Rattle.run_scan.specs.declared.scan.Scanned as code
 use Rattle.run_scan.specs.Pairs.{pairs_of, Sized}
 use Rattle.run_scan.specs.Gathered.{GatheredFrom}
 
@@ -48,6 +49,14 @@ scan_charge t low high most w =
 unfoldable pub scan_pairs : Tariff → ℕ → ℕ → ℕ → World → List Pair
 scan_pairs t low high most w = elim (ltb high low) [ true ↦ [] | false ↦ pairs_along low high most (descent t low w) ]
 
+-- What the code of a scan answers, with the state that it leaves.
+pub record Scanned : Type 0 where
+  pub charged : Charged
+  pub pairs : Pairs
+
+abbrev pub scanned_in : State → code.Scanned → Scanned
+scanned_in s r = record { charged = record { state = s; charge = r.charge }; pairs = r.pairs }
+
 -- What the code of a scan leaves: this world, this charge and these pairs, and room for as many ids as before.
 pub record ScannedAs (pool_length table_length : ℕ) (pages : List (List ℕ)) (table : Worktable) (ids : List ℕ) (r : Scanned) (t : Tariff)
     (low high wanted : ℕ) (w : World) : Type 0 where
@@ -57,6 +66,11 @@ pub record ScannedAs (pool_length table_length : ℕ) (pages : List (List ℕ)) 
   pub sized : Sized r.pairs
   pub count : r.pairs.count ≤ wanted
   pub room : length ids ≡ node_limit most_blocks
+
+-- The same said of lent buffers and their state.
+abbrev pub Scans : Flash → Flash → List ℕ → code.Scanned → Tariff → ℕ → ℕ → ℕ → Type 0
+Scans before behind ids r t low high wanted =
+    InBytes ScannedAs behind.pool.now behind.table.now ids (scanned_in behind.state r) t low high wanted (world_of before)
 
 module _ (t : Tariff) (low high most : ℕ) (w : World) where
   -- low above high
@@ -76,7 +90,7 @@ module _ (t : Tariff) (low high most : ℕ) (w : World) where
       }
 
   -- the walk down, then the leaves behind the one that it ends at
-  module _ {P T P' T' : ℕ} {pages pages' : List (List ℕ)} {table table' : Worktable} {walk : Descended} {d : Charged} {ids : List ℕ} {g : Gathered} where
+  module _ {P T P' T' : ℕ} {pages pages' : List (List ℕ)} {table table' : Worktable} {walk : Arrived} {d : Charged} {ids : List ℕ} {g : Gathered} where
     pub scanned : low ≤ high → w.state.nodes ≤ node_limit most_blocks → DescendedAs P T pages table walk t low w →
         GatheredFrom walk.id (table_in (world pages table walk.charged.state)) walk.charged.state.nodes low high most ids g →
         ReadAs P' T' pages' table' d t g.visited (take g.visited ids) (world pages table walk.charged.state) →

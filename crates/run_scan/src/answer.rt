@@ -13,13 +13,9 @@ pub fn lay_scan(buffer: &mut [u8], at: usize, pairs: Pairs) -> usize
     ensures { (buffer.new ≡ lay buffer.old at (scan_bytes (pairs_of pairs)))
         × (result ≡ at + length (scan_bytes (pairs_of pairs))) }
 {
-    let keys = pairs.keys;
-    let values = pairs.values;
-    let mut i: usize = 0;
-    while i < pairs.count {
-        lay_pair(buffer, at + 3 + 8 * i, keys[i], values[i]);
-        i += 1;
+    for i in 0..pairs.count {
+        lay_pair(buffer, at + 3 + 8 * i, pairs.keys[i], pairs.values[i]);
     }
-    lay_scan_head(buffer, at, i);
-    at + 3 + 8 * i
+    lay_scan_head(buffer, at, pairs.count);
+    at + 3 + 8 * pairs.count
 }

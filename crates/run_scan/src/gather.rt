@@ -19,11 +19,12 @@ pub struct Gathered {
     pub visited: usize,
 }
 
-// From a first leaf on, in each from the first key at or above the low one on; as many links are followed as there are nodes at most. The ids of the
-// leaves behind the first are laid into `leaves`, in order: they are lent, since a stack is small.
-pub fn gather<'a>(
-    pool: &'a [u8],
-    table: &'a [u8],
+// From a first leaf on, in each from the first key at or above the low one on; as many links are followed as there are
+// nodes at most. The ids of the leaves behind the first are laid into `leaves`, in order: they are lent, since a stack
+// is small.
+pub fn gather(
+    pool: &[u8],
+    table: &[u8],
     state: State,
     first: usize,
     low: u32,
@@ -41,38 +42,34 @@ pub fn gather<'a>(
     let mut count: usize = 0;
     let mut visited: usize = 0;
     let mut leaf = node_at(pool, table, state, first);
+    // A `loop`, since it ends in four ways, two of them inside a leaf: a `for` over the links would end in the same four.
     'leaves: loop {
-        let leaf_keys = leaf.keys;
-        let leaf_values = leaf.pointers;
-        let mut i = place_of(find(leaf, low));
-        'keys: while i < leaf.count {
-            let key = leaf_keys[i];
+        'keys: for i in place_of(find(leaf, low))..leaf.count {
+            let key = leaf.keys[i];
             if high < key {
                 break 'leaves;
             }
             keys[count] = key;
-            values[count] = leaf_values[i];
+            values[count] = leaf.pointers[i];
             count += 1;
             if count == most {
                 break 'leaves;
             }
-            i += 1;
         }
         let next = leaf.link;
-        if next == NO_LEAF {
-            break;
-        }
-        if visited == state.nodes {
+        if next == NO_LEAF || visited == state.nodes {
             break;
         }
         leaves[visited] = next;
         visited += 1;
         leaf = node_at(pool, table, state, next as usize);
     }
-    let pairs = Pairs {
-        keys,
-        values,
-        count,
-    };
-    Gathered { pairs, visited }
+    Gathered {
+        pairs: Pairs {
+            keys,
+            values,
+            count,
+        },
+        visited,
+    }
 }

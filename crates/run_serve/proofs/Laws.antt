@@ -6,7 +6,10 @@ use Prim.Native.Nat.{ℕ, ◌≤◌, ◌<◌}
 use native.Mathlib.Omega.{arith}
 use borrow.Author.Tests.{lt-ltb, le-ltb}
 use lib.ListN.{get_or}
+use denote.Enum.Bare.{sameb}
+use Rattle.account.specs.contracts.Mode.{the_type}
 use Rattle.account.specs.declared.Mode.{Mode}
+use Rattle.account.specs.declared.Mode.TheVariants.{Log, Disk}
 use Rattle.account.specs.declared.Request.{Request}
 use Rattle.account.specs.declared.Tariff.{Tariff}
 use Rattle.account.specs.declared.Account.{Account}
@@ -22,21 +25,22 @@ use Rattle.flash_rows.specs.Worktable.{Worktable}
 use Rattle.flash_rows.specs.declared.Row.{Row}
 use Rattle.flash_allocate.specs.declared.state.State.{State}
 use Rattle.flash_allocate.specs.World.{World, world, Good, Kept}
-use Rattle.run_serve.specs.declared.charged.Charged.{Charged}
-use Rattle.run_serve.specs.declared.settle.Settled.{Settled}
-use Rattle.run_serve.specs.Step.{kept-is, kept_same, kept_then, charged-none, charged-is}
+use Rattle.run_serve.specs.Step.{Charged, uncharged, kept-is, kept_same, kept_then, charged-none, charged-is}
 use Rattle.run_serve.specs.Content.{content_of, content_after}
 use Rattle.run_serve.specs.Write.{write_whole, write}
-use Rattle.run_serve.specs.Settle.{account_in, served_at, same_mode, switch, rescored, settle_by, settle, settled_by, SettledAs}
+use Rattle.run_serve.specs.Settle.{account_in, served_at, same_mode, switch, rescored, settle_by, settle, Settled, settled_by, SettledAs}
 use Rattle.run_serve.specs.Serve.{request_of, serve_there, serve_holding, serve, charge, ServedAs, ServedHolding}
 
 -- A result that stands for what is said in another way.
 pub becomes_is : {v : NodeValue} {x y : Node} → Becomes v x → x ≡ y → Becomes v y
 becomes_is b e = record { is = b.is ∙ e; held = b.held }
 
-pub kept_mode : {P T : ℕ} {s : State} {made : World} (by : Mode → World) {m m' : Mode} → m ≡ m' → Kept P T s made
-    (by m') → Kept P T s made (by m)
-kept_mode by e k = kept-is k (ap by (sym e))
+-- The code compares modes by their derived equality.
+pub same_mode-equal : (a b : Mode) → same_mode a b ≡ sameb the_type a b
+same_mode-equal Log Log = refl
+same_mode-equal Log Disk = refl
+same_mode-equal Disk Log = refl
+same_mode-equal Disk Disk = refl
 
 -- A switch: none between equal modes, else the content that the node has.
 module _ {P T : ℕ} (from to : Mode) (n : ℕ) (x : Node) (w : World) where
@@ -48,9 +52,6 @@ module _ {P T : ℕ} (from to : Mode) (n : ℕ) (x : Node) (w : World) where
       Kept P T w.state w₁ (switch from to n x w)
   unfolding switch
   switch-whole y w₁ e f k = kept-is k (ap (λ (z : Node). write_whole to n z w) f ∙ rw e refl)
-
-  pub switch_by : (y : Node) (w₁ : World) → y ≡ x → Kept P T w.state w₁ (switch from to n y w) → Kept P T w.state w₁ (switch from to n x w)
-  switch_by y w₁ f k = kept-is k (ap (λ (z : Node). switch from to n z w) f)
 
 -- The row loaded, its account served, the switch, and the score in the row that the switch leaves.
 module _ {P T T' : ℕ} (t : Tariff) (q : Request) (n : ℕ) (x : Node) (w w₁ : World) (row : Row) (account : Account) (served : Served)
@@ -110,7 +111,7 @@ module _ {P T P' T' : ℕ} (t : Tariff) (n : ℕ) (x : Node) (work : Work) (w : 
 
 -- A request of a node that is not there.
 pub served_nowhere : {P T : ℕ} (t : Tariff) (n : ℕ) (x : Node) (work : Work) (w : World) → w.state.nodes ≤ n → Good P T w.state →
-    ServedHolding P T w.pages w.table (record { state = w.state; charge = 0 }) t n x work w
+    ServedHolding P T w.pages w.table (uncharged w.state) t n x work w
 unfolding serve_holding charge
 served_nowhere t n x work w h g =
     charged-is (charged-none w (kept_same w g)) (omega arith) (rw (le-ltb n w.state.nodes h) refl) (rw (le-ltb n w.state.nodes h) refl)

@@ -1,6 +1,9 @@
 -- The content of a node as a request finds it, and as it leaves it.
-use Rattle.std.specs.Prelude.{ℕ}
+use Rattle.std.specs.Prelude.{ℕ, Option, None, Some}
+use Rattle.std.specs.Borrow.{Bor}
 use Rattle.node.specs.Node.{Node}
+use Rattle.node.specs.declared.NodeValue.{NodeValue}
+use Rattle.node.specs.Value.{node_of}
 use Rattle.node.specs.Change.{Change}
 use Rattle.node.specs.Replay.{Draft, made, redo}
 use Rattle.store.specs.Store.{node_in}
@@ -24,3 +27,8 @@ abbrev pub content_after : Work → Node → Node
 content_after read x = x
 content_after (edit c) x = edited_of c x
 content_after (rewrite y) x = y
+
+-- The content in hand where a caller has it, else this.
+abbrev pub in_hand : Option (Bor NodeValue) → Node → Node
+in_hand None x = x
+in_hand (Some v) x = node_of v.now

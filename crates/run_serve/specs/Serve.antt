@@ -8,8 +8,7 @@ use Rattle.node.specs.Node.{Node}
 use Rattle.flash_rows.specs.Worktable.{Worktable}
 use Rattle.store.specs.Serve.{Work, read, edit, rewrite}
 use Rattle.flash_allocate.specs.World.{World, Kept}
-use Rattle.run_serve.specs.declared.charged.Charged.{Charged}
-use Rattle.run_serve.specs.Step.{ChargedAs}
+use Rattle.run_serve.specs.Step.{Charged, ChargedAs}
 use Rattle.run_serve.specs.Content.{content_of, content_after}
 use Rattle.run_serve.specs.Write.{write}
 use Rattle.run_serve.specs.Settle.{served_at, settle}

@@ -15,8 +15,7 @@ use Rattle.flash_rows.specs.Step.{scored}
 use Rattle.flash_rows.specs.declared.Row.{Row}
 use Rattle.flash_allocate.specs.declared.state.State.{State}
 use Rattle.flash_allocate.specs.World.{World, world, Kept}
-use Rattle.run_serve.specs.declared.settle.Settled.{Settled}
-use Rattle.run_serve.specs.Step.{ChargedAs}
+use Rattle.run_serve.specs.Step.{Charged, ChargedAs}
 use Rattle.run_serve.specs.Write.{write_whole}
 
 -- The account that a row keeps, and that of node n.
@@ -54,6 +53,10 @@ abbrev pub settle : Tariff → Request → ℕ → Node → World → World
 settle t q n x w = settle_by (account_at n w).mode (served_at t q n w).account n x w
 
 -- What is charged in the state that the switch left, and the mode that serves the request.
+pub record Settled : Type 0 where
+  pub charged : Charged
+  pub mode : Mode
+
 abbrev pub settled_by : State → Served → Settled
 settled_by s served = record { charged = record { state = s; charge = served.charge }; mode = served.account.mode }
 

@@ -8,12 +8,32 @@ use Rattle.flash_blocks.specs.Pages.{pages_of}
 use Rattle.flash_rows.specs.Worktable.{Worktable, table_from}
 use Rattle.flash_allocate.specs.declared.state.State.{State}
 use Rattle.flash_allocate.specs.World.{World, world, Good, Kept, Leaves}
-use Rattle.run_serve.specs.declared.charged.Charged.{Charged}
-use Rattle.run_serve.specs.declared.charged.Answered.{Answered}
+use Rattle.flash_allocate.specs.declared.flash.Flash.{Flash}
+use Rattle.run_serve.specs.declared.charged.Answered as code
+
+-- Requests that were served: the state after them, and what they were charged; a command with its answer beside it.
+pub record Charged : Type 0 where
+  pub state : State
+  pub charge : ℕ
+
+pub record Answered : Type 0 where
+  pub charged : Charged
+  pub answer : Answer
 
 -- What is said of the pages of a pool and of a work table, said of their bytes.
 abbrev pub InBytes : {A : Type 1} → (ℕ → ℕ → List (List ℕ) → Worktable → A) → List ℕ → List ℕ → A
 InBytes said pool table = said (length pool) (length table) (pages_of pool) (table_from table)
+
+-- The same said of lent buffers and a state, and of a charge.
+abbrev pub InFlash : {A : Type 1} → (ℕ → ℕ → List (List ℕ) → Worktable → Charged → A) → Flash → ℕ → A
+InFlash said f charge = InBytes said f.pool.now f.table.now (record { state = f.state; charge = charge })
+
+-- The same of what the code of a command answers.
+abbrev pub answered_in : State → code.Answered → Answered
+answered_in s r = record { charged = record { state = s; charge = r.charge }; answer = r.answer }
+
+abbrev pub AnsweredIn : {A : Type 1} → (ℕ → ℕ → List (List ℕ) → Worktable → Answered → A) → Flash → code.Answered → A
+AnsweredIn said f r = InBytes said f.pool.now f.table.now (answered_in f.state r)
 
 -- So many requests at most: the world right, and what was paid for it.
 pub record ChargedAs (L : Leaves) (pool_length table_length : ℕ) (pages : List (List ℕ)) (table : Worktable) (r : Charged) (before : State)
@@ -47,9 +67,12 @@ kept_then step k l =
       checkpoint = l.checkpoint ∙ k.checkpoint;
     }
 
--- No request.
+-- No request: nothing is charged.
+abbrev pub uncharged : State → Charged
+uncharged s = record { state = s; charge = 0 }
+
 pub charged-none : {L : Leaves} {P T : ℕ} (w : World) → L P T w.state w w →
-    ChargedAs L P T w.pages w.table (record { state = w.state; charge = 0 }) w.state 0 w 0
+    ChargedAs L P T w.pages w.table (uncharged w.state) w.state 0 w 0
 charged-none w k = record { kept = k; charge = refl; most = omega arith }
 
 -- Requests said otherwise, or as some of more.

@@ -1,17 +1,9 @@
-// What node requests leave, and with it what a command answers.
+// What a command that was served answers, beside what it leaves.
 use command::Answer;
-use flash_allocate::state::State;
 
-// Requests that were served: the state after them, and what they were charged.
-#[derive(Drop)]
-pub struct Charged {
-    pub state: State,
-    pub charge: u64,
-}
-
-// A command that was served: its requests, and its answer.
+// What its requests were charged, and its answer.
 #[derive(Drop)]
 pub struct Answered {
-    pub charged: Charged,
+    pub charge: u64,
     pub answer: Answer,
 }

@@ -3,7 +3,6 @@
 
 pub mod charged;
 pub mod content;
-pub mod id;
 pub mod request;
 pub mod settle;
 pub mod write;

@@ -1,113 +1,78 @@
 // The node requests: a read, an edit, a rewrite. Of a node that is not there nothing is served and nothing charged.
-ghost use Rattle.std.specs.Prelude.{length};
 ghost use Rattle.account.specs.Range.{Ranged};
 ghost use Rattle.node.specs.Value.{node_of, Sized, Held};
 ghost use Rattle.node.specs.Drafts.{change_of};
 ghost use Rattle.store.specs.Serve as work;
-ghost use Rattle.flash_allocate.specs.World.{Good, world_in};
-ghost use Rattle.run_serve.specs.Step.{InBytes};
+ghost use Rattle.flash_allocate.specs.Flash.{world_of, Same};
+ghost use Rattle.run_serve.specs.Step.{InFlash};
 ghost use Rattle.run_serve.specs.Serve.{ServedAs, ServedHolding};
 
-use super::charged::Charged;
 use super::content::{content_of, edited};
-use super::settle::{settle, settle_holding};
+use super::settle::settle;
 use super::write::{write_edit, write_whole};
 use account::{Request, Tariff};
-use flash_allocate::state::State;
+use flash_allocate::flash::Flash;
 use node::{ChangeValue, NodeValue};
 
-// A read of a node.
-pub fn serve_read(
-    pool: &mut [u8],
-    table: &mut [u8],
-    state: State,
-    tariff: Tariff,
-    id: usize,
-) -> Charged
-    requires { (Good (length pool.old) (length table.old) state) × (Ranged tariff) }
-    ensures { InBytes ServedAs pool.new table.new result tariff id work.read
-        (world_in pool.old table.old state) }
+// A read of a node. The answer of this and the other requests is the charge.
+pub fn serve_read(flash: &mut Flash, tariff: Tariff, id: usize) -> u64
+    requires { Ranged tariff }
+    ensures buffers { Same flash.old flash.new }
+    ensures served { InFlash ServedAs flash.new result tariff id work.read (world_of flash.old) }
 {
-    if id < state.nodes {
-        let settled = settle(pool, table, state, tariff, id, Request::Read);
-        let charged = settled.charged;
-        return charged;
+    if id >= flash.state.nodes {
+        return 0;
     }
-    Charged { state, charge: 0 }
+    settle(flash, tariff, id, None, Request::Read).charge
 }
 
 // An edit of a node whose content is in hand: nothing is read for it.
 pub fn serve_edit_holding(
-    pool: &mut [u8],
-    table: &mut [u8],
-    state: State,
+    flash: &mut Flash,
     tariff: Tariff,
     id: usize,
     old: NodeValue,
     change: ChangeValue,
-) -> Charged
-    requires { (Good (length pool.old) (length table.old) state) × (Ranged tariff) × (Held old) }
-    ensures { InBytes ServedHolding pool.new table.new result tariff id (node_of old) (work.edit (change_of change))
-        (world_in pool.old table.old state) }
+) -> u64
+    requires ranged { Ranged tariff }
+    requires held { Held old }
+    ensures buffers { Same flash.old flash.new }
+    ensures served { InFlash ServedHolding flash.new result
+        tariff id (node_of old) (work.edit (change_of change)) (world_of flash.old) }
 {
-    if id < state.nodes {
-        let new = edited(old, change);
-        let settled = settle_holding(pool, table, state, tariff, id, old, Request::Edit);
-        let charged = settled.charged;
-        let s = charged.state;
-        let mode = settled.mode;
-        let t = write_edit(pool, table, s, id, mode, change, new);
-        return Charged {
-            state: t,
-            charge: charged.charge,
-        };
+    if id >= flash.state.nodes {
+        return 0;
     }
-    Charged { state, charge: 0 }
+    let new = edited(old, change);
+    let served = settle(flash, tariff, id, Some(&old), Request::Edit);
+    write_edit(flash, id, served.account.mode, change, new);
+    served.charge
 }
 
 // An edit of a node: its content is read before the first page is written.
-pub fn serve_edit(
-    pool: &mut [u8],
-    table: &mut [u8],
-    state: State,
-    tariff: Tariff,
-    id: usize,
-    change: ChangeValue,
-) -> Charged
-    requires { (Good (length pool.old) (length table.old) state) × (Ranged tariff) }
-    ensures { InBytes ServedAs pool.new table.new result tariff id (work.edit (change_of change))
-        (world_in pool.old table.old state) }
+pub fn serve_edit(flash: &mut Flash, tariff: Tariff, id: usize, change: ChangeValue) -> u64
+    requires { Ranged tariff }
+    ensures buffers { Same flash.old flash.new }
+    ensures served { InFlash ServedAs flash.new result tariff id (work.edit (change_of change)) (world_of flash.old) }
 {
-    if id < state.nodes {
-        let old = content_of(pool, table, state, id);
-        return serve_edit_holding(pool, table, state, tariff, id, old, change);
+    if id >= flash.state.nodes {
+        return 0;
     }
-    Charged { state, charge: 0 }
+    let old = content_of(flash, id);
+    serve_edit_holding(flash, tariff, id, old, change)
 }
 
 // A rewrite of a node.
-pub fn serve_rewrite(
-    pool: &mut [u8],
-    table: &mut [u8],
-    state: State,
-    tariff: Tariff,
-    id: usize,
-    v: NodeValue,
-) -> Charged
-    requires { (Good (length pool.old) (length table.old) state) × (Ranged tariff) × (Sized v) }
-    ensures { InBytes ServedAs pool.new table.new result tariff id (work.rewrite (node_of v))
-        (world_in pool.old table.old state) }
+pub fn serve_rewrite(flash: &mut Flash, tariff: Tariff, id: usize, v: NodeValue) -> u64
+    requires ranged { Ranged tariff }
+    requires sized { Sized v }
+    ensures buffers { Same flash.old flash.new }
+    ensures served { InFlash ServedAs flash.new result tariff id (work.rewrite (node_of v)) (world_of flash.old) }
 {
-    if id < state.nodes {
-        let settled = settle(pool, table, state, tariff, id, Request::Rewrite);
-        let charged = settled.charged;
-        let s = charged.state;
-        let mode = settled.mode;
-        let t = write_whole(pool, table, s, id, mode, v);
-        return Charged {
-            state: t,
-            charge: charged.charge,
-        };
+    if id >= flash.state.nodes {
+        return 0;
     }
-    Charged { state, charge: 0 }
+    let served = settle(flash, tariff, id, None, Request::Rewrite);
+    write_whole(flash, id, served.account.mode, v);
+    served.charge
 }

@@ -1,6 +1,8 @@
 -- The steps of a node's turn put together. Assumes nothing.
+use Rattle.std.specs.Prelude.{Option, None, Some, Result, Ok, Err}
 use mathlib.Core.Path.{◌≡◌, refl, sym, ap, ap₂, ◌∙◌, subst}
 use mathlib.Core.Bool.{Bool, true, false}
+use Rattle.std.specs.Prelude.{Option, None, Some}
 use mathlib.Core.List.{List, [], ◌∷◌}
 use Prim.Native.Nat.{ℕ, ◌+◌, ◌≤◌, ◌<◌}
 use native.Mathlib.Omega.{arith}
@@ -12,8 +14,6 @@ use Rattle.account.specs.declared.Tariff.{Tariff}
 use Rattle.pairs.specs.Pairs.{insert}
 use Rattle.node.specs.declared.Shape.TheVariants.{Branch}
 use Rattle.node.specs.declared.NodeValue.{NodeValue}
-use Rattle.node.specs.declared.fit.Fitting.{Fitting}
-use Rattle.node.specs.declared.fit.Fitting.TheVariants.{Room, Full}
 use Rattle.node.specs.Node.{Node, node, pairs_of}
 use Rattle.node.specs.Change.{Change, put, link, change}
 use Rattle.node.specs.Found.{above-absent, above_place}
@@ -30,19 +30,17 @@ use Rattle.flash_allocate.specs.declared.state.State.{State}
 use Rattle.flash_allocate.specs.World.{World, world}
 use Rattle.flash_write.specs.Group.{create, Grown}
 use Rattle.flash_read.specs.NodeTable.{table_of_out}
-use Rattle.run_serve.specs.Step.{kept_then, charged-none, charged-is, both, then}
-use Rattle.run_serve.specs.declared.charged.Charged.{Charged}
+use Rattle.run_serve.specs.Step.{Charged, kept_then, charged-none, charged-is, both, then}
 use Rattle.run_serve.specs.Serve.{serve, charge, ServedAs}
 use Rattle.run_split.specs.declared.Pending.{Pending}
-use Rattle.run_split.specs.declared.Pending.TheVariants.{Nothing, Halves}
-use Rattle.run_split.specs.declared.Absorbed.{Absorbed}
+use Rattle.run_split.specs.declared.Pending.TheVariants.{Halves}
 use Rattle.run_split.specs.Growing.{Growing, growing_kept, Grew, grew_same, grew_charged}
-use Rattle.run_split.specs.Absorbing.{Absorbing, AbsorbedAs}
+use Rattle.run_split.specs.Absorbing.{Absorbing, Taken, AbsorbedAs}
 use Rattle.run_split.specs.Split.{grow, split_below, split_root, split}
 use Rattle.run_split.specs.Absorb.{node_at, absorb_edit, absorb_edits, absorb_pair, renaming, absorb_halves, absorb}
 
 -- A key that does not fit is asked as a split asks it.
-full_splits : (v : NodeValue) → Held v → (key at : ℕ) → fit_of key (pairs_in v) ≡ Full at → Splits v at key
+full_splits : (v : NodeValue) → Held v → (key at : ℕ) → fit_of key (pairs_in v) ≡ Err at → Splits v at key
 full_splits v h key at e =
     let f = full-above key (pairs_in v) at e in
     record {
@@ -53,7 +51,7 @@ full_splits v h key at e =
     }
 
 -- A turn's result said otherwise.
-pub absorbed_is : {P T : ℕ} {pages : List (List ℕ)} {table : Worktable} {r : Absorbed} {s : State} {a b : Absorbing} →
+pub absorbed_is : {P T : ℕ} {pages : List (List ℕ)} {table : Worktable} {r : Taken} {s : State} {a b : Absorbing} →
     AbsorbedAs P T pages table r s a → a ≡ b →
     AbsorbedAs P T pages table r s b
 absorbed_is {P} {T} {pages} {table} {r} {s} k e = subst (AbsorbedAs P T pages table r s) e k
@@ -83,7 +81,7 @@ module _ (t : Tariff) (whole : Node) (w : World) where
       (pages₂ : List (List ℕ)) (table₂ : Worktable) (s₂ : State) → Grew P T r.state (world pages₂ table₂ s₂)
       (grow high (world pages₁ table₁ r.state)) →
       AbsorbedAs P T pages₂ table₂ (record
-      { charged = record { state = s₂; charge = r.charge }; pending = Halves middle id w.state.nodes }) w.state
+      { charged = record { state = s₂; charge = r.charge }; pending = Some (Halves middle id w.state.nodes) }) w.state
       (split_below t id whole w)
   unfolding split_below
   below_split id low high middle e f m pages₁ table₁ r s pages₂ table₂ s₂ k =
@@ -99,7 +97,7 @@ module _ (t : Tariff) (whole : Node) (w : World) where
               charge = s.charge ∙ ap (λ (x : Node). charge t id (rewrite x) w) e;
               most = omega (arith, s.most);
             };
-        pending = ap (λ (z : ℕ). Halves z id w.state.nodes) m;
+        pending = ap (λ (z : ℕ). Some (Halves z id w.state.nodes)) m;
       }
 
   pub root-split : {P T P₁ T₁ P₂ T₂ : ℕ} (low high : Node) (middle : ℕ) (top : Node) →
@@ -108,7 +106,7 @@ module _ (t : Tariff) (whole : Node) (w : World) where
       (w₁ : World) → Grew P₁ T₁ w.state w₁ (grow low w) →
       (w₂ : World) → Grew P₂ T₂ w₁.state w₂ (grow high w₁) →
       (pages : List (List ℕ)) (table : Worktable) (r : Charged) → ServedAs P T pages table r t 0 (rewrite top) w₂ →
-      AbsorbedAs P T pages table (record { charged = r; pending = Nothing }) w.state (split_root t whole w)
+      AbsorbedAs P T pages table (record { charged = r; pending = None }) w.state (split_root t whole w)
   unfolding split_root
   root-split low high middle top e f m g w₁ k w₂ l pages table r s =
       record {
@@ -143,7 +141,7 @@ module _ (t : Tariff) (whole : Node) (w : World) where
 -- The edits.
 module _ {P₀ T₀ : ℕ} (t : Tariff) (id : ℕ) (w : World) (g : Growing P₀ T₀ w.state) where
   pub one-edit : {P T : ℕ} (c : Change) (pages : List (List ℕ)) (table : Worktable) (r : Charged) → ServedAs P T pages table r t id (edit c) w →
-      AbsorbedAs P T pages table (record { charged = r; pending = Nothing }) w.state (absorb_edit t id c w)
+      AbsorbedAs P T pages table (record { charged = r; pending = None }) w.state (absorb_edit t id c w)
   unfolding absorb_edit
   one-edit c pages table r s =
       record { charged = charged-is (grew_charged g s) (omega arith) refl refl; pending = refl }
@@ -152,7 +150,7 @@ module _ {P₀ T₀ : ℕ} (t : Tariff) (id : ℕ) (w : World) (g : Growing P₀
       ServedAs P₁ T₁ pages₁ table₁ one t id (edit first) w →
       (pages : List (List ℕ)) (table : Worktable) (two : Charged) →
       ServedAs P T pages table two t id (edit second) (world pages₁ table₁ one.state) →
-      AbsorbedAs P T pages table (record { charged = both one two; pending = Nothing }) w.state (absorb_edits t id first second w)
+      AbsorbedAs P T pages table (record { charged = both one two; pending = None }) w.state (absorb_edits t id first second w)
   unfolding absorb_edits
   two_edits first second pages₁ table₁ one s pages table two s' =
       let step = serve t id (edit second) in
@@ -163,15 +161,15 @@ full-none v at key s e = omega (arith, ap length e, length-pairs_in v s.held.siz
 
 -- A pair for a node, read as it is now.
 module _ (t : Tariff) (root : Bool) (id key value : ℕ) (w : World) (v : NodeValue) (is : node_of v ≡ node_at id w)
-    (f : Fitting) (e : f ≡ fit_of key (pairs_in v)) where
+    (f : Result (Unit {0}) ℕ) (e : f ≡ fit_of key (pairs_in v)) where
   fit_is : fit_of key (pairs_of (node_at id w)) ≡ f
   fit_is = ap (λ (n : Node). fit_of key (pairs_of n)) (sym is) ∙ sym e
 
-  pub pair_fits : f ≡ Room → absorb_edit t id (put key value) w ≡ absorb_pair t root id key value w
+  pub pair_fits : f ≡ Ok tt → absorb_edit t id (put key value) w ≡ absorb_pair t root id key value w
   unfolding absorb_pair
   pair_fits r = rw (fit_is ∙ r) refl
 
-  module _ (at : ℕ) (r : f ≡ Full at) where
+  module _ (at : ℕ) (r : f ≡ Err at) where
     pub pair_splits : split t root id (change (put key value) (node_of v)) w ≡ absorb_pair t root id key value w
     unfolding absorb_pair
     pair_splits = rw (fit_is ∙ r) (ap (λ (n : Node). split t root id (change (put key value) n) w) is)
@@ -191,7 +189,7 @@ none-renamed wanted right = rw (le-ltb (child_place wanted []) 0 (omega arith), 
 -- The halves of a child for a node, read as it is now, its pointer renamed.
 module _ (t : Tariff) (root : Bool) (id wanted middle left right : ℕ) (w : World) (v : NodeValue)
     (is : node_of v ≡ node_at id w) (child : ℕ) (c : child ≡ child_place wanted (pairs_in v))
-    (u : NodeValue) (renamed : node_of u ≡ change (repoint child right (node_of v)) (node_of v)) (f : Fitting) (e : f ≡ fit_of middle (pairs_in u)) where
+    (u : NodeValue) (renamed : node_of u ≡ change (repoint child right (node_of v)) (node_of v)) (f : Result (Unit {0}) ℕ) (e : f ≡ fit_of middle (pairs_in u)) where
   abbrev renamed_in : Node → Node
   renamed_in n = change (renaming wanted right n) n
 
@@ -201,14 +199,14 @@ module _ (t : Tariff) (root : Bool) (id wanted middle left right : ℕ) (w : Wor
   halves_fit : fit_of middle (pairs_of (renamed_in (node_at id w))) ≡ f
   halves_fit = ap (λ (n : Node). fit_of middle (pairs_of n)) (sym renamed-is) ∙ sym e
 
-  pub halves_fits : f ≡ Room → (second : Change) → second ≡ repoint child right (node_of v) →
+  pub halves_fits : f ≡ Ok tt → (second : Change) → second ≡ repoint child right (node_of v) →
       absorb_edits t id (put middle left) second w ≡ absorb_halves t root id wanted middle left right w
   unfolding absorb_halves
   halves_fits r second s =
       let same : second ≡ renaming wanted right (node_at id w) = s ∙ ap (λ (i : ℕ). repoint i right (node_of v)) c ∙ ap (renaming wanted right) is in
       rw (halves_fit ∙ r) (ap (λ (d : Change). absorb_edits t id (put middle left) d w) same)
 
-  module _ (at : ℕ) (r : f ≡ Full at) where
+  module _ (at : ℕ) (r : f ≡ Err at) where
     pub halves_split : split t root id (change (put middle left) (node_of u)) w ≡ absorb_halves t root id wanted middle left right w
     unfolding absorb_halves
     halves_split = rw (halves_fit ∙ r) (ap (λ (n : Node). split t root id (change (put middle left) n) w) renamed-is)
@@ -224,14 +222,14 @@ module _ (t : Tariff) (root : Bool) (id wanted middle left right : ℕ) (w : Wor
         (ap pairs_of (renamed-is ∙ ap renamed_in (table_of_out w.pages w.table w.state id l)) ∙ none-renamed wanted right))
 
 -- What is pending, known.
-pub absorb-nothing : {P T : ℕ} (t : Tariff) (wanted : ℕ) (root : Bool) (id : ℕ) (p : Pending) (w : World) → p ≡ Nothing → Growing P T w.state →
+pub absorb-nothing : {P T : ℕ} (t : Tariff) (wanted : ℕ) (root : Bool) (id : ℕ) (p : Option Pending) (w : World) → p ≡ None → Growing P T w.state →
     AbsorbedAs P T w.pages w.table (record { charged = record { state = w.state; charge = 0 }; pending = p }) w.state (absorb t wanted root id p w)
 absorb-nothing t wanted root id p w e g =
     rw e (record { charged = charged-is (charged-none w (grew_same w g)) (omega arith) refl refl; pending = refl })
 
-pub absorb_known : (t : Tariff) (wanted : ℕ) (root : Bool) (id : ℕ) (p q : Pending) (w : World) → p ≡ q → absorb t
+pub absorb_known : (t : Tariff) (wanted : ℕ) (root : Bool) (id : ℕ) (p q : Option Pending) (w : World) → p ≡ q → absorb t
     wanted root id q w ≡ absorb t wanted root id p w
-absorb_known t wanted root id p q w e = ap (λ (z : Pending). absorb t wanted root id z w) (sym e)
+absorb_known t wanted root id p q w e = ap (λ (z : Option Pending). absorb t wanted root id z w) (sym e)
 
 -- One pair in an empty branch.
 pub put-room : (v : NodeValue) (k p to : ℕ) → node_of v ≡ node Branch [] to → length (insert k p (pairs_in v)) ≤ most_keys

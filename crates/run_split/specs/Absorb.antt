@@ -1,5 +1,5 @@
 -- A NODE TAKES WHAT IT HAS STILL TO TAKE (document 01, "Nodes and tree"): by edits where at most 24 keys come of it, else by its split.
-use Rattle.std.specs.Prelude.{Bool, ℕ, ◌+◌}
+use Rattle.std.specs.Prelude.{Bool, ℕ, ◌+◌, Option, None, Some}
 use Rattle.account.specs.declared.Tariff.{Tariff}
 use Rattle.node.specs.Node.{Node, pairs_of}
 use Rattle.node.specs.Change.{Change, put, change}
@@ -10,7 +10,7 @@ use Rattle.flash_allocate.specs.World.{World}
 use Rattle.flash_read.specs.NodeTable.{table_of}
 use Rattle.run_serve.specs.Serve.{serve, charge}
 use Rattle.run_split.specs.declared.Pending.{Pending}
-use Rattle.run_split.specs.declared.Pending.TheVariants.{Nothing, Pair, Halves}
+use Rattle.run_split.specs.declared.Pending.TheVariants.{Pair, Halves}
 use Rattle.node.specs.Fit.{by_fit, fit_of}
 use Rattle.run_split.specs.Absorbing.{Absorbing, absorbing}
 use Rattle.run_split.specs.Split.{split}
@@ -21,13 +21,13 @@ node_at n w = table_of w.pages w.table w.state n
 
 -- "A hang that fits" is one edit.
 unfoldable pub absorb_edit : Tariff → ℕ → Change → World → Absorbing
-absorb_edit t id c w = absorbing (serve t id (edit c) w) (charge t id (edit c) w) Nothing
+absorb_edit t id c w = absorbing (serve t id (edit c) w) (charge t id (edit c) w) None
 
 -- "The parent gets two edits".
 unfoldable pub absorb_edits : Tariff → ℕ → Change → Change → World → Absorbing
 absorb_edits t id first second w =
     let between = serve t id (edit first) w in
-    absorbing (serve t id (edit second) between) (charge t id (edit first) w + charge t id (edit second) between) Nothing
+    absorbing (serve t id (edit second) between) (charge t id (edit first) w + charge t id (edit second) between) None
 
 unfoldable pub absorb_pair : Tariff → Bool → ℕ → ℕ → ℕ → World → Absorbing
 absorb_pair t root id key value w =
@@ -48,7 +48,7 @@ absorb_halves_in n t root id wanted middle left right w =
 unfoldable pub absorb_halves : Tariff → Bool → ℕ → ℕ → ℕ → ℕ → ℕ → World → Absorbing
 absorb_halves t root id wanted middle left right w = absorb_halves_in (node_at id w) t root id wanted middle left right w
 
-abbrev pub absorb : Tariff → ℕ → Bool → ℕ → Pending → World → Absorbing
-absorb t wanted root id Nothing w = absorbing w 0 Nothing
-absorb t wanted root id (Pair key value) w = absorb_pair t root id key value w
-absorb t wanted root id (Halves middle left right) w = absorb_halves t root id wanted middle left right w
+abbrev pub absorb : Tariff → ℕ → Bool → ℕ → Option Pending → World → Absorbing
+absorb t wanted root id None w = absorbing w 0 None
+absorb t wanted root id (Some (Pair key value)) w = absorb_pair t root id key value w
+absorb t wanted root id (Some (Halves middle left right)) w = absorb_halves t root id wanted middle left right w

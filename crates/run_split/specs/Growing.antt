@@ -6,14 +6,18 @@ use Rattle.flash_rows.specs.Worktable.{Worktable}
 use Rattle.flash_allocate.specs.declared.state.State.{State}
 use Rattle.flash_allocate.specs.World.{World, Good, Kept}
 use Rattle.flash_read.specs.NodeTable.{Readable}
-use Rattle.run_serve.specs.declared.charged.Charged.{Charged}
-use Rattle.run_serve.specs.Step.{ChargedAs}
+use Rattle.flash_allocate.specs.declared.flash.Flash.{Flash}
+use Rattle.run_serve.specs.Step.{Charged, ChargedAs}
 
 -- Numbers in range, no more nodes than the limit, and no checkpoint begun.
 pub record Growing (pool_length table_length : ℕ) (s : State) : Type 0 where
   pub good : Good pool_length table_length s
   pub limited : s.nodes ≤ node_limit s.blocks
   pub no_checkpoint_page : s.checkpoint ≡ 0
+
+-- The same of lent buffers and their state.
+abbrev pub Grows : Flash → Type 0
+Grows f = Growing (length f.pool.now) (length f.table.now) f.state
 
 -- A step's result: the world asked for, with the same blocks.
 pub record Grew (pool_length table_length : ℕ) (before : State) (made right : World) : Type 0 where

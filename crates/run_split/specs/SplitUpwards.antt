@@ -1,10 +1,9 @@
 -- A PAIR PUT INTO THE LEAF OF A WAY: "the work goes in the order given, leaf upwards" (document 01, "Nodes and tree").
-use Rattle.std.specs.Prelude.{Bool, true, false, List, [], ◌∷◌, ℕ, ◌+◌, ◌*◌, length, drop}
+use Rattle.std.specs.Prelude.{Bool, true, false, List, [], ◌∷◌, ℕ, ◌+◌, ◌*◌, length, drop, Some}
 use Rattle.account.specs.declared.Tariff.{Tariff}
 use Rattle.flash_rows.specs.Worktable.{Worktable}
 use Rattle.flash_allocate.specs.World.{World}
-use Rattle.run_serve.specs.Step.{ChargedAs}
-use Rattle.run_serve.specs.declared.charged.Charged.{Charged}
+use Rattle.run_serve.specs.Step.{Charged, ChargedAs}
 use Rattle.run_split.specs.declared.Pending.TheVariants.{Pair}
 use Rattle.run_split.specs.Growing.{Grew}
 use Rattle.run_split.specs.Absorbing.{Absorbing, absorbing}
@@ -24,7 +23,7 @@ split_upwards_below t wanted (id ∷ ids) start = upward t wanted false id (spli
 
 -- All nodes of a path, the root at its head.
 unfoldable pub split_upwards : Tariff → ℕ → ℕ → List ℕ → World → Absorbing
-split_upwards t key value ids w = upward t key true 0 (split_upwards_below t key (drop 1 ids) (absorbing w 0 (Pair key value)))
+split_upwards t key value ids w = upward t key true 0 (split_upwards_below t key (drop 1 ids) (absorbing w 0 (Some (Pair key value))))
 
 -- What the code of it leaves: of at most two requests a node of the path.
 abbrev pub SplitUpwardsAs : ℕ → ℕ → List (List ℕ) → Worktable → Charged → Tariff → ℕ → ℕ → List ℕ → World → Type 0

@@ -1,5 +1,5 @@
 -- A way up a node at a time: the nodes behind a place of the way are done. Assumes nothing.
-use Rattle.std.specs.Prelude.{◌≡◌, refl, Bool, length, get_or}
+use Rattle.std.specs.Prelude.{◌≡◌, refl, Bool, length, get_or, Option, Some}
 use Rattle.std.proofs.Math.Path.{sym, ap, ap₂}
 use Rattle.std.proofs.Common.{◌∙◌, drop_of_length-le}
 use Rattle.std.proofs.Math.Bool.{true, false}
@@ -14,24 +14,23 @@ use Rattle.flash_rows.specs.Worktable.{Worktable}
 use Rattle.flash_allocate.specs.World.{World, world}
 use Rattle.run_split.specs.declared.Pending.{Pending}
 use Rattle.run_split.specs.declared.Pending.TheVariants.{Pair}
-use Rattle.run_split.specs.declared.Absorbed.{Absorbed}
 use Rattle.run_split.specs.Growing.{Growing}
-use Rattle.run_split.specs.Absorbing.{Absorbing, absorbing, AbsorbedAs, absorbed_whole}
+use Rattle.run_split.specs.Absorbing.{Absorbing, absorbing, Taken, AbsorbedAs, absorbed_whole}
 use Rattle.run_split.specs.Absorb as Turn
 use Rattle.run_split.specs.SplitUpwards.{after_it, upward, split_upwards_below, split_upwards, SplitUpwardsAs}
 
 -- Before the node at place i - 1 takes what is pending.
 pub record SplittingUpwards (pool_length table_length : ℕ) (t : Tariff) (key value : ℕ) (ids : List ℕ) (i : ℕ) (start now : World) (paid : ℕ)
-    (pending : Pending) : Type 0 where
+    (pending : Option Pending) : Type 0 where
   pub growing : Growing pool_length table_length now.state
   pub blocks : now.state.blocks ≡ start.state.blocks
   pub some : 1 ≤ i
   pub inside : i ≤ length ids
-  pub is : absorbing now paid pending ≡ split_upwards_below t key (drop i ids) (absorbing start 0 (Pair key value))
+  pub is : absorbing now paid pending ≡ split_upwards_below t key (drop i ids) (absorbing start 0 (Some (Pair key value)))
   pub most : paid + most_charge * (2 * i) ≤ most_charge * (2 * length ids)
 
 pub splitting-start : {P T : ℕ} (t : Tariff) (key value : ℕ) (ids : List ℕ) (w : World) → Growing P T w.state → 1 ≤ length ids →
-    SplittingUpwards P T t key value ids (length ids) w w 0 (Pair key value)
+    SplittingUpwards P T t key value ids (length ids) w w 0 (Some (Pair key value))
 unfolding split_upwards_below
 splitting-start t key value ids w g some =
     let none = drop_of_length-le ids {i = length ids} (omega arith) in
@@ -40,16 +39,16 @@ splitting-start t key value ids w g some =
       blocks = refl;
       some = some;
       inside = omega arith;
-      is = sym (ap (λ (xs : List ℕ). split_upwards_below t key xs (absorbing w 0 (Pair key value))) none);
+      is = sym (ap (λ (xs : List ℕ). split_upwards_below t key xs (absorbing w 0 (Some (Pair key value)))) none);
       most = omega arith;
     }
 
-module _ {P T : ℕ} {t : Tariff} {key value : ℕ} {ids : List ℕ} {i : ℕ} {start now : World} {paid : ℕ} {pending : Pending}
-    (r : SplittingUpwards P T t key value ids i start now paid pending) {P' T' : ℕ} (pages : List (List ℕ)) (table : Worktable) (x : Absorbed) where
+module _ {P T : ℕ} {t : Tariff} {key value : ℕ} {ids : List ℕ} {i : ℕ} {start now : World} {paid : ℕ} {pending : Option Pending}
+    (r : SplittingUpwards P T t key value ids i start now paid pending) {P' T' : ℕ} (pages : List (List ℕ)) (table : Worktable) (x : Taken) where
   -- a node's turn above those that are done
   turn_is : (root : Bool) (id : ℕ) → AbsorbedAs P' T' pages table x now.state (Turn.absorb t key root id pending now) →
       absorbing (world pages table x.charged.state) (paid + x.charged.charge) x.pending ≡
-      upward t key root id (split_upwards_below t key (drop i ids) (absorbing start 0 (Pair key value)))
+      upward t key root id (split_upwards_below t key (drop i ids) (absorbing start 0 (Some (Pair key value))))
   unfolding upward
   turn_is root id k = ap (after_it paid) (absorbed_whole k) ∙ ap (upward t key root id) r.is
 
@@ -66,7 +65,7 @@ module _ {P T : ℕ} {t : Tariff} {key value : ℕ} {ids : List ℕ} {i : ℕ} {
         blocks = k.charged.kept.blocks ∙ r.blocks;
         some = omega arith;
         inside = omega (arith, r.inside);
-        is = turn_is false id k ∙ sym (ap (λ (xs : List ℕ). split_upwards_below t key xs (absorbing start 0 (Pair key value))) next);
+        is = turn_is false id k ∙ sym (ap (λ (xs : List ℕ). split_upwards_below t key xs (absorbing start 0 (Some (Pair key value)))) next);
         most = omega (arith, r.most, k.charged.most);
       }
 
@@ -77,7 +76,7 @@ module _ {P T : ℕ} {t : Tariff} {key value : ℕ} {ids : List ℕ} {i : ℕ} {
   splitting_end l k =
       let one : i ≡ 1 = omega (arith, r.some) in
       let whole : absorbing (world pages table x.charged.state) (paid + x.charged.charge) x.pending ≡ split_upwards t key value ids start =
-      turn_is true 0 k ∙ ap (λ (j : ℕ). upward t key true 0 (split_upwards_below t key (drop j ids) (absorbing start 0 (Pair key value)))) one in
+      turn_is true 0 k ∙ ap (λ (j : ℕ). upward t key true 0 (split_upwards_below t key (drop j ids) (absorbing start 0 (Some (Pair key value))))) one in
       record {
         kept =
             record {

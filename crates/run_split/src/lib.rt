@@ -5,19 +5,16 @@ pub mod absorb;
 pub mod split;
 pub mod split_upwards;
 
-use run_serve::charged::Charged;
-
-// What a node has still to take: nothing; a leaf its pair; a branch the halves of a child, with the key between them.
-#[derive(Drop)]
+// What a node may have still to take: a leaf its pair; a branch the halves of a child, with the key between them.
+#[derive(Clone, Copy, Debug, PartialEq, Eq)]
 pub enum Pending {
-    Nothing,
     Pair { key: u32, value: u32 },
     Halves { middle: u32, left: u32, right: u32 },
 }
 
-// After a node took its edits: they were charged, and the node above has still this to take.
-#[derive(Drop)]
+// After a node took its edits: what they were charged, and what the node above has still to take.
+#[derive(Clone, Copy, Debug, PartialEq, Eq)]
 pub struct Absorbed {
-    pub charged: Charged,
-    pub pending: Pending,
+    pub charge: u64,
+    pub pending: Option<Pending>,
 }

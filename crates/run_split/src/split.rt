@@ -1,53 +1,47 @@
 // A full node with a pair more, split.
-ghost use Rattle.std.specs.Prelude.{[], ◌∷◌, ◌<◌, length};
+ghost use Rattle.std.specs.Prelude.{◌<◌, [], ◌∷◌};
 ghost use Rattle.account.specs.Range.{Ranged};
 ghost use Rattle.node.specs.declared.Shape.TheVariants.{Branch};
 ghost use Rattle.node.specs.Node.{node};
-ghost use Rattle.node.specs.Change.{change, put};
+ghost use Rattle.node.specs.Change.{put, change};
 ghost use Rattle.node.specs.Value.{node_of, Sized, Becomes};
 ghost use Rattle.node_split.specs.Split.{Splits};
-ghost use Rattle.flash_allocate.specs.World.{world_in, LeftIn};
-ghost use Rattle.run_serve.specs.Step.{InBytes};
-ghost use Rattle.run_split.specs.Growing.{Growing, Grew};
-ghost use Rattle.run_split.specs.Absorbing.{AbsorbedAs};
+ghost use Rattle.flash_allocate.specs.Flash.{world_of, Steps, Same};
+ghost use Rattle.run_split.specs.Growing.{Grows, Grew};
+ghost use Rattle.run_split.specs.Absorbing.{Absorbs};
 ghost use Rattle.run_split.specs.Split as def;
 
 use super::{Absorbed, Pending};
 use account::Tariff;
-use flash_allocate::state::State;
+use flash_allocate::flash::Flash;
 use flash_write::group::create;
 use layout::node_limit;
 use node::edit::put;
 use node::{NodeValue, Shape, empty_node};
 use node_split::{lower, middle, upper};
-use run_serve::charged::Charged;
 use run_serve::request::serve_rewrite;
 
 // A node more, where the limit leaves an id for it.
-fn grow(pool: &mut [u8], table: &mut [u8], state: State, v: NodeValue) -> State
-    requires { (Growing (length pool.old) (length table.old) state) × (Sized v) }
-    ensures { LeftIn Grew pool.new table.new state result
-        (def.grow (node_of v) (world_in pool.old table.old state)) }
+fn grow(flash: &mut Flash, v: NodeValue)
+    requires grows { Grows flash.old }
+    requires sized { Sized v }
+    ensures { Steps Grew flash.old flash.new (def.grow (node_of v) (world_of flash.old)) }
 {
-    if state.nodes < node_limit(state.blocks) {
-        return create(pool, table, state, v);
+    if flash.state.nodes < node_limit(flash.state.blocks) {
+        create(flash, v);
     }
-    state
 }
 
 // A root above two nodes.
 fn root_above(middle: u32, left: u32, right: u32) -> NodeValue
     ensures { Becomes result (node Branch ((middle, left) ∷ []) right) }
 {
-    let v = empty_node(Shape::Branch, right);
-    put(v, middle, left)
+    put(empty_node(Shape::Branch, right), middle, left)
 }
 
 // The lower half stays in the node, the upper goes to the next id.
 fn split_below(
-    pool: &mut [u8],
-    table: &mut [u8],
-    state: State,
+    flash: &mut Flash,
     tariff: Tariff,
     id: usize,
     v: NodeValue,
@@ -55,66 +49,64 @@ fn split_below(
     key: u32,
     pointer: u32,
 ) -> Absorbed
-    requires { (Growing (length pool.old) (length table.old) state) × (Ranged tariff)
-        × (id < state.nodes) × (Splits v at key) }
-    ensures { InBytes AbsorbedAs pool.new table.new result state
-        (def.split_below tariff id (change (put key pointer) (node_of v))
-        (world_in pool.old table.old state)) }
+    requires grows { Grows flash.old }
+    requires ranged { Ranged tariff }
+    requires known { id < flash.old.state.nodes }
+    requires splits { Splits v at key }
+    ensures buffers { Same flash.old flash.new }
+    ensures absorbed { Absorbs flash.old flash.new result
+        (def.split_below tariff id (change (put key pointer) (node_of v)) (world_of flash.old)) }
 {
-    let next = state.nodes as u32;
-    let left = id as u32;
+    let next = flash.state.nodes as u32;
     let low = lower(v, at, key, pointer, next);
     let high = upper(v, at, key, pointer);
-    let between = middle(v, at, key, pointer);
-    let rewritten = serve_rewrite(pool, table, state, tariff, id, low);
-    let s = rewritten.state;
-    let grown = grow(pool, table, s, high);
+    let middle = middle(v, at, key, pointer);
+    let charge = serve_rewrite(flash, tariff, id, low);
+    grow(flash, high);
     let pending = Pending::Halves {
-        middle: between,
-        left,
+        middle,
+        left: id as u32,
         right: next,
     };
-    let charged = Charged {
-        state: grown,
-        charge: rewritten.charge,
-    };
-    Absorbed { charged, pending }
+    Absorbed {
+        charge,
+        pending: Some(pending),
+    }
 }
 
 // "A splitting root makes two nodes, lower id lower half, then is rewritten above them."
 fn split_root(
-    pool: &mut [u8],
-    table: &mut [u8],
-    state: State,
+    flash: &mut Flash,
     tariff: Tariff,
     v: NodeValue,
     at: usize,
     key: u32,
     pointer: u32,
 ) -> Absorbed
-    requires { (Growing (length pool.old) (length table.old) state) × (Ranged tariff) × (Splits v at key) }
-    ensures { InBytes AbsorbedAs pool.new table.new result state
-        (def.split_root tariff (change (put key pointer) (node_of v))
-        (world_in pool.old table.old state)) }
+    requires grows { Grows flash.old }
+    requires ranged { Ranged tariff }
+    requires splits { Splits v at key }
+    ensures buffers { Same flash.old flash.new }
+    ensures absorbed { Absorbs flash.old flash.new result
+        (def.split_root tariff (change (put key pointer) (node_of v)) (world_of flash.old)) }
 {
-    let left = state.nodes as u32;
+    let left = flash.state.nodes as u32;
     let right = left + 1;
     let low = lower(v, at, key, pointer, right);
     let high = upper(v, at, key, pointer);
-    let between = middle(v, at, key, pointer);
-    let s = grow(pool, table, state, low);
-    let grown = grow(pool, table, s, high);
-    let top = root_above(between, left, right);
-    let charged = serve_rewrite(pool, table, grown, tariff, 0, top);
-    let pending = Pending::Nothing;
-    Absorbed { charged, pending }
+    let middle = middle(v, at, key, pointer);
+    grow(flash, low);
+    grow(flash, high);
+    let charge = serve_rewrite(flash, tariff, 0, root_above(middle, left, right));
+    Absorbed {
+        charge,
+        pending: None,
+    }
 }
 
 // The root, or a node below it, split.
 pub fn split(
-    pool: &mut [u8],
-    table: &mut [u8],
-    state: State,
+    flash: &mut Flash,
     tariff: Tariff,
     root: bool,
     id: usize,
@@ -123,14 +115,17 @@ pub fn split(
     key: u32,
     pointer: u32,
 ) -> Absorbed
-    requires { (Growing (length pool.old) (length table.old) state) × (Ranged tariff)
-        × (id < state.nodes) × (Splits v at key) }
-    ensures { InBytes AbsorbedAs pool.new table.new result state
-        (def.split tariff root id (change (put key pointer) (node_of v))
-        (world_in pool.old table.old state)) }
+    requires grows { Grows flash.old }
+    requires ranged { Ranged tariff }
+    requires known { id < flash.old.state.nodes }
+    requires splits { Splits v at key }
+    ensures buffers { Same flash.old flash.new }
+    ensures absorbed { Absorbs flash.old flash.new result
+        (def.split tariff root id (change (put key pointer) (node_of v)) (world_of flash.old)) }
 {
     if root {
-        return split_root(pool, table, state, tariff, v, at, key, pointer);
+        split_root(flash, tariff, v, at, key, pointer)
+    } else {
+        split_below(flash, tariff, id, v, at, key, pointer)
     }
-    split_below(pool, table, state, tariff, id, v, at, key, pointer)
 }

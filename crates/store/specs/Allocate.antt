@@ -1,6 +1,5 @@
 -- Where the next page goes (document 01, "Pages", its last three sentences). Assumes nothing.
-use Rattle.std.specs.Prelude.{Bool, true, false, [], ◌∷◌, ℕ, zero, suc, ◌+◌, leb, ltb, length, set}
-use Rattle.std.proofs.Math.Option.{Option, none, some}
+use Rattle.std.specs.Prelude.{Bool, true, false, [], ◌∷◌, ℕ, zero, suc, ◌+◌, leb, ltb, length, set, Option, None, Some}
 use Rattle.laws.specs.Counts.{bit, count, filter, empty}
 use Rattle.page.specs.Page.{Page}
 use Rattle.store.specs.Pool.{Blocks, block}
@@ -12,22 +11,22 @@ blanks (b ∷ bs) = bit (empty b) + blanks bs
 
 -- "The next blank one upwards and round": the first blank block above the current one, else the first of all.
 abbrev pub later : Option ℕ → Option ℕ
-later none = none
-later (some i) = some (suc i)
+later None = None
+later (Some i) = Some (suc i)
 
 abbrev pub here_or : Bool → Option ℕ → Option ℕ
-here_or true found = some 0
+here_or true found = Some 0
 here_or false found = later found
 
 abbrev pub blank_from : ℕ → Blocks → Option ℕ
-blank_from k [] = none
+blank_from k [] = None
 blank_from zero (b ∷ bs) = here_or (empty b) (blank_from zero bs)
 blank_from (suc k) (b ∷ bs) = later (blank_from k bs)
 
 abbrev pub first_of : Option ℕ → Option ℕ → ℕ
-first_of (some i) other = i
-first_of none (some i) = i
-first_of none none = 0
+first_of (Some i) other = i
+first_of None (Some i) = i
+first_of None None = 0
 
 abbrev pub next_blank : Blocks → ℕ → ℕ
 next_blank bs current = first_of (blank_from (suc current) bs) (blank_from 0 bs)

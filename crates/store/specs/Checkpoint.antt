@@ -1,7 +1,6 @@
 -- The checkpoint (document 01: closing set): its pages from tariff and scores, how it is written, and how it is read back from the
 -- pages of greatest sequence numbers. Assumes nothing.
-use Rattle.std.specs.Prelude.{Bool, true, false, ◌&&◌, List, [], ◌∷◌, ◌++◌, ℕ, zero, suc, eqb, length, take, drop}
-use Rattle.std.proofs.Math.Option.{Option, none, some}
+use Rattle.std.specs.Prelude.{Bool, true, false, ◌&&◌, List, [], ◌∷◌, ◌++◌, ℕ, zero, suc, eqb, length, take, drop, Option, None, Some}
 use Rattle.laws.specs.Tests.{choose}
 use Rattle.laws.specs.Counts.{count}
 use Rattle.layout.specs.Layout.{first_scores, other_scores}
@@ -37,12 +36,12 @@ parts (suc most) width (x ∷ xs) = take width (x ∷ xs) ∷ parts most width (
 
 -- "The last ends with field 15, the node count."
 abbrev pub count_if_last : ℕ → List (List Score) → Option ℕ
-count_if_last nodes [] = some nodes
-count_if_last nodes (x ∷ xs) = none
+count_if_last nodes [] = Some nodes
+count_if_last nodes (x ∷ xs) = None
 
 abbrev pub later_checkpoint_pages : ℕ → List (List Score) → List CheckpointPage
 later_checkpoint_pages nodes [] = []
-later_checkpoint_pages nodes (x ∷ xs) = checkpoint_page none x (count_if_last nodes xs) ∷ later_checkpoint_pages nodes xs
+later_checkpoint_pages nodes (x ∷ xs) = checkpoint_page None x (count_if_last nodes xs) ∷ later_checkpoint_pages nodes xs
 
 abbrev pub later_parts : List Score → List (List Score)
 later_parts scores = parts (length scores) other_scores (drop first_scores scores)
@@ -50,7 +49,7 @@ later_parts scores = parts (length scores) other_scores (drop first_scores score
 -- "The first begins with field 13, the tariff"; 50 scores stand on it, 54 on each other page.
 unfoldable pub checkpoint_pages : Tariff → List Score → List CheckpointPage
 checkpoint_pages t scores =
-    checkpoint_page (some t) (take first_scores scores) (count_if_last (length scores) (later_parts scores)) ∷
+    checkpoint_page (Some t) (take first_scores scores) (count_if_last (length scores) (later_parts scores)) ∷
     later_checkpoint_pages (length scores) (later_parts scores)
 
 -- "Entries .. written .. at closing if not empty."
@@ -74,14 +73,14 @@ close t score run =
 
 -- Read back: "the pages of greatest stamp, back to the newest field 13". A page among them that is no checkpoint page leaves no set.
 abbrev pub collect_by : Option Tariff → CheckpointPage → List CheckpointPage → (List CheckpointPage → List CheckpointPage) → List CheckpointPage
-collect_by none x later rest = rest (x ∷ later)
-collect_by (some t) x later rest = x ∷ later
+collect_by None x later rest = rest (x ∷ later)
+collect_by (Some t) x later rest = x ∷ later
 
 abbrev pub collect_at : Option Page → List CheckpointPage → (List CheckpointPage → List CheckpointPage) → List CheckpointPage
-collect_at none later rest = rest later
-collect_at (some (page s (log es))) later rest = []
-collect_at (some (page s (whole n x))) later rest = []
-collect_at (some (page s (checkpoint t scores count))) later rest = collect_by t (checkpoint_page t scores count) later rest
+collect_at None later rest = rest later
+collect_at (Some (page s (log es))) later rest = []
+collect_at (Some (page s (whole n x))) later rest = []
+collect_at (Some (page s (checkpoint t scores count))) later rest = collect_by t (checkpoint_page t scores count) later rest
 
 unfoldable pub collect : (ℕ → Option Page) → ℕ → List CheckpointPage → List CheckpointPage
 collect at zero later = []
@@ -91,7 +90,7 @@ unfoldable pub checkpoint_of : Store → List CheckpointPage
 checkpoint_of st = collect (λ s. find s st.blocks) st.last []
 
 abbrev pub tariff_in : List CheckpointPage → Option Tariff
-tariff_in [] = none
+tariff_in [] = None
 tariff_in (x ∷ xs) = x.tariff
 
 abbrev pub scores_in : List CheckpointPage → List Score
@@ -99,8 +98,8 @@ scores_in [] = []
 scores_in (x ∷ xs) = x.scores ++ scores_in xs
 
 abbrev pub count_or : Option ℕ → ℕ → ℕ
-count_or none n = n
-count_or (some m) n = m
+count_or None n = n
+count_or (Some m) n = m
 
 abbrev pub count_in : List CheckpointPage → ℕ
 count_in [] = 0
@@ -114,12 +113,12 @@ score_in (x ∷ xs) n = choose (eqb n x.id) x.score (score_in xs n)
 -- "A complete closing set, each id below its count once": the count stands on the last page alone; every id below it has one score, in whatever order;
 -- and there are no more scores than that.
 abbrev pub no_count : Option ℕ → Bool
-no_count none = true
-no_count (some n) = false
+no_count None = true
+no_count (Some n) = false
 
 abbrev pub has_count : Option ℕ → Bool
-has_count none = false
-has_count (some n) = true
+has_count None = false
+has_count (Some n) = true
 
 abbrev pub count_last : List CheckpointPage → Bool
 count_last [] = false

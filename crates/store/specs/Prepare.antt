@@ -1,6 +1,5 @@
 -- The store that prepare leaves (document 01, "Account", its last paragraph). Assumes nothing.
-use Rattle.std.specs.Prelude.{List, [], ◌∷◌, ℕ, ◌-◌, replicate}
-use Rattle.std.proofs.Math.Option.{some}
+use Rattle.std.specs.Prelude.{List, [], ◌∷◌, ℕ, ◌-◌, replicate, Some}
 use Rattle.account.specs.declared.Tariff.{Tariff}
 use Rattle.layout.specs.Layout.{no_leaf}
 use Rattle.node.specs.declared.Shape.TheVariants.{Leaf}
@@ -18,7 +17,7 @@ empty_leaf = node Leaf [] no_leaf
 abbrev pub first_pages : Tariff → List Page
 first_pages t =
     page 2 (log (record { id = 0; version = 1; change = link Leaf no_leaf } ∷ [])) ∷
-    page 3 (checkpoint (some t) (record { id = 0; score = 0 } ∷ []) (some 1)) ∷
+    page 3 (checkpoint (Some t) (record { id = 0; score = 0 } ∷ []) (Some 1)) ∷
     []
 
 -- "Prepare erases all, then writes from the first page of block 0."

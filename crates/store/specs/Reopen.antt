@@ -1,7 +1,6 @@
 -- The pool as it lies, cell by cell, a cell holding a page or nothing; the store that such cells spell; and the tests that document
 -- 01 makes of all pages together (its question 5). Assumes nothing.
-use Rattle.std.specs.Prelude.{Bool, true, false, ◌&&◌, ◌||◌, List, [], ◌∷◌, ◌++◌, ℕ, zero, suc, ◌+◌, ◌*◌, max, eqb, leb, ltb, length, take, drop}
-use Rattle.std.proofs.Math.Option.{Option, none, some}
+use Rattle.std.specs.Prelude.{Bool, true, false, ◌&&◌, ◌||◌, List, [], ◌∷◌, ◌++◌, ℕ, zero, suc, ◌+◌, ◌*◌, max, eqb, leb, ltb, length, take, drop, Option, None, Some}
 use Rattle.laws.specs.Counts.{count, tally, empty}
 use Rattle.layout.specs.Layout.{pages_in_block}
 use Rattle.page.specs.Page.{Entry, Page, page, log, whole, checkpoint, sequence}
@@ -15,8 +14,8 @@ Cells = List (Option Page)
 -- The cells of a block of some width: what is written, then blank.
 unfoldable pub cells_in : ℕ → List Page → Cells
 cells_in zero b = []
-cells_in (suc k) [] = none ∷ cells_in k []
-cells_in (suc k) (p ∷ b) = some p ∷ cells_in k b
+cells_in (suc k) [] = None ∷ cells_in k []
+cells_in (suc k) (p ∷ b) = Some p ∷ cells_in k b
 
 abbrev pub cells : ℕ → Blocks → Cells
 cells width [] = []
@@ -25,8 +24,8 @@ cells width (b ∷ bs) = cells_in width b ++ cells width bs
 -- And back: the written pages up to the first blank cell; so many blocks of so many cells.
 abbrev pub block_in : Cells → List Page
 block_in [] = []
-block_in (none ∷ c) = []
-block_in (some p ∷ c) = p ∷ block_in c
+block_in (None ∷ c) = []
+block_in (Some p ∷ c) = p ∷ block_in c
 
 abbrev pub blocks_in : ℕ → ℕ → Cells → Blocks
 blocks_in width zero c = []
@@ -64,13 +63,13 @@ pool_of st = cells pages_in_block st.blocks
 -- "In a block blank pages follow written ones."
 abbrev pub blank : Cells → Bool
 blank [] = true
-blank (none ∷ c) = blank c
-blank (some p ∷ c) = false
+blank (None ∷ c) = blank c
+blank (Some p ∷ c) = false
 
 abbrev pub filled : Cells → Bool
 filled [] = true
-filled (none ∷ c) = blank c
-filled (some p ∷ c) = filled c
+filled (None ∷ c) = blank c
+filled (Some p ∷ c) = filled c
 
 abbrev pub all_filled : ℕ → ℕ → Cells → Bool
 all_filled width zero c = true

@@ -1,6 +1,5 @@
 -- The store: blocks, current block, log buffer, last sequence number; and what it says of each node. Assumes nothing.
-use Rattle.std.specs.Prelude.{List, [], map, ℕ}
-use Rattle.std.proofs.Math.Option.{Option, none, some}
+use Rattle.std.specs.Prelude.{List, [], map, ℕ, Option, None, Some}
 use Rattle.account.specs.declared.Mode.{Mode}
 use Rattle.account.specs.declared.Mode.TheVariants.{Log, Disk}
 use Rattle.node.specs.declared.Shape.TheVariants.{Branch}
@@ -45,10 +44,10 @@ node_of st n = node_in (draft_of st n)
 -- "Each node's mode (disk if its greatest version, buffer included, is a disk page, else log)": the page that has the greatest
 -- version for its stamp is a disk page.
 abbrev pub mode_at : Option Page → Mode
-mode_at none = Log
-mode_at (some (page s (log es))) = Log
-mode_at (some (page s (whole n x))) = Disk
-mode_at (some (page s (checkpoint t scores count))) = Log
+mode_at None = Log
+mode_at (Some (page s (log es))) = Log
+mode_at (Some (page s (whole n x))) = Disk
+mode_at (Some (page s (checkpoint t scores count))) = Log
 
 unfoldable pub mode_of : Store → ℕ → Mode
 mode_of st n = mode_at (find (greatest (view st) n) st.blocks)

@@ -1,7 +1,6 @@
 -- The definitions run: a hundred and more edits of one node with the pages that they force out and a rewrite at three pages, a
 -- checkpoint and its reading back, the blocks that pages go to, each computed. Assumes nothing.
-use Rattle.std.specs.Prelude.{◌≡◌, refl, true, false, List, [], ◌∷◌, map, ℕ, zero, suc, ◌+◌, length, set, replicate}
-use Rattle.std.proofs.Math.Option.{some}
+use Rattle.std.specs.Prelude.{◌≡◌, refl, true, false, List, [], ◌∷◌, map, ℕ, zero, suc, ◌+◌, length, set, replicate, Some}
 use Rattle.account.specs.declared.Mode.TheVariants.{Log, Disk}
 use Rattle.account.specs.declared.Tariff.{Tariff}
 use Rattle.layout.specs.Layout.{no_leaf}
@@ -66,7 +65,7 @@ closed = close tariff (λ n. n) split
 
 -- A checkpoint that another writer made: its scores begin with that of node 2.
 abbrev foreign_set : List CheckpointPage
-foreign_set = checkpoint_page (some tariff) (score 2 7 ∷ score 0 5 ∷ score 1 6 ∷ []) (some 3) ∷ []
+foreign_set = checkpoint_page (Some tariff) (score 2 7 ∷ score 0 5 ∷ score 1 6 ∷ []) (Some 3) ∷ []
 
 -- Number and size of each page: entries of a log page, scores of a checkpoint page.
 abbrev sizes : List Page → List (ℕ × ℕ)

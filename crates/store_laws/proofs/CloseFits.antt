@@ -1,8 +1,7 @@
 -- The end of a batch leaves a fitting store: of the scores in a row each checkpoint page takes as many as it holds, so that only the last
 -- is not full, and that one has the count. Assumes nothing.
-use Rattle.std.specs.Prelude.{◌≡◌, refl, Bool, ◌⊎◌, List, [], ◌∷◌, ℕ, zero, suc, ◌+◌, ◌≤◌, ◌<◌, length, take, drop}
+use Rattle.std.specs.Prelude.{◌≡◌, refl, Bool, ◌⊎◌, List, [], ◌∷◌, ℕ, zero, suc, ◌+◌, ◌≤◌, ◌<◌, length, take, drop, None, Some}
 use Rattle.std.proofs.Common.{sym, ap, ◌∙◌, inl, inr, arith, length-take, drop_of_length-le}
-use Rattle.std.proofs.Math.Option.{none, some}
 use Rattle.laws.specs.Every.{Every, none, both, every_take, every_drop}
 use Rattle.laws.specs.Order.{le_or}
 use Rattle.laws.specs.Lists.{nil-cons}
@@ -71,7 +70,7 @@ later_checkpoint_pages_fit : (most n : ℕ) → n < bound16 → (xs : List Score
 later_checkpoint_pages_fit zero n few xs e = none
 later_checkpoint_pages_fit (suc most) n few [] e = none
 later_checkpoint_pages_fit (suc most) n few (x ∷ xs) e =
-    both {x = checkpoint_page none (take other_scores (x ∷ xs)) (count_if_last n (parts most other_scores (drop other_scores (x ∷ xs))))}
+    both {x = checkpoint_page None (take other_scores (x ∷ xs)) (count_if_last n (parts most other_scores (drop other_scores (x ∷ xs))))}
     (record {
       tariff = tt;
       some = omega (arith, length-take other_scores (x ∷ xs));
@@ -85,7 +84,7 @@ pub checkpoint-pages_fit : (t : Tariff) → TariffFits t → (scores : List Scor
     Every CheckpointPageFits (checkpoint_pages t scores)
 unfolding checkpoint_pages
 checkpoint-pages_fit t f scores e least few =
-    both {x = checkpoint_page (some t) (take first_scores scores) (count_if_last (length scores) (later_parts scores))}
+    both {x = checkpoint_page (Some t) (take first_scores scores) (count_if_last (length scores) (later_parts scores))}
     (record {
       tariff = f;
       some = omega (arith, length-take first_scores scores);

@@ -1,9 +1,8 @@
 -- The end of a batch: the buffer's page, then the checkpoint. No node notices; the checkpoint's pages are live while it is written, so all
 -- of them stand at its end, under the greatest numbers, and are read back; and the cells are this very store again. Assumes nothing.
-use Rattle.std.specs.Prelude.{◌≡◌, Bool, true, List, [], ◌∷◌, ◌++◌, ℕ, suc, ◌+◌, ◌≤◌, ◌<◌, take}
+use Rattle.std.specs.Prelude.{◌≡◌, Bool, true, List, [], ◌∷◌, ◌++◌, ℕ, suc, ◌+◌, ◌≤◌, ◌<◌, take, Some}
 use Rattle.std.proofs.Math.Path.{refl, ap}
 use Rattle.std.proofs.Common.{sym, ◌∙◌, subst, append-nil, arith, eq-eqb, lt-ltb}
-use Rattle.std.proofs.Math.Option.{some}
 use Rattle.std.proofs.Math.Nat.{le_trans}
 use Rattle.std.proofs.Math.ListN.{length}
 use Rattle.laws.specs.Tests.{and_right}
@@ -83,12 +82,12 @@ module _ {B : ℕ} {closing : Page → Bool} (run : Run) (v : Invariant B run.no
       }
 
   -- it stands under the next number, and every page of the checkpoint stays
-  write_checkpoint_page-find : find (suc (last run)) (write_checkpoint_page closing x run).now.blocks ≡ some (page (suc (last run)) (checkpoint_page_content x))
+  write_checkpoint_page-find : find (suc (last run)) (write_checkpoint_page closing x run).now.blocks ≡ Some (page (suc (last run)) (checkpoint_page_content x))
   unfolding write
   write_checkpoint_page-find = place-find v (checkpoint_page_content x) run.now.buffer
 
-  write_checkpoint_page_stays : (s : ℕ) (q : Page) → find s run.now.blocks ≡ some q → closing q ≡ true → s ≤ last run →
-      find s (write_checkpoint_page closing x run).now.blocks ≡ some q
+  write_checkpoint_page_stays : (s : ℕ) (q : Page) → find s run.now.blocks ≡ Some q → closing q ≡ true → s ≤ last run →
+      find s (write_checkpoint_page closing x run).now.blocks ≡ Some q
   unfolding write
   write_checkpoint_page_stays s q e c l =
       place-find-live v (checkpoint_page_content x) run.now.buffer s q l e (live_closing (view run.now) closing run.nodes q c)
@@ -129,7 +128,7 @@ module _ {B : ℕ} {closing : Page → Bool} where
   -- THE CHECKPOINT STANDS where it was written: no page of it is lost
   write_checkpoint_pages_stays : (xs : List CheckpointPage) (run : Run) → Invariant B run.nodes closing run.now → VersionRules run.now →
       Every LeanAt run.passed → tally closing run.now.blocks + length xs ≤ most_checkpoint_pages → (s : ℕ) (q : Page) →
-      find s run.now.blocks ≡ some q → closing q ≡ true → s ≤ last run → find s (write_checkpoint_pages closing xs run).now.blocks ≡ some q
+      find s run.now.blocks ≡ Some q → closing q ≡ true → s ≤ last run → find s (write_checkpoint_pages closing xs run).now.blocks ≡ Some q
   write_checkpoint_pages_stays [] run v r p l s q e c h = e
   write_checkpoint_pages_stays (x ∷ xs) run v r p l s q e c h =
       let a = write_checkpoint_page-left run v x r p (omega arith) in
@@ -141,7 +140,7 @@ module _ {B : ℕ} {closing : Page → Bool} where
 -- checkpoint pages under the numbers after k
 abbrev Stand : Blocks → ℕ → List CheckpointPage → Type 0
 Stand bs k [] = Unit {0}
-Stand bs k (x ∷ xs) = (find (suc k) bs ≡ some (page (suc k) (checkpoint_page_content x))) × Stand bs (suc k) xs
+Stand bs k (x ∷ xs) = (find (suc k) bs ≡ Some (page (suc k) (checkpoint_page_content x))) × Stand bs (suc k) xs
 
 write_checkpoint_pages_stand : {B : ℕ} {closing : Page → Bool} (xs : List CheckpointPage) (run : Run) → Invariant B run.nodes closing run.now →
     VersionRules run.now →
@@ -183,7 +182,7 @@ unfolding collect checkpoint_pages
 collect-checkpoint-pages bs t scores k h =
     let n = length scores in
     let rest = later_checkpoint_pages n (later_parts scores) in
-    let first = checkpoint_page (some t) (take first_scores scores) (count_if_last n (later_parts scores)) in
+    let first = checkpoint_page (Some t) (take first_scores scores) (count_if_last n (later_parts scores)) in
     let e : k + suc (length rest) ≡ suc k + length rest = omega arith in
     ap (λ z. collect (λ s. find s bs) z []) e ∙
     collect-later bs n (later_parts scores) (suc k) [] h.1 ∙
@@ -278,7 +277,7 @@ module _ {B N : ℕ} {table : ℕ → Node} {modes : ℕ → Mode} {run : Run} (
   unfolding close closing scores checkpoint_pages
   close-has =
       let n = length scores in
-      write_checkpoint_pages-has (checkpoint_page (some t) (take first_scores scores) (count_if_last n (later_parts scores)))
+      write_checkpoint_pages-has (checkpoint_page (Some t) (take first_scores scores) (count_if_last n (later_parts scores)))
       (later_checkpoint_pages n (later_parts scores))
       (drain run) begins d.good.versions d.good.passed fits
 

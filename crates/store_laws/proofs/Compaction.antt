@@ -1,9 +1,8 @@
 -- Finding a place, with or without a compaction, as its users see it: every node keeps version, content, mode and the very pages that it
 -- lies on, told apart by number; the place has room and another block is blank. Assumes nothing.
-use Rattle.std.specs.Prelude.{◌≡◌, refl, Bool, true, length}
+use Rattle.std.specs.Prelude.{◌≡◌, refl, Bool, true, length, Some}
 use Rattle.std.proofs.Common.{sym, arith, eq-eqb}
 use Rattle.std.proofs.Math.Path.{subst}
-use Rattle.std.proofs.Math.Option.{some}
 use Prim.Native.Nat.{ℕ, ◌≤◌, ◌<◌}
 use Rattle.laws.specs.Every.{Every, every_weaken}
 use Rattle.layout.specs.Layout.{pages_in_block, most_log_pages}
@@ -45,7 +44,7 @@ module _ {B N : ℕ} {closing : Page → Bool} {st : Store} (v : Invariant B N c
   found_mode n l Disk h =
       record {
         node = h.node;
-        page = subst (λ u. find u (found closing N st).blocks ≡ some (page u (whole n h.node))) (sym (found_same v n l).greatest) kept;
+        page = subst (λ u. find u (found closing N st).blocks ≡ Some (page u (whole n h.node))) (sym (found_same v n l).greatest) kept;
       }
     where
       u : ℕ
@@ -54,7 +53,7 @@ module _ {B N : ℕ} {closing : Page → Bool} {st : Store} (v : Invariant B N c
       carried : carries (view st) n (page (greatest (view st) n) (whole n h.node)) ≡ true
       carried = rw (eq-eqb n n refl, eq-eqb (greatest (view st) n) (greatest (view st) n) refl) refl
 
-      kept : find (greatest (view st) n) (found closing N st).blocks ≡ some (page (greatest (view st) n) (whole n h.node))
+      kept : find (greatest (view st) n) (found closing N st).blocks ≡ Some (page (greatest (view st) n) (whole n h.node))
       kept = found-live v u (page u (whole n h.node)) h.page (live-carries (view st) closing N (page u (whole n h.node)) n l carried)
 
   -- COMPACTION IS INVISIBLE

@@ -1,9 +1,8 @@
 -- Writing a page: what the store is afterwards. A place is found without any node noticing; then the page stands under the next
 -- number and every other page where it was. Then each operation of the store, as one of the changes of a view. Assumes nothing.
-use Rattle.std.specs.Prelude.{◌≡◌, Bool, true, false, ℕ, suc, ◌+◌, ◌*◌, ◌-◌, ◌≤◌, ◌<◌, length}
+use Rattle.std.specs.Prelude.{◌≡◌, Bool, true, false, ℕ, suc, ◌+◌, ◌*◌, ◌-◌, ◌≤◌, ◌<◌, length, Option, Some}
 use Rattle.std.proofs.Math.Path.{refl, ap}
 use Rattle.std.proofs.Common.{sym, ◌∙◌, eq-eqb, ne_eqb}
-use Rattle.std.proofs.Math.Option.{Option, some}
 use mathlib.Core.List.{List, [], ◌∷◌, ◌++◌, map}
 use Rattle.std.proofs.Math.Nat.{le_trans}
 use native.Mathlib.Omega.{arith}
@@ -36,7 +35,7 @@ use Rattle.store_laws.specs.Placing.{most_checkpoint_pages, Invariant}
 
 -- One page more, of the next number: it is found under it, and every other number as before.
 module _ {width B : ℕ} {bs : Blocks} {current k : ℕ} (p : Page) (e : sequence p ≡ suc k) (r : Ready width B bs current k) where
-  pub find-added : find (suc k) (add_to bs current p) ≡ some p
+  pub find-added : find (suc k) (add_to bs current p) ≡ Some p
   find-added =
       let inside : current < length bs = omega (arith, r.size, r.inside) in
       let gone : tally (numbered (suc k)) bs ≡ 0 = numbered-none k bs r.within (suc k) (omega arith) in
@@ -100,16 +99,16 @@ module _ {B N : ℕ} {closing : Page → Bool} {st : Store} (v : Invariant B N c
       go (BlockRules.moves m) = compact_pruned closing N st.buffer st.last m v.rules.once
 
   -- a live page stays, under its number
-  pub found-live : (s : ℕ) (q : Page) → find s st.blocks ≡ some q → live (view st) closing N q ≡ true →
-      find s (found closing N st).blocks ≡ some q
+  pub found-live : (s : ℕ) (q : Page) → find s st.blocks ≡ Some q → live (view st) closing N q ≡ true →
+      find s (found closing N st).blocks ≡ Some q
   found-live s q e l = go found_how
     where
-      kept : {after : Option Page} → Found (live (view st) closing N) (find s st.blocks) after → after ≡ some q
+      kept : {after : Option Page} → Found (live (view st) closing N) (find s st.blocks) after → after ≡ Some q
       kept (PoolLaws.stays x) = x ∙ e
       kept (PoolLaws.goes p x y z) =
           absurd (test_clash (live (view st) closing N q) l (ap (live (view st) closing N) (some_same (sym e ∙ y)) ∙ z))
 
-      go : {bs' : Blocks} → How (live (view st) closing N) st.blocks bs' → find s bs' ≡ some q
+      go : {bs' : Blocks} → How (live (view st) closing N) st.blocks bs' → find s bs' ≡ Some q
       go BlockRules.stays = e
       go (BlockRules.moves m) = kept (find-compact (live (view st) closing N) m s (v.rules.once s))
 
@@ -140,12 +139,12 @@ module _ {B N : ℕ} {closing : Page → Bool} {st : Store} (v : Invariant B N c
   unfolding place found
   place_wrote c rest = added_wrote st.buffer rest (next st c) refl found_ready
 
-  pub place-find : (c : Content) (rest : List Entry) → find (suc st.last) (place closing N c rest st).blocks ≡ some (next st c)
+  pub place-find : (c : Content) (rest : List Entry) → find (suc st.last) (place closing N c rest st).blocks ≡ Some (next st c)
   unfolding place
   place-find c rest = find-added (next st c) refl found_ready
 
-  pub place-find-live : (c : Content) (rest : List Entry) (s : ℕ) (q : Page) → s ≤ st.last → find s st.blocks ≡ some q →
-      live (view st) closing N q ≡ true → find s (place closing N c rest st).blocks ≡ some q
+  pub place-find-live : (c : Content) (rest : List Entry) (s : ℕ) (q : Page) → s ≤ st.last → find s st.blocks ≡ Some q →
+      live (view st) closing N q ≡ true → find s (place closing N c rest st).blocks ≡ Some q
   unfolding place
   place-find-live c rest s q l e h =
       find-added-other (found closing N st).blocks (found closing N st).current st.last (next st c) refl s (λ z. omega arith) ∙

@@ -1,8 +1,7 @@
 -- The rules of versions hold again after every write, and so does the mode that a node is in. Assumes nothing.
-use Rattle.std.specs.Prelude.{◌≡◌, Bool, true, false, ◌⊎◌, ℕ, zero, suc, ◌+◌, ◌≤◌, ◌<◌}
+use Rattle.std.specs.Prelude.{◌≡◌, Bool, true, false, ◌⊎◌, ℕ, zero, suc, ◌+◌, ◌≤◌, ◌<◌, Some}
 use Rattle.std.proofs.Math.Path.{refl, ap, subst}
 use Rattle.std.proofs.Common.{sym, ◌∙◌, inl, inr, arith, eq-eqb, ne_eqb}
-use Rattle.std.proofs.Math.Option.{some}
 use mathlib.Core.List.{List, [], ◌∷◌, ◌++◌}
 use Rattle.std.proofs.lemmas.Bool.{lt-leb}
 use Rattle.laws.specs.Order.{eq_or, le_or}
@@ -144,7 +143,7 @@ module _ {B N : ℕ} {closing : Page → Bool} {st : Store} (v : Invariant B N c
   place-on_page c rest l t d =
       record {
         node = d.node;
-        page = subst (λ u. find u (place closing N c rest st).blocks ≡ some (page u (whole n d.node))) (sym t) here;
+        page = subst (λ u. find u (place closing N c rest st).blocks ≡ Some (page u (whole n d.node))) (sym t) here;
       }
     where
       own : Page
@@ -153,7 +152,7 @@ module _ {B N : ℕ} {closing : Page → Bool} {st : Store} (v : Invariant B N c
       carried : carries (view st) n (page (greatest (view st) n) (whole n d.node)) ≡ true
       carried = rw (eq-eqb n n refl, eq-eqb (greatest (view st) n) (greatest (view st) n) refl) refl
 
-      here : find (greatest (view st) n) (place closing N c rest st).blocks ≡ some (page (greatest (view st) n) (whole n d.node))
+      here : find (greatest (view st) n) (place closing N c rest st).blocks ≡ Some (page (greatest (view st) n) (whole n d.node))
       here =
           place-find-live v c rest (greatest (view st) n) own (v.fit.versions n) d.page (live-carries (view st) closing N own n l carried)
 

@@ -1,8 +1,7 @@
 -- The block that is taken: the blank one found is blank; the one compacted has the fewest live pages, the lowest on a tie; and
 -- since live pages are fewer than the written blocks hold, it has room. Assumes nothing.
-use Rattle.std.specs.Prelude.{◌≡◌, refl, Bool, true, false, not, ◌⊎◌, List, [], ◌∷◌, ℕ, zero, suc, ◌+◌, ◌*◌, ◌≤◌, ◌<◌, leb, length}
+use Rattle.std.specs.Prelude.{◌≡◌, refl, Bool, true, false, not, ◌⊎◌, List, [], ◌∷◌, ℕ, zero, suc, ◌+◌, ◌*◌, ◌≤◌, ◌<◌, leb, length, Option, None, Some}
 use Rattle.std.proofs.Common.{ap, inl, inr, suc-le-suc, le_of_suc-le-suc, le_trans, arith, leb-true, leb-false}
-use Rattle.std.proofs.Math.Option.{Option, none, some}
 use Rattle.laws.specs.Tests.{test_clash}
 use Rattle.laws.specs.Order.{le_or}
 use Rattle.laws.specs.Counts.{bit, bit_le_one, count, tally, empty, occupied, pigeonhole, empty-nil}
@@ -143,16 +142,16 @@ another_blank (b ∷ bs) (suc j) h = go (empty b) refl (λ q. another_blank bs j
 
 -- The next blank block is the first from k on.
 abbrev First : ℕ → Blocks → Option ℕ → Type 0
-First k bs none = (i : ℕ) → k ≤ i → i < length bs → empty (block bs i) ≡ false
-First k bs (some j) = (k ≤ j) × (j < length bs) × (block bs j ≡ []) × ((i : ℕ) → k ≤ i → i < j → empty (block bs i) ≡ false)
+First k bs None = (i : ℕ) → k ≤ i → i < length bs → empty (block bs i) ≡ false
+First k bs (Some j) = (k ≤ j) × (j < length bs) × (block bs j ≡ []) × ((i : ℕ) → k ≤ i → i < j → empty (block bs i) ≡ false)
 
 first-later : (k : ℕ) (b : List Page) (bs : Blocks) (o : Option ℕ) → First k bs o → First (suc k) (b ∷ bs) (later o)
-first-later k b bs none h = go
+first-later k b bs None h = go
   where
     go : (i : ℕ) → suc k ≤ i → i < suc (length bs) → empty (block (b ∷ bs) i) ≡ false
     go zero l m = absurd (omega arith)
     go (suc i) l m = h i (omega arith) (omega arith)
-first-later k b bs (some j) h = (omega arith, omega arith, h.2, go)
+first-later k b bs (Some j) h = (omega arith, omega arith, h.2, go)
   where
     go : (i : ℕ) → suc k ≤ i → i < suc j → empty (block (b ∷ bs) i) ≡ false
     go zero l m = absurd (omega arith)
@@ -160,12 +159,12 @@ first-later k b bs (some j) h = (omega arith, omega arith, h.2, go)
 
 first-here : (b : List Page) (bs : Blocks) (o : Option ℕ) → First 0 bs o → (t : Bool) → empty b ≡ t → First 0 (b ∷ bs) (here_or t o)
 first-here b bs o h true e = (omega arith, omega arith, empty-nil b e, λ i l m. absurd (omega arith))
-first-here b bs none h false e = go
+first-here b bs None h false e = go
   where
     go : (i : ℕ) → 0 ≤ i → i < suc (length bs) → empty (block (b ∷ bs) i) ≡ false
     go zero l m = e
     go (suc i) l m = h i (omega arith) (omega arith)
-first-here b bs (some j) h false e = (omega arith, omega arith, h.2, go)
+first-here b bs (Some j) h false e = (omega arith, omega arith, h.2, go)
   where
     go : (i : ℕ) → 0 ≤ i → i < suc j → empty (block (b ∷ bs) i) ≡ false
     go zero l m = e
@@ -181,6 +180,6 @@ pub next_blank-blank : (bs : Blocks) (c j : ℕ) → j < length bs → block bs 
 next_blank-blank bs c j l e = go (blank_from (suc c) bs) (blank_from-first (suc c) bs) (blank_from 0 bs) (blank_from-first 0 bs)
   where
     go : (x : Option ℕ) → First (suc c) bs x → (y : Option ℕ) → First 0 bs y → (first_of x y < length bs) × (block bs (first_of x y) ≡ [])
-    go (some i) h y h' = (h.1, h.2)
-    go none h (some i) h' = (h'.1, h'.2)
-    go none h none h' = absurd (test_clash (empty (block bs j)) (ap empty e) (h' j (omega arith) l))
+    go (Some i) h y h' = (h.1, h.2)
+    go None h (Some i) h' = (h'.1, h'.2)
+    go None h None h' = absurd (test_clash (empty (block bs j)) (ap empty e) (h' j (omega arith) l))

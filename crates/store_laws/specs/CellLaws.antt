@@ -1,8 +1,7 @@
 -- Cells and blocks are two ways to write one pool: each is read back from the other. And what one page written, or one block erased or
 -- filled, is in the cells. Assumes nothing.
-use Rattle.std.specs.Prelude.{◌≡◌, refl, true, List, [], ◌∷◌, ◌++◌, ℕ, zero, suc, ◌+◌, ◌*◌, ◌≤◌, ◌<◌, length, set, take, drop}
+use Rattle.std.specs.Prelude.{◌≡◌, refl, true, List, [], ◌∷◌, ◌++◌, ℕ, zero, suc, ◌+◌, ◌*◌, ◌≤◌, ◌<◌, length, set, take, drop, None, Some}
 use Rattle.std.proofs.Common.{sym, ap, ap₂, subst, ◌∙◌, append_assoc, not-suc-le-zero, le_of_suc-le-suc, arith, length-take, length-drop, length-append, take-append-drop, take_at, drop_at}
-use Rattle.std.proofs.Math.Option.{none, some}
 use Rattle.std.proofs.lemmas.List.{set-append_left}
 use Rattle.laws.specs.Tests.{and_left, and_right}
 use Rattle.laws.specs.Lists.{set_append_right, take-append-right, drop-append-right, length-zero}
@@ -62,14 +61,14 @@ all_filled-cells width (b ∷ bs) =
 cells_in-blank : (c : Cells) → blank c ≡ true → cells_in (length c) [] ≡ c
 unfolding cells_in
 cells_in-blank [] e = refl
-cells_in-blank (none ∷ c) e = ap {B = Cells} (λ z. none ∷ z) (cells_in-blank c e)
-cells_in-blank (some p ∷ c) e = cc
+cells_in-blank (None ∷ c) e = ap {B = Cells} (λ z. None ∷ z) (cells_in-blank c e)
+cells_in-blank (Some p ∷ c) e = cc
 
 cells_in-block_in : (c : Cells) → filled c ≡ true → cells_in (length c) (block_in c) ≡ c
 unfolding cells_in
 cells_in-block_in [] e = refl
-cells_in-block_in (none ∷ c) e = ap {B = Cells} (λ z. none ∷ z) (cells_in-blank c e)
-cells_in-block_in (some p ∷ c) e = ap {B = Cells} (λ z. some p ∷ z) (cells_in-block_in c e)
+cells_in-block_in (None ∷ c) e = ap {B = Cells} (λ z. None ∷ z) (cells_in-blank c e)
+cells_in-block_in (Some p ∷ c) e = ap {B = Cells} (λ z. Some p ∷ z) (cells_in-block_in c e)
 
 pub cells-blocks_in : (width k : ℕ) (c : Cells) → length c ≡ k * width → all_filled width k c ≡ true → cells width (blocks_in width k c) ≡ c
 cells-blocks_in width zero c l t = sym (length-zero c (omega arith))
@@ -84,8 +83,8 @@ cells-blocks_in width (suc k) c l t =
 
 length-block_in : (c : Cells) → length (block_in c) ≤ length c
 length-block_in [] = omega arith
-length-block_in (none ∷ c) = omega arith
-length-block_in (some p ∷ c) = omega (arith, length-block_in c)
+length-block_in (None ∷ c) = omega arith
+length-block_in (Some p ∷ c) = omega (arith, length-block_in c)
 
 pub length-blocks_in : (width k : ℕ) (c : Cells) → length (blocks_in width k c) ≡ k
 length-blocks_in width zero c = refl
@@ -97,25 +96,25 @@ block-blocks_in width (suc k) c zero = omega (arith, length-block_in (take width
 block-blocks_in width (suc k) c (suc i) = block-blocks_in width k (drop width c) i
 
 -- One page more is one cell set.
-cells_in-snoc : (k : ℕ) (b : List Page) (p : Page) → length b < k → cells_in k (b ++ (p ∷ [])) ≡ set (cells_in k b) (length b) (some p)
+cells_in-snoc : (k : ℕ) (b : List Page) (p : Page) → length b < k → cells_in k (b ++ (p ∷ [])) ≡ set (cells_in k b) (length b) (Some p)
 unfolding cells_in
 cells_in-snoc zero b p l = absurd (not-suc-le-zero l)
 cells_in-snoc (suc k) [] p l = refl
-cells_in-snoc (suc k) (x ∷ b) p l = ap {B = Cells} (λ z. some x ∷ z) (cells_in-snoc k b p (le_of_suc-le-suc l))
+cells_in-snoc (suc k) (x ∷ b) p l = ap {B = Cells} (λ z. Some x ∷ z) (cells_in-snoc k b p (le_of_suc-le-suc l))
 
 pub cells-add_to : (width : ℕ) (bs : Blocks) (i : ℕ) (p : Page) → i < length bs → length (block bs i) < width →
-    cells width (add_to bs i p) ≡ set (cells width bs) (i * width + length (block bs i)) (some p)
+    cells width (add_to bs i p) ≡ set (cells width bs) (i * width + length (block bs i)) (Some p)
 cells-add_to width [] i p l f = absurd (not-suc-le-zero l)
 cells-add_to width (b ∷ bs) zero p l f =
     rw (
       cells_in-snoc width b p f,
-      ← set-append_left (cells_in width b) (cells width bs) (length b) (some p) (rw (length-cells_in width b) f),
+      ← set-append_left (cells_in width b) (cells width bs) (length b) (Some p) (rw (length-cells_in width b) f),
     )
-    (ap (λ z. set (cells_in width b ++ cells width bs) z (some p)) (omega arith))
+    (ap (λ z. set (cells_in width b ++ cells width bs) z (Some p)) (omega arith))
 cells-add_to width (b ∷ bs) (suc i) p l f =
     ap {B = Cells} (λ z. cells_in width b ++ z) (cells-add_to width bs i p (le_of_suc-le-suc l) f) ∙
     sym
-    (set_append_right (cells_in width b) (cells width bs) (suc i * width + length (block bs i)) (i * width + length (block bs i)) (some p)
+    (set_append_right (cells_in width b) (cells width bs) (suc i * width + length (block bs i)) (i * width + length (block bs i)) (Some p)
     (rw (length-cells_in width b) (omega arith)))
 
 -- A block erased or filled is its cells changed.

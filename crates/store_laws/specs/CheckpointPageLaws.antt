@@ -1,8 +1,7 @@
 -- The checkpoint pages of a checkpoint: at most twelve, and tariff, scores and count are read back from them. Parts of a list in a row are the
 -- list. Assumes nothing.
-use Rattle.std.specs.Prelude.{◌≡◌, refl, true, ◌&&◌, ◌⊎◌, List, [], ◌∷◌, ◌++◌, ℕ, zero, suc, ◌+◌, ◌*◌, ◌≤◌, ◌<◌, eqb, length, take, drop}
+use Rattle.std.specs.Prelude.{◌≡◌, refl, true, ◌&&◌, ◌⊎◌, List, [], ◌∷◌, ◌++◌, ℕ, zero, suc, ◌+◌, ◌*◌, ◌≤◌, ◌<◌, eqb, length, take, drop, Option, None, Some}
 use Rattle.std.proofs.Common.{sym, ap, ◌∙◌, inl, inr, arith, eq-eqb, ne_eqb, lt-ltb, length-drop, take-append-drop, drop_of_length-le}
-use Rattle.std.proofs.Math.Option.{Option, none, some}
 use Rattle.laws.specs.Tests.{choose, and_both}
 use Rattle.laws.specs.Order.{eq_or, le_or}
 use Rattle.laws.specs.Counts.{bit, count}
@@ -70,7 +69,7 @@ count_in-later n x [] = refl
 count_in-later n x (y ∷ xs) = count_in-later n y xs
 
 count_in-first : (t : Tariff) (n : ℕ) (c : List Score) (xs : List (List Score)) →
-    count_in (checkpoint_page (some t) c (count_if_last n xs) ∷ later_checkpoint_pages n xs) ≡ n
+    count_in (checkpoint_page (Some t) c (count_if_last n xs) ∷ later_checkpoint_pages n xs) ≡ n
 count_in-first t n c [] = refl
 count_in-first t n c (x ∷ xs) = count_in-later n x xs
 
@@ -78,7 +77,7 @@ pub count_in-checkpoint-pages : (t : Tariff) (scores : List Score) → count_in 
 unfolding checkpoint_pages
 count_in-checkpoint-pages t scores = count_in-first t (length scores) (take first_scores scores) (later_parts scores)
 
-pub tariff_in-checkpoint-pages : (t : Tariff) (scores : List Score) → tariff_in (checkpoint_pages t scores) ≡ some t
+pub tariff_in-checkpoint-pages : (t : Tariff) (scores : List Score) → tariff_in (checkpoint_pages t scores) ≡ Some t
 unfolding checkpoint_pages
 tariff_in-checkpoint-pages t scores = refl
 
@@ -105,7 +104,7 @@ once_below_true (suc n) scores h =
 count_last-checkpoint-pages : (o : Option Tariff) (n : ℕ) (c : List Score) (xs : List (List Score)) → count_last
     (checkpoint_page o c (count_if_last n xs) ∷ later_checkpoint_pages n xs) ≡ true
 count_last-checkpoint-pages o n c [] = refl
-count_last-checkpoint-pages o n c (x ∷ xs) = count_last-checkpoint-pages none n x xs
+count_last-checkpoint-pages o n c (x ∷ xs) = count_last-checkpoint-pages None n x xs
 
 -- THE SET IS COMPLETE
 pub checkpoint-pages-complete : (t : Tariff) (n : ℕ) (f : ℕ → ℕ) → complete (checkpoint_pages t (scores_from 0 n f)) ≡ true
@@ -115,7 +114,7 @@ checkpoint-pages-complete t n f =
     let xs = checkpoint_pages t scores in
     let c : count_in xs ≡ n = count_in-checkpoint-pages t scores ∙ length-scores_from 0 n f in
     and_both (count_last xs) (eqb (length (scores_in xs)) (count_in xs) && once_below (count_in xs) (scores_in xs))
-    (count_last-checkpoint-pages (some t) (length scores) (take first_scores scores) (later_parts scores))
+    (count_last-checkpoint-pages (Some t) (length scores) (take first_scores scores) (later_parts scores))
     (and_both (eqb (length (scores_in xs)) (count_in xs)) (once_below (count_in xs) (scores_in xs))
     (eq-eqb _ _ (ap length (scores_in-checkpoint-pages t scores) ∙ length-scores_from 0 n f ∙ sym c))
     (rw (c, scores_in-checkpoint-pages t scores)

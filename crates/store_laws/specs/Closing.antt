@@ -1,6 +1,5 @@
 -- What a run is whose batch has ended. Assumes nothing.
-use Rattle.std.specs.Prelude.{◌≡◌, true, ℕ, ◌+◌, ◌≤◌, ◌<◌}
-use Rattle.std.proofs.Math.Option.{some}
+use Rattle.std.specs.Prelude.{◌≡◌, true, ℕ, ◌+◌, ◌≤◌, ◌<◌, Some}
 use Rattle.account.specs.declared.Mode.{Mode}
 use Rattle.account.specs.declared.Tariff.{Tariff}
 use Rattle.node.specs.Node.{Node}
@@ -18,7 +17,7 @@ pub record Closed (B N : ℕ) (table : ℕ → Node) (modes : ℕ → Mode) (t :
   pub again : reopened B (pool_of run'.now) ≡ run'.now
   pub checkpoint : checkpoint_of run'.now ≡ checkpoint_pages t (scores_from 0 N score)
   pub complete : complete (checkpoint_of run'.now) ≡ true
-  pub tariff : tariff_in (checkpoint_of run'.now) ≡ some t
+  pub tariff : tariff_in (checkpoint_of run'.now) ≡ Some t
   pub count : count_in (checkpoint_of run'.now) ≡ N
   pub scores : (n : ℕ) → n < N → score_in (scores_in (checkpoint_of run'.now)) n ≡ score n
   pub number : last run' ≤ 13 + last run

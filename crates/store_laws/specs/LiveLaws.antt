@@ -1,10 +1,9 @@
 -- How many pages can be live: a page counts for each number at most once, so a node's live pages are no more than it lies on.
 -- What is dead has nothing of any node's greatest version, so a compaction prunes. Assumes nothing.
-use Rattle.std.specs.Prelude.{◌≡◌, refl, Bool, true, false, not, ◌&&◌, ◌||◌, ◌⊎◌, List, [], ◌∷◌, ℕ, zero, suc, ◌+◌, ◌*◌, ◌≤◌, ◌<◌, leb}
+use Rattle.std.specs.Prelude.{◌≡◌, refl, Bool, true, false, not, ◌&&◌, ◌||◌, ◌⊎◌, List, [], ◌∷◌, ℕ, zero, suc, ◌+◌, ◌*◌, ◌≤◌, ◌<◌, leb, Option, None, Some}
 use Rattle.std.proofs.Math.Path.{ap}
 use Rattle.std.proofs.Common.{◌∙◌, inl, inr, eq-eqb, leb-true, le-leb, lt-ltb}
 use Rattle.std.proofs.Math.Bool.{or-true}
-use Rattle.std.proofs.Math.Option.{Option, none, some}
 use native.Mathlib.Omega.{arith}
 use Rattle.std.proofs.lemmas.Bool.{not-false}
 use Rattle.laws.specs.Tests.{choose, and_right, or_left, or_right}
@@ -78,7 +77,7 @@ count-number f s (p ∷ b) l = go (numbered s p) refl (f p) refl (λ h. count-nu
 
     go : (t : Bool) → numbered s p ≡ t → (u : Bool) → f p ≡ u →
         (count (numbered s) b ≤ 1 → count (λ p. f p && numbered s p) b ≤ bit (test f (page_in s b))) →
-        bit (f p && numbered s p) + count (λ p. f p && numbered s p) b ≤ bit (test f (choose (numbered s p) (some p) (page_in s b)))
+        bit (f p && numbered s p) + count (λ p. f p && numbered s p) b ≤ bit (test f (choose (numbered s p) (Some p) (page_in s b)))
     go true e true d r = rw (e, d) (omega (arith, ap bit e, rest))
     go true e false d r = rw (e, d) (omega (arith, ap bit e, rest))
     go false e true d r = rw (e, d) (omega (arith, r (omega arith)))
@@ -90,8 +89,8 @@ tally-number f s [] l = omega arith
 tally-number f s (b ∷ bs) l = go (le_or (count (numbered s) b) 0) (tally-number f s bs (omega arith))
   where
     left : (o r : Option Page) → bit (test f o) ≤ bit (test f (or_else o r))
-    left none r = omega arith
-    left (some p) r = omega arith
+    left None r = omega arith
+    left (Some p) r = omega arith
 
     go : (count (numbered s) b ≤ 0) ⊎ (0 < count (numbered s) b) → tally (λ p. f p && numbered s p) bs ≤ bit (test f (find s bs)) →
         count (λ p. f p && numbered s p) b + tally (λ p. f p && numbered s p) bs ≤ bit (test f (or_else (page_in s b) (find s bs)))
@@ -172,8 +171,8 @@ module _ (bs : Blocks) (buffer : List Entry) (last : ℕ) (once : (s : ℕ) → 
       w = seen bs buffer last
 
       go : (x : Option Page) → test (carries (seen bs buffer last) n) x ≡ not (empty (pieces_in n (greatest (seen bs buffer last) n) (items_at x)))
-      go none = refl
-      go (some p) = refl
+      go None = refl
+      go (Some p) = refl
 
   -- so many a node, and the checkpoint being written
   pub live_bound : (closing : Page → Bool) (most N : ℕ) → ((n : ℕ) → n < N → pages (seen bs buffer last) n ≤ most) →

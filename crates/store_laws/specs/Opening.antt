@@ -1,9 +1,8 @@
 -- A pool whose cells pass the tests is a good state to begin with, whoever wrote it; each of its nodes with an unbroken content is in the
 -- mode that the store says. And a pool of ours passes them. Assumes nothing.
-use Rattle.std.specs.Prelude.{◌≡◌, Bool, true, false, ◌&&◌, ◌⊎◌, eqb}
+use Rattle.std.specs.Prelude.{◌≡◌, Bool, true, false, ◌&&◌, ◌⊎◌, eqb, Option, None, Some}
 use Rattle.std.proofs.Math.Path.{refl, ap}
 use Rattle.std.proofs.Common.{sym, subst, ◌∙◌, inl, inr, arith, eq-eqb, ne_eqb}
-use Rattle.std.proofs.Math.Option.{Option, none, some}
 use mathlib.Core.List.{List, [], ◌∷◌, ◌++◌, map}
 use Prim.Native.Nat.{ℕ, zero, suc, ◌≤◌, ◌<◌}
 use Rattle.laws.specs.Tests.{choose, test_clash, and_left, and_right, and_both}
@@ -156,29 +155,29 @@ module _ (bs : Blocks) (h : every_page (page_passes bs) bs ≡ true) (n : ℕ) w
       (λ s a b. zero_of s (find s bs) (find-passes (page_passes bs) s bs h)))
     where
       zero_of : (s : ℕ) (o : Option Page) → Passes (page_passes bs) s o → pieces_in n 0 (items_at o) ≡ []
-      zero_of s none p = refl
-      zero_of s (some x) p = page_zero n bs x p.0
+      zero_of s None p = refl
+      zero_of s (Some x) p = page_zero n bs x p.0
 
-  on_page_lem : (s s' m : ℕ) (x : Node) → find s bs ≡ some (page s' (whole m x)) → s' ≡ s → s' ≡ u → m ≡ n → OnPage (store_of bs) n
+  on_page_lem : (s s' m : ℕ) (x : Node) → find s bs ≡ Some (page s' (whole m x)) → s' ≡ s → s' ≡ u → m ≡ n → OnPage (store_of bs) n
   on_page_lem s s' m x a p q r =
       record {
         node = x;
         page =
-            subst (λ z. find z bs ≡ some (page z (whole n x))) (sym p ∙ q)
-            (subst (λ k. find s bs ≡ some (page s (whole k x))) r (subst (λ z. find s bs ≡ some (page z (whole m x))) p a));
+            subst (λ z. find z bs ≡ Some (page z (whole n x))) (sym p ∙ q)
+            (subst (λ k. find s bs ≡ Some (page s (whole k x))) r (subst (λ z. find s bs ≡ Some (page z (whole m x))) p a));
       }
 
   found_mode : (s : ℕ) (o : Option Page) → find s bs ≡ o → Passes (page_passes bs) s o → 0 < u → greatest_in n (items_at o) ≡ u →
       InLog (store_of bs) n ⊎ OnPage (store_of bs) n
-  found_mode s none a p k q = absurd (omega arith)
-  found_mode s (some (page s' (log es))) a p k q =
+  found_mode s None a p k q = absurd (omega arith)
+  found_mode s (Some (page s' (log es))) a p k q =
       inl (record { none = (said_fits u s' bs es (page_versions bs s' es p.0) (greatest-said n u es k q)).apart; some = k })
-  found_mode s (some (page s' (whole m x))) a p k q = go (eq_or m n)
+  found_mode s (Some (page s' (whole m x))) a p k q = go (eq_or m n)
     where
       go : (m ≡ n) ⊎ (m ≡ n → ⊥) → InLog (store_of bs) n ⊎ OnPage (store_of bs) n
       go (inl r) = inr (on_page_lem s s' m x a p.1 (omega (arith, q, ap (λ b. choose b s' 0) (eq-eqb m n r))) r)
       go (inr r) = absurd (omega (arith, q, ap (λ b. choose b s' 0) (ne_eqb m n r)))
-  found_mode s (some (page s' (checkpoint t scores k'))) a p k q = absurd (omega arith)
+  found_mode s (Some (page s' (checkpoint t scores k'))) a p k q = absurd (omega arith)
 
   in_a_mode : (x : Node) → draft_of (store_of bs) n ≡ made x → InLog (store_of bs) n ⊎ OnPage (store_of bs) n
   unfolding greatest draft_of replay replay_from

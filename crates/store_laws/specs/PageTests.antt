@@ -1,7 +1,6 @@
 -- The tests of sequence numbers and versions hold exactly where their rules do, page by page and entry by entry. Assumes nothing.
-use Rattle.std.specs.Prelude.{◌≡◌, refl, Bool, true, false, ◌&&◌, ◌⊎◌, List, [], ◌∷◌, map, ℕ, zero, suc, ◌+◌, ◌≤◌, ◌<◌, max, eqb, leb, ltb}
+use Rattle.std.specs.Prelude.{◌≡◌, refl, Bool, true, false, ◌&&◌, ◌⊎◌, List, [], ◌∷◌, map, ℕ, zero, suc, ◌+◌, ◌≤◌, ◌<◌, max, eqb, leb, ltb, Option, None, Some}
 use Rattle.std.proofs.Common.{ap, subst, inl, inr, le_trans, arith, eqb-true, eq-eqb, ne_eqb, leb-true, le-leb, ltb-true, lt-ltb}
-use Rattle.std.proofs.Math.Option.{Option, none, some}
 use Rattle.std.proofs.lemmas.Bool.{lt-leb}
 use Rattle.laws.specs.Tests.{choose, and_left, and_right, and_both}
 use Rattle.laws.specs.Order.{eq_or, le_or}
@@ -144,14 +143,14 @@ every_page-none f g h (b ∷ bs) e =
 
 -- The page that is found passes, and has the number.
 abbrev pub Passes : (Page → Bool) → ℕ → Option Page → Type 0
-Passes f s none = Unit {0}
-Passes f s (some p) = (f p ≡ true) × (sequence p ≡ s)
+Passes f s None = Unit {0}
+Passes f s (Some p) = (f p ≡ true) × (sequence p ≡ s)
 
 page_in-passes : (f : Page → Bool) (s : ℕ) (b : List Page) → every f b ≡ true → Passes f s (page_in s b)
 page_in-passes f s [] e = tt
 page_in-passes f s (p ∷ b) e = go (numbered s p) refl (page_in-passes f s b (and_right (f p) (every f b) e))
   where
-    go : (t : Bool) → numbered s p ≡ t → Passes f s (page_in s b) → Passes f s (choose t (some p) (page_in s b))
+    go : (t : Bool) → numbered s p ≡ t → Passes f s (page_in s b) → Passes f s (choose t (Some p) (page_in s b))
     go true q r = (and_left (f p) (every f b) e, eqb-true (sequence p) s q)
     go false q r = r
 
@@ -161,8 +160,8 @@ find-passes f s (b ∷ bs) e =
     go (page_in s b) (page_in-passes f s b (and_left (every f b) (every_page f bs) e)) (find-passes f s bs (and_right (every f b) (every_page f bs) e))
   where
     go : (o : Option Page) → Passes f s o → Passes f s (find s bs) → Passes f s (or_else o (find s bs))
-    go none h r = r
-    go (some p) h r = h
+    go None h r = r
+    go (Some p) h r = h
 
 -- A POOL WHOSE PAGES PASS: numbers from 1, versions within, and the rules of versions
 pub passing_numbers : (bs : Blocks) → every_page (page_passes bs) bs ≡ true → tally (numbered 0) bs ≡ 0
@@ -185,8 +184,8 @@ passing_fit bs e =
     }
   where
     go : (n s : ℕ) (o : Option Page) → Passes (page_passes bs) s o → greatest_in n (items_at o) ≤ s
-    go n s none h = omega arith
-    go n s (some p) h = omega (arith, page_greatest n bs p h.0)
+    go n s None h = omega arith
+    go n s (Some p) h = omega (arith, page_greatest n bs p h.0)
 
 fits_raise : {s s' v : ℕ} {bs : Blocks} → VersionFits s bs v → s ≤ s' → VersionFits s' bs v
 fits_raise f l = record { from_one = f.from_one; below = omega (arith, f.below); apart = f.apart }

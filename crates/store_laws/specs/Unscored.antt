@@ -1,10 +1,8 @@
 -- A pool without its scores. The tests of blocks and pages, the contents and modes of the nodes, and the checkpoint's tariff and node count do not
 -- depend on fields 14: two pools that are the same without them differ in nothing else. Assumes nothing.
-use Rattle.std.specs.Prelude.{◌≡◌, refl, Bool, true, false, ◌&&◌, List, [], ◌∷◌, map, ℕ, zero, suc, ◌+◌, max, eqb, leb, take, drop}
+use Rattle.std.specs.Prelude.{◌≡◌, refl, Bool, true, false, ◌&&◌, List, [], ◌∷◌, map, ℕ, zero, suc, ◌+◌, max, eqb, leb, take, drop, Option, None, Some, option_map}
 use Rattle.std.proofs.Common.{sym, ap₂, ◌∙◌}
 use Rattle.std.proofs.Math.Path.{ap, fun_ext}
-use Rattle.std.proofs.Math.Option
-use Rattle.std.proofs.Math.Option.{Option, none, some}
 use Rattle.std.proofs.lemmas.List.{length-map}
 use Rattle.laws.specs.Tests.{choose}
 use Rattle.laws.specs.Lists.{take-map, drop-map}
@@ -26,7 +24,7 @@ unscored (page s (whole n x)) = page s (whole n x)
 unscored (page s (checkpoint t scores count)) = page s (checkpoint t [] count)
 
 abbrev pub unscored_cells : Cells → Cells
-unscored_cells c = map (Option.map unscored) c
+unscored_cells c = map (option_map unscored) c
 
 abbrev unscored_blocks : Blocks → Blocks
 unscored_blocks bs = map (map unscored) bs
@@ -38,14 +36,14 @@ unscored_page x = checkpoint_page x.tariff [] x.count
 
 block-unscored : (c : Cells) → block_in (unscored_cells c) ≡ map unscored (block_in c)
 block-unscored [] = refl
-block-unscored (none ∷ c) = refl
-block-unscored (some p ∷ c) = ap {B = List Page} (λ z. unscored p ∷ z) (block-unscored c)
+block-unscored (None ∷ c) = refl
+block-unscored (Some p ∷ c) = ap {B = List Page} (λ z. unscored p ∷ z) (block-unscored c)
 
 blocks-unscored : (width k : ℕ) (c : Cells) → blocks_in width k (unscored_cells c) ≡ unscored_blocks (blocks_in width k c)
 blocks-unscored width zero c = refl
 blocks-unscored width (suc k) c =
-    ap₂ {B = Blocks} ◌∷◌ (ap block_in (take-map (Option.map unscored) width c) ∙ block-unscored (take width c))
-    (ap (blocks_in width k) (drop-map (Option.map unscored) width c) ∙ blocks-unscored width k (drop width c))
+    ap₂ {B = Blocks} ◌∷◌ (ap block_in (take-map (option_map unscored) width c) ∙ block-unscored (take width c))
+    (ap (blocks_in width k) (drop-map (option_map unscored) width c) ∙ blocks-unscored width k (drop width c))
 
 sequence-unscored : (p : Page) → sequence (unscored p) ≡ sequence p
 sequence-unscored (page s (log es)) = refl
@@ -75,19 +73,19 @@ newest-unscored (b ∷ bs) = ap₂ max (greatest-unscored b) (newest-unscored bs
 
 blank-unscored : (c : Cells) → blank (unscored_cells c) ≡ blank c
 blank-unscored [] = refl
-blank-unscored (none ∷ c) = blank-unscored c
-blank-unscored (some p ∷ c) = refl
+blank-unscored (None ∷ c) = blank-unscored c
+blank-unscored (Some p ∷ c) = refl
 
 filled-unscored : (c : Cells) → filled (unscored_cells c) ≡ filled c
 filled-unscored [] = refl
-filled-unscored (none ∷ c) = blank-unscored c
-filled-unscored (some p ∷ c) = filled-unscored c
+filled-unscored (None ∷ c) = blank-unscored c
+filled-unscored (Some p ∷ c) = filled-unscored c
 
 all-filled-unscored : (width k : ℕ) (c : Cells) → all_filled width k (unscored_cells c) ≡ all_filled width k c
 all-filled-unscored width zero c = refl
 all-filled-unscored width (suc k) c =
-    ap₂ ◌&&◌ (ap filled (take-map (Option.map unscored) width c) ∙ filled-unscored (take width c))
-    (ap (all_filled width k) (drop-map (Option.map unscored) width c) ∙ all-filled-unscored width k (drop width c))
+    ap₂ ◌&&◌ (ap filled (take-map (option_map unscored) width c) ∙ filled-unscored (take width c))
+    (ap (all_filled width k) (drop-map (option_map unscored) width c) ∙ all-filled-unscored width k (drop width c))
 
 differ_in_unscored : (b : List Page) (bs : Blocks) → differ_in (map unscored b) (unscored_blocks bs) ≡ differ_in b bs
 differ_in_unscored [] bs = refl
@@ -115,7 +113,7 @@ unfolding blocks_pass
 blocks_pass_unscored width k c =
     let bs = blocks_in width k c in
     rw (
-      length-map c (Option.map unscored),
+      length-map c (option_map unscored),
       all-filled-unscored width k c,
       blocks-unscored width k c,
       differ-unscored bs,
@@ -150,33 +148,33 @@ pass_unscored blocks c =
 
 -- ---- the nodes
 
-page_in_unscored : (s : ℕ) (b : List Page) → page_in s (map unscored b) ≡ Option.map unscored (page_in s b)
+page_in_unscored : (s : ℕ) (b : List Page) → page_in s (map unscored b) ≡ option_map unscored (page_in s b)
 page_in_unscored s [] = refl
 page_in_unscored s (p ∷ b) = rw (numbered-unscored s p, page_in_unscored s b) (go (numbered s p))
   where
-    go : (t : Bool) → choose t (some (unscored p)) (Option.map unscored (page_in s b)) ≡ Option.map unscored (choose t (some p) (page_in s b))
+    go : (t : Bool) → choose t (Some (unscored p)) (option_map unscored (page_in s b)) ≡ option_map unscored (choose t (Some p) (page_in s b))
     go true = refl
     go false = refl
 
-find-unscored : (s : ℕ) (bs : Blocks) → find s (unscored_blocks bs) ≡ Option.map unscored (find s bs)
+find-unscored : (s : ℕ) (bs : Blocks) → find s (unscored_blocks bs) ≡ option_map unscored (find s bs)
 find-unscored s [] = refl
 find-unscored s (b ∷ bs) = rw (page_in_unscored s b, find-unscored s bs) (go (page_in s b))
   where
-    go : (o : Option Page) → or_else (Option.map unscored o) (Option.map unscored (find s bs)) ≡ Option.map unscored (or_else o (find s bs))
-    go none = refl
-    go (some p) = refl
+    go : (o : Option Page) → or_else (option_map unscored o) (option_map unscored (find s bs)) ≡ option_map unscored (or_else o (find s bs))
+    go None = refl
+    go (Some p) = refl
 
-items_unscored : (o : Option Page) → items_at (Option.map unscored o) ≡ items_at o
-items_unscored none = refl
-items_unscored (some (page s (log es))) = refl
-items_unscored (some (page s (whole n x))) = refl
-items_unscored (some (page s (checkpoint t scores count))) = refl
+items_unscored : (o : Option Page) → items_at (option_map unscored o) ≡ items_at o
+items_unscored None = refl
+items_unscored (Some (page s (log es))) = refl
+items_unscored (Some (page s (whole n x))) = refl
+items_unscored (Some (page s (checkpoint t scores count))) = refl
 
-mode_at-unscored : (o : Option Page) → mode_at (Option.map unscored o) ≡ mode_at o
-mode_at-unscored none = refl
-mode_at-unscored (some (page s (log es))) = refl
-mode_at-unscored (some (page s (whole n x))) = refl
-mode_at-unscored (some (page s (checkpoint t scores count))) = refl
+mode_at-unscored : (o : Option Page) → mode_at (option_map unscored o) ≡ mode_at o
+mode_at-unscored None = refl
+mode_at-unscored (Some (page s (log es))) = refl
+mode_at-unscored (Some (page s (whole n x))) = refl
+mode_at-unscored (Some (page s (checkpoint t scores count))) = refl
 
 view-unscored : (bs : Blocks) → view (store_of (unscored_blocks bs)) ≡ view (store_of bs)
 view-unscored bs =
@@ -205,12 +203,12 @@ collect-unscored bs (suc k) later =
   where
     go : (o : Option Page) (bare scored : List CheckpointPage → List CheckpointPage) →
         ((xs : List CheckpointPage) → bare (map unscored_page xs) ≡ map unscored_page (scored xs)) →
-        collect_at (Option.map unscored o) (map unscored_page later) bare ≡ map unscored_page (collect_at o later scored)
-    go none bare scored r = r later
-    go (some (page s (log es))) bare scored r = refl
-    go (some (page s (whole n x))) bare scored r = refl
-    go (some (page s (checkpoint none scores count))) bare scored r = r (checkpoint_page none scores count ∷ later)
-    go (some (page s (checkpoint (some t) scores count))) bare scored r = refl
+        collect_at (option_map unscored o) (map unscored_page later) bare ≡ map unscored_page (collect_at o later scored)
+    go None bare scored r = r later
+    go (Some (page s (log es))) bare scored r = refl
+    go (Some (page s (whole n x))) bare scored r = refl
+    go (Some (page s (checkpoint None scores count))) bare scored r = r (checkpoint_page None scores count ∷ later)
+    go (Some (page s (checkpoint (Some t) scores count))) bare scored r = refl
 
 checkpoint-unscored : (bs : Blocks) → checkpoint_of (store_of (unscored_blocks bs)) ≡ map unscored_page (checkpoint_of (store_of bs))
 unfolding checkpoint_of

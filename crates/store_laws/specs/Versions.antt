@@ -1,9 +1,8 @@
 -- The rules of versions: from 1, below their page's number, no page's number; and what mode a node is in: no page has its version
 -- for a number, or its node page has. All are counts of entries and pages, which no operation raises but by what it writes.
 -- Assumes nothing.
-use Rattle.std.specs.Prelude.{◌≡◌, Bool, true, false, ℕ, zero, suc, ◌+◌, ◌<◌, eqb, leb}
+use Rattle.std.specs.Prelude.{◌≡◌, Bool, true, false, ℕ, zero, suc, ◌+◌, ◌<◌, eqb, leb, Some}
 use Rattle.std.proofs.Math.Path.{ap}
-use Rattle.std.proofs.Math.Option.{some}
 use Rattle.laws.specs.Counts.{count, tally}
 use Rattle.account.specs.declared.Mode.{Mode}
 use Rattle.account.specs.declared.Mode.TheVariants.{Log, Disk}
@@ -59,7 +58,7 @@ pub record InLog (st : Store) (n : ℕ) : Type 0 where
 -- A node in disk mode: the page that has its version for a number is its node page.
 pub record OnPage (st : Store) (n : ℕ) : Type 0 where
   pub node : Node
-  pub page : find (greatest (view st) n) st.blocks ≡ some (page (greatest (view st) n) (whole n node))
+  pub page : find (greatest (view st) n) st.blocks ≡ Some (page (greatest (view st) n) (whole n node))
 
 -- A node is in this mode, so that the store says so.
 abbrev pub InMode : Mode → Store → ℕ → Type 0

@@ -1,8 +1,7 @@
 -- The written pages of a pool as one list, cell by cell and block by block: where blank cells follow written ones in each block, the two are one.
 -- Assumes nothing.
-use Rattle.std.specs.Prelude.{◌≡◌, refl, Bool, true, List, [], ◌∷◌, ◌++◌, ℕ, zero, suc, ◌*◌, max, length, take, drop}
+use Rattle.std.specs.Prelude.{◌≡◌, refl, Bool, true, List, [], ◌∷◌, ◌++◌, ℕ, zero, suc, ◌*◌, max, length, take, drop, None, Some}
 use Rattle.std.proofs.Common.{sym, ap, ap₂, ◌∙◌, arith, length-drop, take-append-drop}
-use Rattle.std.proofs.Math.Option.{none, some}
 use Rattle.laws.specs.Tests.{and_left, and_right}
 use Rattle.laws.specs.Counts.{count, tally, count-append}
 use Rattle.laws.specs.Lists.{length-zero}
@@ -13,8 +12,8 @@ use Rattle.store.specs.Reopen.{Cells, block_in, blocks_in, greatest_of, newest, 
 -- The written pages of cells, in order; and those of blocks.
 abbrev pub pages_in : Cells → List Page
 pages_in [] = []
-pages_in (none ∷ c) = pages_in c
-pages_in (some p ∷ c) = p ∷ pages_in c
+pages_in (None ∷ c) = pages_in c
+pages_in (Some p ∷ c) = p ∷ pages_in c
 
 abbrev pub pages_over : Blocks → List Page
 pages_over [] = []
@@ -22,18 +21,18 @@ pages_over (b ∷ bs) = b ++ pages_over bs
 
 pages_in-append : (c d : Cells) → pages_in (c ++ d) ≡ pages_in c ++ pages_in d
 pages_in-append [] d = refl
-pages_in-append (none ∷ c) d = pages_in-append c d
-pages_in-append (some p ∷ c) d = ap {B = List Page} (λ l. p ∷ l) (pages_in-append c d)
+pages_in-append (None ∷ c) d = pages_in-append c d
+pages_in-append (Some p ∷ c) d = ap {B = List Page} (λ l. p ∷ l) (pages_in-append c d)
 
 pages_in-blank : (c : Cells) → blank c ≡ true → pages_in c ≡ []
 pages_in-blank [] e = refl
-pages_in-blank (none ∷ c) e = pages_in-blank c e
-pages_in-blank (some p ∷ c) e = cc
+pages_in-blank (None ∷ c) e = pages_in-blank c e
+pages_in-blank (Some p ∷ c) e = cc
 
 pages_in-filled : (c : Cells) → filled c ≡ true → pages_in c ≡ block_in c
 pages_in-filled [] e = refl
-pages_in-filled (none ∷ c) e = pages_in-blank c e
-pages_in-filled (some p ∷ c) e = ap {B = List Page} (λ l. p ∷ l) (pages_in-filled c e)
+pages_in-filled (None ∷ c) e = pages_in-blank c e
+pages_in-filled (Some p ∷ c) e = ap {B = List Page} (λ l. p ∷ l) (pages_in-filled c e)
 
 pub pages_in-blocks : (width k : ℕ) (c : Cells) → length c ≡ width * k → all_filled width k c ≡ true → pages_in c ≡ pages_over (blocks_in width k c)
 pages_in-blocks width zero c l t = ap pages_in (length-zero c (omega arith))

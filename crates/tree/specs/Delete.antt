@@ -1,6 +1,5 @@
 -- Strip (command 03): reads from root to leaf, then one edit if the key is present. Assumes nothing.
-use Rattle.std.specs.Prelude.{List, [], ◌∷◌, ◌++◌, ℕ}
-use Rattle.std.proofs.Math.Option.{Option, none, some}
+use Rattle.std.specs.Prelude.{List, [], ◌∷◌, ◌++◌, ℕ, Option, None, Some}
 use Rattle.node.specs.Change.{remove}
 use Rattle.tree.specs.Table.{Table, leaf_for}
 use Rattle.tree.specs.NodeRequest.{NodeRequest, edit}
@@ -8,8 +7,8 @@ use Rattle.tree.specs.Get.{reads_to, get_answer}
 
 -- The edit of the leaf, for a key that is present; leaves are never joined.
 abbrev pub deletion_for : Option ℕ → ℕ → ℕ → List NodeRequest
-deletion_for none leaf k = []
-deletion_for (some old) leaf k = edit leaf (remove k) ∷ []
+deletion_for None leaf k = []
+deletion_for (Some old) leaf k = edit leaf (remove k) ∷ []
 
 -- All reads first, then the edit.
 unfoldable pub delete_requests : ℕ → Table → ℕ → List NodeRequest

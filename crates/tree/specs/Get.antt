@@ -1,6 +1,5 @@
 -- Look up (command 01): reads from root to leaf, and the value at the key there. Assumes nothing.
-use Rattle.std.specs.Prelude.{List, map, ℕ}
-use Rattle.std.proofs.Math.Option.{Option}
+use Rattle.std.specs.Prelude.{List, map, ℕ, Option}
 use Rattle.pairs.specs.Pairs.{lookup}
 use Rattle.node.specs.Node.{pairs_of}
 use Rattle.tree.specs.Table.{Table, path, leaf_for}

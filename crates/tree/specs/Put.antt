@@ -1,7 +1,6 @@
 -- Hang (command 02): which puts are refused, and the node requests of the others, with every split (document 01, "Questions
 -- before the work", number 9, and "Nodes and tree"). Assumes nothing.
-use Rattle.std.specs.Prelude.{Bool, true, false, ◌&&◌, List, [], ◌∷◌, ◌++◌, map, ℕ, suc, ◌+◌, eqb, ltb, leb, length}
-use Rattle.std.proofs.Math.Option.{Option, none, some}
+use Rattle.std.specs.Prelude.{Bool, true, false, ◌&&◌, List, [], ◌∷◌, ◌++◌, map, ℕ, suc, ◌+◌, eqb, ltb, leb, length, Option, None, Some}
 use Rattle.layout.specs.Layout.{most_keys}
 use Rattle.pairs.specs.Pairs.{Pair}
 use Rattle.node.specs.declared.Shape.TheVariants.{Branch}
@@ -84,8 +83,8 @@ ids_needed table ids = elim (eqb (full_run table ids) (length ids)) [ true ↦ s
 
 -- A present key is never refused; a new one is where the count that it leads to is past the limit.
 abbrev pub refused_for : Option ℕ → ℕ → ℕ → Bool
-refused_for (some old) needed limit = false
-refused_for none needed limit = ltb limit needed
+refused_for (Some old) needed limit = false
+refused_for None needed limit = ltb limit needed
 
 -- Refusal 9: are enough node ids unused? Decided on contents, before any request.
 unfoldable pub put_refused : ℕ → ℕ → Table → ℕ → Bool

@@ -1,6 +1,5 @@
 -- Is a table sound (document 01, question 7 and "Sound")? A walk from the root that a program can follow. Assumes nothing.
-use Rattle.std.specs.Prelude.{Bool, true, false, ◌&&◌, List, [], ◌∷◌, ℕ, zero, suc, eqb, ltb, leb, length, get_or, set, replicate}
-use Rattle.std.proofs.Math.Option.{Option, none, some}
+use Rattle.std.specs.Prelude.{Bool, true, false, ◌&&◌, List, [], ◌∷◌, ℕ, zero, suc, eqb, ltb, leb, length, get_or, set, replicate, Option, None, Some}
 use Rattle.layout.specs.Layout.{most_keys, no_leaf, bound32}
 use Rattle.pairs.specs.Pairs.{Pair}
 use Rattle.node.specs.declared.Shape.TheVariants.{Leaf, Branch}
@@ -21,26 +20,26 @@ in_order id low high ps marks =
 
 -- A leaf is the one awaited, and its link says which is awaited next.
 unfoldable pub visit_leaf : ℕ → ℕ → ℕ → Walk → Node → Option Walk
-visit_leaf id low high w (node Branch ks last) = none
+visit_leaf id low high w (node Branch ks last) = None
 visit_leaf id low high w (node Leaf ps next) =
     elim (in_order id low high ps w.marks && eqb w.awaited id) [
-      | true ↦ some (record { awaited = next; marks = set w.marks id 1 })
-      | false ↦ none
+      | true ↦ Some (record { awaited = next; marks = set w.marks id 1 })
+      | false ↦ None
     ]
 
 -- The children of a branch, each between the keys beside it.
 unfoldable pub visit_children : (ℕ → ℕ → ℕ → Walk → Option Walk) → List Pair → ℕ → ℕ → ℕ → Walk → Option Walk
 visit_children visit [] last low high w = visit last low high w
 visit_children visit (p ∷ ps) last low high w =
-    elim (visit p.1 low p.0 w) [ none ↦ none | some w' ↦ visit_children visit ps last p.0 high w' ]
+    elim (visit p.1 low p.0 w) [ None ↦ None | Some w' ↦ visit_children visit ps last p.0 high w' ]
 
 -- A branch has at least one key.
 unfoldable pub visit_branch : (ℕ → ℕ → ℕ → Walk → Option Walk) → ℕ → ℕ → ℕ → Walk → Node → Option Walk
-visit_branch visit id low high w (node Leaf ps next) = none
+visit_branch visit id low high w (node Leaf ps next) = None
 visit_branch visit id low high w (node Branch ks last) =
     elim (in_order id low high ks w.marks && leb 1 (length ks)) [
       | true ↦ visit_children visit ks last low high (record { awaited = w.awaited; marks = set w.marks id 1 })
-      | false ↦ none
+      | false ↦ None
     ]
 
 -- Leaves at one depth: a visit of depth 0 takes a leaf alone, and one above it a branch alone.
@@ -69,8 +68,8 @@ all_marked (m ∷ ms) = eqb m 1 && all_marked ms
 
 -- The walk passed, the links ended in FFFFFFFF, and every id was reached.
 unfoldable pub complete : Option Walk → Bool
-complete none = false
-complete (some w) = eqb w.awaited no_leaf && all_marked w.marks
+complete None = false
+complete (Some w) = eqb w.awaited no_leaf && all_marked w.marks
 
 -- No id reached yet.
 abbrev pub no_marks : ℕ → List ℕ

@@ -1,8 +1,7 @@
 -- A delete of a present key is one edit behind the reads, which makes a sound table that spells the map without the key; of an
 -- absent key it is reads alone. Assumes nothing.
-use Rattle.std.specs.Prelude.{◌≡◌, refl, List, [], ◌∷◌, ℕ, ◌≤◌, ◌<◌}
+use Rattle.std.specs.Prelude.{◌≡◌, refl, List, [], ◌∷◌, ℕ, ◌≤◌, ◌<◌, Option, None, Some}
 use Rattle.std.proofs.Common.{append-nil, arith}
-use Rattle.std.proofs.Math.Option.{Option, none, some}
 use Rattle.layout.specs.Layout.{bound32}
 use Rattle.pairs.specs.Pairs.{Pair, lookup, delete}
 use Rattle.pairs.proofs.Sizes.{length-delete, delete-absent}
@@ -29,11 +28,11 @@ module _ (table : Table) (count : ℕ) (pairs : List Pair) (s : Spells table cou
       let l = leaf-found table count pairs s k small in
       finish_single table k (remove k) count count (rw l.content (omega (arith, l.size, length-delete k l.pairs)))
 
-  pub delete-absent-requests : lookup k pairs ≡ none → delete_requests count table k ≡ reads_to count table k
+  pub delete-absent-requests : lookup k pairs ≡ None → delete_requests count table k ≡ reads_to count table k
   unfolding delete_requests
   delete-absent-requests e = rw (get-answer table count pairs s k small, e) (append-nil (reads_to count table k))
 
-  pub delete-present-requests : (old : ℕ) → lookup k pairs ≡ some old → delete_requests count table k ≡ write_requests count table k (remove k)
+  pub delete-present-requests : (old : ℕ) → lookup k pairs ≡ Some old → delete_requests count table k ≡ write_requests count table k (remove k)
   unfolding delete_requests
   delete-present-requests old e = rw (get-answer table count pairs s k small, e, deletion_single.0)
 
@@ -47,8 +46,8 @@ module _ (table : Table) (count : ℕ) (pairs : List Pair) (s : Spells table cou
       m = omega (arith, deletion_single.1, l)
 
       go : (o : Option ℕ) → lookup k pairs ≡ o → Served limit table count (delete_requests count table k) (delete k pairs)
-      go none e = rw (delete-absent-requests e, delete-absent k pairs e) (get-served table count pairs s k small limit l)
-      go (some old) e =
+      go None e = rw (delete-absent-requests e, delete-absent k pairs e) (get-served table count pairs s k small limit l)
+      go (Some old) e =
           rw (delete-present-requests old e)
           record {
             kept = rw n m;

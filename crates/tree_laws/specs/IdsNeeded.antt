@@ -1,13 +1,12 @@
 -- A change that adds a pair takes exactly the ids that document 01 counts: one for each full node from the leaf upwards without a
 -- gap, and one more if the root is among them. Along the path, a node splits exactly if it is full and all below it are; a change
 -- whose leaf keeps at most 24 pairs is one edit. Assumes nothing.
-use Rattle.std.specs.Prelude.{◌≡◌, Bool, ◌⊎◌}
+use Rattle.std.specs.Prelude.{◌≡◌, Bool, ◌⊎◌, Option, None, Some}
 use Rattle.std.proofs.Math.Path.{refl, ap}
 use Rattle.std.proofs.Common.{sym, ◌∙◌, inr}
 use Rattle.std.proofs.Math.Bool.{true, false}
 use mathlib.Core.List.{List, [], ◌∷◌}
 use Rattle.std.proofs.Math.Logic.{inl}
-use Rattle.std.proofs.Math.Option.{Option, none, some}
 use Prim.Native.Nat.{ℕ, zero, suc, ◌+◌, ◌≤◌, ◌<◌}
 use native.Mathlib.Omega.{arith}
 use borrow.Author.Tests.{leb-true, leb-false, le-leb, lt-leb, eq-eqb, ne_eqb}
@@ -184,8 +183,8 @@ module _ (table : Table) (k : ℕ) (c : Change) (count : ℕ) where
 
       go : (o : Option ℕ) → child_for k (table id) ≡ o →
           ((id : ℕ) → length (pairs_of (change c (table (leaf_for fuel table k id)))) ≤ most_keys → Single fuel id) → Single (suc fuel) id
-      go none e r = inl (path-leaf table k (suc fuel) id e, leaf_for-leaf table k (suc fuel) id e)
-      go (some child) e r =
+      go None e r = inl (path-leaf table k (suc fuel) id e, leaf_for-leaf table k (suc fuel) id e)
+      go (Some child) e r =
           let m = rw (leaf_for_step table k fuel id child e) at l in
           inr
           (ap (work table k c count) (path_step table k fuel id child e) ∙

@@ -1,10 +1,9 @@
 -- The leaf that a key leads to in a tree that stands: the path to it, and the pairs before it, in it and behind it, which the
 -- bounds on the path keep apart. Assumes nothing.
-use Rattle.std.specs.Prelude.{◌≡◌, length}
+use Rattle.std.specs.Prelude.{◌≡◌, length, None, Some}
 use Rattle.std.proofs.Math.Path.{refl}
 use Rattle.std.proofs.Common.{sym, ap, ◌∙◌, arith}
 use mathlib.Core.List.{List, [], ◌∷◌, ◌++◌, append_assoc, append-nil}
-use Rattle.std.proofs.Math.Option.{none, some}
 use Prim.Native.Nat.{ℕ, zero, suc, ◌≤◌, ◌<◌}
 use Rattle.laws.specs.Every.{Every, none, both}
 use Rattle.layout.specs.Layout.{most_keys}
@@ -24,19 +23,19 @@ abbrev pub child_of : (d : ℕ) → Tree (suc d) → ℕ → Tree d
 child_of d t k = child_at t.1 t.2 (slot k (keys_of (root_of d) t.1))
 
 pub child_for-branch : (d : ℕ) (table : Table) (t : Tree (suc d)) (low high next most k : ℕ) (top : Node) →
-    Holds (suc d) table t low high next most top → child_for k top ≡ some (root_of d (child_of d t k))
+    Holds (suc d) table t low high next most top → child_for k top ≡ Some (root_of d (child_of d t k))
 unfolding Holds
 child_for-branch d table t low high next most k top h =
-    rw h.0 (ap some (pointer_at-keys_of (root_of d) t.1 t.2 (slot k (keys_of (root_of d) t.1))))
+    rw h.0 (ap Some (pointer_at-keys_of (root_of d) t.1 t.2 (slot k (keys_of (root_of d) t.1))))
 
 pub child_for-leaf : (table : Table) (t : Tree zero) (low high next most k : ℕ) (top : Node) →
-    Holds zero table t low high next most top → child_for k top ≡ none
+    Holds zero table t low high next most top → child_for k top ≡ None
 unfolding Holds
 child_for-leaf table t low high next most k top h = rw h.0
 
 -- The path and the leaf, a step at a time.
 module _ (table : Table) (k fuel id : ℕ) where
-  pub path-leaf : child_for k (table id) ≡ none → path fuel table k id ≡ id ∷ []
+  pub path-leaf : child_for k (table id) ≡ None → path fuel table k id ≡ id ∷ []
   unfolding path
   path-leaf e = go fuel
     where
@@ -44,11 +43,11 @@ module _ (table : Table) (k fuel id : ℕ) where
       go zero = refl
       go (suc fuel) = rw (e, path)
 
-  pub path_step : (child : ℕ) → child_for k (table id) ≡ some child → path (suc fuel) table k id ≡ id ∷ path fuel table k child
+  pub path_step : (child : ℕ) → child_for k (table id) ≡ Some child → path (suc fuel) table k id ≡ id ∷ path fuel table k child
   unfolding path
   path_step child e = rw (e, path)
 
-  pub leaf_for-leaf : child_for k (table id) ≡ none → leaf_for fuel table k id ≡ id
+  pub leaf_for-leaf : child_for k (table id) ≡ None → leaf_for fuel table k id ≡ id
   unfolding leaf_for
   leaf_for-leaf e = go fuel
     where
@@ -56,7 +55,7 @@ module _ (table : Table) (k fuel id : ℕ) where
       go zero = refl
       go (suc fuel) = rw (e, leaf_for)
 
-  pub leaf_for_step : (child : ℕ) → child_for k (table id) ≡ some child → leaf_for (suc fuel) table k id ≡ leaf_for fuel table k child
+  pub leaf_for_step : (child : ℕ) → child_for k (table id) ≡ Some child → leaf_for (suc fuel) table k id ≡ leaf_for fuel table k child
   unfolding leaf_for
   leaf_for_step child e = rw (e, leaf_for)
 

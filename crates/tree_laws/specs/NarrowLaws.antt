@@ -1,10 +1,9 @@
 -- Every request of a command on a table of 32-bit numbers has 32-bit numbers, and so has the table after it: a new content is
 -- made of parts of old ones, the command's own numbers, and ids. Assumes nothing.
-use Rattle.std.specs.Prelude.{◌≡◌, Bool, ltb}
+use Rattle.std.specs.Prelude.{◌≡◌, Bool, ltb, Option, None, Some}
 use Rattle.std.proofs.Math.Path.{refl}
 use Rattle.std.proofs.Math.Bool.{true, false}
 use mathlib.Core.List.{List, [], ◌∷◌, map}
-use Rattle.std.proofs.Math.Option.{Option, none, some}
 use Prim.Native.Nat.{ℕ, zero, suc, ◌+◌, ◌≤◌, ◌<◌}
 use native.Mathlib.Omega.{arith}
 use Rattle.std.proofs.Math.ListN.{length}
@@ -164,5 +163,5 @@ module _ (table : Table) (count : ℕ) (pairs : List Pair) (s : Spells table cou
   delete_narrow = every_append (reads_narrow (path count table k 0)) (go (get_answer count table k))
     where
       go : (o : Option ℕ) → Every NarrowRequest (deletion_for o (leaf_for count table k 0) k)
-      go none = none
-      go (some old) = both small none
+      go None = none
+      go (Some old) = both small none

@@ -2,10 +2,9 @@
 -- requests would take the count past the limit, and then asks for nothing. Assumes nothing.
 use Rattle.std.proofs.Math.Path.{◌≡◌, refl, sym}
 use Rattle.std.proofs.Common.{ap, ◌∙◌}
-use Rattle.std.specs.Prelude.{Bool, ℕ, suc, ◌+◌, ◌*◌, ◌≤◌, ◌<◌}
+use Rattle.std.specs.Prelude.{Bool, ℕ, suc, ◌+◌, ◌*◌, ◌≤◌, ◌<◌, Option, None, Some}
 use Rattle.std.proofs.Math.Bool.{true, false}
 use mathlib.Core.List.{List, [], ◌∷◌, ◌++◌, map}
-use Rattle.std.proofs.Math.Option.{Option, none, some}
 use native.Mathlib.Omega.{arith}
 use borrow.Author.Tests.{ltb-true, ltb-false}
 use Rattle.std.proofs.Math.ListN.{length, length-append, length-map}
@@ -37,7 +36,7 @@ module _ (table : Table) (count : ℕ) (pairs : List Pair) (s : Spells table cou
       sym (ap (λ (n : Node). lookup k (pairs_of n)) (leaf-found table count pairs s k small).content) ∙ get-answer table count pairs s k small
 
   -- a present key: one edit behind the reads, and no new id
-  pub put_replaces : (old : ℕ) → lookup k pairs ≡ some old →
+  pub put_replaces : (old : ℕ) → lookup k pairs ≡ Some old →
       (finish table (work table k (put k v) count (path count table k 0)) ≡ edit (leaf_for count table k 0) (put k v) ∷ []) × (count_put ≡ count)
   put_replaces old e =
       let l = leaf-found table count pairs s k small in
@@ -45,7 +44,7 @@ module _ (table : Table) (count : ℕ) (pairs : List Pair) (s : Spells table cou
       (rw l.content (omega (arith, l.size, length-insert-present k v old l.bottom l.top l.pairs l.within (leaf-lookup ∙ e))))
 
   -- a new key: the ids that document 01 counts
-  pub put_adds : lookup k pairs ≡ none → count_put ≡ count + ids_needed table (path count table k 0)
+  pub put_adds : lookup k pairs ≡ None → count_put ≡ count + ids_needed table (path count table k 0)
   put_adds e =
       let l = leaf-found table count pairs s k small in
       ids_needed_lem table count k (put k v) (insert k v) (insert_local k v) (put-says k v) pairs s small
@@ -58,8 +57,8 @@ module _ (table : Table) (count : ℕ) (pairs : List Pair) (s : Spells table cou
     refused_past e = go (lookup k pairs) refl
       where
         go : (o : Option ℕ) → lookup k pairs ≡ o → limit < count_put
-        go none f = omega (arith, put_adds f, ltb-true limit _ (rw (get-answer table count pairs s k small, f) at e))
-        go (some old) f = let z : ◌≡◌ {A = Bool} false true = rw (get-answer table count pairs s k small, f) at e in absurd (clash z)
+        go None f = omega (arith, put_adds f, ltb-true limit _ (rw (get-answer table count pairs s k small, f) at e))
+        go (Some old) f = let z : ◌≡◌ {A = Bool} false true = rw (get-answer table count pairs s k small, f) at e in absurd (clash z)
           where
             clash : ◌≡◌ {A = Bool} false true → ⊥
             clash z = let y : ◌≡◌ {A = ℕ} 0 1 = cc in omega arith
@@ -69,8 +68,8 @@ module _ (table : Table) (count : ℕ) (pairs : List Pair) (s : Spells table cou
     accepted_within e = go (lookup k pairs) refl
       where
         go : (o : Option ℕ) → lookup k pairs ≡ o → count_put ≤ limit
-        go none f = omega (arith, put_adds f, ltb-false limit _ (rw (get-answer table count pairs s k small, f) at e))
-        go (some old) f = omega (arith, (put_replaces old f).1)
+        go None f = omega (arith, put_adds f, ltb-false limit _ (rw (get-answer table count pairs s k small, f) at e))
+        go (Some old) f = omega (arith, (put_replaces old f).1)
 
     -- a refused put asks for nothing
     pub put_refused_lem : put_refused limit count table k ≡ true → put_requests limit count table k v ≡ []

@@ -1,11 +1,10 @@
 -- The soundness test passes exactly if the limit is kept and some map is spelled, and the map is the one computed: a walk that
 -- passes has seen a tree that stands, each of its ids marked once, and a tree that stands lets the walk pass. Assumes nothing.
-use Rattle.std.specs.Prelude.{◌≡◌, Bool, ◌&&◌, ℕ, zero, suc, ◌+◌, ◌≤◌, ◌<◌, eqb, ltb, get_or, ◌⊎◌}
+use Rattle.std.specs.Prelude.{◌≡◌, Bool, ◌&&◌, ℕ, zero, suc, ◌+◌, ◌≤◌, ◌<◌, eqb, ltb, get_or, ◌⊎◌, Option, None, Some}
 use Rattle.std.proofs.Math.Path.{refl, sym}
 use Rattle.std.proofs.Common.{ap, ◌∙◌, arith, get_or-set_same, get_or-set_other, inl, inr}
 use Rattle.std.proofs.Math.Bool.{true, false}
 use mathlib.Core.List.{List, [], ◌∷◌}
-use Rattle.std.proofs.Math.Option.{Option, none, some}
 use Rattle.std.proofs.Math.Nat.{zero-add}
 use borrow.Author.Tests.{leb-true, le-leb, ltb-true, lt-ltb, eqb-true, eq-eqb}
 use Rattle.std.proofs.Math.Dec.{leb}
@@ -86,7 +85,7 @@ record SeenChildren (d : ℕ) (table : Table) (ps : List Pair) (p low high : ℕ
   marks : (i : ℕ) → get_or w'.marks i 0 ≡ get_or w.marks i 0 + sum_of (λ c. reached d c i) children last
   size : length w'.marks ≡ length w.marks
 
-seen-leaf : (table : Table) (id low high : ℕ) (w w' : Walk) (n : Node) → table id ≡ n → visit_leaf id low high w n ≡ some w' → Seen 0 table id low high w w'
+seen-leaf : (table : Table) (id low high : ℕ) (w w' : Walk) (n : Node) → table id ≡ n → visit_leaf id low high w n ≡ Some w' → Seen 0 table id low high w w'
 unfolding visit_leaf Holds root_of first_leaf reached
 seen-leaf table id low high w w' (node Branch ks last) t e = absurd (none_some e)
 seen-leaf table id low high w w' (node Leaf ps next) t e = go (in_order id low high ps w.marks && eqb w.awaited id) refl
@@ -107,8 +106,8 @@ seen-leaf table id low high w w' (node Leaf ps next) t e = go (in_order id low h
         }
     go false f = absurd (none_some (rw (f, visit_leaf) at e))
 
-module _ (d : ℕ) (table : Table) (child : (id low high : ℕ) (w w' : Walk) → visit d table id low high w ≡ some w' → Seen d table id low high w w') where
-  seen-children : (ps : List Pair) (p low high : ℕ) (w w' : Walk) → visit_children (visit d table) ps p low high w ≡ some w' →
+module _ (d : ℕ) (table : Table) (child : (id low high : ℕ) (w w' : Walk) → visit d table id low high w ≡ Some w' → Seen d table id low high w w') where
+  seen-children : (ps : List Pair) (p low high : ℕ) (w w' : Walk) → visit_children (visit d table) ps p low high w ≡ Some w' →
       SeenChildren d table ps p low high w w'
   unfolding visit_children
   seen-children [] p low high w w' e =
@@ -126,10 +125,10 @@ module _ (d : ℕ) (table : Table) (child : (id low high : ℕ) (w w' : Walk) �
   seen-children (x ∷ ps) p low high w w' e = go (visit d table x.1 low x.0 w) refl (seen-children ps p x.0 high)
     where
       go : (o : Option Walk) → visit d table x.1 low x.0 w ≡ o →
-          ((w w' : Walk) → visit_children (visit d table) ps p x.0 high w ≡ some w' → SeenChildren d table ps p x.0 high w w') →
+          ((w w' : Walk) → visit_children (visit d table) ps p x.0 high w ≡ Some w' → SeenChildren d table ps p x.0 high w w') →
           SeenChildren d table (x ∷ ps) p low high w w'
-      go none f r = absurd (none_some (rw (f, visit_children) at e))
-      go (some v) f r =
+      go None f r = absurd (none_some (rw (f, visit_children) at e))
+      go (Some v) f r =
           let s = child x.1 low x.0 w v f in
           let rest = r v w' (rw (f, visit_children) at e) in
           record {
@@ -143,7 +142,7 @@ module _ (d : ℕ) (table : Table) (child : (id low high : ℕ) (w w' : Walk) �
             size = rest.size ∙ s.size;
           }
 
-  seen-branch : (id low high : ℕ) (w w' : Walk) (n : Node) → table id ≡ n → visit_branch (visit d table) id low high w n ≡ some w' →
+  seen-branch : (id low high : ℕ) (w w' : Walk) (n : Node) → table id ≡ n → visit_branch (visit d table) id low high w n ≡ Some w' →
       Seen (suc d) table id low high w w'
   unfolding visit_branch Holds root_of first_leaf reached
   seen-branch id low high w w' (node Leaf ps next) t e = absurd (none_some e)
@@ -171,7 +170,7 @@ module _ (d : ℕ) (table : Table) (child : (id low high : ℕ) (w w' : Walk) �
           }
       go false f = absurd (none_some (rw (f, visit_branch) at e))
 
-visit-seen : (d : ℕ) (table : Table) (id low high : ℕ) (w w' : Walk) → visit d table id low high w ≡ some w' → Seen d table id low high w w'
+visit-seen : (d : ℕ) (table : Table) (id low high : ℕ) (w w' : Walk) → visit d table id low high w ≡ Some w' → Seen d table id low high w w'
 unfolding visit
 visit-seen zero table id low high w w' e = seen-leaf table id low high w w' (table id) refl e
 visit-seen (suc d) table id low high w w' e = seen-branch d table (visit-seen d table) id low high w w' (table id) refl e
@@ -179,7 +178,7 @@ visit-seen (suc d) table id low high w w' e = seen-branch d table (visit-seen d 
 -- The other way: a tree that stands, at ids not marked yet, lets a walk pass.
 record Passes (o : Option Walk) (next : ℕ) (marks : List ℕ) (adds : ℕ → ℕ) : Type 0 where
   after : List ℕ
-  is : o ≡ some (record { awaited = next; marks = after })
+  is : o ≡ Some (record { awaited = next; marks = after })
   added : (i : ℕ) → get_or after i 0 ≡ get_or marks i 0 + adds i
   size : length after ≡ length marks
 
@@ -304,8 +303,8 @@ pub record Spelled (table : Table) (count : ℕ) : Type 0 where
 
 pub walk_spells : (table : Table) (count : ℕ) (l : Leftmost) (o : Option Walk) → walk_from count table l ≡ o → complete o ≡ true → Spelled table count
 unfolding complete walk_from
-walk_spells table count l none f e = let z : ◌≡◌ {A = ℕ} 0 1 = cc in absurd (omega arith)
-walk_spells table count l (some w) f e =
+walk_spells table count l None f e = let z : ◌≡◌ {A = ℕ} 0 1 = cc in absurd (omega arith)
+walk_spells table count l (Some w) f e =
     let s = visit-seen l.depth table 0 0 bound32 (walk l.leaf (no_marks count)) w f in
     let x = eqb w.awaited no_leaf in
     record {

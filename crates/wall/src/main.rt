@@ -2,45 +2,36 @@
 // hexadecimal on a line, then `charge` and the sum of the panels' charges; or only `refused` and the number.
 #![tactic(auto)]
 
-ghost use Rattle.std.specs.Prelude.{◌≡◌, ◌<◌, ◌≤◌, ◌^◌, IfOk, length};
-ghost use Rattle.laws.specs.Update.{sum};
+ghost use Rattle.std.specs.Prelude.{◌≡◌, ◌<◌, ◌≤◌, ◌^◌, IfOk, length, sum};
 ghost use Rattle.layout.specs.Layout.{panels};
 
-use layout::PANELS;
+use layout::{BLOCK_BYTES, FEWEST_BLOCKS, MOST_BATCH_BYTES, PANELS, TABLE_BYTES};
 use std::io;
 use std::io::Read;
 use wall_book::{wall_book_batch, wall_book_prepare};
 use wire::number::read16;
 
 // So much of standard input is read: a byte more than a batch may have, so that one that is too long is refused.
-const MOST_INPUT: usize = 32769;
-
-// Prints a byte as two digits.
-fn print_byte(rt: &impl Print, byte: u8) -> io::Result<()> {
-    print!(rt; "{byte:02x}")
-}
+const MOST_INPUT: usize = MOST_BATCH_BYTES + 1;
 
 // Prints bytes as one line.
 fn print_line(rt: &impl Print, bytes: &[u8]) -> io::Result<()> {
     for byte in bytes {
-        print_byte(rt, *byte)?;
+        print!(rt; "{byte:02x}")?;
     }
     println!(rt; "")
 }
 
 // Prints answers one by one: each is a tag, a length of two bytes, and so many bytes.
 fn print_answers(rt: &impl Print, answers: &[u8]) -> io::Result<()> {
-    let mut at: usize = 0;
-    while at < answers.len() {
-        if answers.len() - at < 3 {
+    let mut rest = answers;
+    while rest.len() >= 3 {
+        let size = 3 + read16(rest, 1) as usize;
+        let Some((answer, behind)) = rest.split_at_checked(size) else {
             return Ok(());
-        }
-        let size = 3 + read16(answers, at + 1) as usize;
-        if answers.len() - at < size {
-            return Ok(());
-        }
-        print_line(rt, &answers[at..at + size])?;
-        at += size;
+        };
+        print_line(rt, answer)?;
+        rest = behind;
     }
     Ok(())
 }
@@ -55,11 +46,7 @@ fn total(charges: &[u64; PANELS]) -> u64
     requires { (length charges.now ≡ panels) × (sum charges.now < 2 ^ 44) }
     ensures { result ≡ sum charges.now }
 {
-    let mut total: u64 = 0;
-    for charge in charges {
-        total += *charge;
-    }
-    total
+    charges.iter().sum()
 }
 
 // Runs a batch and prints what it answers.
@@ -74,11 +61,11 @@ fn run(
     let mut charges = [0u64; PANELS];
     let refused = wall_book_batch(pool, table, commands, answers, &mut length, &mut charges);
     if refused != 0 {
-        return print_number(rt, "refused", refused as u64);
+        return print_number(rt, "refused", u64::from(refused));
     }
     let charge = total(&charges);
-    if length <= answers.len() {
-        print_answers(rt, &answers[0..length])?;
+    if let Some(laid) = answers.get(..length) {
+        print_answers(rt, laid)?;
     }
     print_number(rt, "charge", charge)
 }
@@ -91,7 +78,7 @@ fn read_full(input: &mut impl Read, buffer: &mut [u8]) -> io::Result<usize>
     while size < buffer.len() {
         let got = input.read(&mut buffer[size..])?;
         if got == 0 {
-            return Ok(size);
+            break;
         }
         size += got;
     }
@@ -99,8 +86,8 @@ fn read_full(input: &mut impl Read, buffer: &mut [u8]) -> io::Result<usize>
 }
 
 fn main(rt: HostRuntime) -> io::Result<()> {
-    let mut pool = [0u8; 65536];
-    let mut table = [0u8; 4096];
+    let mut pool = [0u8; FEWEST_BLOCKS * BLOCK_BYTES];
+    let mut table = [0u8; FEWEST_BLOCKS * TABLE_BYTES];
     let mut input = [0u8; MOST_INPUT];
     let mut answers = [0u8; 65536];
     wall_book_prepare(&mut pool, 3, 1, 2, 1, 4, 4, 3, 2);

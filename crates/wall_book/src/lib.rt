@@ -1,10 +1,11 @@
 // The three calls of the wall book: prepare, batch and desk, on lent buffers that do not overlap. None asks anything of its caller.
 #![tactic(auto)]
 
+ghost use Rattle.std.specs.Prelude.{◌≡◌};
 ghost use Rattle.account.specs.Tariff.{tariff_of};
 ghost use Rattle.model.specs.Call.{batch_of, prepare_of, desk_of};
 ghost use Rattle.prepare.specs.Prepared as Prepare;
-ghost use Rattle.batch.specs.Left.{Leaves};
+ghost use Rattle.batch.specs.Left.{outcome_of, Leaves};
 ghost use Rattle.wall_book.specs.Entry.{outcome};
 
 use account::tariff_of;
@@ -12,6 +13,23 @@ use batch::batch;
 use desk::desk;
 use layout::PANELS;
 use prepare::prepare;
+use refusal::{Refusal, number_of};
+
+// What C is told of a call: its number, 0 where its work is done, and how many bytes of answers it has laid.
+fn told(done: Result<usize, Refusal>, length: &mut usize) -> u32
+    ensures { outcome result length.new ≡ outcome_of done }
+{
+    match done {
+        Ok(laid) => {
+            *length = laid;
+            0
+        }
+        Err(refusal) => {
+            *length = 0;
+            u32::from(refusal)
+        }
+    }
+}
 
 // Prepares a pool under a tariff, its numbers in document 01's order. The answer is 0, or the number of the refusal: then the pool is as it was.
 pub fn wall_book_prepare(
@@ -40,7 +58,7 @@ pub fn wall_book_prepare(
         to_disk,
         to_log,
     );
-    prepare(pool, tariff)
+    number_of(&prepare(pool, tariff))
 }
 
 // Runs a batch. The answer is 0, or the number of the refusal: then pool and answers are as they were, and length and all charges are 0.
@@ -57,8 +75,7 @@ pub fn wall_book_batch(
         answers.new charges.new }
 {
     let done = batch(pool, table, commands, answers, charges);
-    *length = done.length;
-    done.number
+    told(done, length)
 }
 
 // Serves up to sixteen queues, one command of each by turns. The answer is as that of a batch.
@@ -76,6 +93,5 @@ pub fn wall_book_desk(
         table.new answers.new charges.new }
 {
     let served = desk(pool, table, lengths, queues, answers, charges);
-    *length = served.length;
-    served.number
+    told(served, length)
 }

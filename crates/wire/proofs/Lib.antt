@@ -1,3 +1,4 @@
+pub mod Records
 pub mod Copying
 pub mod Search
 pub mod Cases

@@ -1,5 +1,6 @@
 -- A tag table searched: what its entries say from a place on. Assumes nothing.
 use mathlib.Core.Path.{◌≡◌, refl, sym, ap, ◌∙◌}
+use Rattle.std.specs.Prelude.{Option, Some, None}
 use mathlib.Core.List.{List, ◌∷◌, map}
 use Prim.Native.Nat.{ℕ, ◌+◌, ◌/◌, ◌%◌, ◌≤◌, ◌<◌}
 use native.Mathlib.Numerals.{add-one}
@@ -8,14 +9,13 @@ use lib.Seq.{drop-cons}
 use borrow.Author.Tests.{eq-eqb, ne_eqb}
 use Rattle.wire.specs.Tag.{row_of, spelt, find}
 use Rattle.wire.specs.declared.tag.Length.{Length}
-use Rattle.wire.specs.declared.tag.Length.TheVariants.{Unknown}
 
 -- What the entries from a place on say of a tag.
-unfoldable pub find_from : ℕ → List ℕ → ℕ → Length
+unfoldable pub find_from : ℕ → List ℕ → ℕ → Option Length
 find_from tag entries i = find tag (map row_of (drop i entries))
 
 module _ (tag : ℕ) (entries : List ℕ) (i : ℕ) where
-  pub find_end : length entries ≤ i → find_from tag entries i ≡ Unknown
+  pub find_end : length entries ≤ i → find_from tag entries i ≡ None
   unfolding find_from find
   find_end h = ap (λ (es : List ℕ). find tag (map row_of es)) (drop_of_length-le entries {i = i} h)
 
@@ -28,7 +28,7 @@ module _ (tag : ℕ) (entries : List ℕ) (i : ℕ) where
     seen = ap (λ (es : List ℕ). find tag (map row_of es))
         (drop-cons entries i 0 h ∙ ap (λ (n : ℕ). entry ∷ drop n entries) (sym (add-one i)))
 
-    pub find-here : entry / 256 ≡ tag → find_from tag entries i ≡ spelt (entry % 256)
+    pub find-here : entry / 256 ≡ tag → find_from tag entries i ≡ Some (spelt (entry % 256))
     unfolding find
     find-here e = seen ∙ rw (eq-eqb tag (entry / 256) (sym e)) refl
 

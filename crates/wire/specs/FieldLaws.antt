@@ -1,5 +1,5 @@
 -- Fields laid and read: a field is found where it was laid, and what is found as a field is one. Assumes nothing.
-use Rattle.std.specs.Prelude.{◌≡◌, Bool, true, ◌&&◌, List, [], ◌∷◌, ◌++◌, ℕ, ◌+◌, ◌-◌, ◌^◌, ◌≤◌, ◌<◌, leb, ◌⊎◌}
+use Rattle.std.specs.Prelude.{◌≡◌, Result, Ok, Err, Bool, true, ◌&&◌, List, [], ◌∷◌, ◌++◌, ℕ, ◌+◌, ◌-◌, ◌^◌, ◌≤◌, ◌<◌, leb, ◌⊎◌}
 use Rattle.std.proofs.Math.Path.{refl, ap}
 use Rattle.std.proofs.Common.{sym, ap₂, subst, ◌∙◌, true≢false, add-zero, inl, inr}
 use Rattle.std.proofs.Math.Bool.{false}
@@ -13,9 +13,9 @@ use Rattle.laws.specs.Lay.{lay, part, lay-lay, length_part, part-add, part-cons,
 use Rattle.laws.specs.BigEndian.{big_endian, number, number_at, number-big_endian, Bytes, big_endian-number_at, bytes-part}
 use Rattle.laws.specs.Lists.{empty_or}
 use Rattle.wire.specs.Tag.{length_of, allowed}
-use Rattle.wire.specs.Field.{head, field, length_at, field_at, payload_of, payload_at, is_payload, stands_at}
-use Rattle.wire.specs.declared.field.Field.{Field}
-use Rattle.wire.specs.declared.field.Field.TheVariants.{Payload, Missing, Foreign, Overlong}
+use Rattle.wire.specs.Field.{head, field, length_at, from_to, field_at, payload_of, payload_at, is_payload, stands_at}
+use Rattle.wire.specs.declared.field.Span.{Span}
+use Rattle.wire.specs.declared.field.Fault.{Fault}
 
 pub length-field : (tag : ℕ) (p : List ℕ) → length (field tag p) ≡ 3 + length p
 unfolding field
@@ -52,7 +52,7 @@ module _ (front : List ℕ) (tag : ℕ) (p rest : List ℕ) where
   payload-laid = part-append front (field tag p ++ rest) 3 (length p) ∙ take_at p rest (length p) refl
 
   module _ (h : length p < 256 ^ 2) (m : allowed (length_of tag) (length p) ≡ true) where
-    field_at-laid : field_at laid (length front) tag ≡ Payload (length front + 3) (length front + 3 + length p)
+    field_at-laid : field_at laid (length front) tag ≡ Ok (from_to (length front + 3) (length front + 3 + length p))
     unfolding field_at
     field_at-laid =
         let l₁ : length front + 3 ≤ length laid = omega (arith, length-laid) in
@@ -118,11 +118,9 @@ payload_at-none : (s : List ℕ) (at tag : ℕ) → stands_at s at tag ≡ false
 unfolding stands_at payload_at
 payload_at-none s at tag t = go (field_at s at tag) t
   where
-    go : (f : Field) → is_payload f ≡ false → payload_of s f ≡ []
-    go (Payload start end) e = absurd (true≢false e)
-    go Missing e = refl
-    go Foreign e = refl
-    go Overlong e = refl
+    go : (f : Result Span Fault) → is_payload f ≡ false → payload_of s f ≡ []
+    go (Ok p) e = absurd (true≢false e)
+    go (Err fault) e = refl
 
 pub payload_at-other : (front : List ℕ) (other : ℕ) (p rest : List ℕ) (tag : ℕ) → (other ≡ tag → ⊥) →
     payload_at (front ++ (field other p ++ rest)) (length front) tag ≡ []

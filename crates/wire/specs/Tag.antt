@@ -1,10 +1,10 @@
 -- The tags of commands and page fields and the payload length of each (document 01, "Commands and answers" and "Pages";
 -- document 02, P2 and P3). Assumes nothing.
-use Rattle.std.specs.Prelude.{Bool, false, ◌&&◌, List, [], ◌∷◌, ℕ, ◌+◌, ◌*◌, ◌/◌, ◌%◌, eqb, leb}
+use Rattle.std.specs.Prelude.{Bool, false, Option, Some, None, ◌&&◌, List, [], ◌∷◌, ℕ, ◌+◌, ◌*◌, ◌/◌, ◌%◌, eqb, leb}
 use Rattle.laws.specs.Tests.{choose}
 use Rattle.layout.specs.Layout.{most_keys}
 use Rattle.wire.specs.declared.tag.Length.{Length}
-use Rattle.wire.specs.declared.tag.Length.TheVariants.{Exact, Node, Unknown}
+use Rattle.wire.specs.declared.tag.Length.TheVariants.{Exact, Node}
 
 -- A row of the documents: a tag and its length.
 pub record Row : Type 0 where
@@ -32,12 +32,12 @@ rows =
     row 0x1F (Exact 4) ∷
     []
 
-unfoldable pub find : ℕ → List Row → Length
-find t [] = Unknown
-find t (r ∷ rs) = choose (eqb t r.tag) r.bytes (find t rs)
+unfoldable pub find : ℕ → List Row → Option Length
+find t [] = None
+find t (r ∷ rs) = choose (eqb t r.tag) (Some r.bytes) (find t rs)
 
--- The length that a tag asks for.
-unfoldable pub length_of : ℕ → Length
+-- The length that a tag asks for; none where there is no such tag.
+unfoldable pub length_of : ℕ → Option Length
 length_of t = find t rows
 
 -- Field 11's length for k pairs.
@@ -49,10 +49,10 @@ unfoldable pub is_node_bytes : ℕ → Bool
 is_node_bytes n = eqb (n % 8) 7 && leb n (node_bytes most_keys)
 
 -- Whether a payload may have so many bytes.
-abbrev pub allowed : Length → ℕ → Bool
-allowed (Exact k) n = eqb n k
-allowed Node n = is_node_bytes n
-allowed Unknown n = false
+abbrev pub allowed : Option Length → ℕ → Bool
+allowed (Some (Exact k)) n = eqb n k
+allowed (Some Node) n = is_node_bytes n
+allowed None n = false
 
 -- The length that the lower byte of an entry of the code's table spells: FE is a whole node's.
 abbrev pub spelt : ℕ → Length

@@ -1,5 +1,5 @@
 -- No row of the documents hides another. Assumes nothing.
-use Rattle.std.specs.Prelude.{◌≡◌, refl, map, eqb}
+use Rattle.std.specs.Prelude.{◌≡◌, refl, Some, map, eqb}
 use Rattle.laws.specs.Counts.{count}
 use Rattle.wire.specs.Tag.{Row, rows, find, length_of}
 
@@ -9,6 +9,6 @@ unfolding rows
 tags_differ = refl
 
 -- So a tag asks for what its own row says.
-pub rows-found : map (λ (r : Row). length_of r.tag) rows ≡ map (λ (r : Row). r.bytes) rows
+pub rows-found : map (λ (r : Row). length_of r.tag) rows ≡ map (λ (r : Row). Some r.bytes) rows
 unfolding length_of find rows
 rows-found = refl

@@ -15,22 +15,14 @@ pub fn lay_bytes(dst: &mut [u8], at: usize, src: &[u8])
     requires { at + length src.now ≤ length dst.old }
     ensures { dst.new ≡ lay dst.old at src.now }
 {
-    let mut i = 0;
-    while i < src.len() {
-        dst[at + i] = src[i];
-        i += 1;
-    }
+    dst[at..at + src.len()].copy_from_slice(src);
 }
 
 // Fills a whole buffer with one byte.
 pub fn fill(dst: &mut [u8], byte: u8)
     ensures { dst.new ≡ replicate (length dst.old) byte }
 {
-    let mut i = 0;
-    while i < dst.len() {
-        dst[i] = byte;
-        i += 1;
-    }
+    dst.fill(byte);
 }
 
 // Fills the part of a buffer from one place to another with one byte.
@@ -38,5 +30,5 @@ pub fn fill_part(dst: &mut [u8], from: usize, to: usize, byte: u8)
     requires { (from ≤ to) × (to ≤ length dst.old) }
     ensures { dst.new ≡ lay dst.old from (replicate (to - from) byte) }
 {
-    fill(&mut dst[from..to], byte);
+    dst[from..to].fill(byte);
 }

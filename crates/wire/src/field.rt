@@ -7,11 +7,16 @@ use super::bytes::lay_bytes;
 use super::number::{read16, write16};
 use super::tag::may_have;
 
-// What stands where a field of some tag is looked for.
-#[derive(Drop)]
-pub enum Field {
-    // The payload lies from start to end.
-    Payload { start: usize, end: usize },
+// Where the payload of a field lies.
+#[derive(Clone, Copy, Debug, PartialEq, Eq)]
+pub struct Span {
+    pub start: usize,
+    pub end: usize,
+}
+
+// Why no field of some tag stands at a place.
+#[derive(Clone, Copy, Debug, PartialEq, Eq)]
+pub enum Fault {
     // Too few bytes are left for a tag and a length.
     Missing,
     // Another tag, or a length that the tag may not have.
@@ -21,42 +26,37 @@ pub enum Field {
 }
 
 // The field of a tag at a place.
-pub fn field_at(s: &[u8], at: usize, tag: u8) -> Field
+pub fn field_at(s: &[u8], at: usize, tag: u8) -> Result<Span, Fault>
     ensures { Found s.now at tag result }
 {
-    if s.len() < 3 {
-        return Field::Missing;
-    }
-    if s.len() - 3 < at {
-        return Field::Missing;
+    if s.len() < 3 || s.len() - 3 < at {
+        return Err(Fault::Missing);
     }
     if s[at] != tag {
-        return Field::Foreign;
+        return Err(Fault::Foreign);
     }
     let n = read16(s, at + 1);
-    if may_have(tag, n) {} else {
-        return Field::Foreign;
+    if !may_have(tag, n) {
+        return Err(Fault::Foreign);
     }
     let start = at + 3;
     let bytes = n as usize;
     if s.len() - start < bytes {
-        return Field::Overlong;
+        return Err(Fault::Overlong);
     }
-    Field::Payload {
+    Ok(Span {
         start,
         end: start + bytes,
-    }
+    })
 }
 
 // Its payload, as the part of the slice that it is; nothing where there is no such field.
-pub fn payload<'a>(s: &'a [u8], at: usize, tag: u8) -> &'a [u8]
+pub fn payload(s: &[u8], at: usize, tag: u8) -> &[u8]
     ensures { result.now ≡ payload_at s.now at tag }
 {
     match field_at(s, at, tag) {
-        Field::Payload { start, end } => &s[start..end],
-        Field::Missing => &s[..0],
-        Field::Foreign => &s[..0],
-        Field::Overlong => &s[..0],
+        Ok(found) => &s[found.start..found.end],
+        Err(_) => &[],
     }
 }
 

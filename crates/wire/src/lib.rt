@@ -4,5 +4,6 @@
 pub mod bytes;
 pub mod field;
 pub mod number;
+pub mod record;
 pub mod sum;
 pub mod tag;

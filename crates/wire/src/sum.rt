@@ -4,7 +4,7 @@ ghost use Rattle.wire.specs.Sum.{sums_of, most_summed, plain_sums};
 ghost use Rattle.wire.specs.Columns.{Few, column_sums};
 
 // Document 01's a and b.
-#[derive(Drop)]
+#[derive(Clone, Copy, Debug, PartialEq, Eq)]
 pub struct Sums {
     pub a: u32,
     pub b: u32,
@@ -19,12 +19,10 @@ fn sum_columns(low: &[u32; 16], high: &[u32; 16], rows: usize) -> Sums
     let mut a: u32 = 0;
     let mut b: u32 = 0;
     let mut c: u32 = rows as u32;
-    let mut j: usize = 0;
-    while j < 16 {
+    for j in 0..16 {
         a += low[j];
         b += (16 - j) as u32 * low[j];
         c += high[j];
-        j += 1;
     }
     Sums {
         a: 1 + a,
@@ -41,15 +39,11 @@ fn sum_rows(s: &[u8], rows: usize) -> Sums
 {
     let mut low = [0u32; 16];
     let mut high = [0u32; 16];
-    let mut k: usize = 0;
-    while k < rows {
-        let mut j: usize = 0;
-        while j < 16 {
+    for k in 0..rows {
+        for j in 0..16 {
             high[j] += low[j];
-            low[j] += super::number::read8(s, 16 * k + j);
-            j += 1;
+            low[j] += u32::from(s[16 * k + j]);
         }
-        k += 1;
     }
     sum_columns(&low, &high, rows)
 }
@@ -61,8 +55,9 @@ pub fn sum_bytes(s: &[u8]) -> Sums
 {
     let rows = s.len() / 16;
     let begun = sum_rows(s, rows);
-    let mut a: u32 = begun.a;
-    let mut b: u32 = begun.b;
+    let mut a = begun.a;
+    let mut b = begun.b;
+    // A `while`: with a `for` here, over a range or the slice, a page was measured to take more than twice as long.
     let mut i = 16 * rows;
     while i < s.len() {
         a += super::number::read8(s, i);

@@ -3,14 +3,12 @@ ghost use Rattle.std.specs.Prelude.{map, ◌≡◌};
 ghost use Rattle.wire.specs.Tag.{rows, row_of, spelt, length_of, allowed, is_node_bytes};
 
 // The payload length that a tag asks for.
-#[derive(Drop)]
+#[derive(Clone, Copy, Debug, PartialEq, Eq)]
 pub enum Length {
     // Always this length.
     Exact(u32),
     // 7 bytes and 8 for each of 0 to 24 pairs: a whole node, field 11.
     Node,
-    // There is no such tag.
-    Unknown,
 }
 
 // One entry for each command and page field in use, and none besides: its tag, then its payload length, FE for a whole node's.
@@ -26,42 +24,38 @@ fn spelt(byte: u16) -> Length
     ensures { result ≡ spelt byte }
 {
     if byte == 0xFE {
-        return Length::Node;
+        Length::Node
+    } else {
+        Length::Exact(u32::from(byte))
     }
-    Length::Exact(byte as u32)
 }
 
 // Searches a table that has one entry for each row of the documents, in order, and none besides.
-fn find(entries: &[u16], tag: u8) -> Length
+fn find(entries: &[u16], tag: u8) -> Option<Length>
     requires { map row_of entries.now ≡ rows }
     ensures { result ≡ length_of tag }
 {
-    let mut i: usize = 0;
-    while i < entries.len() {
-        let entry = entries[i];
-        if entry / 256 == tag as u16 {
-            return spelt(entry % 256);
+    for entry in entries {
+        if *entry / 256 == u16::from(tag) {
+            return Some(spelt(*entry % 256));
         }
-        i += 1;
     }
-    Length::Unknown
+    None
 }
 
-// The length that a tag asks for.
-pub fn length_of(tag: u8) -> Length
+// The length that a tag asks for; none where there is no such tag.
+pub fn length_of(tag: u8) -> Option<Length>
     ensures { result ≡ length_of tag }
 {
     find(&TABLE, tag)
 }
 
 // Whether so many bytes are a whole node's: 7 + 8k, k from 0 to 24.
+#[tactic(auto, unfolding(crate::specs::Tag::is_node_bytes))]
 fn is_node_length(bytes: u32) -> bool
     ensures { result ≡ is_node_bytes bytes }
 {
-    if bytes % 8 != 7 {
-        return false;
-    }
-    bytes <= 199
+    bytes % 8 == 7 && bytes <= 199
 }
 
 // Whether a tag may have a payload of so many bytes.
@@ -69,8 +63,8 @@ pub fn may_have(tag: u8, bytes: u32) -> bool
     ensures { result ≡ allowed (length_of tag) bytes }
 {
     match length_of(tag) {
-        Length::Exact(n) => bytes == n,
-        Length::Node => is_node_length(bytes),
-        Length::Unknown => false,
+        Some(Length::Exact(n)) => bytes == n,
+        Some(Length::Node) => is_node_length(bytes),
+        None => false,
     }
 }

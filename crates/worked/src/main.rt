@@ -9,11 +9,14 @@ ghost use Rattle.layout.specs.Layout.{panels};
 pub mod hash;
 
 use hash::hash;
-use layout::{LAST_KEY, PANELS};
+use layout::{BLOCK_BYTES, FEWEST_BLOCKS, LAST_KEY, PANELS, TABLE_BYTES};
 use std::io;
 use wall_book::{wall_book_batch, wall_book_desk, wall_book_prepare};
 use wire::field::lay_head;
 use wire::number::write32;
+
+// The smallest pool.
+const POOL_BYTES: usize = FEWEST_BLOCKS * BLOCK_BYTES;
 
 // Prints what a case is, and the number that it ended with.
 fn print_number(rt: &impl Print, case: &str, number: u32) -> io::Result<()> {
@@ -47,7 +50,7 @@ fn prepare(pool: &mut [u8]) -> u32 {
 fn run(pool: &mut [u8], commands: &[u8], charges: &mut [u64; PANELS]) -> u32
     ensures { length charges.new ≡ panels }
 {
-    let mut table = [0u8; 4096];
+    let mut table = [0u8; FEWEST_BLOCKS * TABLE_BYTES];
     let mut answers = [0u8; 1024];
     let mut length: usize = 0;
     wall_book_batch(
@@ -91,7 +94,7 @@ fn served(
     lengths: &[u8],
     queues: &[u8],
 ) -> io::Result<()> {
-    let mut table = [0u8; 4096];
+    let mut table = [0u8; FEWEST_BLOCKS * TABLE_BYTES];
     let mut answers = [0u8; 1024];
     let mut length: usize = 0;
     let mut charges = [0u64; PANELS];
@@ -104,18 +107,18 @@ fn served(
         &mut length,
         &mut charges,
     );
-    if number == 0 {
-        print!(rt; "{case}")?;
-        return print_left(rt, &charges, pool);
+    if number != 0 {
+        return print_number(rt, case, number);
     }
-    print_number(rt, case, number)
+    print!(rt; "{case}")?;
+    print_left(rt, &charges, pool)
 }
 
 // "Pool of 49,152 bytes: 1; 65,536: accepted. Switch cost 0: 10."
 fn prepares(rt: &impl Print) -> io::Result<()> {
     let mut short = [0u8; 49152];
     print_number(rt, "prepare 49152 bytes: ", prepare(&mut short))?;
-    let mut pool = [0u8; 65536];
+    let mut pool = [0u8; POOL_BYTES];
     print_number(rt, "prepare 65536 bytes: ", prepare(&mut pool))?;
     let free = wall_book_prepare(&mut pool, 3, 1, 2, 1, 4, 4, 0, 2);
     print_number(rt, "prepare with a switch that costs 0: ", free)
@@ -123,7 +126,7 @@ fn prepares(rt: &impl Print) -> io::Result<()> {
 
 // "Sweep of 0 or 33: 3."
 fn scans(rt: &impl Print) -> io::Result<()> {
-    let mut pool = [0u8; 65536];
+    let mut pool = [0u8; POOL_BYTES];
     prepare(&mut pool);
     let none = [4u8, 0, 10, 0, 0, 0, 3, 0, 0, 0, 9, 0, 0];
     refused(rt, "scan for 0 pairs: ", &mut pool, &none)?;
@@ -133,7 +136,7 @@ fn scans(rt: &impl Print) -> io::Result<()> {
 
 // The batch of the program `wall`: put 7 with 100, get 7, delete 7, get 7.
 fn first_run(rt: &impl Print) -> io::Result<()> {
-    let mut pool = [0u8; 65536];
+    let mut pool = [0u8; POOL_BYTES];
     prepare(&mut pool);
     print_pool(rt, "prepared: ", &pool)?;
     let commands = [
@@ -173,7 +176,7 @@ fn lay_puts(commands: &mut [u8])
 
 // A root that splits, under a tariff that moves nothing.
 fn second_run(rt: &impl Print) -> io::Result<()> {
-    let mut pool = [0u8; 65536];
+    let mut pool = [0u8; POOL_BYTES];
     wall_book_prepare(&mut pool, 0, 0, 0, 0, 0, 0, 1, 1);
     print_pool(rt, "prepared, all free: ", &pool)?;
     let mut commands = [0u8; 275];
@@ -184,7 +187,7 @@ fn second_run(rt: &impl Print) -> io::Result<()> {
 // "Command 05, length 1, names the panel (0 to 15) for the commands after it; a batch begins at panel 0." Three panels share the batch of `wall`; a
 // panel named and nothing more; "a panel above 15 gives 3".
 fn panels(rt: &impl Print) -> io::Result<()> {
-    let mut pool = [0u8; 65536];
+    let mut pool = [0u8; POOL_BYTES];
     prepare(&mut pool);
     let shared = [
         5u8, 0, 1, 3, 2, 0, 8, 0, 0, 0, 7, 0, 0, 0, 100, 5, 0, 1, 15, 1, 0, 4, 0, 0, 0, 7, 3, 0, 4,
@@ -203,7 +206,7 @@ fn panels(rt: &impl Print) -> io::Result<()> {
 
 // "That route or the nearest above": below the first key, at it, between two and above both.
 fn ceilings(rt: &impl Print) -> io::Result<()> {
-    let mut pool = [0u8; 65536];
+    let mut pool = [0u8; POOL_BYTES];
     prepare(&mut pool);
     let mut commands = [0u8; 50];
     lay_put(&mut commands, 0, 7, 100);
@@ -222,7 +225,7 @@ fn ceilings(rt: &impl Print) -> io::Result<()> {
 
 // The greatest key can be asked for, and be found; a ceiling with a byte too many gives 3.
 fn greatest_key(rt: &impl Print) -> io::Result<()> {
-    let mut pool = [0u8; 65536];
+    let mut pool = [0u8; POOL_BYTES];
     prepare(&mut pool);
     let mut commands = [0u8; 32];
     lay_put(&mut commands, 0, LAST_KEY, 1);
@@ -246,7 +249,7 @@ fn greatest_key(rt: &impl Print) -> io::Result<()> {
 // "Serves one command from each queue that still has any, in panel order, round and round": panel 0 puts and gets, panel 1 gets and deletes, by
 // turns; three gets of panel 0 and one of panel 2; no queue at all.
 fn desks(rt: &impl Print) -> io::Result<()> {
-    let mut pool = [0u8; 65536];
+    let mut pool = [0u8; POOL_BYTES];
     prepare(&mut pool);
     let mut queues = [0u8; 32];
     lay_put(&mut queues, 0, 7, 100);
@@ -280,7 +283,7 @@ fn desks(rt: &impl Print) -> io::Result<()> {
 
 // "More than 16 lengths, part of one, or lengths that don't fill the queue buffer exactly, gives 11"; a queue that holds an 05 gives 3.
 fn desks_refused(rt: &impl Print) -> io::Result<()> {
-    let mut pool = [0u8; 65536];
+    let mut pool = [0u8; POOL_BYTES];
     prepare(&mut pool);
     let mut get = [0u8; 7];
     lay_key(&mut get, 0, 1, 7);

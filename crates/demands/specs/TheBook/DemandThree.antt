@@ -1,7 +1,6 @@
 -- DEMAND 3, "a single claim about a whole list: batches of any bytes, accepted or refused, with any work table and answer buffer, each on the
 -- pool as the last call left it." Assumes nothing.
-use Rattle.std.specs.Prelude.{◌≡◌, List, map, ℕ, ◌+◌, ◌*◌, ◌≤◌}
-use Rattle.std.proofs.Math.Option.{some}
+use Rattle.std.specs.Prelude.{◌≡◌, List, map, ℕ, ◌+◌, ◌*◌, ◌≤◌, Some}
 use Rattle.laws.specs.Every.{Every}
 use Rattle.laws.specs.Update.{sum}
 use Rattle.account.specs.declared.Mode.TheVariants.{Log}
@@ -32,7 +31,7 @@ pub record DemandThree (t : Tariff) (pool : List ℕ) (b : Book) (cs : List Call
   -- "Each node's mode .. is the paper book's after every node request": so are contents and scores ..
   pub requests : map book_of (all_states pool cs) ≡ all_books (blocks_of pool) t (fed pool cs) b
   -- ".. and after every call; after every call its field 14 has the paper book's score."
-  pub calls : map (λ (o : Outcome). book_in o.pool) (outcomes pool cs) ≡ map some (books_after (blocks_of pool) t (fed pool cs) b)
+  pub calls : map (λ (o : Outcome). book_in o.pool) (outcomes pool cs) ≡ map Some (books_after (blocks_of pool) t (fed pool cs) b)
   -- "At most three after every page written and every node request ..
   pub thin : Every Thin (all_moments pool cs)
   -- .. and after every call."

@@ -1,8 +1,7 @@
 -- DOCUMENT 02, P2. "The batch returns 16 charges in place of one, each that of the panel's own commands, all 0 when refused. The three-times bound is
 -- about their sum, the old charge." That each is the reference model's is demand 3's `charges`, and `prepared_bound` is about the sums. Assumes
 -- nothing.
-use Rattle.std.specs.Prelude.{◌≡◌, List, ℕ, ◌^◌, ◌≤◌, ◌<◌}
-use Rattle.std.proofs.Math.Option.{some}
+use Rattle.std.specs.Prelude.{◌≡◌, List, ℕ, ◌^◌, ◌≤◌, ◌<◌, Some}
 use Rattle.laws.specs.BigEndian.{Bytes}
 use Rattle.layout.specs.Layout.{node_limit}
 use Rattle.account.specs.declared.Tariff.{Tariff}
@@ -41,7 +40,7 @@ charges_fit = call-charge-fits
 
 -- Panels are invisible: on any pool, with any table and answer buffer, a batch and the same batch without its panels return the same number and
 -- length, leave the same pool, table and answers, and are charged the same in sum.
-pub panels_invisible : (pool table buffer batch batch' : List ℕ) (cs : List Command) → Bytes batch → commands_of batch ≡ some cs →
-    commands_of batch' ≡ some (unnamed cs) → SameBut (batch_of pool table batch buffer) (batch_of pool table batch' buffer)
+pub panels_invisible : (pool table buffer batch batch' : List ℕ) (cs : List Command) → Bytes batch → commands_of batch ≡ Some cs →
+    commands_of batch' ≡ Some (unnamed cs) → SameBut (batch_of pool table batch buffer) (batch_of pool table batch' buffer)
 panels_invisible pool table buffer batch batch' cs bytes e f =
     unnamed-leaves pool table buffer cs (commands_of_batch batch bytes cs e).valid batch batch' e f

@@ -1,8 +1,7 @@
 -- DOCUMENT 02, P3. "A setter types a number and wants that route or the nearest above. Command 07 .. answers 87 with route and word .., or 80 if none is
 -- at or above." Assumes nothing.
-use Rattle.std.specs.Prelude.{◌≡◌, refl, List, [], ◌∷◌, ◌++◌, ℕ, ◌≤◌}
+use Rattle.std.specs.Prelude.{◌≡◌, refl, List, [], ◌∷◌, ◌++◌, ℕ, ◌≤◌, None, Some}
 use Rattle.std.proofs.Common.{ap, ◌∙◌, arith}
-use Rattle.std.proofs.Math.Option.{none, some}
 use Rattle.layout.specs.Layout.{node_limit, last_key, bound32}
 use Rattle.account.specs.declared.Tariff.{Tariff}
 use Rattle.pairs.specs.Pairs.{Pair, lookup, ceiling, Within}
@@ -57,7 +56,7 @@ module _ {t : Tariff} {pool : List ℕ} {b : Book} {ps : List Pair} (s : Stands 
   pub ceiling-is : CeilingIs lookup k (map_then t pool b ps before) (ceiling k (map_then t pool b ps before))
   ceiling-is = nearest-is k 0 bound32 (map_then t pool b ps before) ascending
 
-  pub ceiling-none : ((j : ℕ) → k ≤ j → lookup j (map_then t pool b ps before) ≡ none) → ceiling k (map_then t pool b ps before) ≡ none
+  pub ceiling-none : ((j : ℕ) → k ≤ j → lookup j (map_then t pool b ps before) ≡ None) → ceiling k (map_then t pool b ps before) ≡ None
   ceiling-none = none_above k 0 bound32 (map_then t pool b ps before) ascending
 
 -- The commands before any place of a call are valid, so that this holds there.
@@ -71,6 +70,6 @@ ceiling-reads limit n k b = refl
 
 -- .. and so on any pool, with any table and answer buffer: where such scans stand for the ceilings of a batch, the call returns the same number and
 -- charges, and leaves the same pool and table.
-pub ceilings_read : (pool table buffer batch batch' : List ℕ) (cs ds : List Command) → ScansFor cs ds → commands_of batch ≡ some cs →
-    commands_of batch' ≡ some ds → SameReads (batch_of pool table batch buffer) (batch_of pool table batch' buffer)
+pub ceilings_read : (pool table buffer batch batch' : List ℕ) (cs ds : List Command) → ScansFor cs ds → commands_of batch ≡ Some cs →
+    commands_of batch' ≡ Some ds → SameReads (batch_of pool table batch buffer) (batch_of pool table batch' buffer)
 ceilings_read pool table buffer batch batch' cs ds r = scans_same pool table buffer cs ds r batch batch'

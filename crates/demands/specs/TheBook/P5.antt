@@ -1,9 +1,8 @@
 -- DOCUMENT 02, P5. "A second entry point takes up to 16 queues, each a batch, in one lent buffer, with their four-byte lengths in another." Demand 1
 -- of it is `demand_one`; demands 2 and 3 are about lists in which desks stand beside batches. Assumes nothing.
-use Rattle.std.specs.Prelude.{◌≡◌, true, List, [], ℕ, ◌+◌, ◌*◌, ◌≤◌, ◌<◌, length, get_or, drop}
+use Rattle.std.specs.Prelude.{◌≡◌, true, List, [], ℕ, ◌+◌, ◌*◌, ◌≤◌, ◌<◌, length, get_or, drop, None, Some}
 use Rattle.std.proofs.Math.Path.{ap}
 use Rattle.std.proofs.Common.{◌∙◌, arith}
-use Rattle.std.proofs.Math.Option.{none, some}
 use Rattle.laws.specs.BigEndian.{Bytes}
 use Rattle.laws.specs.Every.{Every}
 use Rattle.layout.specs.Layout.{node_limit, table_bytes, panels, most_batch_bytes}
@@ -39,12 +38,12 @@ use Rattle.demands.specs.TheBook.Stands.{Stands}
 -- "The joined bytes run as one batch, with its length limit and all its questions": where the lengths fill the queue buffer and every queue is wholly
 -- valid commands, none of them an 05, the call is the batch of the joined bytes, in number, pool, table, answers, length and sixteen charges.
 pub desk_is_batch : (pool table lengths queues buffer : List ℕ) (qs : List (List ℕ)) (bytes : List ℕ) →
-    queues_of lengths queues ≡ some qs → joined_of qs ≡ some bytes → desk_of pool table lengths queues buffer ≡ batch_of pool table bytes buffer
+    queues_of lengths queues ≡ Some qs → joined_of qs ≡ Some bytes → desk_of pool table lengths queues buffer ≡ batch_of pool table bytes buffer
 desk_is_batch = joined-batch
 
 -- Every other call is refused: with 1, with 2, with 11 for "more than 16 lengths, part of one, or lengths that don't fill the queue buffer exactly",
 -- or with 3 for a queue that holds an 05 "or isn't wholly valid commands"; pool and answers are as found, and nothing is charged.
-pub desk_ends : (pool table lengths queues buffer : List ℕ) → joined_by (queues_of lengths queues) ≡ none →
+pub desk_ends : (pool table lengths queues buffer : List ℕ) → joined_by (queues_of lengths queues) ≡ None →
     DeskRefused pool table lengths queues buffer (desk_of pool table lengths queues buffer)
 desk_ends = refused-before
 
@@ -57,9 +56,9 @@ bill t pool b commands p = billed (node_limit (blocks_of pool)) p (turns command
 pub record DeskServes (t : Tariff) (pool : List ℕ) (b : Book) (ps : List Pair) (d : DeskLent) : Type 0 where
   -- "up to 16 queues, each a batch, in one lent buffer, with their four-byte lengths in another": they are cut, and each is read, queue p for panel p
   pub queues : List (List ℕ)
-  pub cut : queues_of d.lengths d.queues ≡ some queues
+  pub cut : queues_of d.lengths d.queues ≡ Some queues
   pub commands : List (List Command)
-  pub read : all_commands queues ≡ some commands
+  pub read : all_commands queues ≡ Some commands
   -- it "serves one command from each queue that still has any, in panel order, round and round", with "a command 05 before every command"
   pub served : commands_in (fed_of pool (desk d)) ≡ interleaved (turns commands)
   -- they are answered in that order, as a plain ordered map does
@@ -88,12 +87,12 @@ desk_serves {t} {pool} {b} {ps} s d bytes e =
           ap (λ (cs : List Command). laid_over d.buffer (map_answers limit cs (at_first t) b ps)) r.served;
       own = billed-own limit r.commands (at_first t) b;
       charge = desk_charge (stands_open s) d bytes r;
-      without = λ p none. desk_charge (stands_open s) d bytes r p ∙ billed-none limit r.commands (at_first t) b p none;
+      without = λ p None. desk_charge (stands_open s) d bytes r p ∙ billed-none limit r.commands (at_first t) b p None;
     }
 
 -- Of the queues of a desk, and the commands of each:
 module _ (lengths queues : List ℕ) (bytes : Bytes queues) (qs : List (List ℕ)) (css : List (List Command))
-    (cut : queues_of lengths queues ≡ some qs) (read : all_commands qs ≡ some css) where
+    (cut : queues_of lengths queues ≡ Some qs) (read : all_commands qs ≡ Some css) where
   reads : Read qs css
   reads = all_read qs css read
 
@@ -105,14 +104,14 @@ module _ (lengths queues : List ℕ) (bytes : Bytes queues) (qs : List (List ℕ
 
   -- "The desk writes a command 05 before every command": four bytes for each. Within the length limit the joined bytes are read as the turns, each
   -- with its 05 before it.
-  pub joined_are : joined_of qs ≡ some (joined_bytes css)
+  pub joined_are : joined_of qs ≡ Some (joined_bytes css)
   unfolding joined_of
   joined_are = ap bytes_by read
 
   pub joined_length : length (joined_bytes css) ≡ length queues + 4 * CommandCount css
   joined_length = omega (arith, length-of made few reads, cut_length lengths queues qs cut)
 
-  pub joined-commands : length (joined_bytes css) ≤ most_batch_bytes → commands_of (joined_bytes css) ≡ some (interleaved (turns css))
+  pub joined-commands : length (joined_bytes css) ≤ most_batch_bytes → commands_of (joined_bytes css) ≡ Some (interleaved (turns css))
   joined-commands = joined_short made few reads
 
   -- "With its length limit": joined bytes over 32,768 are 3, where 1 and 2 are passed.

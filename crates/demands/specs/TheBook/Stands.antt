@@ -1,6 +1,5 @@
 -- The pools that demands 2 and 3 begin with: a pool obeys the layout, and spells a book and a map. Assumes nothing.
-use Rattle.std.specs.Prelude.{◌≡◌, true, List, [], ℕ}
-use Rattle.std.proofs.Math.Option.{some}
+use Rattle.std.specs.Prelude.{◌≡◌, true, List, [], ℕ, Some}
 use Rattle.laws.specs.BigEndian.{Bytes}
 use Rattle.account.specs.declared.Tariff.{Tariff}
 use Rattle.pairs.specs.Pairs.{Pair}
@@ -18,7 +17,7 @@ use Rattle.demands.specs.PreparedPool.{prepare_stands}
 
 pub record Stands (t : Tariff) (pool : List ℕ) (b : Book) (ps : List Pair) : Type 0 where
   pub obeys : Obeys pool t ps
-  pub book : book_in pool ≡ some b
+  pub book : book_in pool ≡ Some b
 
 -- "The first is on any pool that opens": such a pool stands, whoever wrote it ..
 pub any_pool : (pool : List ℕ) → Bytes pool → pool_length pool ≡ true → (t : Tariff) (s : State) → mount_of pool ≡ opened t s →

@@ -1,73 +1,52 @@
 -- `desk` meets its contract: refused for what is lent, or its work done in the part of the table that it needs. Assumes nothing.
-use Rattle.std.proofs.Common.{rules}
-use mathlib.Core.Path.{refl, ap, ◌∙◌}
-use mathlib.Core.List.{List}
-use Prim.Native.Nat.{ℕ}
-use native.Mathlib.Omega.{arith}
+use Rattle.std.proofs.Common.{refl, ap, List, ℕ, rules, arith}
+use Rattle.refusal.specs.Number.{number_some}
 use Rattle.layout.specs.Layout.{table_bytes}
 use Rattle.desk_queues.specs.Joined.{joined}
 use Rattle.model.specs.PoolLaws.{is-pool}
 use Rattle.model.specs.Call.{Call}
+use Rattle.model.specs.Passes.{Passes}
 use Rattle.batch.specs.AnyCall.{may_refuse, call-refused, call_passes, call_worked}
 use Rattle.desk.specs.Accepts.{desk_accepts, lists_read, runs_read}
 use Rattle.desk.proofs.desk.Goals as goal
+use Rattle.desk.proofs.desk.Goals.{In-Ok}
 
 abbrev call_of : List ℕ → List ℕ → List ℕ → List ℕ → Call
 call_of table lengths queues answers = Call.desk (record { table = table; lengths = lengths; queues = queues; buffer = answers })
 
+-- Nothing that is lent was answered with no.
+passes : (c : In-Ok) → Passes c.args.pool.now (call_of c.args.table.now c.args.lengths.now c.args.queues.now c.args.answers.now)
+passes c = call_passes _ _ _ c.in-Ok.ensures.number refl
+
 pub refuse-requires : goal.refuse-requires
 refuse-requires c =
-    let a = c.args in
-    may_refuse a.pool.now (call_of a.table.now a.lengths.now a.queues.now a.answers.now) c.refusal-asked.result.number
-    c.refusal-asked.ensures.number c.if-asked-eq0.false
+    (may_refuse _ (call_of c.args.table.now c.args.lengths.now c.args.queues.now c.args.answers.now) _ c.in-Err.ensures.number
+    (λ z. omega (arith, z, number_some c.in-Err.refusal))).1
 
-pub returns-else-asked-eq0 : goal.returns-else-asked-eq0
-returns-else-asked-eq0 c =
-    let a = c.args in
-    call-refused a.pool.now (call_of a.table.now a.lengths.now a.queues.now a.answers.now) c.refusal-asked.result.number
-    c.refusal-asked.ensures.number c.if-asked-eq0.false c.refuse.ensures c.clear.ensures
+pub returns-in-Err : goal.returns-in-Err
+returns-in-Err c =
+    call-refused _ (call_of c.args.table.now c.args.lengths.now c.args.queues.now c.args.answers.now) _ c.in-Err.ensures.number
+    (λ z. omega (arith, z, number_some c.in-Err.refusal)) c.refuse.ensures c.clear.ensures
 
 pub overflow_mul-bytes : goal.overflow_mul-bytes
 overflow_mul-bytes c =
-    let a = c.args in
-    let call = call_of a.table.now a.lengths.now a.queues.now a.answers.now in
-    let p = call_passes a.pool.now call c.refusal-asked.result.number c.refusal-asked.ensures.number c.if-asked-eq0.true in
-    let h = is-pool a.pool.now p.size in
-    omega (arith, c.pool_blocks-blocks.ensures, h.blocks, h.most)
+    omega (arith, c.in-Ok.ensures.blocks, (is-pool _ (passes (goal.at.overflow_mul-bytes c).In-Ok).size).most)
 
 pub slice_bounds-work-end : goal.slice_bounds-work-end
-slice_bounds-work-end c =
-    let a = c.args in
-    let call = call_of a.table.now a.lengths.now a.queues.now a.answers.now in
-    let p = call_passes a.pool.now call c.refusal-asked.result.number c.refusal-asked.ensures.number c.if-asked-eq0.true in
-    let h = is-pool a.pool.now p.size in
-    omega (arith, c.pool_blocks-blocks.ensures, h.blocks, p.table)
+slice_bounds-work-end c = omega (arith, c.in-Ok.ensures.blocks, (passes (goal.at.slice_bounds-work-end c).In-Ok).table)
 
 pub work-requires : goal.work-requires
 work-requires c =
-    let a = c.args in
-    let call = call_of a.table.now a.lengths.now a.queues.now a.answers.now in
-    let z = c.if-asked-eq0.true in
-    let p = call_passes a.pool.now call c.refusal-asked.result.number c.refusal-asked.ensures.number z in
-    let h = is-pool a.pool.now p.size in
-    let b = c.pool_blocks-blocks in
-    let d = c.refusal-asked.ensures.ready z in (
-      desk_accepts a.lengths.now a.queues.now d.fill _ (omega (arith, h.whole, b.ensures, h.blocks))
-          (omega (arith, h.least, b.ensures, h.blocks)) (omega (arith, h.most, b.ensures, h.blocks)) (search rules) d.ready d.enough,
+    let h = is-pool c.args.pool.now (passes (goal.at.work-requires c).In-Ok).size in
+    let is = c.in-Ok.ensures.blocks in
+    let d = c.in-Ok.ensures.ready in (
+      desk_accepts _ _ d.fill _ (omega (arith, h.whole, is)) (omega (arith, h.least, is)) (omega (arith, h.most, is)) (search rules) d.ready d.enough,
       c.clear.ensures,
     )
 
 pub returns : goal.returns
 returns c =
-    let a = c.args in
-    let call = call_of a.table.now a.lengths.now a.queues.now a.answers.now in
-    let q = c.refusal-asked in
-    let z = c.if-asked-eq0.true in
-    let p = call_passes a.pool.now call q.result.number q.ensures.number z in
-    let b = c.pool_blocks-blocks in
-    let d = q.ensures.ready z in
+    let d = c.in-Ok.ensures.ready in
     let css = d.ready.commands in
-    call_worked a.pool.now call q.result.number q.ensures.number z refl (joined css)
-    (runs_read a.lengths.now a.queues.now d.fill d.ready) (table_bytes b.result)
-    (ap table_bytes (b.ensures ∙ (is-pool a.pool.now p.size).blocks))
-    (c.work.ensures.leaves (joined css) (lists_read a.lengths.now a.queues.now css d.ready.are d.ready.read))
+    call_worked _ (call_of c.args.table.now c.args.lengths.now c.args.queues.now c.args.answers.now) _ c.in-Ok.ensures.number refl refl (joined css)
+    (runs_read _ _ d.fill d.ready) _ (ap table_bytes c.in-Ok.ensures.blocks) (c.work.ensures.leaves (joined css) (lists_read _ _ css d.ready.are d.ready.read))

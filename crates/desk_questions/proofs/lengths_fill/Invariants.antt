@@ -1,10 +1,10 @@
-use mathlib.Core.Path.{◌≡◌}
-use Prim.Native.Nat.{◌-◌, ◌*◌, ◌≤◌}
+-- The sum so far is where the next queue starts, and it is small.
+use Rattle.std.proofs.Common.{◌≡◌, ◌*◌, ◌≤◌}
 use Rattle.desk_queues.specs.Queues.{start_at}
 use Rattle.desk_questions.proofs.lengths_fill.Given as goal
 
 abbrev pub invariant-loop-p : goal.invariant-loop-p
-invariant-loop-p l = (l.p ≤ l.count) × (l.sum ≤ 4294967295 * l.p) × (l.sum ≡ start_at l.lengths l.p)
-
-abbrev pub decreases-loop-p : goal.decreases-loop-p
-decreases-loop-p l = l.count - l.p
+invariant-loop-p l = record {
+  small : l.sum ≤ 4294967295 * l.p;
+  is : l.sum ≡ start_at l.lengths l.p;
+}

@@ -9,7 +9,7 @@ use Rattle.flash_checkpoint.proofs.score_records.Goals as goal
 
 pub loop-i-init : goal.loop-i-init
 loop-i-init c = let a = c.args in
-    ((omega arith, length-replicate {A = ℕ} 324 0), records_begin (rows_in a.table.now) a.from a.n (replicate 324 0))
+    (length-replicate {A = ℕ} 324 0, records_begin (rows_in a.table.now) a.from a.n (replicate 324 0))
 
 pub loop-i-preserved : goal.loop-i-preserved
 loop-i-preserved c = let l = c.loop-i in

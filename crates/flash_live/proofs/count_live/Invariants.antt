@@ -7,7 +7,4 @@ use Rattle.flash_live.proofs.count_live.Given as goal
 
 abbrev pub invariant-loop-k : goal.invariant-loop-k
 invariant-loop-k l =
-    ((l.k ≤ 32) × (l.n ≤ l.k)) × (l.n + sum_from (live_bit (marks_in l.live) l.block) (32 - l.k) l.k ≡ sum_from (live_bit (marks_in l.live) l.block) 32 0)
-
-abbrev pub decreases-loop-k : goal.decreases-loop-k
-decreases-loop-k l = 32 - l.k
+    (l.n ≤ l.k) × (l.n + sum_from (live_bit (marks_in l.live) l.block) (32 - l.k) l.k ≡ sum_from (live_bit (marks_in l.live) l.block) 32 0)

@@ -10,19 +10,16 @@ use Rattle.flash_live.proofs.live_map.Goals as goal
 
 pub loop-n-init : goal.loop-n-init
 loop-n-init c = let a = c.args in
-    (omega arith, rw no_marks_lem (steps-begin (mark_nth (rows_of a.table.now)) a.used (replicate 2048 0)))
+    rw no_marks_lem (steps-begin (mark_nth (rows_of a.table.now)) a.used (replicate 2048 0))
 
 pub loop-n-preserved : goal.loop-n-preserved
 unfolding mark_nth
 loop-n-preserved c = let l = c.loop-n in
-    let a = c.args in (
-      omega arith,
-      rw (c.mark_row.ensures, c.read_row.ensures)
-          (steps_more (mark_nth (rows_of a.table.now)) a.used l.n (marks_in l.live) (omega arith) ∙ l.invariant.1),
-    )
+    let a = c.args in
+    rw (c.mark_row.ensures, c.read.ensures) (steps_more (mark_nth (rows_of a.table.now)) a.used l.n (marks_in l.live) (omega arith) ∙ l.invariant)
 
 pub returns : goal.returns
 unfolding live_map
 returns c = let l = c.loop-n in
     let a = c.args in
-    sym (steps-done (mark_nth (rows_of a.table.now)) a.used l.n (marks_in l.live) (omega arith)) ∙ l.invariant.1
+    sym (steps-done (mark_nth (rows_of a.table.now)) a.used l.n (marks_in l.live) (omega arith)) ∙ l.invariant

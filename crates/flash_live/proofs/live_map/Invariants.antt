@@ -1,5 +1,5 @@
 use mathlib.Core.Path.{◌≡◌}
-use Prim.Native.Nat.{◌-◌, ◌≤◌}
+use Prim.Native.Nat.{◌-◌}
 use lib.ListN.{replicate}
 use Rattle.laws.specs.Loops.{steps}
 use Rattle.flash_rows.specs.Row.{rows_of}
@@ -8,8 +8,4 @@ use Rattle.flash_live.specs.Bits.{marks_in}
 use Rattle.flash_live.proofs.live_map.Given as goal
 
 abbrev pub invariant-loop-n : goal.invariant-loop-n
-invariant-loop-n l = (l.n ≤ l.used) ×
-    (steps (mark_nth (rows_of l.table)) (l.used - l.n) l.n (marks_in l.live) ≡ steps (mark_nth (rows_of l.table)) l.used 0 (replicate 2048 0))
-
-abbrev pub decreases-loop-n : goal.decreases-loop-n
-decreases-loop-n l = l.used - l.n
+invariant-loop-n l = steps (mark_nth (rows_of l.table)) (l.used - l.n) l.n (marks_in l.live) ≡ steps (mark_nth (rows_of l.table)) l.used 0 (replicate 2048 0)

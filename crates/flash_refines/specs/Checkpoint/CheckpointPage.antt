@@ -1,13 +1,12 @@
 -- While a checkpoint is written: the rows behind the nodes' name its pages, so that they are live, and a checkpoint page written by the code is the
 -- store's. Assumes nothing.
-use Rattle.std.specs.Prelude.{◌≡◌, Bool, ◌&&◌, ◌||◌, ◌⊎◌, List, eqb, ltb, length, set}
+use Rattle.std.specs.Prelude.{◌≡◌, Bool, ◌&&◌, ◌||◌, ◌⊎◌, List, eqb, ltb, length, set, Option, None, Some, slice_get}
 use Rattle.std.proofs.Math.Path.{refl, sym, subst}
 use Rattle.std.proofs.Common.{ap, ◌∙◌, inl, inr, arith, get_or-set_same, get_or-set_other}
 use Rattle.std.proofs.Math.Bool.{true, false, and-false}
-use Rattle.std.proofs.Math.Option.{Option, none, some}
 use Prim.Native.Nat.{ℕ, suc, ◌+◌, ◌-◌, ◌*◌, ◌≤◌, ◌<◌}
 use borrow.Author.Tests.{eqb-true, eq-eqb, ne_eqb, lt-ltb, le-ltb, ltb-true}
-use Rattle.std.proofs.Math.ListN.{get_elem?, length-set}
+use Rattle.std.proofs.Math.ListN.{length-set}
 use Rattle.laws.specs.Tests.{choose, and_left, and_right, and_both}
 use Rattle.laws.specs.Order.{eq_or, le_or}
 use Rattle.laws.specs.Options.{test}
@@ -164,12 +163,12 @@ module _ (base : ℕ) {k : ℕ} {w : World} {st : Store} (few : w.state.blocks �
       eq-eqb (suc st.last) (suc (base + (used s - nodes))) (omega (arith, used-is))
 
   -- and that one owns no other page
-  no_other : (i q : ℕ) → test (owner base nodes after (used s)) (get_elem? (block (found (checkpoint_since base) nodes st).blocks i) q) ≡ false
-  no_other i q = go (get_elem? (block (found (checkpoint_since base) nodes st).blocks i) q) refl
+  no_other : (i q : ℕ) → test (owner base nodes after (used s)) (slice_get (block (found (checkpoint_since base) nodes st).blocks i) q) ≡ false
+  no_other i q = go (slice_get (block (found (checkpoint_since base) nodes st).blocks i) q) refl
     where
-      go : (c : Option Page) → get_elem? (block (found (checkpoint_since base) nodes st).blocks i) q ≡ c → test (owner base nodes after (used s)) c ≡ false
-      go none e = refl
-      go (some p) e =
+      go : (c : Option Page) → slice_get (block (found (checkpoint_since base) nodes st).blocks i) q ≡ c → test (owner base nodes after (used s)) c ≡ false
+      go None e = refl
+      go (Some p) e =
           let l : sequence p ≤ st.last = page_within st.last (found (checkpoint_since base) nodes st).blocks (found_ready v).within i q p e in
           owner-checkpoint_page base nodes after (used s) p (omega (arith, used-is)) ∙
           ap (λ (b : Bool). is_checkpoint p && b) (ne_eqb (sequence p) (suc (base + (used s - nodes))) (λ z. omega (arith, used-is))) ∙
@@ -192,17 +191,17 @@ module _ (base : ℕ) {k : ℕ} {w : World} {st : Store} (few : w.state.blocks �
           rw (row_old n e) (next_free few v h n (omega arith) ∙ sym (not_theirs n (omega (arith, used-is))))
 
       old : (n i q : ℕ) → n < used state_after → i < s.blocks → q < 32 → (32 * i + q ≡ spot s → ⊥) → (n ≡ used s) ⊎ (n ≡ used s → ⊥) →
-          names (32 * i + q) (row_at rows_after n) ≡ test (owner base nodes after n) (get_elem? (block (found (checkpoint_since base) nodes st).blocks i) q)
+          names (32 * i + q) (row_at rows_after n) ≡ test (owner base nodes after n) (slice_get (block (found (checkpoint_since base) nodes st).blocks i) q)
       old n i q l li lq d (inl e) =
           rw (e, row_new) (names-checkpoint_page (suc st.last) (spot s) (32 * i + q) ∙ ne_eqb (spot s) (32 * i + q) (λ z. d (sym z)) ∙ sym (no_other i q))
       old n i q l li lq d (inr e) =
           rw (row_old n e)
           ((stands_found few v h).names.each n i q (omega arith) li lq ∙
-          same_owner (get_elem? (block (found (checkpoint_since base) nodes st).blocks i) q))
+          same_owner (slice_get (block (found (checkpoint_since base) nodes st).blocks i) q))
         where
           same_owner : (c : Option Page) → test (owner base nodes st n) c ≡ test (owner base nodes after n) c
-          same_owner none = refl
-          same_owner (some p) = owner-after n p
+          same_owner None = refl
+          same_owner (Some p) = owner-after n p
 
   -- the row of a node says of it what it said
   pub row_kept : (n : ℕ) → n < nodes → (g : ℕ → ℕ) × (row_at rows_after n ≡ mapped g (row_at w.table.rows n))

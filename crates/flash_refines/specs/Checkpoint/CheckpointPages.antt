@@ -1,9 +1,8 @@
 -- The checkpoint pages of the code are the model's, one by one: checkpoint page k has the scores of the nodes from 0, 50, 104, .. on, the first one the tariff,
 -- the last one the node count. Assumes nothing.
-use Rattle.std.specs.Prelude.{◌≡◌, refl, Bool, ◌⊎◌, eqb, take, drop}
+use Rattle.std.specs.Prelude.{◌≡◌, refl, Bool, ◌⊎◌, eqb, take, drop, None, Some}
 use Rattle.std.proofs.Common.{sym, ◌∙◌, inl, inr, add-one, arith, ne_eqb, le-leb}
 use Rattle.std.proofs.Math.Path.{ap, ap₂}
-use Rattle.std.proofs.Math.Option.{none, some}
 use mathlib.Core.List.{List, [], ◌∷◌}
 use Prim.Native.Nat.{ℕ, zero, suc, ◌+◌, ◌-◌, ◌*◌, ◌≤◌, ◌<◌, min}
 use Rattle.std.proofs.lemmas.Bool.{lt-leb}
@@ -15,7 +14,7 @@ use Rattle.page.specs.Page.{Score}
 use Rattle.store.specs.Checkpoint.{CheckpointPage, checkpoint_page, scores_from, parts, count_if_last, later_checkpoint_pages, checkpoint_pages}
 use Rattle.store_laws.specs.CheckpointPageLaws.{length-scores_from}
 use Rattle.flash_rows.specs.declared.Row.{Row}
-use Rattle.page_checkpoint.specs.Checkpoint.{only_if}
+use Rattle.std.specs.Bool.{then_some}
 use Rattle.flash_checkpoint.specs.Scores.{scores_of}
 use Rattle.flash_checkpoint.specs.CheckpointPages.{scores_before, scores_of_page, page_count}
 use Rattle.flash_refines.specs.Store.Mirror.{row_at}
@@ -46,7 +45,7 @@ module _ (t : Tariff) (score : ℕ → ℕ) (nodes : ℕ) where
   -- What checkpoint page k holds; and the checkpoint pages from k on, so many.
   unfoldable pub checkpoint_page_of : ℕ → CheckpointPage
   checkpoint_page_of k =
-      checkpoint_page (only_if (eqb k 0) t) (scores_from (scores_before k) (scores_of_page k nodes) score) (only_if (eqb (k + 1) (page_count nodes)) nodes)
+      checkpoint_page (then_some (eqb k 0) t) (scores_from (scores_before k) (scores_of_page k nodes) score) (then_some (eqb (k + 1) (page_count nodes)) nodes)
 
   abbrev pub checkpoint_pages_from : ℕ → ℕ → List CheckpointPage
   checkpoint_pages_from zero k = []
@@ -78,11 +77,11 @@ module _ (score : ℕ → ℕ) where
       drop-scores width (suc i) m ∙ ap₂ (λ (j n : ℕ). scores_from j n score) e f
 
   -- the count stands where no score is left
-  count-last : (nodes most width i m : ℕ) → m ≤ most → count_if_last nodes (parts most width (scores_from i m score)) ≡ only_if (eqb m 0) nodes
+  count-last : (nodes most width i m : ℕ) → m ≤ most → count_if_last nodes (parts most width (scores_from i m score)) ≡ then_some (eqb m 0) nodes
   count-last nodes zero width i zero l = refl
   count-last nodes zero width i (suc m) l = absurd (omega arith)
   count-last nodes (suc most) width i zero l = refl
-  count-last nodes (suc most) width i (suc m) l = ap (λ (b : Bool). only_if b nodes) (sym (ne_eqb (suc m) 0 (λ e. omega arith)))
+  count-last nodes (suc most) width i (suc m) l = ap (λ (b : Bool). then_some b nodes) (sym (ne_eqb (suc m) 0 (λ e. omega arith)))
 
 module _ (t : Tariff) (score : ℕ → ℕ) (nodes : ℕ) where
   abbrev scores : List Score
@@ -94,27 +93,27 @@ module _ (t : Tariff) (score : ℕ → ℕ) (nodes : ℕ) where
       let e : scores_before k + other_scores ≡ scores_before (k + 1) = omega arith in
       drop-scores score other_scores (scores_before k) m ∙ ap (λ (i : ℕ). scores_from i (m - other_scores) score) e
 
-  checkpoint_page_first : checkpoint_page (some t) (take first_scores scores) (count_if_last nodes (parts nodes other_scores (drop first_scores scores))) ≡
+  checkpoint_page_first : checkpoint_page (Some t) (take first_scores scores) (count_if_last nodes (parts nodes other_scores (drop first_scores scores))) ≡
       checkpoint_page_of t score nodes 0
   unfolding checkpoint_page_of
   checkpoint_page_first =
       let size : min first_scores nodes ≡ scores_of_page 0 nodes = omega (arith, size_is 0 nodes) in
-      ap₂ (checkpoint_page (some t)) (take-scores score first_scores 0 nodes ∙ ap (λ (n : ℕ). scores_from 0 n score) size)
+      ap₂ (checkpoint_page (Some t)) (take-scores score first_scores 0 nodes ∙ ap (λ (n : ℕ). scores_from 0 n score) size)
       (ap (λ (l : List Score). count_if_last nodes (parts nodes other_scores l)) (drop-scores score first_scores 0 nodes) ∙
       count-last score nodes nodes other_scores (0 + first_scores) (nodes - first_scores) (omega arith) ∙
-      ap (λ (b : Bool). only_if b nodes) (eqb_same (nodes - first_scores) 0 (0 + 1) (page_count nodes) (λ e. omega arith) (λ e. omega arith)))
+      ap (λ (b : Bool). then_some b nodes) (eqb_same (nodes - first_scores) 0 (0 + 1) (page_count nodes) (λ e. omega arith) (λ e. omega arith)))
 
   checkpoint_page_later : (most k m : ℕ) → 1 ≤ k → m - other_scores ≤ most → 1 ≤ m → m ≡ nodes - scores_before k →
-      checkpoint_page none (take other_scores (scores_from (scores_before k) m score))
+      checkpoint_page None (take other_scores (scores_from (scores_before k) m score))
       (count_if_last nodes (parts most other_scores (scores_from (scores_before (k + 1)) (m - other_scores) score))) ≡
       checkpoint_page_of t score nodes k
   unfolding checkpoint_page_of
   checkpoint_page_later most k m l f p e =
       let size : min other_scores m ≡ scores_of_page k nodes = omega (arith, size_is k nodes) in
       rw (ne_eqb k 0 (λ z. omega arith))
-      (ap₂ (checkpoint_page none) (take-scores score other_scores (scores_before k) m ∙ ap (λ (n : ℕ). scores_from (scores_before k) n score) size)
+      (ap₂ (checkpoint_page None) (take-scores score other_scores (scores_before k) m ∙ ap (λ (n : ℕ). scores_from (scores_before k) n score) size)
       (count-last score nodes most other_scores (scores_before (k + 1)) (m - other_scores) f ∙
-      ap (λ (b : Bool). only_if b nodes) (eqb_same (m - other_scores) 0 (k + 1) (page_count nodes) (λ z. omega arith) (λ z. omega arith))))
+      ap (λ (b : Bool). then_some b nodes) (eqb_same (m - other_scores) 0 (k + 1) (page_count nodes) (λ z. omega arith) (λ z. omega arith))))
 
   as_many : (a b k : ℕ) → a ≡ b → checkpoint_pages_from t score nodes a k ≡ checkpoint_pages_from t score nodes b k
   as_many a b k e = ap (λ (n : ℕ). checkpoint_pages_from t score nodes n k) e

@@ -1,13 +1,12 @@
 -- THE CHECKPOINT of the code is the model's: checkpoint page by checkpoint page the world stands for the store, and at the end each page is the image of the
 -- store's page there. Assumes nothing.
-use Rattle.std.specs.Prelude.{◌≡◌, eqb, length, set}
+use Rattle.std.specs.Prelude.{◌≡◌, eqb, length, set, Option, None, Some, slice_get}
 use Rattle.std.proofs.Math.Path.{refl, ap, subst}
 use Rattle.std.proofs.Common.{sym, ◌∙◌, add-one, eq-eqb, ne_eqb}
-use Rattle.std.proofs.Math.Option.{Option, none, some}
 use mathlib.Core.List.{List, [], ◌∷◌}
 use Prim.Native.Nat.{ℕ, zero, suc, ◌+◌, ◌≤◌, ◌<◌}
 use native.Mathlib.Omega.{arith}
-use Rattle.std.proofs.Math.ListN.{get_elem?, length-set}
+use Rattle.std.proofs.Math.ListN.{length-set}
 use Rattle.laws.specs.Loops.{steps}
 use Rattle.laws.specs.Counts.{bit_le_one, tally}
 use Rattle.laws.specs.Options.{test}
@@ -34,7 +33,7 @@ use Rattle.flash_rows.specs.Worktable.{with_row, rows_for}
 use Rattle.flash_allocate.specs.declared.state.State.{State}
 use Rattle.flash_allocate.specs.World.{World, world, used, spot}
 use Rattle.flash_allocate.specs.Allocate.{allocate}
-use Rattle.page_checkpoint.specs.Checkpoint.{only_if}
+use Rattle.std.specs.Bool.{then_some}
 use Rattle.flash_checkpoint.specs.CheckpointPages.{scores_before, scores_of_page, page_count, checkpoint_image, checkpoint_row}
 use Rattle.flash_checkpoint.specs.CheckpointPages.{write_checkpoint_page, checkpoint_page, checkpoint_pages, drain, checkpoint}
 use Rattle.flash_refines.specs.Store.Mirror.{row_at, PagesAre, Owners, Mirrors}
@@ -99,7 +98,7 @@ module _ {score : ℕ → ℕ} (base k : ℕ) {w : World} {st : Store} (h : Clos
   checkpoint_page_image : checkpoint_image (suc st.last) t k nodes rows ≡ image (next st (checkpoint_page_content x))
   unfolding checkpoint_image checkpoint_page_of
   checkpoint_page_image =
-      ap (λ (ss : List Score). image (page (suc st.last) (p.checkpoint (only_if (eqb k 0) t) ss (only_if (eqb (k + 1) (page_count nodes)) nodes))))
+      ap (λ (ss : List Score). image (page (suc st.last) (p.checkpoint (then_some (eqb k 0) t) ss (then_some (eqb (k + 1) (page_count nodes)) nodes))))
       (scores_of-is rows score nodes found-scores (scores_before k) (scores_of_page k nodes) (checkpoint_page_inside k nodes needed))
 
   checkpoint_page_is : checkpoint_page t k w ≡ with
@@ -190,7 +189,7 @@ module _ {B : ℕ} {score : ℕ → ℕ} {w : World} {run : Run} (b : Writable B
         names =
             record {
               long = m.names.long;
-              each = λ n i q ln li lq. m.names.each n i q ln li lq ∙ carried n (omega (arith, f.no_checkpoint_page)) (get_elem? (block st.blocks i) q);
+              each = λ n i q ln li lq. m.names.each n i q ln li lq ∙ carried n (omega (arith, f.no_checkpoint_page)) (slice_get (block st.blocks i) q);
             };
         owners =
             subst (λ (k : ℕ). Owners (owner st.last w.state.nodes st) (checkpoint_since st.last) w.state.nodes k st) (sym f.no_checkpoint_page)
@@ -202,8 +201,8 @@ module _ {B : ℕ} {score : ℕ → ℕ} {w : World} {run : Run} (b : Writable B
       }
     where
       carried : (n : ℕ) → n < w.state.nodes → (c : Option Page) → test (carries (view st) n) c ≡ test (owner st.last w.state.nodes st n) c
-      carried n l none = refl
-      carried n l (some p) = sym (owner_node st.last w.state.nodes st n p l)
+      carried n l None = refl
+      carried n l (Some p) = sym (owner_node st.last w.state.nodes st n p l)
 
   closes-begin : Closes score st.last 0 w st
   closes-begin =

@@ -3,9 +3,8 @@
 use Rattle.std.proofs.Math.Path.{◌≡◌, refl, sym, ap}
 use Rattle.std.proofs.Common.{subst, ◌∙◌, arith}
 use Rattle.std.proofs.Math.Bool.{true, false, not}
-use Rattle.std.proofs.Math.Option.{Option, none, some}
+use Rattle.std.specs.Prelude.{Option, None, Some, ℕ, ◌≤◌, ◌<◌}
 use mathlib.Core.List.{List, [], ◌∷◌, ◌++◌, map}
-use Rattle.std.specs.Prelude.{ℕ, ◌≤◌, ◌<◌}
 use Rattle.std.proofs.Math.ListN.{length}
 use Rattle.laws.specs.Tests.{test_clash}
 use Rattle.laws.specs.BigEndian.{number}
@@ -51,7 +50,7 @@ pieces_of st n s = pieces_in n (greatest (view st) n) (items_at (find s st.block
 -- The page of a sequence number at which the node has pieces: where it lies, and that the row names it there.
 record Carrier (w : World) (st : Store) (n s : ℕ) : Type 0 where
   own : Page
-  found : find s st.blocks ≡ some own
+  found : find s st.blocks ≡ Some own
   lies : Lies st.blocks s own
   named : names (place_of lies) (row_at w.table.rows n) ≡ true
 
@@ -65,8 +64,8 @@ module _ {B : ℕ} {score : ℕ → ℕ} {w : World} {run : Run} (known : Writab
     where
       go : (c : Option Page) → find s run.now.blocks ≡ c → empty (pieces_in n (greatest (view run.now) n) (items_at c)) ≡ false →
           Carrier w run.now n s
-      go none e q = absurd (test_clash true refl q)
-      go (some p) e q =
+      go None e q = absurd (test_clash true refl q)
+      go (Some p) e q =
           let at = find_lies s run.now.blocks p e in
           let m = h.mirrors in
           record {
@@ -110,7 +109,7 @@ module _ {B : ℕ} {score : ℕ → ℕ} {w : World} {run : Run} (known : Writab
         let c = carrier s has in
         let fits = page_fits c.lies known.fits.pages in
         let here = image-here h.mirrors.pages c.lies in
-        let are : pieces_of run.now n s ≡ pieces_in n v (items_at (some c.own)) = ap (λ (o : Option Page). pieces_in n v (items_at o)) c.found in
+        let are : pieces_of run.now n s ≡ pieces_in n v (items_at (Some c.own)) = ap (λ (o : Option Page). pieces_in n v (items_at o)) c.found in
         record {
           place = place_of c.lies;
           named = c.named;

@@ -1,9 +1,8 @@
 -- Which page has a node's pieces at a sequence number: in log mode a log page, since no page has the node's version for its number; in disk
 -- mode the node page alone, since no entry has that version. Assumes nothing.
-use Rattle.std.specs.Prelude.{◌≡◌, Bool, true, false, ◌&&◌, ◌⊎◌, ℕ, zero, suc, ◌≤◌, ◌<◌, eqb}
+use Rattle.std.specs.Prelude.{◌≡◌, Bool, true, false, ◌&&◌, ◌⊎◌, ℕ, zero, suc, ◌≤◌, ◌<◌, eqb, Option, None, Some}
 use Rattle.std.proofs.Math.Path.{refl}
 use Rattle.std.proofs.Common.{sym, ap, ◌∙◌, inl, inr, arith, ne_eqb, eq-eqb}
-use Rattle.std.proofs.Math.Option.{Option, none, some}
 use mathlib.Core.List.{List, [], ◌∷◌, map}
 use Rattle.laws.specs.Tests.{test_clash}
 use Rattle.laws.specs.Order.{le_or}
@@ -96,8 +95,8 @@ module _ {st : Store} {n : ℕ} (rules : VersionRules st) (o : OnPage st n) wher
   disk_other s apart = go (find s st.blocks) refl
     where
       go : (c : Option Page) → find s st.blocks ≡ c → pieces_in n (greatest (view st) n) (items_at c) ≡ []
-      go none e = refl
-      go (some p) e =
+      go None e = refl
+      go (Some p) e =
           let lies = find_lies s st.blocks p e in
           pieces_unsaid n (greatest (view st) n) p (none_lies (says (greatest (view st) n)) (omega (arith, unsaid)) lies)
           (λ z. apart (sym lies.at.sequenced ∙ z))

@@ -1,9 +1,8 @@
 -- The place that the code finds for the next page is the model's, and what it leaves stands for what the model leaves. Assumes nothing.
-use Rattle.std.specs.Prelude.{◌≡◌, Bool, true, false, not, ◌||◌, ◌⊎◌, List, leb, ltb, length, get_or}
+use Rattle.std.specs.Prelude.{◌≡◌, Bool, true, false, not, ◌||◌, ◌⊎◌, List, leb, ltb, length, get_or, slice_get}
 use Rattle.std.proofs.Math.Path.{refl, subst}
 use Rattle.std.proofs.Common.{sym, ap, ◌∙◌, inl, inr, arith, lt-ltb, le-ltb, leb-true, leb-false}
 use Prim.Native.Nat.{ℕ, zero, suc, ◌+◌, ◌*◌, ◌≤◌, ◌<◌}
-use Rattle.std.proofs.Math.ListN.{get_elem?}
 use Rattle.laws.specs.Order.{le_or}
 use Rattle.laws.specs.Counts.{count, tally, empty}
 use Rattle.laws.specs.Options.{test}
@@ -72,7 +71,7 @@ module _ (image : Page → List ℕ) (written : Images image) (own : ℕ → Pag
   blank-is i l = blank-block r.pages written i (omega (arith, r.pages.size))
 
   mark_is : (i q : ℕ) → i < s.blocks → q < 32 → marked (get_or (live_map (s.nodes + s.checkpoint) t.rows) (32 * i + q) 0) ≡ test keep
-      (get_elem? (block bs i) q)
+      (slice_get (block bs i) q)
   mark_is i q li lq = mark_live small r.names o i q li lq
 
   live-is : (i : ℕ) → i < length bs → live_in (live_map (s.nodes + s.checkpoint) t.rows) i ≡ count keep (block bs i)

@@ -1,9 +1,8 @@
 -- Blank blocks are the model's: as many, and the next one is the same. Assumes nothing.
-use Rattle.std.specs.Prelude.{◌≡◌, Bool, List, [], ◌∷◌, length}
+use Rattle.std.specs.Prelude.{◌≡◌, Bool, List, [], ◌∷◌, length, Option, None, Some}
 use Rattle.std.proofs.Math.Path.{refl, sym, ap, ap₂}
 use Rattle.std.proofs.Common.{◌∙◌, subst, add-zero, not-suc-le-zero, le_of_suc-le-suc, arith}
 use Rattle.std.proofs.Math.Bool.{true, false}
-use Rattle.std.proofs.Math.Option.{Option, none, some}
 use Prim.Native.Nat.{ℕ, zero, suc, ◌+◌, ◌-◌, ◌≤◌, ◌<◌, suc-le-suc}
 use borrow.Author.Tests.{lt-ltb, le-ltb}
 use Rattle.laws.specs.Tests.{choose}
@@ -23,10 +22,10 @@ blanks-sum g (c ∷ cs) b h =
 
 -- The number of a block found, or of all blocks.
 abbrev or_all : ℕ → Option ℕ → ℕ
-or_all all none = all
-or_all all (some i) = i
+or_all all None = all
+or_all all (Some i) = i
 
-blank_from_past : (bs : Blocks) (x : ℕ) → length bs ≤ x → Model.blank_from x bs ≡ none
+blank_from_past : (bs : Blocks) (x : ℕ) → length bs ≤ x → Model.blank_from x bs ≡ None
 blank_from_past [] zero l = refl
 blank_from_past [] (suc x) l = refl
 blank_from_past (b ∷ bs) zero l = absurd (omega arith)
@@ -34,7 +33,7 @@ blank_from_past (b ∷ bs) (suc x) l = ap later (blank_from_past bs x (omega ari
 
 -- One block looked at.
 abbrev or_here : Bool → ℕ → Option ℕ → Option ℕ
-or_here true x found = some x
+or_here true x found = Some x
 or_here false x found = found
 
 blank_from_look : (bs : Blocks) (x : ℕ) → x < length bs → Model.blank_from x bs ≡ or_here (empty (block bs x)) x (Model.blank_from (suc x) bs)
@@ -52,8 +51,8 @@ blank_from_look (b ∷ bs) (suc x) l = ap later (blank_from_look bs x (le_of_suc
 
 -- What is found is one of the blocks.
 abbrev Below : ℕ → Option ℕ → Type 0
-Below n none = 0 ≤ n
-Below n (some i) = i < n
+Below n None = 0 ≤ n
+Below n (Some i) = i < n
 
 found_all : (bs : Blocks) (x : ℕ) → Below (length bs) (Model.blank_from x bs)
 found_all [] zero = omega arith
@@ -62,15 +61,15 @@ found_all (b ∷ bs) zero = here (empty b) (Model.blank_from 0 bs) (found_all bs
   where
     here : (t : Bool) (o : Option ℕ) → Below (length bs) o → Below (suc (length bs)) (here_or t o)
     here true o h = omega arith
-    here false none h = omega arith
-    here false (some i) h = suc-le-suc h
+    here false None h = omega arith
+    here false (Some i) h = suc-le-suc h
 found_all (b ∷ bs) (suc x) = next (Model.blank_from x bs) (found_all bs x)
   where
     next : (o : Option ℕ) → Below (length bs) o → Below (suc (length bs)) (later o)
-    next none h = omega arith
-    next (some i) h = suc-le-suc h
+    next None h = omega arith
+    next (Some i) h = suc-le-suc h
 
-found_below : (bs : Blocks) (x i : ℕ) → Model.blank_from x bs ≡ some i → i < length bs
+found_below : (bs : Blocks) (x i : ℕ) → Model.blank_from x bs ≡ Some i → i < length bs
 found_below bs x i e = subst (Below (length bs)) e (found_all bs x)
 
 module _ (ps : List (List ℕ)) (bs : Blocks) (blank : (i : ℕ) → i < length bs → blank_block ps i ≡ empty (block bs i)) where
@@ -101,6 +100,6 @@ module _ (ps : List (List ℕ)) (bs : Blocks) (blank : (i : ℕ) → i < length 
     where
       go : (a : Option ℕ) → Model.blank_from (suc current) bs ≡ a → (b : Option ℕ) → Model.blank_from 0 bs ≡ b →
           first_below (length bs) (or_all (length bs) a) (or_all (length bs) b) ≡ first_of a b
-      go (some i) e b f = rw (lt-ltb i (length bs) (found_below bs (suc current) i e)) refl
-      go none e (some i) f = rw (le-ltb (length bs) (length bs) (omega arith), lt-ltb i (length bs) (found_below bs 0 i f)) refl
-      go none e none f = rw (le-ltb (length bs) (length bs) (omega arith)) refl
+      go (Some i) e b f = rw (lt-ltb i (length bs) (found_below bs (suc current) i e)) refl
+      go None e (Some i) f = rw (le-ltb (length bs) (length bs) (omega arith), lt-ltb i (length bs) (found_below bs 0 i f)) refl
+      go None e None f = rw (le-ltb (length bs) (length bs) (omega arith)) refl

@@ -1,11 +1,10 @@
 -- The log buffer that holds entries: each read back at its place, all of them the content of a log page, and one or several more
 -- appended. Assumes nothing.
-use Rattle.std.specs.Prelude.{◌≡◌, Bool, true, false, ℕ, zero, suc, ◌+◌, ◌*◌, ◌≤◌, ◌<◌, ltb, length}
+use Rattle.std.specs.Prelude.{◌≡◌, Bool, true, false, ℕ, zero, suc, ◌+◌, ◌*◌, ◌≤◌, ◌<◌, ltb, length, Some, slice_get}
 use Rattle.std.proofs.Math.Path.{refl, sym, ap, subst}
 use Rattle.std.proofs.Common.{ap₂, ◌∙◌, zero-add, add-zero, arith, lt-ltb}
 use mathlib.Core.List.{List, [], ◌∷◌, ◌++◌, map, append-nil, append_assoc, map-append}
-use Rattle.std.proofs.Math.Option.{some}
-use Rattle.std.proofs.Math.ListN.{get_elem?, length-append}
+use Rattle.std.proofs.Math.ListN.{length-append}
 use Rattle.laws.specs.Tests.{choose}
 use Rattle.laws.specs.Every.{Every}
 use Rattle.laws.specs.Lay.{lay, part, part-lay, part-lay-before, length-lay}
@@ -28,7 +27,7 @@ use Rattle.flash_refines.specs.Store.Follows.{BufferIs}
 use Rattle.flash_allocate.specs.State.{with_entries}
 
 -- Bytes that are those of entries one behind another have those of the k-th at its place.
-bytes-at : (es : List Entry) (s : List ℕ) (at : ℕ) → chunks 15 (length es) s at ≡ map entry_bytes es → (k : ℕ) (e : Entry) → get_elem? es k ≡ some e →
+bytes-at : (es : List Entry) (s : List ℕ) (at : ℕ) → chunks 15 (length es) s at ≡ map entry_bytes es → (k : ℕ) (e : Entry) → slice_get es k ≡ Some e →
     part s (at + 15 * k) 15 ≡ entry_bytes e
 unfolding chunks
 bytes-at [] s at h k e q = cc
@@ -61,7 +60,7 @@ module _ {buffer : List ℕ} {entries : ℕ} {es : List Entry} (b : BufferIs buf
       }
 
   -- THE ENTRIES READ, one by one
-  module _ (k : ℕ) (e : Entry) (q : get_elem? es k ≡ some e) where
+  module _ (k : ℕ) (e : Entry) (q : slice_get es k ≡ Some e) where
     pub entry_at : part buffer (15 * k) 15 ≡ entry_bytes e
     entry_at = ap (λ (i : ℕ). part buffer i 15) (sym (zero-add (15 * k))) ∙ bytes-at es buffer 0 b.bytes k e q
 

@@ -2,12 +2,11 @@
 -- page at place q goes behind as many as are live before it. Assumes nothing.
 use Rattle.std.proofs.Math.Path.{◌≡◌, refl, ap}
 use Rattle.std.proofs.Common.{sym, ◌∙◌, subst, inl, inr, arith, length-take, get_or-set_same, get_or-set_other, set-set, take_all}
-use Rattle.std.specs.Prelude.{Bool, ◌⊎◌, ℕ, zero, suc, ◌+◌, ◌*◌, ◌≤◌, ◌<◌, eqb, length, get_or, set, take, replicate}
+use Rattle.std.specs.Prelude.{Bool, ◌⊎◌, ℕ, zero, suc, ◌+◌, ◌*◌, ◌≤◌, ◌<◌, eqb, length, get_or, set, take, replicate, Option, None, Some, slice_get}
 use Rattle.std.proofs.Math.Bool.{true, false}
-use Rattle.std.proofs.Math.Option.{Option, none, some}
 use mathlib.Core.List.{List, [], ◌∷◌, ◌++◌, append-nil}
 use Rattle.std.proofs.Math.Numerals.{lt_of_le_of_ne}
-use Rattle.std.proofs.Math.ListN.{get_elem?, length-set, length-replicate}
+use Rattle.std.proofs.Math.ListN.{length-set, length-replicate}
 use Rattle.std.proofs.Math.Seq.{set-get_or}
 use Rattle.std.proofs.lemmas.Bool.{not-true, not-false}
 use Rattle.laws.specs.Tests.{choose, test_clash}
@@ -31,31 +30,31 @@ module _ (f : Page → Bool) where
   rank q b = count f (take q b)
 
   -- a page that passes stands in the filtered list at its rank
-  pub filter-rank : (b : List Page) (q : ℕ) (p : Page) → get_elem? b q ≡ some p → f p ≡ true → get_elem? (filter f b) (rank q b) ≡ some p
+  pub filter-rank : (b : List Page) (q : ℕ) (p : Page) → slice_get b q ≡ Some p → f p ≡ true → slice_get (filter f b) (rank q b) ≡ Some p
   filter-rank [] q p e t = absurd (let z : ◌≡◌ {A = ℕ} 0 1 = cc in omega arith)
   filter-rank (x ∷ b) zero p e t = let d : x ≡ p = cc in rw (d, t) refl
   filter-rank (x ∷ b) (suc q) p e t = go (f x) (filter-rank b q p e t)
     where
-      go : (s : Bool) → get_elem? (filter f b) (rank q b) ≡ some p → get_elem? (cons_if s x (filter f b)) (bit s + rank q b) ≡ some p
-      go true h = let z : 1 + rank q b ≡ suc (rank q b) = omega arith in ap (get_elem? (x ∷ filter f b)) z ∙ h
-      go false h = let z : 0 + rank q b ≡ rank q b = omega arith in ap (get_elem? (filter f b)) z ∙ h
+      go : (s : Bool) → slice_get (filter f b) (rank q b) ≡ Some p → slice_get (cons_if s x (filter f b)) (bit s + rank q b) ≡ Some p
+      go true h = let z : 1 + rank q b ≡ suc (rank q b) = omega arith in ap (slice_get (x ∷ filter f b)) z ∙ h
+      go false h = let z : 0 + rank q b ≡ rank q b = omega arith in ap (slice_get (filter f b)) z ∙ h
 
   -- and each of the filtered list comes from such a place
   pub record From (b : List Page) (r : ℕ) (p : Page) : Type 0 where
     pub place : ℕ
-    pub here : get_elem? b place ≡ some p
+    pub here : slice_get b place ≡ Some p
     pub passes : f p ≡ true
     pub ranked : rank place b ≡ r
 
-  pub rank-filter : (b : List Page) (r : ℕ) (p : Page) → get_elem? (filter f b) r ≡ some p → From b r p
+  pub rank-filter : (b : List Page) (r : ℕ) (p : Page) → slice_get (filter f b) r ≡ Some p → From b r p
   rank-filter [] r p e = absurd (let z : ◌≡◌ {A = ℕ} 0 1 = cc in omega arith)
   rank-filter (x ∷ b) r p e = go (f x) refl r e (λ s h. rank-filter b s p h)
     where
       behind : (r s : ℕ) → From b s p → bit (f x) + s ≡ r → From (x ∷ b) r p
       behind r s h d = record { place = suc h.place; here = h.here; passes = h.passes; ranked = omega (arith, h.ranked) }
 
-      go : (t : Bool) → f x ≡ t → (r : ℕ) → get_elem? (cons_if t x (filter f b)) r ≡ some p →
-          ((s : ℕ) → get_elem? (filter f b) s ≡ some p → From b s p) → From (x ∷ b) r p
+      go : (t : Bool) → f x ≡ t → (r : ℕ) → slice_get (cons_if t x (filter f b)) r ≡ Some p →
+          ((s : ℕ) → slice_get (filter f b) s ≡ Some p → From b s p) → From (x ∷ b) r p
       go true d zero h rec = record { place = 0; here = h; passes = (let q : x ≡ p = cc in rw (← q) d); ranked = refl }
       go true d (suc r) h rec = behind (suc r) r (rec r h) (omega (arith, ap bit d))
       go false d r h rec = behind r r (rec r h) (omega (arith, ap bit d))
@@ -67,13 +66,13 @@ is-marked : (x : ℕ) → marked x ≡ true → eqb x 0 ≡ false
 is-marked x e = not-true (eqb x 0) e
 
 module _ {B : ℕ} {image : Page → List ℕ} (live : Page → Bool) {ps : List (List ℕ)} {bs : Blocks} {i j : ℕ} (v : Moves bs i j) (r : PagesAre B image ps bs)
-    (m : List ℕ) (mark : (q : ℕ) → q < 32 → marked (get_or m (32 * i + q) 0) ≡ test live (get_elem? (block bs i) q)) where
+    (m : List ℕ) (mark : (q : ℕ) → q < 32 → marked (get_or m (32 * i + q) 0) ≡ test live (slice_get (block bs i) q)) where
   -- after k places of block i
   pub record Copied (k : ℕ) (w : Copying) : Type 0 where
     pub pages : PagesAre B image w.pages (set bs j (filter live (take k (block bs i))))
     pub fill : w.fill ≡ rank live k (block bs i)
     pub long : length w.places ≡ 32
-    pub places : (q : ℕ) → q < k → (p : Page) → get_elem? (block bs i) q ≡ some p → live p ≡ true → get_or w.places q 0 ≡ 32 * j + rank live q (block bs i)
+    pub places : (q : ℕ) → q < k → (p : Page) → slice_get (block bs i) q ≡ Some p → live p ≡ true → get_or w.places q 0 ≡ 32 * j + rank live q (block bs i)
 
   inside : i < B
   inside = omega (arith, v.from, r.size)
@@ -88,17 +87,17 @@ module _ {B : ℕ} {image : Page → List ℕ} (live : Page → Bool) {ps : List
   -- nothing to copy at place k
   copied_stays : (k : ℕ) (w : Copying) → filter live (take (k + 1) (block bs i)) ≡ filter live (take k (block bs i)) → rank live (k + 1)
       (block bs i) ≡ rank live k (block bs i) →
-      ((p : Page) → get_elem? (block bs i) k ≡ some p → live p ≡ true → ⊥) → Copied k w → Copied (k + 1) w
+      ((p : Page) → slice_get (block bs i) k ≡ Some p → live p ≡ true → ⊥) → Copied k w → Copied (k + 1) w
   copied_stays k w same count dead h =
       record { pages = rw same h.pages; fill = h.fill ∙ sym count; long = h.long; places = λ q l p e t. go q l p e t (eq_or q k) }
     where
-      go : (q : ℕ) → q < k + 1 → (p : Page) → get_elem? (block bs i) q ≡ some p → live p ≡ true → (q ≡ k) ⊎ (q ≡ k → ⊥) → get_or w.places q 0 ≡ 32 *
+      go : (q : ℕ) → q < k + 1 → (p : Page) → slice_get (block bs i) q ≡ Some p → live p ≡ true → (q ≡ k) ⊎ (q ≡ k → ⊥) → get_or w.places q 0 ≡ 32 *
           j + rank live q (block bs i)
       go q l p e t (inl d) = absurd (dead p (rw d at e) t)
       go q l p e t (inr d) = h.places q (lt_of_le_of_ne (omega arith) d) p e t
 
   -- a live page
-  copied_moves : (k : ℕ) (w : Copying) → k < 32 → (p : Page) → get_elem? (block bs i) k ≡ some p → live p ≡ true → Copied k w → Copied (k + 1)
+  copied_moves : (k : ℕ) (w : Copying) → k < 32 → (p : Page) → slice_get (block bs i) k ≡ Some p → live p ≡ true → Copied k w → Copied (k + 1)
       (copy_page (32 * i) (32 * j) k w)
   unfolding copy_page copied
   copied_moves k w l p e t h =
@@ -120,7 +119,7 @@ module _ {B : ℕ} {image : Page → List ℕ} (live : Page → Bool) {ps : List
       at = omega (arith, h.fill, length-filter live (take k (block bs i)))
 
       content : page_at w.pages (32 * i + k) ≡ image p
-      content = h.pages.each i k inside l ∙ ap (λ (x : List Page). image_at image (get_elem? x k)) (get_or-set_other bs j i cp [] v.apart) ∙
+      content = h.pages.each i k inside l ∙ ap (λ (x : List Page). image_at image (slice_get x k)) (get_or-set_other bs j i cp [] v.apart) ∙
           ap (image_at image) e
 
       added : PagesAre B image (set w.pages (32 * j + length cp) (image p)) (set bs j (cp ++ (p ∷ [])))
@@ -136,7 +135,7 @@ module _ {B : ℕ} {image : Page → List ℕ} (live : Page → Bool) {ps : List
       counted : rank live (k + 1) (block bs i) ≡ rank live k (block bs i) + 1
       counted = ap (count live) (take_get (block bs i) k p e) ∙ count-append live (take k (block bs i)) (p ∷ []) ∙ omega (arith, ap bit t)
 
-      place : (q : ℕ) → q < k + 1 → (p' : Page) → get_elem? (block bs i) q ≡ some p' → live p' ≡ true → (q ≡ k) ⊎ (q ≡ k → ⊥) →
+      place : (q : ℕ) → q < k + 1 → (p' : Page) → slice_get (block bs i) q ≡ Some p' → live p' ≡ true → (q ≡ k) ⊎ (q ≡ k → ⊥) →
           get_or (set w.places k (32 * j + w.fill)) q 0 ≡ 32 * j + rank live q (block bs i)
       place q g p' e' t' (inl d) =
           rw d (get_or-set_same w.places k (32 * j + w.fill) 0 (omega (arith, h.long)) ∙ omega (arith, h.fill))
@@ -144,14 +143,14 @@ module _ {B : ℕ} {image : Page → List ℕ} (live : Page → Bool) {ps : List
 
   copied_more : (k : ℕ) (w : Copying) → k < 32 → Copied k w → Copied (k + 1) (copy_live m (32 * i) (32 * j) k w)
   unfolding copy_live
-  copied_more k w l h = go (get_elem? (block bs i) k) refl
+  copied_more k w l h = go (slice_get (block bs i) k) refl
     where
-      go : (c : Option Page) → get_elem? (block bs i) k ≡ c → Copied (k + 1) (choose (eqb (get_or m (32 * i + k) 0) 0) w (copy_page (32 * i) (32 * j) k w))
-      go none e =
+      go : (c : Option Page) → slice_get (block bs i) k ≡ c → Copied (k + 1) (choose (eqb (get_or m (32 * i + k) 0) 0) w (copy_page (32 * i) (32 * j) k w))
+      go None e =
           rw (unmarked (get_or m (32 * i + k) 0) (mark k l ∙ ap (test live) e))
           (copied_stays k w (ap (filter live) (take-get-none (block bs i) k e)) (ap (count live) (take-get-none (block bs i) k e))
           (λ p d t. let z : ◌≡◌ {A = ℕ} 0 1 = cc in omega arith) h)
-      go (some p) e = by (live p) refl
+      go (Some p) e = by (live p) refl
         where
           by : (t : Bool) → live p ≡ t → Copied (k + 1) (choose (eqb (get_or m (32 * i + k) 0) 0) w (copy_page (32 * i) (32 * j) k w))
           by true t =
@@ -170,7 +169,7 @@ module _ {B : ℕ} {image : Page → List ℕ} (live : Page → Bool) {ps : List
               counted : rank live (k + 1) (block bs i) ≡ rank live k (block bs i)
               counted = ap (count live) (take_get (block bs i) k p e) ∙ count-append live (take k (block bs i)) (p ∷ []) ∙ omega (arith, ap bit t)
 
-              other : (p' : Page) → get_elem? (block bs i) k ≡ some p' → live p' ≡ true → ⊥
+              other : (p' : Page) → slice_get (block bs i) k ≡ Some p' → live p' ≡ true → ⊥
               other p' d t' = let z : p ≡ p' = cc in test_clash (live p) (ap live z ∙ t') t
 
   -- The whole block.

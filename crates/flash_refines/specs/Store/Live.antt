@@ -1,10 +1,9 @@
 -- The live map is the model's test of live pages, by the rows; and a block has as many live pages as the model counts. Assumes nothing.
-use Rattle.std.specs.Prelude.{◌≡◌, refl, Bool, true, false, ◌&&◌, ◌||◌, ◌⊎◌, List, [], ◌∷◌, ℕ, zero, suc, ◌+◌, ◌*◌, ◌≤◌, ◌<◌, eqb, ltb, get_or, set, replicate}
+use Rattle.std.specs.Prelude.{◌≡◌, refl, Bool, true, false, ◌&&◌, ◌||◌, ◌⊎◌, List, [], ◌∷◌, ℕ, zero, suc, ◌+◌, ◌*◌, ◌≤◌, ◌<◌, eqb, ltb, get_or, set, replicate, Option, None, Some, slice_get}
 use Rattle.std.proofs.Common.{sym, ap₂, ◌∙◌, inl, inr, suc-le-suc, add-zero, add-one, arith, eq-eqb, ne_eqb, ltb-false, length-set, get_or-set_same, get_or-set_other}
 use Rattle.std.proofs.Math.Path.{ap}
 use Rattle.std.proofs.Math.Bool.{or-true}
-use Rattle.std.proofs.Math.Option.{Option, none, some}
-use Rattle.std.proofs.Math.ListN.{length, get_elem?}
+use Rattle.std.proofs.Math.ListN.{length}
 use Rattle.std.proofs.lemmas.List.{length-replicate, get_or-replicate}
 use Rattle.laws.specs.Tests.{choose, test_same}
 use Rattle.laws.specs.Order.{eq_or}
@@ -118,32 +117,32 @@ map-names used rows x l =
 
 -- A page of the blocks is live exactly where one of the rows in use owns it.
 pub record Owned (live : Page → Bool) (own : ℕ → Page → Bool) (rows_used : ℕ) (bs : Blocks) : Type 0 where
-  pub owner : (i q : ℕ) (p : Page) → get_elem? (block bs i) q ≡ some p → live p ≡ true → (n : ℕ) × (n < rows_used) × (own n p ≡ true)
+  pub owner : (i q : ℕ) (p : Page) → slice_get (block bs i) q ≡ Some p → live p ≡ true → (n : ℕ) × (n < rows_used) × (own n p ≡ true)
   pub owned : (n : ℕ) → n < rows_used → (p : Page) → own n p ≡ true → live p ≡ true
 
 module _ {B rows_used : ℕ} {own : ℕ → Page → Bool} {rows : List Row} {bs : Blocks} {live : Page → Bool}
     (small : B ≤ 64) (named : RowsName B rows_used own rows bs) (o : Owned live own rows_used bs) where
   -- the map says of a place what the model says of the page there
-  pub mark_live : (i q : ℕ) → i < B → q < 32 → marked (get_or (live_map rows_used rows) (32 * i + q) 0) ≡ test live (get_elem? (block bs i) q)
+  pub mark_live : (i q : ℕ) → i < B → q < 32 → marked (get_or (live_map rows_used rows) (32 * i + q) 0) ≡ test live (slice_get (block bs i) q)
   mark_live i q li lq = map-names rows_used rows (32 * i + q) (omega arith) ∙ test_same (any_names rows_used (32 * i + q) rows)
-      (test live (get_elem? (block bs i) q)) to (from (get_elem? (block bs i) q) refl)
+      (test live (slice_get (block bs i) q)) to (from (slice_get (block bs i) q) refl)
     where
       raise : (n : ℕ) → n < rows_used → (c : Option Page) → test (own n) c ≡ true → test live c ≡ true
-      raise n l none e = e
-      raise n l (some p) e = o.owned n l p e
+      raise n l None e = e
+      raise n l (Some p) e = o.owned n l p e
 
-      to : any_names rows_used (32 * i + q) rows ≡ true → test live (get_elem? (block bs i) q) ≡ true
-      to e = let f = any_elim rows_used (32 * i + q) rows e in raise f.0 f.1 (get_elem? (block bs i) q) (sym (named.each f.0 i q f.1 li lq) ∙ f.2)
+      to : any_names rows_used (32 * i + q) rows ≡ true → test live (slice_get (block bs i) q) ≡ true
+      to e = let f = any_elim rows_used (32 * i + q) rows e in raise f.0 f.1 (slice_get (block bs i) q) (sym (named.each f.0 i q f.1 li lq) ∙ f.2)
 
-      from : (c : Option Page) → get_elem? (block bs i) q ≡ c → test live c ≡ true → any_names rows_used (32 * i + q) rows ≡ true
-      from none d e = absurd (let z : ◌≡◌ {A = ℕ} 0 1 = cc in omega arith)
-      from (some p) d e =
+      from : (c : Option Page) → slice_get (block bs i) q ≡ c → test live c ≡ true → any_names rows_used (32 * i + q) rows ≡ true
+      from None d e = absurd (let z : ◌≡◌ {A = ℕ} 0 1 = cc in omega arith)
+      from (Some p) d e =
           let f = o.owner i q p d e in
           any_intro rows_used (32 * i + q) rows f.0 f.1 (named.each f.0 i q f.1 li lq ∙ ap (test (own f.0)) d ∙ f.2)
 
 -- A sum over the places of a block.
 count-sum : (f : Page → Bool) (g : ℕ → ℕ) (n : ℕ) (b : List Page) (i : ℕ) → length b ≤ n →
-    ((q : ℕ) → q < n → g (i + q) ≡ bit (test f (get_elem? b q))) → sum_from g n i ≡ count f b
+    ((q : ℕ) → q < n → g (i + q) ≡ bit (test f (slice_get b q))) → sum_from g n i ≡ count f b
 unfolding sum_from
 count-sum f g zero [] i l h = refl
 count-sum f g zero (p ∷ b) i l h = absurd (omega arith)
@@ -153,6 +152,6 @@ count-sum f g (suc n) (p ∷ b) i l h =
     ap₂ ◌+◌ (ap g (sym (add-zero i)) ∙ h 0 (omega arith)) (count-sum f g n b (i + 1) (omega arith) (λ q k. ap g (omega arith) ∙ h (suc q) (suc-le-suc k)))
 
 pub live_in-is : (live : Page → Bool) (m : List ℕ) (b : List Page) (i : ℕ) → length b ≤ 32 →
-    ((q : ℕ) → q < 32 → marked (get_or m (32 * i + q) 0) ≡ test live (get_elem? b q)) → live_in m i ≡ count live b
+    ((q : ℕ) → q < 32 → marked (get_or m (32 * i + q) 0) ≡ test live (slice_get b q)) → live_in m i ≡ count live b
 unfolding live_in live_bit
 live_in-is live m b i l h = count-sum live (live_bit m i) 32 b 0 l (λ q k. ap (λ (x : ℕ). bit (marked (get_or m (32 * i + x) 0))) (omega arith) ∙ ap bit (h q k))

@@ -1,8 +1,6 @@
 -- How pages, rows and state stand for a store: each page is the image of the model's page there, a row names exactly the pages that its node
 -- lies on, and its version, mode and number of pages are the node's.
-use Rattle.std.specs.Prelude.{◌≡◌, Bool, true, false, List, ℕ, ◌+◌, ◌*◌, ◌≤◌, ◌<◌, length, get_or}
-use Rattle.std.proofs.Math.Option.{Option, none, some}
-use Rattle.std.proofs.Math.ListN.{get_elem?}
+use Rattle.std.specs.Prelude.{◌≡◌, Bool, true, false, List, ℕ, ◌+◌, ◌*◌, ◌≤◌, ◌<◌, length, get_or, Option, None, Some, slice_get}
 use Rattle.laws.specs.Counts.{tally}
 use Rattle.laws.specs.Options.{test}
 use Rattle.account.specs.declared.Mode.{Mode}
@@ -25,8 +23,8 @@ row_at rows n = get_or rows n no_row
 
 -- The bytes of a place: those of the page written there, or blank.
 abbrev pub image_at : (Page → List ℕ) → Option Page → List ℕ
-image_at image none = blank_page
-image_at image (some p) = image p
+image_at image None = blank_page
+image_at image (Some p) = image p
 
 -- No written page begins as a blank one.
 pub record Images (image : Page → List ℕ) : Type 0 where
@@ -37,12 +35,12 @@ pub record PagesAre (B : ℕ) (image : Page → List ℕ) (ps : List (List ℕ))
   pub size : length bs ≡ B
   pub long : length ps ≡ 32 * B
   pub most : (i : ℕ) → length (block bs i) ≤ 32
-  pub each : (i q : ℕ) → i < B → q < 32 → page_at ps (32 * i + q) ≡ image_at image (get_elem? (block bs i) q)
+  pub each : (i q : ℕ) → i < B → q < 32 → page_at ps (32 * i + q) ≡ image_at image (slice_get (block bs i) q)
 
 -- Each row in use names the pages that are its own, and no other of the pool.
 pub record RowsName (B rows_used : ℕ) (own : ℕ → Page → Bool) (rows : List Row) (bs : Blocks) : Type 0 where
   pub long : rows_used ≤ length rows
-  pub each : (n i q : ℕ) → n < rows_used → i < B → q < 32 → names (32 * i + q) (row_at rows n) ≡ test (own n) (get_elem? (block bs i) q)
+  pub each : (n i q : ℕ) → n < rows_used → i < B → q < 32 → names (32 * i + q) (row_at rows n) ≡ test (own n) (slice_get (block bs i) q)
 
 -- A row's mode is what the store says: no page has a log node's version for its number, and the page that has a disk node's is its node
 -- page. A node that lies nowhere has version 0, and its row is a log node's.

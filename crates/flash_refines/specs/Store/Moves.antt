@@ -1,11 +1,10 @@
 -- A compaction of pages and rows is the model's: the pages are the images of the compacted blocks, and each row names its own pages where they
 -- are now. Assumes nothing.
-use Rattle.std.specs.Prelude.{◌≡◌, refl, Bool, true, false, ◌⊎◌, ℕ, ◌+◌, ◌-◌, ◌*◌, ◌≤◌, ◌<◌, get_or, set, take, replicate}
+use Rattle.std.specs.Prelude.{◌≡◌, refl, Bool, true, false, ◌⊎◌, ℕ, ◌+◌, ◌-◌, ◌*◌, ◌≤◌, ◌<◌, get_or, set, take, replicate, Option, None, Some, slice_get}
 use Rattle.std.proofs.Math.Path.{sym, ap}
 use Rattle.std.proofs.Common.{◌∙◌, subst, inl, inr, arith, lt-ltb, le-ltb, length-take}
-use Rattle.std.proofs.Math.Option.{Option, none, some}
 use mathlib.Core.List.{List}
-use Rattle.std.proofs.Math.ListN.{length, get_elem?}
+use Rattle.std.proofs.Math.ListN.{length}
 use Rattle.std.proofs.Math.Numerals.{lt_of_le_of_ne}
 use Rattle.laws.specs.Tests.{test_clash, test_same}
 use Rattle.laws.specs.Order.{eq_or, le_or}
@@ -40,24 +39,24 @@ new_outside base places x (inr l) = rw (le-ltb x base (omega arith), le-ltb (x -
 
 module _ {B rows_used : ℕ} {own : ℕ → Page → Bool} {rows : List Row} {bs : Blocks} (live : Page → Bool) {i j : ℕ} (v : Moves bs i j) (size : length bs ≡ B)
     (most : length (block bs i) ≤ 32) (named : RowsName B rows_used own rows bs) (o : Owned live own rows_used bs) (places : List ℕ)
-    (went : (q : ℕ) → q < 32 → (p : Page) → get_elem? (block bs i) q ≡ some p → live p ≡ true → get_or places q 0 ≡ 32 * j + rank live q (block bs i)) where
+    (went : (q : ℕ) → q < 32 → (p : Page) → slice_get (block bs i) q ≡ Some p → live p ≡ true → get_or places q 0 ≡ 32 * j + rank live q (block bs i)) where
   rank_below : (q : ℕ) → q < 32 → rank live q (block bs i) < 32
   rank_below q l = omega (arith, count_le_length live (take q (block bs i)), length-take q (block bs i))
 
   -- where a page that a row names was, and where it is now
   data Origin (n x : ℕ) : Type 0 where
-    inside : (q : ℕ) (p : Page) → q < 32 → x ≡ 32 * i + q → get_elem? (block bs i) q ≡ some p → own n p ≡ true → new_place (32 * i) places x ≡ 32 * j +
+    inside : (q : ℕ) (p : Page) → q < 32 → x ≡ 32 * i + q → slice_get (block bs i) q ≡ Some p → own n p ≡ true → new_place (32 * i) places x ≡ 32 * j +
         rank live q (block bs i) → Origin n x
     outside : (x < 32 * i) ⊎ (32 * i + 32 ≤ x) → new_place (32 * i) places x ≡ x → Origin n x
 
   origin : (n x : ℕ) → n < rows_used → names x (row_at rows n) ≡ true → Origin n x
   origin n x ln e = go (le_or (32 * i) x) (le_or (32 * i + 32) x)
     where
-      within : (q : ℕ) → q < 32 → x ≡ 32 * i + q → (c : Option Page) → get_elem? (block bs i) q ≡ c → Origin n x
-      within q lq d none g =
+      within : (q : ℕ) → q < 32 → x ≡ 32 * i + q → (c : Option Page) → slice_get (block bs i) q ≡ c → Origin n x
+      within q lq d None g =
           let z = ap (test (own n)) (sym g) ∙ sym (named.each n i q ln (omega (arith, v.from)) lq) ∙ ap (λ (y : ℕ). names y (row_at rows n)) (sym d) ∙ e in
           absurd (test_clash false z refl)
-      within q lq d (some p) g =
+      within q lq d (Some p) g =
           let mine : own n p ≡ true = ap (test (own n)) (sym g) ∙ sym (named.each n i q ln (omega (arith, v.from)) lq) ∙ ap
           (λ (y : ℕ). names y (row_at rows n)) (sym d) ∙ e in
           inside q p lq d g mine (ap (new_place (32 * i) places) d ∙ new_inside (32 * i) places q lq ∙ went q lq p g (o.owned n ln p mine))
@@ -65,19 +64,19 @@ module _ {B rows_used : ℕ} {own : ℕ → Page → Bool} {rows : List Row} {bs
       go : (32 * i ≤ x) ⊎ (x < 32 * i) → (32 * i + 32 ≤ x) ⊎ (x < 32 * i + 32) → Origin n x
       go (inr l) h = outside (inl l) (new_outside (32 * i) places x (inl l))
       go (inl l) (inl h) = outside (inr h) (new_outside (32 * i) places x (inr h))
-      go (inl l) (inr h) = within (x - 32 * i) (omega arith) (omega arith) (get_elem? (block bs i) (x - 32 * i)) refl
+      go (inl l) (inr h) = within (x - 32 * i) (omega arith) (omega arith) (slice_get (block bs i) (x - 32 * i)) refl
 
   module _ (n a r : ℕ) (ln : n < rows_used) (la : a < B) (lr : r < 32) where
     -- a page that is named now is the row's own
     names-own : names (32 * a + r) (mapped (new_place (32 * i) places) (row_at rows n)) ≡ true →
-        test (own n) (get_elem? (block (Model.compact live bs i j) a) r) ≡ true
+        test (own n) (slice_get (block (Model.compact live bs i j) a) r) ≡ true
     names-own e =
         let u = names_unmapped (new_place (32 * i) places) (row_at rows n) (32 * a + r) e in
         go u.0 u.2 u.1 (origin n u.0 ln u.1) (eq_or a i) (eq_or a j)
       where
         go : (x : ℕ) → new_place (32 * i) places x ≡ 32 * a + r → names x (row_at rows n) ≡ true → Origin n x → (a ≡ i) ⊎ (a ≡ i → ⊥) → (a ≡ j) ⊎
             (a ≡ j → ⊥) →
-            test (own n) (get_elem? (block (Model.compact live bs i j) a) r) ≡ true
+            test (own n) (slice_get (block (Model.compact live bs i j) a) r) ≡ true
         go x d g (inside q p lq xq here mine now) ai (inl aj) =
             let z : r ≡ rank live q (block bs i) = omega (arith, d, now, aj) in
             rw (aj, z, compact_to live v, filter-rank live (block bs i) q p here (o.owned n ln p mine)) mine
@@ -90,22 +89,22 @@ module _ {B rows_used : ℕ} {own : ℕ → Page → Bool} {rows : List Row} {bs
             apart (inr h) = omega (arith, d, now, ai)
         go x d g (outside side now) (inr ai) (inl aj) =
             let y : 32 * a + r ≡ x = sym d ∙ now in
-            let z = sym (named.each n a r ln la lr ∙ ap (λ (k : List Page). test (own n) (get_elem? k r)) (ap (block bs) aj ∙ v.blank)) ∙ ap
+            let z = sym (named.each n a r ln la lr ∙ ap (λ (k : List Page). test (own n) (slice_get k r)) (ap (block bs) aj ∙ v.blank)) ∙ ap
             (λ (k : ℕ). names k (row_at rows n)) y ∙ g in
             absurd (test_clash false z refl)
         go x d g (outside side now) (inr ai) (inr aj) =
-            ap (λ (k : List Page). test (own n) (get_elem? k r)) (compact-other live v a ai aj) ∙ sym (named.each n a r ln la lr) ∙ ap
+            ap (λ (k : List Page). test (own n) (slice_get k r)) (compact-other live v a ai aj) ∙ sym (named.each n a r ln la lr) ∙ ap
             (λ (k : ℕ). names k (row_at rows n)) (sym d ∙ now) ∙ g
 
     -- and the row's own pages are named
-    own-named : test (own n) (get_elem? (block (Model.compact live bs i j) a) r) ≡ true →
+    own-named : test (own n) (slice_get (block (Model.compact live bs i j) a) r) ≡ true →
         names (32 * a + r) (mapped (new_place (32 * i) places) (row_at rows n)) ≡ true
     own-named e = go (eq_or a i) (eq_or a j)
       where
-        came : (c : Option Page) → get_elem? (filter live (block bs i)) r ≡ c → test (own n) c ≡ true → a ≡ j → names (32 * a + r)
+        came : (c : Option Page) → slice_get (filter live (block bs i)) r ≡ c → test (own n) c ≡ true → a ≡ j → names (32 * a + r)
             (mapped (new_place (32 * i) places) (row_at rows n)) ≡ true
-        came none d t aj = absurd (test_clash false t refl)
-        came (some p) d t aj =
+        came None d t aj = absurd (test_clash false t refl)
+        came (Some p) d t aj =
             let h = rank-filter live (block bs i) r p d in
             let lq : h.place < 32 = omega (arith, get-below (block bs i) h.place p h.here) in
             let was : names (32 * i + h.place) (row_at rows n) ≡ true = named.each n i h.place ln (omega (arith, v.from)) lq ∙
@@ -117,15 +116,15 @@ module _ {B rows_used : ℕ} {own : ℕ → Page → Bool} {rows : List Row} {bs
 
         go : (a ≡ i) ⊎ (a ≡ i → ⊥) → (a ≡ j) ⊎ (a ≡ j → ⊥) → names (32 * a + r) (mapped (new_place (32 * i) places) (row_at rows n)) ≡ true
         go (inl ai) aj =
-            let z = ap (λ (k : List Page). test (own n) (get_elem? k r)) (sym (ap (block (Model.compact live bs i j)) ai ∙ compact_from live v)) ∙ e in
+            let z = ap (λ (k : List Page). test (own n) (slice_get k r)) (sym (ap (block (Model.compact live bs i j)) ai ∙ compact_from live v)) ∙ e in
             absurd (test_clash false z refl)
         go (inr ai) (inl aj) =
-            let z : test (own n) (get_elem? (filter live (block bs i)) r) ≡ true =
-            ap (λ (k : List Page). test (own n) (get_elem? k r)) (sym (ap (block (Model.compact live bs i j)) aj ∙ compact_to live v)) ∙ e in
-            came (get_elem? (filter live (block bs i)) r) refl z aj
+            let z : test (own n) (slice_get (filter live (block bs i)) r) ≡ true =
+            ap (λ (k : List Page). test (own n) (slice_get k r)) (sym (ap (block (Model.compact live bs i j)) aj ∙ compact_to live v)) ∙ e in
+            came (slice_get (filter live (block bs i)) r) refl z aj
         go (inr ai) (inr aj) =
             let was : names (32 * a + r) (row_at rows n) ≡ true =
-            named.each n a r ln la lr ∙ ap (λ (k : List Page). test (own n) (get_elem? k r)) (sym (compact-other live v a ai aj)) ∙ e in
+            named.each n a r ln la lr ∙ ap (λ (k : List Page). test (own n) (slice_get k r)) (sym (compact-other live v a ai aj)) ∙ e in
             ap (λ (k : ℕ). names k (mapped (new_place (32 * i) places) (row_at rows n))) (sym (new_outside (32 * i) places (32 * a + r) (side (le_or i a)))) ∙
             names-mapped (new_place (32 * i) places) (row_at rows n) (32 * a + r) was
           where
@@ -154,7 +153,7 @@ pub record Compaction (B : ℕ) (image : Page → List ℕ) (rows_used : ℕ) (o
 module _ {B rows_used : ℕ} {image : Page → List ℕ} {own : ℕ → Page → Bool} {ps : List (List ℕ)} {rows : List Row} {bs : Blocks} (live : Page → Bool)
     {i j : ℕ} (v : Moves bs i j)
     (pages : PagesAre B image ps bs) (named : RowsName B rows_used own rows bs) (o : Owned live own rows_used bs) (m : List ℕ)
-    (mark : (q : ℕ) → q < 32 → marked (get_or m (32 * i + q) 0) ≡ test live (get_elem? (block bs i) q)) where
+    (mark : (q : ℕ) → q < 32 → marked (get_or m (32 * i + q) 0) ≡ test live (slice_get (block bs i) q)) where
   pub move_block-is : Compaction B image rows_used own rows bs live i j (move_block m rows_used i j ps rows)
   unfolding move_block emptied
   move_block-is =

@@ -1,5 +1,5 @@
 -- What a row names after a page was noted, after a fresh start, with another score, and after a claim. Assumes nothing.
-use Rattle.std.specs.Prelude.{◌≡◌, Bool, true, false, ◌||◌, eqb}
+use Rattle.std.specs.Prelude.{◌≡◌, Option, None, Some, Bool, true, false, ◌||◌, eqb}
 use Rattle.std.proofs.Math.Path.{refl}
 use Prim.Native.Nat.{ℕ, zero, suc, ◌+◌, ◌<◌}
 use Rattle.std.proofs.Common.{arith}
@@ -7,8 +7,6 @@ use Rattle.laws.specs.Tests.{choose}
 use Rattle.account.specs.declared.Mode.{Mode}
 use Rattle.flash_rows.specs.Step.{holds, names, noted, fresh}
 use Rattle.flash_rows.specs.declared.Row.{Row}
-use Rattle.flash_rows.specs.declared.Claim.{Claim}
-use Rattle.flash_rows.specs.declared.Claim.TheVariants.{Same, Noted}
 
 -- The last of one, two and three tests, put behind the others.
 last-first : (a : Bool) → (a || (false || false)) ≡ (false || a)
@@ -57,9 +55,9 @@ module _ (r : Row) where
   names_fresh version mode x = refl
 
 -- The row after a claim.
-abbrev pub after : Claim → Row → Row
-after Same r = r
-after (Noted r') r = r'
+abbrev pub after : Option Row → Row → Row
+after None r = r
+after (Some r') r = r'
 
 -- Version, mode and score stay.
 pub record Keeps (r r' : Row) : Type 0 where

@@ -1,9 +1,9 @@
 -- Pages that are images stay so: where one page is written behind the others of its block, and where a block is erased. Assumes nothing.
-use Rattle.std.specs.Prelude.{◌≡◌, refl, true, ◌⊎◌, ℕ, ◌+◌, ◌*◌, ◌≤◌, ◌<◌, length, get_or, set}
+use Rattle.std.specs.Prelude.{◌≡◌, refl, true, ◌⊎◌, ℕ, ◌+◌, ◌*◌, ◌≤◌, ◌<◌, length, get_or, set, slice_get}
 use Rattle.std.proofs.Common.{sym, ◌∙◌, inl, inr, add-zero, arith, length-append, get_or-set_other}
 use Rattle.std.proofs.Math.Path.{ap}
 use mathlib.Core.List.{List, [], ◌∷◌, ◌++◌}
-use Rattle.std.proofs.Math.ListN.{get_elem?, length-set}
+use Rattle.std.proofs.Math.ListN.{length-set}
 use Rattle.std.proofs.Math.Seq.{get_or-set_same}
 use Rattle.std.proofs.Math.Numerals.{lt_of_le_of_ne}
 use Rattle.laws.specs.Order.{eq_or, le_or}
@@ -31,7 +31,7 @@ module _ {B : ℕ} {image : Page → List ℕ} {ps : List (List ℕ)} {bs : Bloc
   blank-block w i l =
       ap (λ (k : ℕ). is_blank (page_at ps k)) (sym (add-zero (32 * i))) ∙ ap is_blank (r.each i 0 l (omega arith)) ∙ first (block bs i)
     where
-      first : (b : List Page) → is_blank (image_at image (get_elem? b 0)) ≡ empty b
+      first : (b : List Page) → is_blank (image_at image (slice_get b 0)) ≡ empty b
       first [] = blank-is
       first (p ∷ b) = w.written p
 
@@ -64,7 +64,7 @@ module _ {B : ℕ} {image : Page → List ℕ} {ps : List (List ℕ)} {bs : Bloc
         most i (inr e) = rw (get_or-set_other bs j i new [] e) (r.most i)
 
         each : (i q : ℕ) → i < B → q < 32 → (i ≡ j) ⊎ (i ≡ j → ⊥) → (q ≡ length (block bs j)) ⊎ (q ≡ length (block bs j) → ⊥) →
-            get_or (set ps at (image p)) (32 * i + q) blank_page ≡ image_at image (get_elem? (block (add_to bs j p) i) q)
+            get_or (set ps at (image p)) (32 * i + q) blank_page ≡ image_at image (slice_get (block (add_to bs j p) i) q)
         each i q li lq (inl e) (inl d) =
             rw (e, d, here, get-snoc_new (block bs j) p) (get_or-set_same ps at (image p) blank_page (omega (arith, r.long)))
         each i q li lq (inl e) (inr d) =
@@ -96,7 +96,7 @@ module _ {B : ℕ} {image : Page → List ℕ} {ps : List (List ℕ)} {bs : Bloc
         side i q lq e (inl h) = inl (omega (arith, lt_of_le_of_ne h e))
 
         each : (i q : ℕ) → i < B → q < 32 → (i ≡ j) ⊎ (i ≡ j → ⊥) → get_or (erased j ps) (32 * i + q) blank_page ≡ image_at image
-            (get_elem? (block (set bs j []) i) q)
+            (slice_get (block (set bs j []) i) q)
         each i q li lq (inl e) =
             rw (e, here) (get-set_run-inside blank_page blank_page 32 (32 * j) ps (32 * j + q) (omega arith) (omega arith) (omega (arith, r.long)))
         each i q li lq (inr e) =

@@ -1,8 +1,7 @@
 -- A page written in the place found: pages and rows stand for the blocks with one page more, where the rows name the new page for those
 -- that own it, and all others as before. Assumes nothing.
-use Rattle.std.specs.Prelude.{◌≡◌, refl, Bool, false, ◌⊎◌, List, [], ◌∷◌, ◌++◌, ℕ, ◌+◌, ◌*◌, ◌≤◌, ◌<◌, length, set}
+use Rattle.std.specs.Prelude.{◌≡◌, refl, Bool, false, ◌⊎◌, List, [], ◌∷◌, ◌++◌, ℕ, ◌+◌, ◌*◌, ◌≤◌, ◌<◌, length, set, slice_get}
 use Rattle.std.proofs.Common.{sym, ap, ◌∙◌, subst, inl, inr, arith, length-append, get_or-set_same, get_or-set_other}
-use Rattle.std.proofs.Math.ListN.{get_elem?}
 use Rattle.laws.specs.Order.{eq_or}
 use Rattle.laws.specs.Elements.{get_past, get-snoc-old, get-snoc_new}
 use Rattle.laws.specs.Options.{test}
@@ -35,7 +34,7 @@ module _ {image : Page → List ℕ} {own : ℕ → Page → Bool} {w : World} {
     pub long : rows_used ≤ length rows'
     pub new : (n : ℕ) → n < rows_used → names (spot w.state) (row_at rows' n) ≡ own' n p
     pub old : (n i q : ℕ) → n < rows_used → i < w.state.blocks → q < 32 → (32 * i + q ≡ spot w.state → ⊥) →
-        names (32 * i + q) (row_at rows' n) ≡ test (own' n) (get_elem? (block bs i) q)
+        names (32 * i + q) (row_at rows' n) ≡ test (own' n) (slice_get (block bs i) q)
 
   rows-added : (p : Page) (rows_used : ℕ) (own' : ℕ → Page → Bool) (rows' : List Row) → Named p rows_used own' rows' →
       RowsName w.state.blocks rows_used own' rows' (add_to bs here p)
@@ -47,7 +46,7 @@ module _ {image : Page → List ℕ} {own : ℕ → Page → Bool} {w : World} {
 
       each : (n i q : ℕ) → n < rows_used → i < w.state.blocks → q < 32 → (i ≡ here) ⊎ (i ≡ here → ⊥) → (q ≡ length (block bs here)) ⊎
           (q ≡ length (block bs here) → ⊥) →
-          names (32 * i + q) (row_at rows' n) ≡ test (own' n) (get_elem? (block (add_to bs here p) i) q)
+          names (32 * i + q) (row_at rows' n) ≡ test (own' n) (slice_get (block (add_to bs here p) i) q)
       each n i q ln li lq (inl e) (inl d) =
           let z : 32 * i + q ≡ spot w.state = omega (arith, spot_is) in
           ap (λ (x : ℕ). names x (row_at rows' n)) z ∙ h.new n ln ∙ sym (rw (e, d, added, get-snoc_new (block bs here) p) refl)
@@ -56,7 +55,7 @@ module _ {image : Page → List ℕ} {own : ℕ → Page → Bool} {w : World} {
           sym (rw (e, added, get-snoc-old (block bs here) p q d) refl)
       each n i q ln li lq (inr e) d =
           h.old n i q ln li lq (λ z. place_apart i here q (length (block bs here)) lq room e (z ∙ spot_is)) ∙
-          sym (ap (λ (b : List Page). test (own' n) (get_elem? b q)) (get_or-set_other bs here i (block bs here ++ (p ∷ [])) [] e))
+          sym (ap (λ (b : List Page). test (own' n) (slice_get b q)) (get_or-set_other bs here i (block bs here ++ (p ∷ [])) [] e))
 
   -- ONE PAGE WRITTEN, with the rows that follow it
   pub stands_written : (p : Page) (own' : ℕ → Page → Bool) (t' : Worktable) (s' : State) → s'.blocks ≡ w.state.blocks → s'.current ≡

@@ -1,14 +1,13 @@
 -- What the entries of a log page do to the rows: where no row names the page yet, exactly those of log nodes that an entry speaks of under
 -- their version note it, once, and nothing else changes. Assumes nothing.
-use Rattle.std.specs.Prelude.{◌≡◌, Bool, not, ◌&&◌, ◌||◌, ◌⊎◌, ℕ, suc, ◌+◌, ◌<◌, eqb}
+use Rattle.std.specs.Prelude.{◌≡◌, Bool, not, ◌&&◌, ◌||◌, ◌⊎◌, ℕ, suc, ◌+◌, ◌<◌, eqb, Option, None, Some, slice_get}
 use Rattle.std.proofs.Math.Path.{refl, ap, ap₂}
 use Rattle.std.proofs.Common.{sym, ◌∙◌, subst, inl, inr, zero-add, add-zero, arith, lt-ltb, ltb-true, eqb-true, eq-eqb, ne_eqb, length-set, get_or-set_same, get_or-set_other}
 use Rattle.std.proofs.Math.Bool.{true, false, or-true, or-false}
-use Rattle.std.proofs.Math.Option.{some}
 use mathlib.Core.List.{List, [], ◌∷◌, map}
 use Rattle.std.proofs.lemmas.Bool.{eqb-false}
 use Rattle.std.proofs.Math.Dec.{ltb}
-use Rattle.std.proofs.Math.ListN.{length, get_elem?}
+use Rattle.std.proofs.Math.ListN.{length}
 use Rattle.laws.specs.Tests.{choose}
 use Rattle.laws.specs.Order.{eq_or}
 use Rattle.laws.specs.Loops.{steps}
@@ -24,8 +23,6 @@ use Rattle.store.specs.Item.{entry_item, pieces_in}
 use Rattle.flash_rows.specs.Row.{no_row}
 use Rattle.flash_rows.specs.Step.{names, noted, by_mode, claim, settled}
 use Rattle.flash_rows.specs.declared.Row.{Row}
-use Rattle.flash_rows.specs.declared.Claim.{Claim}
-use Rattle.flash_rows.specs.declared.Claim.TheVariants.{Same, Noted}
 use Rattle.flash_log.specs.Claim.{claim_row, claim_entry, claim_entries}
 use Rattle.flash_refines.specs.Store.Mirror.{row_at}
 use Rattle.flash_refines.specs.Store.Follows.{BufferIs}
@@ -49,33 +46,33 @@ pub record Claimed (concerned : Bool) (page : ℕ) (r r' : Row) : Type 0 where
 -- ---- the row of one claim
 
 module _ (page : ℕ) (r : Row) where
-  claim_disk : r.mode ≡ Disk → (version : ℕ) → claim version page r ≡ Same
+  claim_disk : r.mode ≡ Disk → (version : ℕ) → claim version page r ≡ None
   unfolding claim
   claim_disk e version = rw e refl
 
-  claim-other : (version : ℕ) → (r.version ≡ version → ⊥) → claim version page r ≡ Same
+  claim-other : (version : ℕ) → (r.version ≡ version → ⊥) → claim version page r ≡ None
   unfolding claim
   claim-other version d = rw (ne_eqb r.version version d) (go r.mode)
     where
-      go : (m : Mode) → by_mode m Same Same ≡ Same
+      go : (m : Mode) → by_mode {A = Option Row} m None None ≡ None
       go Log = refl
       go Disk = refl
 
-  claim-named : names page r ≡ true → (version : ℕ) → claim version page r ≡ Same
+  claim-named : names page r ≡ true → (version : ℕ) → claim version page r ≡ None
   unfolding claim
   claim-named e version = rw e (go r.mode (eqb r.version version))
     where
-      go : (m : Mode) (t : Bool) → by_mode m (choose t Same Same) Same ≡ Same
+      go : (m : Mode) (t : Bool) → by_mode {A = Option Row} m (choose t None None) None ≡ None
       go Log true = refl
       go Log false = refl
       go Disk t = refl
 
-  claim_new : r.mode ≡ Log → names page r ≡ false → claim r.version page r ≡ Noted (noted page r)
+  claim_new : r.mode ≡ Log → names page r ≡ false → claim r.version page r ≡ Some (noted page r)
   unfolding claim
   claim_new e n =
-      ap (λ (m : Mode). by_mode m (choose (eqb r.version r.version) (choose (names page r) Same (Noted (noted page r))) Same) Same) e ∙
-      ap (λ (t : Bool). choose t (choose (names page r) Same (Noted (noted page r))) Same) (eq-eqb r.version r.version refl) ∙
-      ap (λ (t : Bool). choose t Same (Noted (noted page r))) n
+      ap (λ (m : Mode). by_mode m (choose (eqb r.version r.version) (choose (names page r) None (Some (noted page r))) None) None) e ∙
+      ap (λ (t : Bool). choose t (choose (names page r) None (Some (noted page r))) None) (eq-eqb r.version r.version refl) ∙
+      ap (λ (t : Bool). choose t None (Some (noted page r))) n
 
   -- a row that noted the page, and one that may have
   noted-named : r.pages < 3 → names page (noted page r) ≡ true
@@ -88,17 +85,17 @@ module _ (page : ℕ) (r : Row) where
 
 -- ---- the rows of one entry
 
-settled-own : (c : Claim) (n : ℕ) (rows : List Row) → n < length rows → row_at (settled c n rows) n ≡ after c (row_at rows n)
-settled-own Same n rows l = refl
-settled-own (Noted r) n rows l = get_or-set_same rows n r no_row l
+settled-own : (c : Option Row) (n : ℕ) (rows : List Row) → n < length rows → row_at (settled c n rows) n ≡ after c (row_at rows n)
+settled-own None n rows l = refl
+settled-own (Some r) n rows l = get_or-set_same rows n r no_row l
 
-settled-other : (c : Claim) (n m : ℕ) (rows : List Row) → (m ≡ n → ⊥) → row_at (settled c n rows) m ≡ row_at rows m
-settled-other Same n m rows d = refl
-settled-other (Noted r) n m rows d = get_or-set_other rows n m r no_row d
+settled-other : (c : Option Row) (n m : ℕ) (rows : List Row) → (m ≡ n → ⊥) → row_at (settled c n rows) m ≡ row_at rows m
+settled-other None n m rows d = refl
+settled-other (Some r) n m rows d = get_or-set_other rows n m r no_row d
 
-length-settled : (c : Claim) (n : ℕ) (rows : List Row) → length (settled c n rows) ≡ length rows
-length-settled Same n rows = refl
-length-settled (Noted r) n rows = length-set rows n r
+length-settled : (c : Option Row) (n : ℕ) (rows : List Row) → length (settled c n rows) ≡ length rows
+length-settled None n rows = refl
+length-settled (Some r) n rows = length-set rows n r
 
 -- The rows after one entry claimed the page, and after several in order.
 abbrev claim_one : ℕ → ℕ → Entry → List Row → List Row
@@ -137,15 +134,15 @@ module _ (nodes page : ℕ) where
         rw (lt-ltb e.id nodes (omega arith), q) (settled-own (claim e.version page (row_at rows m)) m rows l)
 
     -- the row of an entry that claims nothing
-    one_idle : (e : Entry) (rows : List Row) → m < length rows → (e.id ≡ m → claim e.version page (row_at rows m) ≡ Same) →
+    one_idle : (e : Entry) (rows : List Row) → m < length rows → (e.id ≡ m → claim e.version page (row_at rows m) ≡ None) →
         row_at (claim_one nodes page e rows) m ≡ row_at rows m
     one_idle e rows l idle = go (eq_or e.id m)
       where
         go : (e.id ≡ m) ⊎ (e.id ≡ m → ⊥) → row_at (claim_one nodes page e rows) m ≡ row_at rows m
-        go (inl q) = one-own e rows q l ∙ ap (λ (c : Claim). after c (row_at rows m)) (idle q)
+        go (inl q) = one-own e rows q l ∙ ap (λ (c : Option Row). after c (row_at rows m)) (idle q)
         go (inr d) = one-other e rows m (λ h. d)
 
-    all_idle : (es : List Entry) (rows : List Row) → m < length rows → ((version : ℕ) → claim version page (row_at rows m) ≡ Same) →
+    all_idle : (es : List Entry) (rows : List Row) → m < length rows → ((version : ℕ) → claim version page (row_at rows m) ≡ None) →
         row_at (claim_all nodes page es rows) m ≡ row_at rows m
     all_idle [] rows l idle = refl
     all_idle (e ∷ es) rows l idle =
@@ -193,12 +190,12 @@ module _ {buffer : List ℕ} {entries : ℕ} {es : List Entry} (b : BufferIs buf
       ap (λ (k : ℕ). steps (claim_entry buffer nodes page) k 0 rows) b.number ∙
       go es 0 rows (λ k e q now. ap (λ (j : ℕ). claim_entry buffer nodes page j now) (zero-add k) ∙ one k e q now)
     where
-      one : (k : ℕ) (e : Entry) → get_elem? es k ≡ some e → (now : List Row) → claim_entry buffer nodes page k now ≡ claim_one nodes page e now
+      one : (k : ℕ) (e : Entry) → slice_get es k ≡ Some e → (now : List Row) → claim_entry buffer nodes page k now ≡ claim_one nodes page e now
       one k e q now =
           ap₂ (λ (id version : ℕ). choose (ltb id nodes) (claim_row id version page now) now) (id-at b k e q l f) (version-at b k e q l f)
 
       go : (rest : List Entry) (i : ℕ) (now : List Row) →
-          ((k : ℕ) (e : Entry) → get_elem? rest k ≡ some e → (now : List Row) → claim_entry buffer nodes page (i + k) now ≡ claim_one nodes page e now) →
+          ((k : ℕ) (e : Entry) → slice_get rest k ≡ Some e → (now : List Row) → claim_entry buffer nodes page (i + k) now ≡ claim_one nodes page e now) →
           steps (claim_entry buffer nodes page) (length rest) i now ≡ claim_all nodes page rest now
       go [] i now each = refl
       go (e ∷ rest) i now each =

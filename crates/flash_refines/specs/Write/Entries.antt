@@ -1,9 +1,8 @@
 -- ONE ENTRY appended by the code is the store's. Assumes nothing.
-use Rattle.std.specs.Prelude.{◌≡◌, ◌⊎◌, [], ◌∷◌, ◌++◌, ℕ, ◌+◌, ◌≤◌, ◌<◌, length}
+use Rattle.std.specs.Prelude.{◌≡◌, ◌⊎◌, [], ◌∷◌, ◌++◌, ℕ, ◌+◌, ◌≤◌, ◌<◌, length, slice_get}
 use Rattle.std.proofs.Math.Path.{refl, sym, subst}
 use Rattle.std.proofs.Common.{◌∙◌, inl, inr, arith}
 use Rattle.std.proofs.Math.Bool.{false}
-use Rattle.std.proofs.Math.ListN.{get_elem?}
 use Rattle.laws.specs.Order.{eq_or}
 use Rattle.layout.specs.Layout.{most_entries}
 use Rattle.node.specs.Node.{Node}
@@ -58,7 +57,7 @@ module _ {B : ℕ} {score : ℕ → ℕ} {w : World} {run : Run} (b : Writable B
         long = f.mirrors.names.long;
         each = λ m i q l li lq.
             f.mirrors.names.each m i q l li lq ∙
-            owned_same (view st) (view after) m (version_same m) (get_elem? (block st.blocks i) q);
+            owned_same (view st) (view after) m (version_same m) (slice_get (block st.blocks i) q);
       }
 
   says : RowsSay w.state.nodes w.table.rows after

@@ -1,11 +1,11 @@
 -- THE BUFFER WRITTEN OUT by the code is the store's, and so is room made for entries. Assumes nothing.
-use Rattle.std.specs.Prelude.{◌≡◌, Bool, true, ◌⊎◌, ℕ, suc, ◌+◌, ◌*◌, ◌≤◌, ◌<◌, leb, ltb, set}
+use Rattle.std.specs.Prelude.{◌≡◌, Bool, true, ◌⊎◌, ℕ, suc, ◌+◌, ◌*◌, ◌≤◌, ◌<◌, leb, ltb, set, slice_get}
 use Rattle.std.proofs.Math.Path.{refl, sym, ap, subst}
 use Rattle.std.proofs.Common.{◌∙◌, inl, inr, arith}
 use Rattle.std.proofs.Math.Bool.{false, not, and-true, and-false, or-false}
 use mathlib.Core.List.{List, [], map}
 use borrow.Author.Tests.{le-leb, lt-leb, le-ltb, lt-ltb, eq-eqb, ne_eqb}
-use Rattle.std.proofs.Math.ListN.{length, get_elem?}
+use Rattle.std.proofs.Math.ListN.{length}
 use Rattle.laws.specs.Tests.{choose}
 use Rattle.laws.specs.Order.{eq_or, le_or}
 use Rattle.laws.specs.Counts.{bit, count, empty}
@@ -198,7 +198,7 @@ module _ {B : ℕ} {score : ℕ → ℕ} {w : World} {run : Run} (b : Writable B
                   names-other m (within m l) (32 * i + q) d ∙
                   (place_found few v f.mirrors).names.each m i q l li lq ∙
                   owned_same (view st) (view after) m (now m (within m l)).greatest
-                  (get_elem? (block (found no_checkpoint w.state.nodes st).blocks i) q);
+                  (slice_get (block (found no_checkpoint w.state.nodes st).blocks i) q);
             };
         owners = owners_open before.state.nodes before.state.checkpoint (same.checkpoint ∙ f.no_checkpoint_page) after;
         rows = subst (λ (k : ℕ). RowsSay k rows' after) (sym same.nodes) says;

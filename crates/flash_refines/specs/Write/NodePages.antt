@@ -1,11 +1,11 @@
 -- A NODE PAGE written by the code is the store's. Assumes nothing.
-use Rattle.std.specs.Prelude.{◌≡◌, Bool, true, false, ◌||◌, ◌⊎◌, List, [], ◌∷◌, ℕ, suc, ◌+◌, ◌*◌, ◌≤◌, ◌<◌, set}
+use Rattle.std.specs.Prelude.{◌≡◌, Bool, true, false, ◌||◌, ◌⊎◌, List, [], ◌∷◌, ℕ, suc, ◌+◌, ◌*◌, ◌≤◌, ◌<◌, set, slice_get}
 use Rattle.std.proofs.Math.Path.{refl, sym, ap, subst}
 use Rattle.std.proofs.Common.{◌∙◌, inl, inr, get_or-set_same, get_or-set_other}
 use native.Mathlib.Omega.{arith}
 use borrow.Author.Tests.{eq-eqb, ne_eqb}
 use Rattle.std.proofs.Math.Dec.{eqb}
-use Rattle.std.proofs.Math.ListN.{get_elem?, length-set}
+use Rattle.std.proofs.Math.ListN.{length-set}
 use Rattle.laws.specs.Order.{eq_or}
 use Rattle.laws.specs.Counts.{bit, tally}
 use Rattle.laws.specs.Options.{test}
@@ -136,7 +136,7 @@ module _ {B : ℕ} {score : ℕ → ℕ} {w : World} {run : Run} (b : Writable B
   names_new m l (inr d) = ap (names at) (row_other m d) ∙ next_free few v f.mirrors m l ∙ sym (uncarried m d)
 
   names-old : (m i q : ℕ) → m < used s' → i < before.state.blocks → q < 32 → (32 * i + q ≡ at → ⊥) → (n ≡ m) ⊎ (n ≡ m → ⊥) →
-      names (32 * i + q) (row_at rows' m) ≡ test (own' m) (get_elem? (block (found no_checkpoint w.state.nodes st).blocks i) q)
+      names (32 * i + q) (row_at rows' m) ≡ test (own' m) (slice_get (block (found no_checkpoint w.state.nodes st).blocks i) q)
   unfolding advanced
   names-old m i q l li lq apart (inl e) =
       rw (← e)
@@ -146,7 +146,7 @@ module _ {B : ℕ} {score : ℕ → ℕ} {w : World} {run : Run} (b : Writable B
       ap (names (32 * i + q)) (row_other m d) ∙
       (place_found few v f.mirrors).names.each m i q l li lq ∙
       owned_same (view st) (view after) m (other m (omega (arith, same.nodes, same.checkpoint, f.no_checkpoint_page)) d).greatest
-      (get_elem? (block (found no_checkpoint w.state.nodes st).blocks i) q)
+      (slice_get (block (found no_checkpoint w.state.nodes st).blocks i) q)
 
   -- what it says beside
   row-version : row.version ≡ suc st.last

@@ -1,10 +1,10 @@
 -- A FRESH START in log mode by the code is the store's: the whole content of a node, there or new, under a new version. Assumes nothing.
-use Rattle.std.specs.Prelude.{◌≡◌, refl, ◌⊎◌, length, set}
+use Rattle.std.specs.Prelude.{◌≡◌, refl, ◌⊎◌, length, set, slice_get}
 use Rattle.std.proofs.Math.Path.{sym, ap, subst}
 use Rattle.std.proofs.Common.{◌∙◌, inl, inr, arith, get_or-set_same, get_or-set_other}
 use mathlib.Core.List.{List, ◌∷◌, map}
 use Prim.Native.Nat.{ℕ, suc, ◌+◌, ◌*◌, ◌≤◌, ◌<◌, max}
-use Rattle.std.proofs.Math.ListN.{get_elem?, length-set}
+use Rattle.std.proofs.Math.ListN.{length-set}
 use Rattle.laws.specs.Order.{eq_or}
 use Rattle.laws.specs.Counts.{tally}
 use Rattle.laws.specs.Lay.{part}
@@ -110,7 +110,7 @@ module _ {B : ℕ} {score : ℕ → ℕ} {w : World} {run : Run} (b : Writable B
   named = record { long = rw (length-set w.table.rows n (fresh v Log row)) inside; each = λ m i q l li lq. each m i q l li lq (eq_or n m) }
     where
       each : (m i q : ℕ) → m < N' → i < w.state.blocks → q < 32 → (n ≡ m) ⊎ (n ≡ m → ⊥) →
-          names (32 * i + q) (row_at rows' m) ≡ test (carries (view after) m) (get_elem? (block st.blocks i) q)
+          names (32 * i + q) (row_at rows' m) ≡ test (carries (view after) m) (slice_get (block st.blocks i) q)
       each m i q l li lq (inl e) =
           rw (← e)
           (ap (names (32 * i + q)) row_here ∙ names_fresh row v Log (32 * i + q) ∙
@@ -118,7 +118,7 @@ module _ {B : ℕ} {score : ℕ → ℕ} {w : World} {run : Run} (b : Writable B
       each m i q l li lq (inr d) =
           ap (names (32 * i + q)) (row_other m d) ∙
           f.mirrors.names.each m i q (omega (arith, there m l d, f.nodes)) li lq ∙
-          owned_same (view st) (view after) m (other m d).greatest (get_elem? (block st.blocks i) q)
+          owned_same (view st) (view after) m (other m d).greatest (slice_get (block st.blocks i) q)
 
   says : RowsSay N' rows' after
   unfolding fresh start

@@ -1,11 +1,10 @@
 -- The checkpoint as the store collects it, page by page down from the newest, is the pages numbered at or above its first: what is
 -- collected adds up to the sum over those numbers. Assumes nothing.
-use Rattle.std.specs.Prelude.{◌≡◌, Bool, true, false, ◌&&◌, ◌⊎◌, eqb, ltb}
+use Rattle.std.specs.Prelude.{◌≡◌, Bool, true, false, ◌&&◌, ◌⊎◌, eqb, ltb, Option, None, Some}
 use Rattle.std.proofs.Math.Path.{refl, sym, ap}
 use Rattle.std.proofs.Common.{◌∙◌, true≢false, add-suc, lt-ltb, le-ltb, ne_eqb}
 use Rattle.std.proofs.Math.Logic.{inl, inr}
 use mathlib.Core.List.{List, [], ◌∷◌}
-use Rattle.std.proofs.Math.Option.{Option, none, some}
 use Prim.Native.Nat.{ℕ, zero, suc, ◌+◌, ◌≤◌, ◌<◌}
 use Rattle.std.proofs.Math.Nat.{add-zero}
 use native.Mathlib.Omega.{arith}
@@ -25,33 +24,33 @@ opens x = given (checkpoint_page_in x).tariff
 
 -- A checkpoint page in front of others, where the cell is one.
 abbrev cons_checkpoint_page : Option Page → List CheckpointPage → List CheckpointPage
-cons_checkpoint_page none later = later
-cons_checkpoint_page (some (page s (log es))) later = later
-cons_checkpoint_page (some (page s (whole n x))) later = later
-cons_checkpoint_page (some (page s (checkpoint t ss c))) later = checkpoint_page t ss c ∷ later
+cons_checkpoint_page None later = later
+cons_checkpoint_page (Some (page s (log es))) later = later
+cons_checkpoint_page (Some (page s (whole n x))) later = later
+cons_checkpoint_page (Some (page s (checkpoint t ss c))) later = checkpoint_page t ss c ∷ later
 
 -- one page taken: the first of the set, or one within it
 collect-first : (x : Option Page) (later : List CheckpointPage) (rest : List CheckpointPage → List CheckpointPage) → opens x ≡ true → collect_at x
     later rest ≡ cons_checkpoint_page x later
-collect-first none later rest e = absurd (true≢false (sym e))
-collect-first (some (page s (log es))) later rest e = absurd (true≢false (sym e))
-collect-first (some (page s (whole n x))) later rest e = absurd (true≢false (sym e))
-collect-first (some (page s (checkpoint none ss c))) later rest e = absurd (true≢false (sym e))
-collect-first (some (page s (checkpoint (some t) ss c))) later rest e = refl
+collect-first None later rest e = absurd (true≢false (sym e))
+collect-first (Some (page s (log es))) later rest e = absurd (true≢false (sym e))
+collect-first (Some (page s (whole n x))) later rest e = absurd (true≢false (sym e))
+collect-first (Some (page s (checkpoint None ss c))) later rest e = absurd (true≢false (sym e))
+collect-first (Some (page s (checkpoint (Some t) ss c))) later rest e = refl
 
 collect_plain : (x : Option Page) (later : List CheckpointPage) (rest : List CheckpointPage → List CheckpointPage) → foreign x ≡ false → opens x ≡ false →
     collect_at x later rest ≡ rest (cons_checkpoint_page x later)
-collect_plain none later rest f e = refl
-collect_plain (some (page s (log es))) later rest f e = absurd (true≢false f)
-collect_plain (some (page s (whole n x))) later rest f e = absurd (true≢false f)
-collect_plain (some (page s (checkpoint none ss c))) later rest f e = refl
-collect_plain (some (page s (checkpoint (some t) ss c))) later rest f e = absurd (true≢false e)
+collect_plain None later rest f e = refl
+collect_plain (Some (page s (log es))) later rest f e = absurd (true≢false f)
+collect_plain (Some (page s (whole n x))) later rest f e = absurd (true≢false f)
+collect_plain (Some (page s (checkpoint None ss c))) later rest f e = refl
+collect_plain (Some (page s (checkpoint (Some t) ss c))) later rest f e = absurd (true≢false e)
 
 tariff-cons : (x : Option Page) (later : List CheckpointPage) → opens x ≡ true → tariff_in (cons_checkpoint_page x later) ≡ (checkpoint_page_in x).tariff
-tariff-cons none later o = absurd (true≢false (sym o))
-tariff-cons (some (page s (log es))) later o = absurd (true≢false (sym o))
-tariff-cons (some (page s (whole n x))) later o = absurd (true≢false (sym o))
-tariff-cons (some (page s (checkpoint t ss c))) later o = refl
+tariff-cons None later o = absurd (true≢false (sym o))
+tariff-cons (Some (page s (log es))) later o = absurd (true≢false (sym o))
+tariff-cons (Some (page s (whole n x))) later o = absurd (true≢false (sym o))
+tariff-cons (Some (page s (checkpoint t ss c))) later o = refl
 
 module _ (at : ℕ → Option Page) where
   -- The set reaches from number suc s, the newest that opens one, to suc (s + k): between them no page is of another kind.
@@ -136,19 +135,19 @@ module _ (at : ℕ → Option Page) where
     where
       go : (x : Option Page) → at (suc s) ≡ x → ((l : List CheckpointPage) → (collect at s l ≡ []) ⊎ Reached s) →
           (collect_at x later (collect at s) ≡ []) ⊎ Reached (suc s)
-      go none e r = step (r later)
+      go None e r = step (r later)
         where
           step : (collect at s later ≡ []) ⊎ Reached s → (collect at s later ≡ []) ⊎ Reached (suc s)
           step (inl z) = inl z
           step (inr z) = inr (reach-next s (ap foreign e) (ap opens e) z)
-      go (some (page n (log es))) e r = inl refl
-      go (some (page n (whole m x))) e r = inl refl
-      go (some (page n (checkpoint none ss c))) e r = step (r (checkpoint_page none ss c ∷ later))
+      go (Some (page n (log es))) e r = inl refl
+      go (Some (page n (whole m x))) e r = inl refl
+      go (Some (page n (checkpoint None ss c))) e r = step (r (checkpoint_page None ss c ∷ later))
         where
-          step : (collect at s (checkpoint_page none ss c ∷ later) ≡ []) ⊎ Reached s → (collect at s (checkpoint_page none ss c ∷ later) ≡ []) ⊎ Reached (suc s)
+          step : (collect at s (checkpoint_page None ss c ∷ later) ≡ []) ⊎ Reached s → (collect at s (checkpoint_page None ss c ∷ later) ≡ []) ⊎ Reached (suc s)
           step (inl z) = inl z
           step (inr z) = inr (reach-next s (ap foreign e) (ap opens e) z)
-      go (some (page n (checkpoint (some t) ss c))) e r = inr (reach_here s (ap opens e))
+      go (Some (page n (checkpoint (Some t) ss c))) e r = inr (reach_here s (ap opens e))
 
 -- ---- sums over checkpoint pages
 
@@ -159,27 +158,27 @@ sum_checkpoint_pages h (x ∷ xs) = h x + sum_checkpoint_pages h xs
 module _ (h : CheckpointPage → ℕ) (nothing : h no_checkpoint_page ≡ 0) where
   sum-cons : (x : Option Page) (later : List CheckpointPage) →
       sum_checkpoint_pages h (cons_checkpoint_page x later) ≡ h (checkpoint_page_in x) + sum_checkpoint_pages h later
-  sum-cons none later = omega (arith, nothing)
-  sum-cons (some (page s (log es))) later = omega (arith, nothing)
-  sum-cons (some (page s (whole n x))) later = omega (arith, nothing)
-  sum-cons (some (page s (checkpoint t ss c))) later = refl
+  sum-cons None later = omega (arith, nothing)
+  sum-cons (Some (page s (log es))) later = omega (arith, nothing)
+  sum-cons (Some (page s (whole n x))) later = omega (arith, nothing)
+  sum-cons (Some (page s (checkpoint t ss c))) later = refl
 
   -- What a cell adds to a set that begins with a number.
   abbrev pub in_set : ℕ → Option Page → ℕ
   in_set since x = choose (ltb (number_in x) since) 0 (h (checkpoint_page_in x))
 
-  module _ (at : ℕ → Option Page) (own : (s : ℕ) → (at s ≡ none) ⊎ (number_in (at s) ≡ s)) where
+  module _ (at : ℕ → Option Page) (own : (s : ℕ) → (at s ≡ None) ⊎ (number_in (at s) ≡ s)) where
     before : (since s : ℕ) → s < since → in_set since (at s) ≡ 0
     before since s l = go (own s)
       where
-        go : (at s ≡ none) ⊎ (number_in (at s) ≡ s) → in_set since (at s) ≡ 0
+        go : (at s ≡ None) ⊎ (number_in (at s) ≡ s) → in_set since (at s) ≡ 0
         go (inl e) = ap (in_set since) e ∙ ap (λ (t : Bool). choose t 0 (h no_checkpoint_page)) (lt-ltb 0 since (omega arith))
         go (inr e) = ap (λ (t : Bool). choose t 0 (h (checkpoint_page_in (at s)))) (lt-ltb (number_in (at s)) since (omega arith))
 
     pub within : (since s : ℕ) → 1 ≤ since → since ≤ s → in_set since (at s) ≡ h (checkpoint_page_in (at s))
     within since s o l = go (own s)
       where
-        go : (at s ≡ none) ⊎ (number_in (at s) ≡ s) → in_set since (at s) ≡ h (checkpoint_page_in (at s))
+        go : (at s ≡ None) ⊎ (number_in (at s) ≡ s) → in_set since (at s) ≡ h (checkpoint_page_in (at s))
         go (inl e) =
             ap (in_set since) e ∙
             ap (λ (t : Bool). choose t 0 (h no_checkpoint_page)) (lt-ltb 0 since (omega arith)) ∙
@@ -243,16 +242,16 @@ count_last-is (x ∷ y ∷ xs) = go x.count (top_count (y ∷ xs)) refl (count_l
 
     go : (c : Option ℕ) (t : Bool) → top_count (y ∷ xs) ≡ t → count_last (y ∷ xs) ≡ (top_count (y ∷ xs) && eqb n 1) →
         (no_count c && count_last (y ∷ xs)) ≡ (top_count (y ∷ xs) && eqb (bit (has_count c) + n) 1)
-    go none t e r = r ∙ ap (λ (m : ℕ). top_count (y ∷ xs) && eqb m 1) zero_more
-    go (some m) true e r = rw (e, ne_eqb (1 + n) 1 (λ z. omega (arith, top_counted (y ∷ xs), ap bit e))) refl
-    go (some m) false e r = rw e refl
+    go None t e r = r ∙ ap (λ (m : ℕ). top_count (y ∷ xs) && eqb m 1) zero_more
+    go (Some m) true e r = rw (e, ne_eqb (1 + n) 1 (λ z. omega (arith, top_counted (y ∷ xs), ap bit e))) refl
+    go (Some m) false e r = rw e refl
 
 -- the last checkpoint page gathered is the newest page's
 top-cons : (c : Option Page) (x : CheckpointPage) (xs : List CheckpointPage) → top_count (cons_checkpoint_page c (x ∷ xs)) ≡ top_count (x ∷ xs)
-top-cons none x xs = refl
-top-cons (some (page s (log es))) x xs = refl
-top-cons (some (page s (whole n y))) x xs = refl
-top-cons (some (page s (checkpoint t ss c))) x xs = refl
+top-cons None x xs = refl
+top-cons (Some (page s (log es))) x xs = refl
+top-cons (Some (page s (whole n y))) x xs = refl
+top-cons (Some (page s (checkpoint t ss c))) x xs = refl
 
 module _ (at : ℕ → Option Page) (s : ℕ) where
   top-gathered : (k : ℕ) (x : CheckpointPage) (xs : List CheckpointPage) → top_count (gathered at s k (x ∷ xs)) ≡ top_count (x ∷ xs)
@@ -262,18 +261,18 @@ module _ (at : ℕ → Option Page) (s : ℕ) where
     where
       go : (c : Option Page) → ((y : CheckpointPage) (ys : List CheckpointPage) → top_count (gathered at s k (y ∷ ys)) ≡ top_count (y ∷ ys)) →
           top_count (gathered at s k (cons_checkpoint_page c (x ∷ xs))) ≡ top_count (x ∷ xs)
-      go none r = r x xs
-      go (some (page n (log es))) r = r x xs
-      go (some (page n (whole m y))) r = r x xs
-      go (some (page n (checkpoint t ss c))) r = r (checkpoint_page t ss c) (x ∷ xs)
+      go None r = r x xs
+      go (Some (page n (log es))) r = r x xs
+      go (Some (page n (whole m y))) r = r x xs
+      go (Some (page n (checkpoint t ss c))) r = r (checkpoint_page t ss c) (x ∷ xs)
 
-  checkpoint_page_alone : (x : Option Page) → foreign x ≡ false → (x ≡ none → ⊥) → cons_checkpoint_page x [] ≡ checkpoint_page_in x ∷ []
-  checkpoint_page_alone none f h = absurd (h refl)
-  checkpoint_page_alone (some (page n (log es))) f h = absurd (true≢false f)
-  checkpoint_page_alone (some (page n (whole m y))) f h = absurd (true≢false f)
-  checkpoint_page_alone (some (page n (checkpoint t ss c))) f h = refl
+  checkpoint_page_alone : (x : Option Page) → foreign x ≡ false → (x ≡ None → ⊥) → cons_checkpoint_page x [] ≡ checkpoint_page_in x ∷ []
+  checkpoint_page_alone None f h = absurd (h refl)
+  checkpoint_page_alone (Some (page n (log es))) f h = absurd (true≢false f)
+  checkpoint_page_alone (Some (page n (whole m y))) f h = absurd (true≢false f)
+  checkpoint_page_alone (Some (page n (checkpoint t ss c))) f h = refl
 
-  pub top-newest : (k : ℕ) → foreign (at (suc (s + k))) ≡ false → (at (suc (s + k)) ≡ none → ⊥) →
+  pub top-newest : (k : ℕ) → foreign (at (suc (s + k))) ≡ false → (at (suc (s + k)) ≡ None → ⊥) →
       top_count (gathered at s k []) ≡ has_count (checkpoint_page_in (at (suc (s + k)))).count
   unfolding gathered
   top-newest zero f h =

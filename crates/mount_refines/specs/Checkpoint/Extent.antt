@@ -1,10 +1,9 @@
 -- How far the checkpoint reaches, by places: the greatest number of all is the store's last, and the greatest of a page with the tariff is
 -- the first number of the set. Assumes nothing.
-use Rattle.std.specs.Prelude.{◌≡◌, Bool, true, false, ◌&&◌, ◌⊎◌, List, ℕ, ◌+◌, ◌*◌, ◌≤◌, ◌<◌, max, ltb, get_or}
+use Rattle.std.specs.Prelude.{◌≡◌, Bool, true, false, ◌&&◌, ◌⊎◌, List, ℕ, ◌+◌, ◌*◌, ◌≤◌, ◌<◌, max, ltb, get_or, Option, None, Some}
 use Rattle.std.proofs.Math.Path.{refl}
 use Rattle.std.proofs.Common.{sym, ap, subst, ◌∙◌, inr, arith, ltb-true, ltb-false}
 use Rattle.std.proofs.Math.Logic.{inl}
-use Rattle.std.proofs.Math.Option.{Option, none, some}
 use Rattle.std.proofs.Math.Numerals.{lt_of_le_of_ne}
 use Rattle.laws.specs.Tests.{choose, and_left, and_right, test_clash}
 use Rattle.laws.specs.Order.{eq_or, le_or}
@@ -40,10 +39,10 @@ extended-is q b x e h =
 module _ (c : Cells) where
   -- What was seen of the first i cells.
   record Seen (i : ℕ) (e : Extent) : Type 0 where
-    top : (q : ℕ) → q < i → number_in (get_or c q none) ≤ e.newest
-    reached : (e.newest ≡ 0) ⊎ ((q : ℕ) × (number_in (get_or c q none) ≡ e.newest))
-    first : (q : ℕ) → q < i → opens (get_or c q none) ≡ true → number_in (get_or c q none) ≤ e.since
-    place : (e.since ≡ 0) ⊎ ((opens (get_or c e.place none) ≡ true) × (number_in (get_or c e.place none) ≡ e.since))
+    top : (q : ℕ) → q < i → number_in (get_or c q None) ≤ e.newest
+    reached : (e.newest ≡ 0) ⊎ ((q : ℕ) × (number_in (get_or c q None) ≡ e.newest))
+    first : (q : ℕ) → q < i → opens (get_or c q None) ≡ true → number_in (get_or c q None) ≤ e.since
+    place : (e.since ≡ 0) ⊎ ((opens (get_or c e.place None) ≡ true) × (number_in (get_or c e.place None) ≡ e.since))
 
   seen_none : Seen 0 no_extent
   unfolding no_extent
@@ -51,23 +50,23 @@ module _ (c : Cells) where
 
   module _ (i : ℕ) (e : Extent) (s : Seen i e) where
     abbrev x : Option Page
-    x = get_or c i none
+    x = get_or c i None
 
     below : (q : ℕ) → q < i + 1 → (q ≡ i → ⊥) → q < i
     below q l d = lt_of_le_of_ne (omega arith) d
 
-    top-next : (q : ℕ) → q < i + 1 → (q ≡ i) ⊎ (q ≡ i → ⊥) → number_in (get_or c q none) ≤ max e.newest (number_in x)
+    top-next : (q : ℕ) → q < i + 1 → (q ≡ i) ⊎ (q ≡ i → ⊥) → number_in (get_or c q None) ≤ max e.newest (number_in x)
     top-next q l (inl z) = rw z (omega arith)
     top-next q l (inr d) = omega (arith, s.top q (below q l d))
 
-    reached-next : (e.newest ≤ number_in x) ⊎ (number_in x < e.newest) → (e.newest ≡ 0) ⊎ ((q : ℕ) × (number_in (get_or c q none) ≡ e.newest)) →
-        (max e.newest (number_in x) ≡ 0) ⊎ ((q : ℕ) × (number_in (get_or c q none) ≡ max e.newest (number_in x)))
+    reached-next : (e.newest ≤ number_in x) ⊎ (number_in x < e.newest) → (e.newest ≡ 0) ⊎ ((q : ℕ) × (number_in (get_or c q None) ≡ e.newest)) →
+        (max e.newest (number_in x) ≡ 0) ⊎ ((q : ℕ) × (number_in (get_or c q None) ≡ max e.newest (number_in x)))
     reached-next (inl l) r = inr (i, omega arith)
     reached-next (inr l) (inl z) = absurd (omega arith)
     reached-next (inr l) (inr z) = inr (z.0, omega (arith, z.1))
 
     first_next : (since : ℕ) → e.since ≤ since → (opens x ≡ true → number_in x ≤ since) → (q : ℕ) → q < i + 1 → (q ≡ i) ⊎ (q ≡ i → ⊥) →
-        opens (get_or c q none) ≡ true → number_in (get_or c q none) ≤ since
+        opens (get_or c q None) ≡ true → number_in (get_or c q None) ≤ since
     first_next since l o q h (inl z) t = rw z (o (rw z at t))
     first_next since l o q h (inr d) t = omega (arith, s.first q (below q h d) t)
 
@@ -103,7 +102,7 @@ module _ {pool : List ℕ} {blocks : ℕ} {c : Cells} (j : Judged pool blocks c)
   unfolding extent_of
   seen =
       steps-keep (Seen c) (λ q. extended q (page_at ps q)) (32 * blocks)
-      (λ i e l s. rw (extended-is i (page_at ps i) (get_or c i none) e (headers j i l)) (seen_next c i e s _ refl))
+      (λ i e l s. rw (extended-is i (page_at ps i) (get_or c i None) e (headers j i l)) (seen_next c i e s _ refl))
       no_extent (seen_none c)
 
   -- THE NEWEST NUMBER is the greatest of the cells.
@@ -112,7 +111,7 @@ module _ {pool : List ℕ} {blocks : ℕ} {c : Cells} (j : Judged pool blocks c)
       let up = greatest_of_le ext.newest c (λ q l. seen.top q (omega (arith, length-cells j))) in
       go up seen.reached
     where
-      go : greatest_of (pages_in c) ≤ ext.newest → (ext.newest ≡ 0) ⊎ ((q : ℕ) × (number_in (get_or c q none) ≡ ext.newest)) →
+      go : greatest_of (pages_in c) ≤ ext.newest → (ext.newest ≡ 0) ⊎ ((q : ℕ) × (number_in (get_or c q None) ≡ ext.newest)) →
           ext.newest ≡ greatest_of (pages_in c)
       go u (inl z) = omega arith
       go u (inr z) = omega (arith, number_in_le c z.0, z.1)
@@ -121,22 +120,22 @@ module _ {pool : List ℕ} {blocks : ℕ} {c : Cells} (j : Judged pool blocks c)
   abbrev at : ℕ → Option Page
   at s = page_in s (pages_in c)
 
-  pub first-place : 1 ≤ ext.since → at ext.since ≡ get_or c ext.place none
-  first-place l = go (get_or c ext.place none) refl seen.place
+  pub first-place : 1 ≤ ext.since → at ext.since ≡ get_or c ext.place None
+  first-place l = go (get_or c ext.place None) refl seen.place
     where
-      go : (x : Option Page) → get_or c ext.place none ≡ x →
-          (ext.since ≡ 0) ⊎ ((opens (get_or c ext.place none) ≡ true) × (number_in (get_or c ext.place none) ≡ ext.since)) →
+      go : (x : Option Page) → get_or c ext.place None ≡ x →
+          (ext.since ≡ 0) ⊎ ((opens (get_or c ext.place None) ≡ true) × (number_in (get_or c ext.place None) ≡ ext.since)) →
           at ext.since ≡ x
       go x e (inl z) = absurd (omega arith)
-      go none e (inr z) = absurd (omega (arith, z.1, ap number_in e))
-      go (some p) e (inr z) =
+      go None e (inr z) = absurd (omega (arith, z.1, ap number_in e))
+      go (Some p) e (inr z) =
           let n : sequence p ≡ ext.since = sym (ap number_in e) ∙ z.1 in
-          subst (λ (s : ℕ). page_in s (pages_in c) ≡ some p) n (place-page_in c ext.place p (once j (sequence p)) e)
+          subst (λ (s : ℕ). page_in s (pages_in c) ≡ Some p) n (place-page_in c ext.place p (once j (sequence p)) e)
 
   pub first-opens : 1 ≤ ext.since → opens (at ext.since) ≡ true
   first-opens l = go seen.place
     where
-      go : (ext.since ≡ 0) ⊎ ((opens (get_or c ext.place none) ≡ true) × (number_in (get_or c ext.place none) ≡ ext.since)) →
+      go : (ext.since ≡ 0) ⊎ ((opens (get_or c ext.place None) ≡ true) × (number_in (get_or c ext.place None) ≡ ext.since)) →
           opens (at ext.since) ≡ true
       go (inl z) = absurd (omega arith)
       go (inr z) = ap opens (first-place l) ∙ z.0
@@ -145,8 +144,8 @@ module _ {pool : List ℕ} {blocks : ℕ} {c : Cells} (j : Judged pool blocks c)
   opens-below s o = go (at s) refl
     where
       go : (x : Option Page) → at s ≡ x → s ≤ ext.since
-      go none e = absurd (test_clash (opens (at s)) o (ap opens e))
-      go (some p) e =
+      go None e = absurd (test_clash (opens (at s)) o (ap opens e))
+      go (Some p) e =
           let r = page_in-place s c p e in
           let f = seen.first r.at (omega (arith, r.inside, length-cells j)) (ap opens (r.is ∙ sym e) ∙ o) in
           omega (arith, f, ap number_in r.is, page_in-number s (pages_in c) p e)

@@ -1,13 +1,13 @@
 -- Question 6: what the code finds is the store's checkpoint. It is complete in both or in none, and tariff, node count and first page are
 -- the same. Assumes nothing.
-use Rattle.std.specs.Prelude.{◌≡◌, Bool, ◌&&◌, ◌⊎◌, ℕ, zero, suc, ◌+◌, ◌-◌, ◌*◌, ◌≤◌, ◌<◌, leb, ltb, length, get_or}
+use Rattle.std.specs.Prelude.{◌≡◌, Bool, ◌&&◌, ◌⊎◌, ℕ, zero, suc, ◌+◌, ◌-◌, ◌*◌, ◌≤◌, ◌<◌, leb, ltb, length, get_or, Option, None, Some, is_some}
 use Rattle.std.proofs.Math.Path.{refl, sym, ap, ap₂, subst}
 use Rattle.std.proofs.Common.{◌∙◌, inl, inr, arith}
 use Rattle.std.proofs.Math.Bool.{true, false}
 use mathlib.Core.List.{List, [], ◌∷◌}
-use Rattle.std.proofs.Math.Option.{Option, none, some}
 use Rattle.std.proofs.Math.Dec.{eqb}
 use borrow.Author.Tests.{eqb-true, le-leb, leb-true}
+use Rattle.laws.specs.Options.{some_same}
 use Rattle.laws.specs.Tests.{choose, and_left, and_right, test_clash}
 use Rattle.laws.specs.Order.{le_or}
 use Rattle.laws.specs.Loops.{sum_from_le}
@@ -42,9 +42,8 @@ use Rattle.mount_checkpoint_pages.specs.Totals.{totals_of}
 use Rattle.mount_checkpoint_pages.specs.declared.extent.Extent.{Extent}
 use Rattle.mount_checkpoint_pages.specs.declared.totals.Totals.{Totals}
 use Rattle.mount_checkpoint.specs.Marks.{covers_of}
-use Rattle.mount_checkpoint.specs.Find.{tariff_at, adds_up, found_by, totals_in, checkpoint_in}
 use Rattle.mount_checkpoint.specs.declared.find.Checkpoint.{Checkpoint}
-use Rattle.mount_checkpoint.specs.declared.find.Checkpoint.TheVariants.{Complete, Incomplete}
+use Rattle.mount_checkpoint.specs.Find.{complete_as, tariff_at, adds_up, found_by, totals_in, checkpoint_in}
 use Rattle.mount_refines.specs.Checkpoint.Header.{number_in, checkpoint_page_in}
 use Rattle.mount_refines.specs.Checkpoint.Written.{number_in_le}
 use Rattle.mount_refines.specs.Checkpoint.Collect.{opens, Reach, gathered, collect-gathered, tariff-gathered, Reached, collected}
@@ -62,11 +61,11 @@ collect-ext f g h (suc s) later =
     ap (λ (x : Option Page). collect_at x later (collect f s)) (h (suc s)) ∙ go (g (suc s)) (λ l. collect-ext f g h s l)
   where
     go : (x : Option Page) → ((l : List CheckpointPage) → collect f s l ≡ collect g s l) → collect_at x later (collect f s) ≡ collect_at x later (collect g s)
-    go none r = r later
-    go (some (page n (log es))) r = refl
-    go (some (page n (whole m y))) r = refl
-    go (some (page n (checkpoint none ss c))) r = r (checkpoint_page none ss c ∷ later)
-    go (some (page n (checkpoint (some t) ss c))) r = refl
+    go None r = r later
+    go (Some (page n (log es))) r = refl
+    go (Some (page n (whole m y))) r = refl
+    go (Some (page n (checkpoint None ss c))) r = r (checkpoint_page None ss c ∷ later)
+    go (Some (page n (checkpoint (Some t) ss c))) r = refl
 
 -- ---- few scores
 
@@ -98,15 +97,11 @@ scores_few ps n since newest =
 
 -- ---- the set that the code spans
 
-abbrev pub is_complete : Checkpoint → Bool
-is_complete (Complete t n since) = true
-is_complete Incomplete = false
-
 -- What a complete checkpoint of a store is told as: its tariff, its node count, and the number of its first page, the newest that has a
 -- tariff.
 pub record Completes (st : Store) (t : Tariff) (nodes since : ℕ) : Type 0 where
   pub whole : complete (checkpoint_of st) ≡ true
-  pub tariff-is : tariff_in (checkpoint_of st) ≡ some t
+  pub tariff-is : tariff_in (checkpoint_of st) ≡ Some t
   pub nodes_are : count_in (checkpoint_of st) ≡ nodes
   pub first : opens (find since st.blocks) ≡ true
   pub later : (s : ℕ) → since < s → opens (find s st.blocks) ≡ false
@@ -146,7 +141,7 @@ module _ {pool : List ℕ} {blocks : ℕ} {c : Cells} (j : Judged pool blocks c)
   since_le : 1 ≤ ext.since → ext.since ≤ last
   since_le l = go (own-number c ext.since)
     where
-      go : (at ext.since ≡ none) ⊎ (number_in (at ext.since) ≡ ext.since) → ext.since ≤ last
+      go : (at ext.since ≡ None) ⊎ (number_in (at ext.since) ≡ ext.since) → ext.since ≤ last
       go (inl e) = absurd (test_clash (opens (at ext.since)) (first-opens j l) (ap opens e))
       go (inr e) = omega (arith, e, ap number_in (first-place j l), number_in_le c ext.place)
 
@@ -283,11 +278,11 @@ module _ {pool : List ℕ} {blocks : ℕ} {c : Cells} (j : Judged pool blocks c)
             sym (code_up e).1 ∙ fits-here sp ∙ ap count_last (sym (spans_collect sp) ∙ z)
 
     -- QUESTION 6: the code says yes exactly if the store's checkpoint is complete.
-    pub question_six : is_complete (checkpoint_in ps blocks width) ≡ complete (checkpoint_of (reopened blocks c))
+    pub question_six : is_some (checkpoint_in ps blocks width) ≡ complete (checkpoint_of (reopened blocks c))
     unfolding checkpoint_in found_by complete
     question_six = told code ∙ go (collected at last []) ∙ sym (ap complete checkpoint-is)
       where
-        told : (t : Bool) → is_complete (choose t (Complete (tariff_at ps ext.place) tot.nodes ext.since) Incomplete) ≡ t
+        told : (t : Bool) → is_some (choose t (complete_as (tariff_at ps ext.place) tot.nodes ext.since) None) ≡ t
         told true = refl
         told false = refl
 
@@ -299,27 +294,29 @@ module _ {pool : List ℕ} {blocks : ℕ} {c : Cells} (j : Judged pool blocks c)
 
     -- ---- what a complete checkpoint is told as
 
-    told-parts : (t : Bool) (x y : Tariff) (a b u v : ℕ) → choose t (Complete x a u) Incomplete ≡ Complete y b v →
+    told-parts : (t : Bool) (x y : Tariff) (a b u v : ℕ) → choose t (complete_as x a u) None ≡ complete_as y b v →
         (t ≡ true) × (x ≡ y) × (a ≡ b) × (u ≡ v)
-    told-parts true x y a b u v e = (refl, cc, cc, cc)
+    told-parts true x y a b u v e =
+        let r = some_same e in
+        (refl, ap (λ (k : Checkpoint). k.tariff) r, ap (λ (k : Checkpoint). k.nodes) r, ap (λ (k : Checkpoint). k.since) r)
     told-parts false x y a b u v e = absurd (let z : ◌≡◌ {A = ℕ} 0 1 = cc in omega arith)
 
-    first-inside : (d : Cells) (q : ℕ) → opens (get_or d q none) ≡ true → q < length d
+    first-inside : (d : Cells) (q : ℕ) → opens (get_or d q None) ≡ true → q < length d
     first-inside [] q e = absurd (test_clash false e refl)
     first-inside (x ∷ d) zero e = omega arith
     first-inside (x ∷ d) (suc q) e = omega (arith, first-inside d q e)
 
-    read_some : (p : List ℕ) → given (read_if tariff_of p) ≡ true → read_if tariff_of p ≡ some (tariff_of p)
+    read_some : (p : List ℕ) → given (read_if tariff_of p) ≡ true → read_if tariff_of p ≡ Some (tariff_of p)
     read_some [] e = absurd (test_clash false e refl)
     read_some (x ∷ p) e = refl
 
     -- THE TARIFF stands on the first page of the set.
-    tariff-here : Spans c ext.since → tariff_in (collect at last []) ≡ some (tariff_at ps ext.place)
+    tariff-here : Spans c ext.since → tariff_in (collect at last []) ≡ Some (tariff_at ps ext.place)
     unfolding tariff_at
     tariff-here sp =
         let l : 1 ≤ ext.since = omega (arith, sp.begin) in
         let cell = first-place j l in
-        let o : opens (get_or c ext.place none) ≡ true = sym (ap opens cell) ∙ first-opens j l in
+        let o : opens (get_or c ext.place None) ≡ true = sym (ap opens cell) ∙ first-opens j l in
         let h = headers j ext.place (omega (arith, first-inside c ext.place o, length-cells j)) in
         ap tariff_in (spans_collect sp) ∙
         tariff-gathered at sp.below sp.length [] sp.reach.first ∙
@@ -329,13 +326,13 @@ module _ {pool : List ℕ} {blocks : ℕ} {c : Cells} (j : Judged pool blocks c)
         read_some (payload_at (page_at ps ext.place) 7 0x13) (ap given h.tariff ∙ o)
 
     -- THE SET that is told is the store's checkpoint.
-    pub found-set : (t : Tariff) (nodes since : ℕ) → checkpoint_in ps blocks width ≡ Complete t nodes since → Spans c since
+    pub found-set : (t : Tariff) (nodes since : ℕ) → checkpoint_in ps blocks width ≡ complete_as t nodes since → Spans c since
     unfolding checkpoint_in found_by
     found-set t nodes since e =
         let f = told-parts code (tariff_at ps ext.place) t tot.nodes nodes ext.since since e in
         subst (Spans c) f.3 (code_spans f.0)
 
-    pub found_values : (t : Tariff) (nodes since : ℕ) → checkpoint_in ps blocks width ≡ Complete t nodes since →
+    pub found_values : (t : Tariff) (nodes since : ℕ) → checkpoint_in ps blocks width ≡ complete_as t nodes since →
         Completes (reopened blocks c) t nodes since
     unfolding checkpoint_in found_by complete
     found_values t nodes since e =
@@ -345,7 +342,7 @@ module _ {pool : List ℕ} {blocks : ℕ} {c : Cells} (j : Judged pool blocks c)
         let is : checkpoint_of (reopened blocks c) ≡ gathered at sp.below sp.length [] = checkpoint-is ∙ spans_collect sp in
         record {
           whole = ap complete is ∙ u;
-          tariff-is = ap tariff_in checkpoint-is ∙ tariff-here sp ∙ ap some f.1;
+          tariff-is = ap tariff_in checkpoint-is ∙ tariff-here sp ∙ ap Some f.1;
           nodes_are = ap count_in is ∙ sym (nodes-here sp (and_left (count_last (xs sp)) _ u)) ∙ f.2;
           first = ap opens (find-is j since) ∙ ap (λ (k : ℕ). opens (at k)) (sym f.3) ∙ first-opens j (omega (arith, sp.begin));
           later = λ s l. ap opens (find-is j s) ∙ not_open s (omega (arith, f.3));

@@ -1,10 +1,9 @@
 -- What the headers of a page's bytes say is what the page in its cell says: number, tariff, scores and node count; a page that is no
 -- checkpoint page, and a blank one, has none of these. Assumes nothing.
-use Rattle.std.specs.Prelude.{◌≡◌, Bool, true, false, ◌⊎◌, ℕ, zero, suc, ◌+◌, ◌*◌, ◌≤◌, ◌<◌, eqb, leb, length, get_or}
+use Rattle.std.specs.Prelude.{◌≡◌, Bool, true, false, ◌⊎◌, ℕ, zero, suc, ◌+◌, ◌*◌, ◌≤◌, ◌<◌, eqb, leb, length, get_or, Option, None, Some}
 use Rattle.std.proofs.Math.Path.{refl, ap}
 use Rattle.std.proofs.Common.{sym, subst, ◌∙◌, inl, inr, arith}
 use mathlib.Core.List.{List, [], ◌∷◌, map}
-use Rattle.std.proofs.Math.Option.{Option, none, some}
 use borrow.Author.Tests.{eqb-true, eqb-false, eq-eqb, ne_eqb, leb-true, leb-false}
 use Rattle.laws.specs.Tests.{choose, and_left, and_right, test_clash}
 use Rattle.laws.specs.BigEndian.{number}
@@ -58,23 +57,23 @@ use Rattle.mount_checkpoint_pages.specs.CheckpointPage.{number_of, scores_from, 
 
 -- The number of a cell's page, its checkpoint page, and whether it is of another kind.
 abbrev pub number_in : Option Page → ℕ
-number_in none = 0
-number_in (some p) = sequence p
+number_in None = 0
+number_in (Some p) = sequence p
 
 abbrev pub no_checkpoint_page : CheckpointPage
-no_checkpoint_page = checkpoint_page none [] none
+no_checkpoint_page = checkpoint_page None [] None
 
 abbrev pub checkpoint_page_in : Option Page → CheckpointPage
-checkpoint_page_in none = no_checkpoint_page
-checkpoint_page_in (some (page s (log es))) = no_checkpoint_page
-checkpoint_page_in (some (page s (whole n x))) = no_checkpoint_page
-checkpoint_page_in (some (page s (checkpoint t ss c))) = checkpoint_page t ss c
+checkpoint_page_in None = no_checkpoint_page
+checkpoint_page_in (Some (page s (log es))) = no_checkpoint_page
+checkpoint_page_in (Some (page s (whole n x))) = no_checkpoint_page
+checkpoint_page_in (Some (page s (checkpoint t ss c))) = checkpoint_page t ss c
 
 abbrev pub foreign : Option Page → Bool
-foreign none = false
-foreign (some (page s (log es))) = true
-foreign (some (page s (whole n x))) = true
-foreign (some (page s (checkpoint t ss c))) = false
+foreign None = false
+foreign (Some (page s (log es))) = true
+foreign (Some (page s (whole n x))) = true
+foreign (Some (page s (checkpoint t ss c))) = false
 
 -- The scores that a page's bytes spell.
 unfoldable pub scores_read : List ℕ → List Score
@@ -143,51 +142,51 @@ module _ (b : List ℕ) (no13 : get_or b 7 0 ≡ 0x13 → ⊥) (no14 : get_or b 
 
 -- ---- by the decoder's cases
 
-page_parts : (p q : Page) (b : List ℕ) → p ≡ q → Header b (some p) → Header b (some q)
-page_parts p q b e h = subst (λ (x : Page). Header b (some x)) e h
+page_parts : (p q : Page) (b : List ℕ) → p ≡ q → Header b (Some p) → Header b (Some q)
+page_parts p q b e h = subst (λ (x : Page). Header b (Some x)) e h
 
 module _ (b : List ℕ) (p : Page) where
-  log_header : get_or b 7 0 ≡ 0x12 → (n : ℕ) → decode_log (number_of b) n b ≡ written p → Header b (some p)
+  log_header : get_or b 7 0 ≡ 0x12 → (n : ℕ) → decode_log (number_of b) n b ≡ written p → Header b (Some p)
   unfolding decode_log
   log_header t n e =
       page_parts _ p b (when_passed _ _ p e).same
-      (bare b (λ z. omega arith) (λ z. omega arith) (λ z. omega arith) (some (page (number_of b) (log _))) refl refl (rw (eq-eqb _ _ t) refl))
+      (bare b (λ z. omega arith) (λ z. omega arith) (λ z. omega arith) (Some (page (number_of b) (log _))) refl refl (rw (eq-eqb _ _ t) refl))
 
-  node_header : get_or b 7 0 ≡ 0x11 → decode_node (number_of b) (payload_at b 7 0x11) b ≡ written p → Header b (some p)
+  node_header : get_or b 7 0 ≡ 0x11 → decode_node (number_of b) (payload_at b 7 0x11) b ≡ written p → Header b (Some p)
   unfolding decode_node
   node_header t e =
       page_parts _ p b (when_passed _ _ p e).same
-      (bare b (λ z. omega arith) (λ z. omega arith) (λ z. omega arith) (some (page (number_of b) (whole _ _))) refl refl
+      (bare b (λ z. omega arith) (λ z. omega arith) (λ z. omega arith) (Some (page (number_of b) (whole _ _))) refl refl
       (rw (ne_eqb (get_or b 7 0) 0x12 (λ z. omega arith), eq-eqb _ _ t) refl))
 
   checkpoint_page_header : (get_or b 7 0 ≡ 0x12 → ⊥) → (get_or b 7 0 ≡ 0x11 → ⊥) → decode_checkpoint (number_of b) (payload_at b 7 0x13) b ≡ written p →
-      Header b (some p)
+      Header b (Some p)
   unfolding decode_checkpoint decode_counted decode_scores scores_read scores_on scores_from count_part
   checkpoint_page_header t u e =
       page_parts _ p b (when_passed _ _ p e).same
       (record { seq = refl; tariff = refl; scores = refl; count = refl; kind = rw (ne_eqb _ _ t, ne_eqb _ _ u) refl })
 
-  written_header : decode_written (number_of b) b ≡ written p → Header b (some p)
+  written_header : decode_written (number_of b) b ≡ written p → Header b (Some p)
   written_header e = go (leb 1 (number_of b)) refl
     where
       kinds : (x y : Bool) → eqb (get_or b 7 0) 0x12 ≡ x → eqb (get_or b 7 0) 0x11 ≡ y → decode_content (number_of b) (get_or b 7 0) b ≡ written p →
-          Header b (some p)
+          Header b (Some p)
       kinds true y f g c = log_header (eqb-true _ _ f) _ (sym (content_log (number_of b) b (get_or b 7 0) (eqb-true _ _ f)) ∙ c)
       kinds false true f g c = node_header (eqb-true _ _ g) (sym (content_node (number_of b) b (get_or b 7 0) (eqb-true _ _ g)) ∙ c)
       kinds false false f g c =
           checkpoint_page_header (eqb-false _ _ f) (eqb-false _ _ g)
           (sym (content-checkpoint (number_of b) b (get_or b 7 0) (eqb-false _ _ f) (eqb-false _ _ g)) ∙ c)
 
-      go : (x : Bool) → leb 1 (number_of b) ≡ x → Header b (some p)
+      go : (x : Bool) → leb 1 (number_of b) ≡ x → Header b (Some p)
       go true f =
           kinds (eqb (get_or b 7 0) 0x12) (eqb (get_or b 7 0) 0x11) refl refl
           (sym (written_from (number_of b) b (leb-true 1 (number_of b) f)) ∙ e)
       go false f = written_bad _ p e (written-zero (number_of b) b (leb-false 1 (number_of b) f))
 
-blank_header : (b : List ℕ) → all_blank b ≡ true → Header b none
+blank_header : (b : List ℕ) → all_blank b ≡ true → Header b None
 blank_header b e =
     bare b (blank_not b e 7 0x13 (omega arith) (omega arith)) (blank_not b e 7 0x14 (omega arith) (omega arith))
-    (blank_not b e 7 0x15 (omega arith) (omega arith)) none
+    (blank_not b e 7 0x15 (omega arith) (omega arith)) None
     (ap number (payload_at-absent b 0 0x10 (blank_not b e 0 0x10 (omega arith) (omega arith)))) refl
     (rw (
       ne_eqb (get_or b 7 0) 0x12 (blank_not b e 7 0x12 (omega arith) (omega arith)),
@@ -199,10 +198,10 @@ unfolding blank_bytes
 all-blank = all_blank-replicate page_bytes
 
 -- THE HEADERS of a page that checks are its cell's.
-pub header : (b : List ℕ) → length b ≡ page_bytes → (x : Option Page) → cell_from (decode b) ≡ some x → Header b x
+pub header : (b : List ℕ) → length b ≡ page_bytes → (x : Option Page) → cell_from (decode b) ≡ Some x → Header b x
 header b l x e = go (all_blank b) refl
   where
-    other : (d : Decoded) → decode b ≡ d → cell_from d ≡ some x → all_blank b ≡ false → Header b x
+    other : (d : Decoded) → decode b ≡ d → cell_from d ≡ Some x → all_blank b ≡ false → Header b x
     other blank q r f = absurd (test_clash (all_blank b) (ap all_blank (blank-decode b l q) ∙ all-blank) f)
     other (written p) q r f = subst (Header b) (some_same r) (written_header b p (sym (decode-other b f) ∙ q))
     other bad q r f = absurd (let z : ◌≡◌ {A = ℕ} 0 1 = cc in omega arith)

@@ -1,8 +1,7 @@
 -- A pool of which question 5 was answered yes: its pages in bytes, each with the headers of its cell, and in the store, each found by its
 -- number. Assumes nothing.
-use Rattle.std.specs.Prelude.{◌≡◌, refl, true, ◌⊎◌, List, [], ◌∷◌, ℕ, zero, suc, ◌*◌, ◌/◌, ◌≤◌, ◌<◌, length, get_or, take, drop}
+use Rattle.std.specs.Prelude.{◌≡◌, refl, true, ◌⊎◌, List, [], ◌∷◌, ℕ, zero, suc, ◌*◌, ◌/◌, ◌≤◌, ◌<◌, length, get_or, take, drop, Option, None, Some}
 use Rattle.std.proofs.Common.{inl, inr, arith}
-use Rattle.std.proofs.Math.Option.{Option, none, some}
 use Rattle.laws.specs.Tests.{and_left}
 use Rattle.laws.specs.Lay.{part}
 use Rattle.laws.specs.Counts.{count}
@@ -22,31 +21,31 @@ use Rattle.mount_refines.specs.Checkpoint.Written.{find-pages, tally-pages, newe
 
 pub record Judged (pool : List ℕ) (blocks : ℕ) (c : Cells) : Type 0 where
   pub size : length pool ≡ block_bytes * blocks
-  pub reads : cells_of pool ≡ some c
+  pub reads : cells_of pool ≡ Some c
   pub pass : pages_pass blocks c ≡ true
 
 -- ---- each cell is what its page's bytes spell
 
-joined-first : (x : Option (Option Page)) (y : Option Cells) (o : Option Page) (d : Cells) → joined x y ≡ some (o ∷ d) → (x ≡ some o) × (y ≡ some d)
-joined-first none y o d e = absurd (let z : ◌≡◌ {A = ℕ} 0 1 = cc in omega arith)
-joined-first (some p) none o d e = absurd (let z : ◌≡◌ {A = ℕ} 0 1 = cc in omega arith)
-joined-first (some p) (some q) o d e = (cc, cc)
+joined-first : (x : Option (Option Page)) (y : Option Cells) (o : Option Page) (d : Cells) → joined x y ≡ Some (o ∷ d) → (x ≡ Some o) × (y ≡ Some d)
+joined-first None y o d e = absurd (let z : ◌≡◌ {A = ℕ} 0 1 = cc in omega arith)
+joined-first (Some p) None o d e = absurd (let z : ◌≡◌ {A = ℕ} 0 1 = cc in omega arith)
+joined-first (Some p) (Some q) o d e = (cc, cc)
 
-joined_some : (x : Option (Option Page)) (y : Option Cells) → joined x y ≡ some [] → ⊥
-joined_some none y e = let z : ◌≡◌ {A = ℕ} 0 1 = cc in omega arith
-joined_some (some p) none e = let z : ◌≡◌ {A = ℕ} 0 1 = cc in omega arith
-joined_some (some p) (some q) e = let z : ◌≡◌ {A = ℕ} 0 1 = cc in omega arith
+joined_some : (x : Option (Option Page)) (y : Option Cells) → joined x y ≡ Some [] → ⊥
+joined_some None y e = let z : ◌≡◌ {A = ℕ} 0 1 = cc in omega arith
+joined_some (Some p) None e = let z : ◌≡◌ {A = ℕ} 0 1 = cc in omega arith
+joined_some (Some p) (Some q) e = let z : ◌≡◌ {A = ℕ} 0 1 = cc in omega arith
 
-cell_reads : (width k : ℕ) (s : List ℕ) (c : Cells) (d : List ℕ) → cells_from width k s ≡ some c → (q : ℕ) → q < k →
-    cell_from (decode (get_or (first_chunks width k s) q d)) ≡ some (get_or c q none)
+cell_reads : (width k : ℕ) (s : List ℕ) (c : Cells) (d : List ℕ) → cells_from width k s ≡ Some c → (q : ℕ) → q < k →
+    cell_from (decode (get_or (first_chunks width k s) q d)) ≡ Some (get_or c q None)
 unfolding cells_from first_chunks part
 cell_reads width zero s c d e q l = absurd (omega arith)
 cell_reads width (suc k) s c d e q l = go c q e l (λ o i h f. cell_reads width k (drop width s) o d f i h)
   where
-    go : (x : Cells) (i : ℕ) → cells_from width (suc k) s ≡ some x → i < suc k →
-        ((o : Cells) (i : ℕ) → i < k → cells_from width k (drop width s) ≡ some o →
-        cell_from (decode (get_or (first_chunks width k (drop width s)) i d)) ≡ some (get_or o i none)) →
-        cell_from (decode (get_or (first_chunks width (suc k) s) i d)) ≡ some (get_or x i none)
+    go : (x : Cells) (i : ℕ) → cells_from width (suc k) s ≡ Some x → i < suc k →
+        ((o : Cells) (i : ℕ) → i < k → cells_from width k (drop width s) ≡ Some o →
+        cell_from (decode (get_or (first_chunks width k (drop width s)) i d)) ≡ Some (get_or o i None)) →
+        cell_from (decode (get_or (first_chunks width (suc k) s) i d)) ≡ Some (get_or x i None)
     go [] i f h r = absurd (joined_some (cell_from (decode (take width s))) (cells_from width k (drop width s)) f)
     go (o ∷ x) zero f h r = (joined-first (cell_from (decode (take width s))) (cells_from width k (drop width s)) o x f).0
     go (o ∷ x) (suc i) f h r =
@@ -63,13 +62,13 @@ module _ {pool : List ℕ} {blocks : ℕ} {c : Cells} (j : Judged pool blocks c)
   pub length-cells : length c ≡ pages_in_block * blocks
   length-cells = passing_blocks.size
 
-  reads_at : (q : ℕ) → q < 32 * blocks → cell_from (decode (page_at (pages_of pool) q)) ≡ some (get_or c q none)
+  reads_at : (q : ℕ) → q < 32 * blocks → cell_from (decode (page_at (pages_of pool) q)) ≡ Some (get_or c q None)
   unfolding page_at pages_of chunks cells_of
   reads_at q l = cell_reads page_bytes (length pool / page_bytes) pool c blank_page j.reads q (omega (arith, j.size))
 
   -- THE HEADERS of every page are its cell's.
-  pub headers : (q : ℕ) → q < 32 * blocks → Header (page_at (pages_of pool) q) (get_or c q none)
-  headers q l = header (page_at (pages_of pool) q) (length_page pool q (omega (arith, j.size))) (get_or c q none) (reads_at q l)
+  pub headers : (q : ℕ) → q < 32 * blocks → Header (page_at (pages_of pool) q) (get_or c q None)
+  headers q l = header (page_at (pages_of pool) q) (length_page pool q (omega (arith, j.size))) (get_or c q None) (reads_at q l)
 
   -- Each number has one page at most, and the greatest is the store's last.
   pub once : (s : ℕ) → count (numbered s) (pages_in c) ≤ 1
@@ -89,9 +88,9 @@ module _ {pool : List ℕ} {blocks : ℕ} {c : Cells} (j : Judged pool blocks c)
   find-is s = find-pages pages_in_block blocks c passing_blocks.size passing_blocks.filled s
 
 -- A page that is found has the number that it was looked for by.
-pub own-number : (c : Cells) (s : ℕ) → (page_in s (pages_in c) ≡ none) ⊎ (number_in (page_in s (pages_in c)) ≡ s)
+pub own-number : (c : Cells) (s : ℕ) → (page_in s (pages_in c) ≡ None) ⊎ (number_in (page_in s (pages_in c)) ≡ s)
 own-number c s = go (page_in s (pages_in c)) refl
   where
-    go : (x : Option Page) → page_in s (pages_in c) ≡ x → (x ≡ none) ⊎ (number_in x ≡ s)
-    go none e = inl refl
-    go (some p) e = inr (page_in-number s (pages_in c) p e)
+    go : (x : Option Page) → page_in s (pages_in c) ≡ x → (x ≡ None) ⊎ (number_in x ≡ s)
+    go None e = inl refl
+    go (Some p) e = inr (page_in-number s (pages_in c) p e)

@@ -31,9 +31,8 @@ use Rattle.flash_blocks.specs.Pages.{pages_of, page_at}
 use Rattle.store_laws.specs.WrittenPages.{pages_in}
 use Rattle.mount_checkpoint_pages.specs.CheckpointPage.{number_of, scores_on}
 use Rattle.mount_checkpoint.specs.Marks.{score_at}
-use Rattle.mount_checkpoint.specs.Find.{checkpoint_in}
+use Rattle.mount_checkpoint.specs.Find.{complete_as, checkpoint_in}
 use Rattle.mount_checkpoint.specs.Scores.{score_taken, take_scores, take_page, take_pages}
-use Rattle.mount_checkpoint.specs.declared.find.Checkpoint.TheVariants.{Complete}
 use Rattle.mount_refines.specs.Checkpoint.Collect.{gathered, sum_checkpoint_pages}
 use Rattle.mount_refines.specs.Checkpoint.Pool.{Judged, headers}
 use Rattle.mount_refines.specs.Checkpoint.Totals.{from_bytes, by-checkpoint-pages}
@@ -180,7 +179,7 @@ pub record Scored (nodes : ℕ) (score : ℕ → ℕ) (rows after : List Row) : 
 -- ---- a complete checkpoint
 
 module _ {pool : List ℕ} {blocks : ℕ} {c : Cells} (j : Judged pool blocks c) (width : ℕ) (wide : table_bytes blocks ≤ width)
-    (t : Tariff) (nodes since : ℕ) (told : checkpoint_in (pages_of pool) blocks width ≡ Complete t nodes since) where
+    (t : Tariff) (nodes since : ℕ) (told : checkpoint_in (pages_of pool) blocks width ≡ complete_as t nodes since) where
   abbrev ps : List (List ℕ)
   ps = pages_of pool
 

@@ -1,9 +1,8 @@
 -- What the code adds up over places is what the checkpoint pages of the set add up to, and every page fits exactly if the node count stands on the
 -- last checkpoint page alone. Assumes nothing.
-use Rattle.std.specs.Prelude.{◌≡◌, refl, Bool, not, ◌&&◌, ◌⊎◌, List, [], ◌∷◌, ℕ, suc, ◌+◌, ◌*◌, ◌≤◌, ◌<◌, max, eqb, ltb, length, get_or}
+use Rattle.std.specs.Prelude.{◌≡◌, refl, Bool, not, ◌&&◌, ◌⊎◌, List, [], ◌∷◌, ℕ, suc, ◌+◌, ◌*◌, ◌≤◌, ◌<◌, max, eqb, ltb, length, get_or, Option, None, Some, is_some}
 use Rattle.std.proofs.Common.{sym, ap, ap₂, ◌∙◌, inl, inr, add-zero, length-append, eq-eqb, ne_eqb, lt-ltb, le-ltb}
 use Rattle.std.proofs.Math.Bool.{true, false}
-use Rattle.std.proofs.Math.Option.{Option, none, some}
 use native.Mathlib.Omega.{arith}
 use Rattle.std.proofs.lemmas.List.{length-map}
 use Rattle.std.proofs.Math.Numerals.{lt_of_le_of_ne}
@@ -21,7 +20,7 @@ use Rattle.store.specs.Checkpoint.{CheckpointPage, scores_in, count_or, count_in
 use Rattle.store.specs.Reopen.{Cells, greatest_of}
 use Rattle.flash_blocks.specs.Pages.{pages_of, page_at}
 use Rattle.store_laws.specs.WrittenPages.{pages_in}
-use Rattle.mount_checkpoint_pages.specs.CheckpointPage.{number_of, scores_from, scores_on, count_part, checkpoint_page_of, count_fits, fits_in}
+use Rattle.mount_checkpoint_pages.specs.CheckpointPage.{number_of, scores_from, scores_on, count_part, checkpoint_page_of, found-count, number-count, count_fits, fits_in}
 use Rattle.mount_checkpoint_pages.specs.Totals.{plus, add_page, nothing, totals_of}
 use Rattle.mount_checkpoint_pages.specs.declared.totals.Totals.{Totals}
 use Rattle.mount_refines.specs.Checkpoint.Header.{number_in, no_checkpoint_page, checkpoint_page_in, foreign, foreign_tag, scores_read, Header}
@@ -48,12 +47,12 @@ abbrev pub from_bytes : ℕ → (List ℕ → ℕ) → List ℕ → ℕ
 from_bytes since f b = choose (ltb (number_of b) since) 0 (f b)
 
 module _ (since newest : ℕ) (b : List ℕ) (t : Totals) where
-  added : (part : Totals → ℕ) (f : List ℕ → ℕ) → part (plus (fits_in newest (checkpoint_page_of b).counted b) (checkpoint_page_of b) t) ≡ part t + f b →
+  added : (part : Totals → ℕ) (f : List ℕ → ℕ) → part (plus (fits_in newest (is_some (checkpoint_page_of b).nodes) b) (checkpoint_page_of b) t) ≡ part t + f b →
       part (add_page since newest b t) ≡ part t + from_bytes since f b
   unfolding add_page
   added part f e = go (ltb (number_of b) since)
     where
-      go : (y : Bool) → part (choose y t (plus (fits_in newest (checkpoint_page_of b).counted b) (checkpoint_page_of b) t)) ≡ part t + choose y 0 (f b)
+      go : (y : Bool) → part (choose y t (plus (fits_in newest (is_some (checkpoint_page_of b).nodes) b) (checkpoint_page_of b) t)) ≡ part t + choose y 0 (f b)
       go true = omega arith
       go false = e
 
@@ -62,7 +61,8 @@ module _ (ps : List (List ℕ)) (n since newest : ℕ) where
   unfolding totals_of nothing plus checkpoint_page_of
   misfits_sum =
       steps-sum (λ (t : Totals). t.misfits) (λ q. add_page since newest (page_at ps q)) (λ q. from_bytes since (misfit_on newest) (page_at ps q))
-      (λ i a. added since newest (page_at ps i) a (λ (t : Totals). t.misfits) (misfit_on newest) refl) n 0 nothing ∙ omega arith
+      (λ i a. added since newest (page_at ps i) a (λ (t : Totals). t.misfits) (misfit_on newest)
+      (ap (λ (y : Bool). a.misfits + bit (not (fits_in newest y (page_at ps i)))) (found-count (count_part (page_at ps i))))) n 0 nothing ∙ omega arith
 
   pub scores-sum : (totals_of ps n since newest).scores ≡ sum_from (λ q. from_bytes since scores_on (page_at ps q)) n 0
   unfolding totals_of nothing plus checkpoint_page_of
@@ -74,7 +74,8 @@ module _ (ps : List (List ℕ)) (n since newest : ℕ) where
   unfolding totals_of nothing plus checkpoint_page_of
   nodes-sum =
       steps-sum (λ (t : Totals). t.nodes) (λ q. add_page since newest (page_at ps q)) (λ q. from_bytes since (λ b. number (count_part b)) (page_at ps q))
-      (λ i a. added since newest (page_at ps i) a (λ (t : Totals). t.nodes) (λ b. number (count_part b)) refl) n 0 nothing ∙ omega arith
+      (λ i a. added since newest (page_at ps i) a (λ (t : Totals). t.nodes) (λ b. number (count_part b))
+      (ap (λ (k : ℕ). a.nodes + k) (number-count (count_part (page_at ps i))))) n 0 nothing ∙ omega arith
 
 -- ---- what a page adds is what its cell's checkpoint page has
 
@@ -131,20 +132,20 @@ module _ (since : ℕ) (b : List ℕ) (x : Option Page) (h : Header b x) where
 
 -- ---- so the totals are sums over numbers
 
-greatest-found : (ps : List Page) → 0 < greatest_of ps → page_in (greatest_of ps) ps ≡ none → ⊥
+greatest-found : (ps : List Page) → 0 < greatest_of ps → page_in (greatest_of ps) ps ≡ None → ⊥
 greatest-found [] l e = omega arith
 greatest-found (p ∷ ps) l e = go (le_or (greatest_of ps) (sequence p)) (λ k n. greatest-found ps k n)
   where
-    here : (n : ℕ) → sequence p ≡ n → page_in n (p ∷ ps) ≡ some p
-    here n q = ap (λ (t : Bool). choose t (some p) (page_in n ps)) (eq-eqb (sequence p) n q)
+    here : (n : ℕ) → sequence p ≡ n → page_in n (p ∷ ps) ≡ Some p
+    here n q = ap (λ (t : Bool). choose t (Some p) (page_in n ps)) (eq-eqb (sequence p) n q)
 
     there : (n : ℕ) → (sequence p ≡ n → ⊥) → page_in n (p ∷ ps) ≡ page_in n ps
-    there n q = ap (λ (t : Bool). choose t (some p) (page_in n ps)) (ne_eqb (sequence p) n q)
+    there n q = ap (λ (t : Bool). choose t (Some p) (page_in n ps)) (ne_eqb (sequence p) n q)
 
-    some_none : some p ≡ none → ⊥
+    some_none : Some p ≡ None → ⊥
     some_none z = let y : ◌≡◌ {A = ℕ} 0 1 = cc in omega arith
 
-    go : (greatest_of ps ≤ sequence p) ⊎ (sequence p < greatest_of ps) → (0 < greatest_of ps → page_in (greatest_of ps) ps ≡ none → ⊥) → ⊥
+    go : (greatest_of ps ≤ sequence p) ⊎ (sequence p < greatest_of ps) → (0 < greatest_of ps → page_in (greatest_of ps) ps ≡ None → ⊥) → ⊥
     go (inl h) r = some_none (sym (here (max (sequence p) (greatest_of ps)) (omega arith)) ∙ e)
     go (inr h) r =
         let m : max (sequence p) (greatest_of ps) ≡ greatest_of ps = omega arith in
@@ -165,7 +166,7 @@ module _ {pool : List ℕ} {blocks : ℕ} {c : Cells} (j : Judged pool blocks c)
   ps = pages_of pool
 
   -- A sum over places of what bytes add, where that is what the cells' checkpoint pages have.
-  pub by_number : (f : Option Page → ℕ) → f none ≡ 0 → (g : ℕ → ℕ) → ((q : ℕ) → q < 32 * blocks → g q ≡ f (get_or c q none)) →
+  pub by_number : (f : Option Page → ℕ) → f None ≡ 0 → (g : ℕ → ℕ) → ((q : ℕ) → q < 32 * blocks → g q ≡ f (get_or c q None)) →
       sum_from g (32 * blocks) 0 ≡ sum_below (suc last) (λ s. f (at s))
   by_number f z g h =
       ap (λ (n : ℕ). sum_from g n 0) (sym (length-cells j)) ∙
@@ -178,10 +179,10 @@ module _ {pool : List ℕ} {blocks : ℕ} {c : Cells} (j : Judged pool blocks c)
       total : (totals_of ps (32 * blocks) (suc s) last).misfits ≡ sum_below (suc last) (λ i. misfit (suc s) last (at i))
       total =
           misfits_sum ps (32 * blocks) (suc s) last ∙
-          by_number (misfit (suc s) last) (none_out s (bit (not (fits last none)))) _
-          (λ q l. adds_misfit (suc s) (page_at ps q) (get_or c q none) (headers j q l) last)
+          by_number (misfit (suc s) last) (none_out s (bit (not (fits last None)))) _
+          (λ q l. adds_misfit (suc s) (page_at ps q) (get_or c q None) (headers j q l) last)
 
-      go : (t : Bool) → foreign (at i) ≡ t → (at i ≡ none) ⊎ (number_in (at i) ≡ i) → t ≡ false
+      go : (t : Bool) → foreign (at i) ≡ t → (at i ≡ None) ⊎ (number_in (at i) ≡ i) → t ≡ false
       go false f e = refl
       go true f (inl e) = sym f ∙ ap foreign e
       go true f (inr e) =
@@ -196,11 +197,11 @@ module _ {pool : List ℕ} {blocks : ℕ} {c : Cells} (j : Judged pool blocks c)
     xs = gathered at s k []
 
     pub by-checkpoint-pages : (h : CheckpointPage → ℕ) → h no_checkpoint_page ≡ 0 → (f : List ℕ → ℕ) →
-        ((q : ℕ) → q < 32 * blocks → f (page_at ps q) ≡ h (checkpoint_page_in (get_or c q none))) →
+        ((q : ℕ) → q < 32 * blocks → f (page_at ps q) ≡ h (checkpoint_page_in (get_or c q None))) →
         sum_from (λ q. from_bytes (suc s) f (page_at ps q)) (32 * blocks) 0 ≡ sum_checkpoint_pages h xs
     by-checkpoint-pages h z f e =
         by_number (λ x. choose (ltb (number_in x) (suc s)) 0 (h (checkpoint_page_in x))) (none_out s (h no_checkpoint_page)) (λ q. from_bytes (suc s) f (page_at ps q))
-        (λ q l. adds (suc s) (page_at ps q) (get_or c q none) (headers j q l) f h (e q l)) ∙
+        (λ q l. adds (suc s) (page_at ps q) (get_or c q None) (headers j q l) f h (e q l)) ∙
         ap (λ (n : ℕ). sum_below (suc n) (λ i. choose (ltb (number_in (at i)) (suc s)) 0 (h (checkpoint_page_in (at i))))) end ∙
         sym (sum-gathered h z at (own-number c) s k [] ∙ add-zero _)
 
@@ -208,10 +209,10 @@ module _ {pool : List ℕ} {blocks : ℕ} {c : Cells} (j : Judged pool blocks c)
     kind_set i a b (inl z) = rw z (opened (at (suc s)) r.first)
       where
         opened : (x : Option Page) → opens x ≡ true → foreign x ≡ false
-        opened none o = refl
-        opened (some (page n (log es))) o = absurd (test_clash false o refl)
-        opened (some (page n (whole m y))) o = absurd (test_clash false o refl)
-        opened (some (page n (checkpoint t ss cc))) o = refl
+        opened None o = refl
+        opened (Some (page n (log es))) o = absurd (test_clash false o refl)
+        opened (Some (page n (whole m y))) o = absurd (test_clash false o refl)
+        opened (Some (page n (checkpoint t ss cc))) o = refl
     kind_set i a b (inr z) = r.kind i (lt_of_le_of_ne (omega arith) (λ e. z (sym e))) (omega arith)
 
     -- below the newest page a misfit has the node count; the newest is one without it
@@ -225,7 +226,7 @@ module _ {pool : List ℕ} {blocks : ℕ} {c : Cells} (j : Judged pool blocks c)
         twice true = refl
         twice false = refl
 
-        go : (at i ≡ none) ⊎ (number_in (at i) ≡ i) → (suc s ≤ i) ⊎ (i < suc s) →
+        go : (at i ≡ None) ⊎ (number_in (at i) ≡ i) → (suc s ≤ i) ⊎ (i < suc s) →
             misfit (suc s) last (at i) ≡ choose (ltb (number_in (at i)) (suc s)) 0 (count_bit (checkpoint_page_in (at i)))
         go (inl e) m = rw e (none_out s _ ∙ sym (none_out s 0))
         go (inr e) (inl m) =
@@ -237,13 +238,13 @@ module _ {pool : List ℕ} {blocks : ℕ} {c : Cells} (j : Judged pool blocks c)
             ap (λ (n : ℕ). choose (ltb (number_in (at i)) (suc s)) 0 n) (twice (has_count (checkpoint_page_in (at i)).count))
         go (inr e) (inr m) = rw (lt-ltb (number_in (at i)) (suc s) (omega arith)) refl
 
-    newest_some : at last ≡ none → ⊥
+    newest_some : at last ≡ None → ⊥
     newest_some e = greatest-found (pages_in c) (omega arith) e
 
     newest-number : number_in (at last) ≡ last
     newest-number = go (own-number c last)
       where
-        go : (at last ≡ none) ⊎ (number_in (at last) ≡ last) → number_in (at last) ≡ last
+        go : (at last ≡ None) ⊎ (number_in (at last) ≡ last) → number_in (at last) ≡ last
         go (inl e) = absurd (newest_some e)
         go (inr e) = e
 
@@ -282,22 +283,22 @@ module _ {pool : List ℕ} {blocks : ℕ} {c : Cells} (j : Judged pool blocks c)
           count_on-sum (y ∷ []) f = go y.count
             where
               go : (o : Option ℕ) → count_or o 0 + 0 ≡ count_or o 0
-              go none = refl
-              go (some n) = add-zero n
+              go None = refl
+              go (Some n) = add-zero n
           count_on-sum (y ∷ z ∷ ys) f = go y.count f (λ g. count_on-sum (z ∷ ys) g)
             where
               go : (o : Option ℕ) → (no_count o && count_last (z ∷ ys)) ≡ true →
                   (count_last (z ∷ ys) ≡ true → sum_checkpoint_pages count_on (z ∷ ys) ≡ count_in (z ∷ ys)) →
                   count_or o 0 + sum_checkpoint_pages count_on (z ∷ ys) ≡ count_or o (count_in (z ∷ ys))
-              go none g rest = omega (arith, rest g)
-              go (some n) g rest = absurd (test_clash false g refl)
+              go None g rest = omega (arith, rest g)
+              go (Some n) g rest = absurd (test_clash false g refl)
 
       -- EVERY PAGE FITS exactly if the node count stands on the last checkpoint page alone
       pub fits_are : eqb t.misfits 0 ≡ count_last xs
       fits_are =
           let m : t.misfits ≡ a + bit (not hc) =
           ap (λ (y : Totals). y.misfits) is ∙ misfits_sum ps (32 * blocks) (suc s) last ∙
-          by_number (misfit (suc s) last) (none_out s (bit (not (fits last none)))) _ (λ q l. adds_misfit (suc s) (page_at ps q) (get_or c q none)
+          by_number (misfit (suc s) last) (none_out s (bit (not (fits last None)))) _ (λ q l. adds_misfit (suc s) (page_at ps q) (get_or c q None)
           (headers j q l) last) ∙
           ap₂ ◌+◌ (sum_below-ext last (λ i. misfit (suc s) last (at i))
           (λ i. choose (ltb (number_in (at i)) (suc s)) 0 (count_bit (checkpoint_page_in (at i)))) misfit-below) misfit-newest in

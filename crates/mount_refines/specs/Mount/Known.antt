@@ -7,8 +7,7 @@ use Rattle.account.specs.declared.Tariff.{Tariff}
 use Rattle.store.specs.Checkpoint.{checkpoint_of, scores_in, score_in}
 use Rattle.store.specs.Reopen.{Cells, reopened}
 use Rattle.flash_blocks.specs.Pages.{pages_of}
-use Rattle.mount_checkpoint.specs.Find.{checkpoint_in}
-use Rattle.mount_checkpoint.specs.declared.find.Checkpoint.TheVariants.{Complete}
+use Rattle.mount_checkpoint.specs.Find.{complete_as, checkpoint_in}
 use Rattle.mount_refines.specs.Checkpoint.Pool.{Judged}
 use Rattle.mount_refines.specs.Checkpoint.Found.{Completes, found_values}
 
@@ -22,7 +21,7 @@ pub record Known (pool : List ℕ) (blocks : ℕ) (c : Cells) (t : Tariff) (node
   pub most : blocks ≤ most_blocks
   pub bytes : Bytes pool
   pub judged : Judged pool blocks c
-  pub told : checkpoint_in (pages_of pool) blocks (table_bytes blocks) ≡ Complete t nodes since
+  pub told : checkpoint_in (pages_of pool) blocks (table_bytes blocks) ≡ complete_as t nodes since
 
 pub completes : {pool : List ℕ} {blocks : ℕ} {c : Cells} {t : Tariff} {nodes since : ℕ} → Known pool blocks c t nodes since →
     Completes (reopened blocks c) t nodes since

@@ -1,9 +1,8 @@
 -- One node's row carried through the pages of a pool: it ends with the node's greatest version there, names the pages that have a piece of
 -- it, and says how many they are. Assumes nothing.
-use Rattle.std.specs.Prelude.{◌≡◌, refl, Bool, true, false, not, ◌&&◌, ◌||◌, ◌⊎◌, [], ◌∷◌, ℕ, zero, suc, ◌+◌, ◌≤◌, ◌<◌, max, eqb, get_or}
+use Rattle.std.specs.Prelude.{◌≡◌, refl, Bool, true, false, not, ◌&&◌, ◌||◌, ◌⊎◌, [], ◌∷◌, ℕ, zero, suc, ◌+◌, ◌≤◌, ◌<◌, max, eqb, get_or, Option, None, Some}
 use Rattle.std.proofs.Common.{sym, ap, ◌∙◌, inl, inr, arith, eq-eqb, ne_eqb}
 use Rattle.std.proofs.Math.Bool.{and-true, and-false, or-false, or_assoc}
-use Rattle.std.proofs.Math.Option.{Option, none, some}
 use Rattle.laws.specs.Tests.{choose, and_not_right}
 use Rattle.laws.specs.Order.{le_or}
 use Rattle.laws.specs.Counts.{bit, count}
@@ -21,8 +20,8 @@ use Rattle.mount_refines.specs.Rows.PageItems.{mode_in, row_items, has_items, go
 
 -- A node's row after the page at a place; of a blank place there is none.
 abbrev pub row_cell : ℕ → ℕ → Option Page → Row → Row
-row_cell n q none r = r
-row_cell n q (some p) r = row_items n q (mode_in p) (items_of p) r
+row_cell n q None r = r
+row_cell n q (Some p) r = row_items n q (mode_in p) (items_of p) r
 
 -- After the pages from a place on.
 abbrev pub row_cells : ℕ → ℕ → Cells → Row → Row
@@ -44,8 +43,8 @@ has_at n v q (c ∷ cs) x = (has_cell n v c && eqb q x) || has_at n v (q + 1) cs
 
 module _ (n : ℕ) where
   cell_goes : (q : ℕ) (c : Option Page) (r : Row) → r.pages ≤ 4 → Goes (greatest_in n (items_at c)) r (row_cell n q c r)
-  cell_goes q none r l = goes_none r l
-  cell_goes q (some p) r l = items_go n q (mode_in p) (items_of p) r l
+  cell_goes q None r l = goes_none r l
+  cell_goes q (Some p) r l = items_go n q (mode_in p) (items_of p) r l
 
   cells_go : (q : ℕ) (cs : Cells) (r : Row) → r.pages ≤ 4 → Goes (greatest_cell n cs) r (row_cells n q cs r)
   cells_go q [] r l = goes_none r l
@@ -54,8 +53,8 @@ module _ (n : ℕ) where
   module _ (v : ℕ) where
     cell_adds : (q : ℕ) (c : Option Page) (r : Row) → r.pages ≤ 4 → r.version ≤ v → greatest_in n (items_at c) ≤ v →
         Adds (has_cell n v c) q v r (row_cell n q c r)
-    cell_adds q none r l o h = adds_none q v r l
-    cell_adds q (some p) r l o h = items_add n q (mode_in p) v (items_of p) r l o h
+    cell_adds q None r l o h = adds_none q v r l
+    cell_adds q (Some p) r l o h = items_add n q (mode_in p) v (items_of p) r l o h
 
     record Fills (q : ℕ) (cs : Cells) (r r' : Row) : Type 0 where
       pages : pages_at v r' ≡ cap (pages_at v r + count (has_cell n v) cs)
@@ -123,7 +122,7 @@ module _ (n : ℕ) where
     has-before q (c ∷ cs) x l =
         rw (and_not_right (has_cell n v c) (eqb q x) (ne_eqb q x (λ z. omega arith))) (has-before (q + 1) cs x (omega arith))
 
-    has_here : (q : ℕ) (cs : Cells) (x k : ℕ) → k ≡ q + x → has_at n v q cs k ≡ has_cell n v (get_or cs x none)
+    has_here : (q : ℕ) (cs : Cells) (x k : ℕ) → k ≡ q + x → has_at n v q cs k ≡ has_cell n v (get_or cs x None)
     has_here q [] x k e = refl
     has_here q (c ∷ cs) zero k e =
         rw (eq-eqb q k (omega arith), has-before (q + 1) cs k (omega arith)) (or-false (has_cell n v c && true) ∙ and-true (has_cell n v c))
@@ -134,13 +133,13 @@ module _ (n : ℕ) where
   module _ (P : ℕ → Mode → Type 0) where
     -- what is to hold of each piece of the node in a place
     abbrev pub CellRight : Option Page → Type 0
-    CellRight none = Unit {0}
-    CellRight (some p) = Every (λ x. x.id ≡ n → P x.version (mode_in p)) (items_of p)
+    CellRight None = Unit {0}
+    CellRight (Some p) = Every (λ x. x.id ≡ n → P x.version (mode_in p)) (items_of p)
 
     cell_right : (q : ℕ) (c : Option Page) (r : Row) → r.pages ≤ 4 → CellRight c → P r.version r.mode →
         P (row_cell n q c r).version (row_cell n q c r).mode
-    cell_right q none r l e h = h
-    cell_right q (some p) r l e h = items_right n q (mode_in p) P (items_of p) r l e h
+    cell_right q None r l e h = h
+    cell_right q (Some p) r l e h = items_right n q (mode_in p) P (items_of p) r l e h
 
     pub cells_right : (q : ℕ) (cs : Cells) (r : Row) → r.pages ≤ 4 → Every CellRight cs → P r.version r.mode →
         P (row_cells n q cs r).version (row_cells n q cs r).mode
@@ -159,7 +158,7 @@ pub record Told (n : ℕ) (cs : Cells) (r r' : Row) : Type 0 where
   pub version : r'.version ≡ greatest_cell n cs
   pub score : r'.score ≡ r.score
   pub pages : r'.pages ≡ cap (count (has_cell n (greatest_cell n cs)) cs)
-  pub names : r'.pages ≤ 3 → (x : ℕ) → names x r' ≡ has_cell n (greatest_cell n cs) (get_or cs x none)
+  pub names : r'.pages ≤ 3 → (x : ℕ) → names x r' ≡ has_cell n (greatest_cell n cs) (get_or cs x None)
 
 pub cells_tell : (n : ℕ) (cs : Cells) (r : Row) → Unmet r → Told n cs r (row_cells n 0 cs r)
 unfolding names holds

@@ -1,7 +1,6 @@
 -- What the rows are filled from: a pool that passes question 5, and rows with the nodes' scores; and what its tests say of the blocks that it
 -- spells. Assumes nothing.
-use Rattle.std.specs.Prelude.{◌≡◌, true, List, ℕ, ◌*◌, ◌≤◌, ◌<◌, length}
-use Rattle.std.proofs.Math.Option.{some}
+use Rattle.std.specs.Prelude.{◌≡◌, true, List, ℕ, ◌*◌, ◌≤◌, ◌<◌, length, Some}
 use Rattle.std.proofs.Common.{arith}
 use Rattle.laws.specs.Tests.{and_left, and_right}
 use Rattle.laws.specs.BigEndian.{Bytes}
@@ -23,7 +22,7 @@ use Rattle.mount_refines.specs.Rows.Cells.{Unmet}
 pub record Given (blocks nodes : ℕ) (score : ℕ → ℕ) (pool : List ℕ) (c : Cells) (rows : List Row) : Type 0 where
   pub bytes : Bytes pool
   pub size : length pool ≡ block_bytes * blocks
-  pub spelled : cells_of pool ≡ some c
+  pub spelled : cells_of pool ≡ Some c
   pub pass : pages_pass blocks c ≡ true
   pub table : rows_for blocks ≤ length rows
   pub limit : nodes ≤ node_limit blocks

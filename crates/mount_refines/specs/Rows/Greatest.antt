@@ -1,9 +1,7 @@
 -- The greatest version of a node in the cells of a pool, taken by place, is the store's, taken by sequence number. Assumes nothing.
-use Rattle.std.specs.Prelude.{◌≡◌, refl, [], ◌∷◌, ℕ, zero, suc, ◌≤◌, ◌<◌, get_or}
+use Rattle.std.specs.Prelude.{◌≡◌, refl, [], ◌∷◌, ℕ, zero, suc, ◌≤◌, ◌<◌, get_or, Option, None, Some, slice_get}
 use Rattle.std.proofs.Common.{ap, ◌∙◌}
-use Rattle.std.proofs.Math.Option.{Option, none, some}
 use native.Mathlib.Omega.{arith}
-use Rattle.std.proofs.Math.ListN.{get_elem?}
 use Rattle.laws.specs.Counts.{tally}
 use Rattle.laws.specs.Every.{Every, none, both}
 use Rattle.page.specs.Page.{Page, sequence}
@@ -20,7 +18,7 @@ use Rattle.mount_refines.specs.Rows.Cells.{greatest_cell}
 use Rattle.mount_refines.specs.Rows.Places.{Orderly, find-here, number-here, cells-every}
 
 -- No cell has a greater version.
-greatest-at : (n : ℕ) (cs : Cells) (x : ℕ) → greatest_in n (items_at (get_or cs x none)) ≤ greatest_cell n cs
+greatest-at : (n : ℕ) (cs : Cells) (x : ℕ) → greatest_in n (items_at (get_or cs x None)) ≤ greatest_cell n cs
 greatest-at n [] x = omega arith
 greatest-at n (c ∷ cs) zero = omega arith
 greatest-at n (c ∷ cs) (suc x) = omega (arith, greatest-at n cs x)
@@ -34,7 +32,7 @@ module _ {bs : Blocks} (o : Orderly bs) (n : ℕ) where
   by s = greatest_in n (items_at (find s bs))
 
   -- a page's number is from 1 and at most the newest
-  page_below : (i q : ℕ) (p : Page) → get_elem? (block bs i) q ≡ some p → greatest_in n (items_of p) ≤ greatest_to by (newest bs)
+  page_below : (i q : ℕ) (p : Page) → slice_get (block bs i) q ≡ Some p → greatest_in n (items_of p) ≤ greatest_to by (newest bs)
   page_below i q p e =
       let s = sequence p in
       let has = number-here o i q p e in
@@ -53,8 +51,8 @@ module _ {bs : Blocks} (o : Orderly bs) (n : ℕ) where
   number-below s = go (find s bs) refl
     where
       go : (x : Option Page) → find s bs ≡ x → greatest_in n (items_at x) ≤ greatest_cell n (cells 32 bs)
-      go none e = omega arith
-      go (some p) e =
+      go None e = omega arith
+      go (Some p) e =
           let at : Lies bs s p = find_lies s bs p e in
           let here = cell_at bs at.number at.at.place at.inside (omega (arith, o.most at.number, at.at.inside)) ∙ at.at.here in
           omega (arith, ap (λ (x : Option Page). greatest_in n (items_at x)) here, greatest-at n (cells 32 bs) (place_of at))

@@ -1,7 +1,6 @@
 -- As many cells of a pool carry a node as the store says pages of it, which it counts by sequence number. Assumes nothing.
-use Rattle.std.specs.Prelude.{◌≡◌, Bool, true, false, ◌&&◌, List, [], ◌∷◌, ℕ, zero, suc, ◌+◌, ◌≤◌, leb, length}
+use Rattle.std.specs.Prelude.{◌≡◌, Bool, true, false, ◌&&◌, List, [], ◌∷◌, ℕ, zero, suc, ◌+◌, ◌≤◌, leb, length, Option, None, Some}
 use Rattle.std.proofs.Math.Path.{refl, ap}
-use Rattle.std.proofs.Math.Option.{Option, none, some}
 use Rattle.std.proofs.Common.{arith, eq-eqb, ne_eqb, le-leb}
 use Rattle.std.proofs.lemmas.Bool.{lt-leb}
 use Rattle.laws.specs.Tests.{and_left}
@@ -48,15 +47,15 @@ module _ (f : Page → Bool) (bs : Blocks) where
   found_counted : (s : ℕ) → bit (test f (find s bs)) ≤ tally (λ p. f p && numbered s p) bs
   found_counted s = go (find s bs) refl
     where
-      here : (p : Page) → find s bs ≡ some p → (t : Bool) → f p ≡ t → bit t ≤ tally (λ p. f p && numbered s p) bs
+      here : (p : Page) → find s bs ≡ Some p → (t : Bool) → f p ≡ t → bit t ≤ tally (λ p. f p && numbered s p) bs
       here p e false t = omega arith
       here p e true t =
           let at = find_lies s bs p e in
           tally-here (λ p. f p && numbered s p) bs at.number at.at.place p at.at.here (rw (t, eq-eqb (sequence p) s at.at.sequenced) refl)
 
       go : (o : Option Page) → find s bs ≡ o → bit (test f o) ≤ tally (λ p. f p && numbered s p) bs
-      go none e = omega arith
-      go (some p) e = here p e (f p) refl
+      go None e = omega arith
+      go (Some p) e = here p e (f p) refl
 
   one_more_lem : (k : ℕ) (p : Page) → bit (f p && up_to k p) + bit (f p && numbered (suc k) p) ≤ bit (f p && up_to (suc k) p)
   one_more_lem k p = go (f p) (tri (sequence p) (suc k))
@@ -90,8 +89,8 @@ module _ (bs : Blocks) (n : ℕ) where
 
   pub cell_carries : (o : Option Page) → has_cell n v o ≡ test (carries (view (store_of bs)) n) o
   unfolding carries
-  cell_carries none = refl
-  cell_carries (some p) = refl
+  cell_carries None = refl
+  cell_carries (Some p) = refl
 
   count-ext : (cs : Cells) → count (has_cell n v) cs ≡ count (test (carries (view (store_of bs)) n)) cs
   count-ext [] = refl

@@ -1,11 +1,10 @@
 -- The pieces that the code meets in a page's bytes are the items of the page; so each row goes through the pages of a pool as one node's
 -- row does. Assumes nothing.
-use Rattle.std.specs.Prelude.{◌≡◌, Bool, ◌⊎◌, eqb, ltb, get_or, set}
+use Rattle.std.specs.Prelude.{◌≡◌, Bool, ◌⊎◌, eqb, ltb, get_or, set, Option, None, Some}
 use Rattle.std.proofs.Math.Path.{refl, ap, subst}
 use Rattle.std.proofs.Common.{sym, ◌∙◌, add-zero, arith, get_or-set_same, get_or-set_other}
 use Rattle.std.proofs.Math.Bool.{true, false}
 use Rattle.std.proofs.Math.Logic.{inl, inr}
-use Rattle.std.proofs.Math.Option.{Option, none, some}
 use mathlib.Core.List.{List, [], ◌∷◌, ◌++◌, map}
 use Prim.Native.Nat.{ℕ, zero, suc, ◌+◌, ◌*◌, ◌≤◌, ◌<◌, suc-le-suc}
 use borrow.Author.Tests.{eq-eqb, ne_eqb, lt-ltb, le-ltb}
@@ -179,9 +178,9 @@ module _ (s : ℕ) where
   tag_checkpoint : (t : Option Tariff) (ss : List Score) (k : Option ℕ) → 1 ≤ length ss →
       (get_or (image (page s (checkpoint t ss k))) 7 0 ≡ 0x13) ⊎ (get_or (image (page s (checkpoint t ss k))) 7 0 ≡ 0x14)
   unfolding image sealed numbered content_bytes fields field
-  tag_checkpoint (some t) ss k h = inl refl
-  tag_checkpoint none [] k h = absurd (omega arith)
-  tag_checkpoint none (x ∷ ss) k h = inr refl
+  tag_checkpoint (Some t) ss k h = inl refl
+  tag_checkpoint None [] k h = absurd (omega arith)
+  tag_checkpoint None (x ∷ ss) k h = inr refl
 
 -- WHAT THE CODE MEETS ON A PAGE are its items, and on a blank one nothing.
 module _ (nodes q : ℕ) where
@@ -228,10 +227,10 @@ module _ (nodes q : ℕ) where
 
     place-seen : nodes ≤ length rows → (c : Option Page) → CellFits c → page_at pages q ≡ image_at image c → Seen c
     unfolding seen_page
-    place-seen long none f e =
+    place-seen long None f e =
         let is : seen_page nodes pages q rows ≡ rows = ap (λ (b : List ℕ). seen_bytes b rows) e ∙ blank_items rows in
         record { long = ap length is; row = λ n l. ap (λ (x : List Row). row_at x n) is }
-    place-seen long (some p) f e =
+    place-seen long (Some p) f e =
         let is : seen_page nodes pages q rows ≡ seen_items nodes q (mode_in p) (items_of p) rows =
         ap (λ (b : List ℕ). seen_bytes b rows) e ∙ page_items p f rows in
         record {
@@ -246,7 +245,7 @@ module _ (nodes : ℕ) (pages : List (List ℕ)) where
     pub row : (n : ℕ) → n < nodes → row_at rows' n ≡ row_cells n i cs (row_at rows n)
 
   cells_carried : (cs : Cells) (i : ℕ) (rows : List Row) → nodes ≤ length rows → Every CellFits cs →
-      ((j : ℕ) → j < length cs → page_at pages (i + j) ≡ image_at image (get_or cs j none)) →
+      ((j : ℕ) → j < length cs → page_at pages (i + j) ≡ image_at image (get_or cs j None)) →
       Carried i cs rows (steps (seen_page nodes pages) (length cs) i rows)
   unfolding steps
   cells_carried [] i rows long none is = record { long = refl; row = λ n l. refl }
@@ -262,7 +261,7 @@ module _ (nodes : ℕ) (pages : List (List ℕ)) where
 
   -- THE ROWS FILLED, each by itself
   pub filled_carried : (blocks : ℕ) (cs : Cells) (rows : List Row) → nodes ≤ length rows → length cs ≡ 32 * blocks → Every CellFits cs →
-      ((j : ℕ) → j < length cs → page_at pages j ≡ image_at image (get_or cs j none)) →
+      ((j : ℕ) → j < length cs → page_at pages j ≡ image_at image (get_or cs j None)) →
       Carried 0 cs rows (filled blocks nodes pages rows)
   unfolding filled
   filled_carried blocks cs rows long size fits is =

@@ -1,11 +1,9 @@
 -- A page that lies in a block is the one that its sequence number finds; and what is asked of each page of the blocks is asked of each cell of
 -- the pool. Assumes nothing.
-use Rattle.std.specs.Prelude.{◌≡◌, refl, Bool, true, false, length}
+use Rattle.std.specs.Prelude.{◌≡◌, refl, Bool, true, false, length, Option, None, Some, slice_get}
 use Rattle.std.proofs.Common.{ap, ◌∙◌, arith, eq-eqb}
-use Rattle.std.proofs.Math.Option.{Option, none, some}
 use mathlib.Core.List.{List, [], ◌∷◌}
 use Prim.Native.Nat.{ℕ, zero, suc, ◌≤◌}
-use Rattle.std.proofs.Math.ListN.{get_elem?}
 use Rattle.laws.specs.Tests.{choose}
 use Rattle.laws.specs.Counts.{bit, count, tally, tally-at}
 use Rattle.laws.specs.Every.{Every, none, both, every_append}
@@ -23,25 +21,25 @@ pub record Orderly (bs : Blocks) : Type 0 where
   pub once : (s : ℕ) → tally (numbered s) bs ≤ 1
 
 -- A page that passes a test is counted.
-pub tally-here : (f : Page → Bool) (bs : Blocks) (i q : ℕ) (p : Page) → get_elem? (block bs i) q ≡ some p → f p ≡ true → 1 ≤ tally f bs
+pub tally-here : (f : Page → Bool) (bs : Blocks) (i q : ℕ) (p : Page) → slice_get (block bs i) q ≡ Some p → f p ≡ true → 1 ≤ tally f bs
 tally-here f bs i q p e t = omega (arith, tally-get f bs i q p e, ap bit t)
 
 own-number : (p : Page) → numbered (sequence p) p ≡ true
 own-number p = eq-eqb (sequence p) (sequence p) refl
 
-page_in-here : (b : List Page) (q : ℕ) (p : Page) → get_elem? b q ≡ some p → count (numbered (sequence p)) b ≤ 1 → page_in (sequence p) b ≡ some p
+page_in-here : (b : List Page) (q : ℕ) (p : Page) → slice_get b q ≡ Some p → count (numbered (sequence p)) b ≤ 1 → page_in (sequence p) b ≡ Some p
 page_in-here [] q p e l = e
 page_in-here (x ∷ b) zero p e l = rw (some_same e, own-number p) refl
 page_in-here (x ∷ b) (suc q) p e l = go (numbered (sequence p) x) refl (λ h. page_in-here b q p e h)
   where
-    go : (t : Bool) → numbered (sequence p) x ≡ t → (count (numbered (sequence p)) b ≤ 1 → page_in (sequence p) b ≡ some p) →
-        choose (numbered (sequence p) x) (some x) (page_in (sequence p) b) ≡ some p
+    go : (t : Bool) → numbered (sequence p) x ≡ t → (count (numbered (sequence p)) b ≤ 1 → page_in (sequence p) b ≡ Some p) →
+        choose (numbered (sequence p) x) (Some x) (page_in (sequence p) b) ≡ Some p
     go true t r = absurd (omega (arith, ap bit t, count-get (numbered (sequence p)) b q p e, ap bit (own-number p)))
     go false t r = rw t (r (omega (arith, ap bit t)))
 
 -- A PAGE THAT LIES IN A BLOCK is found by its number.
-module _ {bs : Blocks} (o : Orderly bs) (i q : ℕ) (p : Page) (e : get_elem? (block bs i) q ≡ some p) where
-  pub find-here : find (sequence p) bs ≡ some p
+module _ {bs : Blocks} (o : Orderly bs) (i q : ℕ) (p : Page) (e : slice_get (block bs i) q ≡ Some p) where
+  pub find-here : find (sequence p) bs ≡ Some p
   find-here =
       let s = sequence p in
       find-block s bs i (omega (arith, o.once s, count-get (numbered s) (block bs i) q p e, ap bit (own-number p))) ∙
@@ -51,13 +49,13 @@ module _ {bs : Blocks} (o : Orderly bs) (i q : ℕ) (p : Page) (e : get_elem? (b
   number-here = tally-here (numbered (sequence p)) bs i q p e (own-number p)
 
 -- What holds of a blank cell, and of every page that lies in a block, holds of every cell.
-module _ (P : Option Page → Type 0) (blank : P none) where
-  block-every : (k : ℕ) (b : List Page) → ((q : ℕ) (p : Page) → get_elem? b q ≡ some p → P (some p)) → Every P (cells_in k b)
+module _ (P : Option Page → Type 0) (blank : P None) where
+  block-every : (k : ℕ) (b : List Page) → ((q : ℕ) (p : Page) → slice_get b q ≡ Some p → P (Some p)) → Every P (cells_in k b)
   unfolding cells_in
   block-every zero b h = none
   block-every (suc k) [] h = both blank (block-every k [] h)
   block-every (suc k) (x ∷ b) h = both (h 0 x refl) (block-every k b (λ q. h (suc q)))
 
-  pub cells-every : (bs : Blocks) → ((i q : ℕ) (p : Page) → get_elem? (block bs i) q ≡ some p → P (some p)) → Every P (cells 32 bs)
+  pub cells-every : (bs : Blocks) → ((i q : ℕ) (p : Page) → slice_get (block bs i) q ≡ Some p → P (Some p)) → Every P (cells 32 bs)
   cells-every [] h = none
   cells-every (b ∷ bs) h = every_append (block-every 32 b (h 0)) (cells-every bs (λ i. h (suc i)))

@@ -1,9 +1,8 @@
 -- The pages of a pool that spells cells are the images of those cells, one by one; so they stand for the blocks that the cells spell.
 -- Assumes nothing.
-use Rattle.std.specs.Prelude.{◌≡◌, refl, ℕ, zero, suc, ◌+◌, ◌*◌, ◌≤◌, ◌<◌, length, get_or, drop}
+use Rattle.std.specs.Prelude.{◌≡◌, refl, ℕ, zero, suc, ◌+◌, ◌*◌, ◌≤◌, ◌<◌, length, get_or, drop, Option, None, Some}
 use Rattle.std.proofs.Common.{sym, ◌∙◌, le_of_suc-le-suc, arith, take_at}
 use Rattle.std.proofs.Math.Path.{ap}
-use Rattle.std.proofs.Math.Option.{Option, none, some}
 use mathlib.Core.List.{List, [], ◌∷◌}
 use Rattle.std.proofs.Math.ListN.{take}
 use Rattle.std.proofs.Math.Seq.{drop-append-add}
@@ -24,15 +23,15 @@ use Rattle.flash_refines.specs.Store.Cells.{cell_at}
 
 cell_image : (c : Option Page) → cell_bytes c ≡ image_at image c
 unfolding blank_bytes blank_page
-cell_image none = refl
-cell_image (some p) = refl
+cell_image None = refl
+cell_image (Some p) = refl
 
 length_cell : (c : Option Page) → CellFits c → length (cell_bytes c) ≡ page_bytes
 unfolding blank_bytes
-length_cell none f = refl
-length_cell (some p) f = length-image p f
+length_cell None f = refl
+length_cell (Some p) f = length-image p f
 
-cell_part : (c : Cells) → Every CellFits c → (j : ℕ) → j < length c → take 512 (drop (512 * j) (bytes_of c)) ≡ cell_bytes (get_or c j none)
+cell_part : (c : Cells) → Every CellFits c → (j : ℕ) → j < length c → take 512 (drop (512 * j) (bytes_of c)) ≡ cell_bytes (get_or c j None)
 cell_part [] none j l = absurd (omega arith)
 cell_part (x ∷ c) (both f fs) zero l = take_at (cell_bytes x) (bytes_of c) 512 (length_cell x f)
 cell_part (x ∷ c) (both f fs) (suc j) l =
@@ -45,13 +44,13 @@ module _ {pool : List ℕ} {c : Cells} (is : IsPool pool c) where
   length-pool = ap length is.is ∙ length-bytes_of c is.fits
 
   -- the page at a place is the image of the cell there
-  pub page_cell : (j : ℕ) → j < length c → page_at (pages_of pool) j ≡ image_at image (get_or c j none)
+  pub page_cell : (j : ℕ) → j < length c → page_at (pages_of pool) j ≡ image_at image (get_or c j None)
   unfolding part
   page_cell j l =
       page_at-part pool j (omega (arith, length-pool)) ∙
       ap (λ (s : List ℕ). take 512 (drop (512 * j) s)) is.is ∙
       cell_part c is.fits j l ∙
-      cell_image (get_or c j none)
+      cell_image (get_or c j None)
 
   -- THE PAGES stand for the blocks of these cells
   pub pages_stand : (bs : Blocks) → cells 32 bs ≡ c → length c ≡ 32 * length bs → ((i : ℕ) → length (block bs i) ≤ 32) →
@@ -64,6 +63,6 @@ module _ {pool : List ℕ} {c : Cells} (is : IsPool pool c) where
         each =
             λ i q li lq.
             page_cell (32 * i + q) (omega arith) ∙
-            ap (λ (x : Cells). image_at image (get_or x (32 * i + q) none)) (sym e) ∙
+            ap (λ (x : Cells). image_at image (get_or x (32 * i + q) None)) (sym e) ∙
             ap (image_at image) (cell_at bs i q li lq);
       }

@@ -1,8 +1,6 @@
 -- Each row, once all pages were met, says what the store says of its node: version, mode and pages, the latter up to three. Assumes nothing.
-use Rattle.std.specs.Prelude.{◌≡◌, List, ℕ, ◌+◌, ◌*◌, ◌≤◌, ◌<◌, get_or}
+use Rattle.std.specs.Prelude.{◌≡◌, List, ℕ, ◌+◌, ◌*◌, ◌≤◌, ◌<◌, get_or, None, slice_get}
 use Rattle.std.proofs.Common.{sym, ap, ◌∙◌, subst, arith}
-use Rattle.std.proofs.Math.Option.{none}
-use Rattle.std.proofs.Math.ListN.{get_elem?}
 use Rattle.laws.specs.Counts.{count}
 use Rattle.laws.specs.Every.{Every}
 use Rattle.laws.specs.Options.{test}
@@ -62,13 +60,13 @@ module _ {blocks nodes : ℕ} {score : ℕ → ℕ} {pool : List ℕ} {c : Cells
         ap cap (pages-is bs n (orderly g))
 
     pub row-names : (row_at after n).pages ≤ 3 → (i q : ℕ) → i < blocks → q < 32 →
-        names (32 * i + q) (row_at after n) ≡ test (carries (view st) n) (get_elem? (block bs i) q)
+        names (32 * i + q) (row_at after n) ≡ test (carries (view st) n) (slice_get (block bs i) q)
     row-names few i q li lq =
         told.names few (32 * i + q) ∙
-        ap (λ (v : ℕ). has_cell n v (get_or c (32 * i + q) none)) greatest_cell_lem ∙
-        ap (λ (x : Cells). has_cell n (greatest (view st) n) (get_or x (32 * i + q) none)) (sym (same_cells g)) ∙
+        ap (λ (v : ℕ). has_cell n v (get_or c (32 * i + q) None)) greatest_cell_lem ∙
+        ap (λ (x : Cells). has_cell n (greatest (view st) n) (get_or x (32 * i + q) None)) (sym (same_cells g)) ∙
         ap (has_cell n (greatest (view st) n)) (cell_at bs i q (omega (arith, count-blocks g)) lq) ∙
-        cell_carries bs n (get_elem? (block bs i) q)
+        cell_carries bs n (slice_get (block bs i) q)
 
     pub row_mode : RowMode (row_at after n).mode st n
     row_mode = modes (row_at after n).mode stands

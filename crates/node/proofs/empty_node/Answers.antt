@@ -1,7 +1,5 @@
 -- `node::empty_node` meets its contract: no pair of a count of 0. Assumes nothing.
-use mathlib.Core.Path.{refl}
-use Prim.Native.Nat.{ℕ}
-use native.Mathlib.Omega.{arith}
+use Rattle.std.proofs.Common.{refl, ℕ, arith}
 use lib.ListN.{length-replicate}
 use Rattle.pairs.specs.Pairs.{Within}
 use Rattle.node.specs.Value.{pairs_in}

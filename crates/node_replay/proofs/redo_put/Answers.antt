@@ -1,14 +1,7 @@
 -- `node_replay::redo_put` meets its contract: a key behind all others, the first key, or any other once they are moved to the front. Assumes nothing.
 use Rattle.std.proofs.Common.{rules}
-use native.Mathlib.Omega.{arith}
 use Rattle.node_replay.specs.Outline.{redone_behind, redone_front, redone_counted}
 use Rattle.node_replay.proofs.redo_put.Goals as goal
-
-pub bounds-keys-end : goal.bounds-keys-end
-bounds-keys-end c = c.is_behind.ensures.room c.if-is_behind.true
-
-pub bounds-pointers-end : goal.bounds-pointers-end
-bounds-pointers-end c = c.is_behind.ensures.room c.if-is_behind.true
 
 pub returns-then-is_behind : goal.returns-then-is_behind
 returns-then-is_behind c =
@@ -17,10 +10,6 @@ returns-then-is_behind c =
     redone_behind a.outline a.keys.now a.pointers.now c.requires a.key a.pointer (search rules) (b.room c.if-is_behind.true)
     (b.above c.if-is_behind.true)
 
-pub bounds-pointers-first : goal.bounds-pointers-first
-bounds-pointers-first c =
-    omega (arith, c.is_first.ensures.some c.if-is_first.true, c.requires.room)
-
 pub returns-then-is_first : goal.returns-then-is_first
 returns-then-is_first c =
     let a = c.args in
@@ -28,12 +17,7 @@ returns-then-is_first c =
     redone_front a.outline a.keys.now a.pointers.now c.requires a.key (f.some c.if-is_first.true) (f.same c.if-is_first.true) a.pointer
     (search rules)
 
-pub put_in-n-requires : goal.put_in-n-requires
-put_in-n-requires c =
-    let s = c.settle.ensures in
-    rw (s.0, s.1) c.requires.held
-
 pub returns : goal.returns
 returns c =
     let s = c.settle.ensures in
-    rw c.counted.ensures (redone_counted _ c.put_in-n.result _ _ _ (rw (s.0, s.1) at c.put_in-n.ensures))
+    rw c.counted.ensures (redone_counted c.args.outline c.put_in.result _ _ _ (rw (s.0, s.1) at c.put_in.ensures))

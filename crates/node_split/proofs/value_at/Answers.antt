@@ -1,26 +1,23 @@
 -- `node_split::value_at` meets its contract: before the place, at it and behind it. Assumes nothing.
-use Rattle.std.proofs.Common.{rules}
-use mathlib.Core.Path.{◌≡◌, sym, ap, ◌∙◌}
-use Prim.Native.Nat.{ℕ}
-use native.Mathlib.Omega.{arith}
-use lib.ListN.{length, get_or}
+use Rattle.std.proofs.Common.{◌≡◌, ◌<◌, ℕ, get_or, sym, ap, ◌∙◌, arith}
+use Rattle.std.proofs.lemmas.Grind.{common_steps}
 use Rattle.node.specs.Splice.{insert_at, get_or-insert_at-before, get_or-insert_at_same, get_or-insert_at-after}
 use Rattle.node_split.proofs.value_at.Goals as goal
 
-pub returns-then-i-at : goal.returns-then-i-at
-returns-then-i-at c =
+pub returns-in-Less : goal.returns-in-Less
+returns-in-Less c =
     let a = c.args in
-    let room : length a.a ≡ 24 = search rules in
-    sym (get_or-insert_at-before a.x 0 a.at a.i a.a c.if-i-at.true (omega arith))
+    let less : a.i < a.at = grind (arith, common_steps) in
+    sym (get_or-insert_at-before a.x 0 a.at a.i a.a.now less (omega arith))
 
-pub returns-then-i-at-2 : goal.returns-then-i-at-2
-returns-then-i-at-2 c =
+pub returns-in-Equal : goal.returns-in-Equal
+returns-in-Equal c =
     let a = c.args in
-    let room : length a.a ≡ 24 = search rules in
-    sym (ap (λ (j : ℕ). get_or (insert_at a.at a.x a.a) j 0) c.if-i-at-2.true ∙ get_or-insert_at_same a.x 0 a.at a.a (omega arith))
+    let same : a.i ≡ a.at = grind (arith, common_steps) in
+    sym (ap (λ (j : ℕ). get_or (insert_at a.at a.x a.a.now) j 0) same ∙ get_or-insert_at_same a.x 0 a.at a.a.now (omega arith))
 
-pub returns : goal.returns
-returns c =
+pub returns-in-Greater : goal.returns-in-Greater
+returns-in-Greater c =
     let a = c.args in
-    let room : length a.a ≡ 24 = search rules in
-    sym (get_or-insert_at-after a.x 0 a.at a.i a.a (omega arith) (omega arith))
+    let more : a.at < a.i = grind (arith, common_steps) in
+    sym (get_or-insert_at-after a.x 0 a.at a.i a.a.now more (omega arith))

@@ -7,5 +7,5 @@ use Rattle.page_checkpoint.proofs.checkpoint_image.Goals as goal
 
 pub returns : goal.returns
 returns c = let a = c.args in
-    let p = records_page a.sequence a.first a.tariff a.n a.records.now a.last a.count in
+    let p = records_page a.sequence a.tariff a.n a.records.now a.count in
     c.lay_checkpoint.ensures ∙ summed-blank 512 (body_of p) ∙ image-sealed p

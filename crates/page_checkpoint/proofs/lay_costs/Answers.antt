@@ -7,4 +7,4 @@ pub returns : goal.returns
 returns c =
     let a = c.args in
     c.write32-3.ensures ∙
-    rw (c.write32-2.ensures, c.write32.ensures) (three_laid a.p.now a.at a.read a.edit a.rewrite c.requires)
+    rw (c.write32-2.ensures, c.write32.ensures) (three_laid a.p.now a.at a.costs.read a.costs.edit a.costs.rewrite c.requires)

@@ -8,19 +8,19 @@ use Rattle.laws.specs.BigEndian.{big_endian}
 use Rattle.wire.specs.FieldLaws.{lay-field, length-field}
 use Rattle.page_checkpoint.proofs.lay_end.Goals as goal
 
-pub returns-then-last : goal.returns-then-last
-returns-then-last c = let a = c.args in
-    rw c.if-last.true
+pub returns-in-Some : goal.returns-in-Some
+returns-in-Some c = let a = c.args in
+    rw c.in-Some.is
     (record {
       is =
           c.write16.ensures ∙
           rw c.lay_head.ensures
-          (lay-field a.p.now a.at 0x15 2 (big_endian 2 a.count) (omega arith) refl);
-      behind = omega (arith, length-field 0x15 (big_endian 2 a.count));
+          (lay-field a.p.now a.at 0x15 2 (big_endian 2 c.in-Some.nodes) (omega arith) refl);
+      behind = omega (arith, length-field 0x15 (big_endian 2 c.in-Some.nodes));
     })
 
-pub returns : goal.returns
-returns c = rw c.if-last.false
+pub returns-in-None : goal.returns-in-None
+returns-in-None c = rw c.in-None.is
     (record {
       is = sym (lay-nil c.args.p.now c.args.at);
       behind = sym

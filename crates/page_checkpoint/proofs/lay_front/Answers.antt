@@ -8,14 +8,14 @@ use Rattle.page.specs.Image.{tariff_bytes}
 use Rattle.page.specs.Spelled.{length-tariff_bytes}
 use Rattle.page_checkpoint.proofs.lay_front.Goals as goal
 
-pub returns-then-first : goal.returns-then-first
-returns-then-first c =
+pub returns-in-Some : goal.returns-in-Some
+returns-in-Some c =
     let a = c.args in
-    rw c.if-first.true
+    rw c.in-Some.is
     (record {
       is = c.lay_tariff.ensures;
-      behind = omega (arith, length-field 0x13 (tariff_bytes a.tariff), length-tariff_bytes a.tariff);
+      behind = omega (arith, length-field 0x13 (tariff_bytes c.in-Some.tariff), length-tariff_bytes c.in-Some.tariff);
     })
 
-pub returns : goal.returns
-returns c = rw c.if-first.false (record { is = sym (lay-nil c.args.p.now 7); behind = omega arith })
+pub returns-in-None : goal.returns-in-None
+returns-in-None c = rw c.in-None.is (record { is = sym (lay-nil c.args.p.now 7); behind = omega arith })

@@ -1,9 +1,8 @@
 -- THE WALK DOWN of the code reads the nodes of the model's path, in order, and ends at the model's leaf with its content in hand: a read may switch its
 -- node's mode, but leaves every content as it was. Assumes nothing.
-use Rattle.std.specs.Prelude.{◌≡◌, true, List, [], ◌∷◌, map}
+use Rattle.std.specs.Prelude.{◌≡◌, true, List, [], ◌∷◌, map, Option, None, Some}
 use Rattle.std.proofs.Math.Path.{refl, ap}
 use Rattle.std.proofs.Common.{◌∙◌}
-use Rattle.std.proofs.Math.Option.{Option, none, some}
 use Prim.Native.Nat.{ℕ, zero, suc, ◌+◌, ◌-◌, ◌*◌, ◌≤◌, ◌<◌}
 use native.Mathlib.Omega.{arith}
 use Rattle.laws.specs.Every.{Every, none, both}
@@ -89,12 +88,12 @@ module _ (blocks : ℕ) (t : Tariff) (key : ℕ) (table : Table) (count : ℕ) w
     leads : (next : Option ℕ) → child_for key (table id) ≡ next → child_for key (table_in w id) ≡ next
     leads next e = ap (λ (z : Table). child_for key (z id)) (table_agrees a.runs ∙ a.same_table) ∙ e
 
-    walk_ends : (fuel : ℕ) → child_for key (table id) ≡ none →
+    walk_ends : (fuel : ℕ) → child_for key (table id) ≡ None →
         Walked blocks t w s table count (path fuel table key id) (leaf_for fuel table key id) (descend fuel t key id w)
-    walk_ends fuel e = rw (path-leaf table key fuel id e, leaf_for-leaf table key fuel id e, descend-leaf t key id w (leads none e) fuel) ends
+    walk_ends fuel e = rw (path-leaf table key fuel id e, leaf_for-leaf table key fuel id e, descend-leaf t key id w (leads None e) fuel) ends
 
     -- or goes on at a child
-    walk_on : (fuel child : ℕ) → child_for key (table id) ≡ some child →
+    walk_on : (fuel child : ℕ) → child_for key (table id) ≡ Some child →
         Walked blocks t (served t (read id) w) (serve t (read id) s) table count (path fuel table key child) (leaf_for fuel table key child)
         (descend fuel t key child (served t (read id) w)) →
         Walked blocks t w s table count (path (suc fuel) table key id) (leaf_for (suc fuel) table key id) (descend (suc fuel) t key id w)
@@ -102,7 +101,7 @@ module _ (blocks : ℕ) (t : Tariff) (key : ℕ) (table : Table) (count : ℕ) w
         rw (
           path_step table key fuel id child e,
           leaf_for_step table key fuel id child e,
-          descend_step t key id w child fuel (leads (some child) e),
+          descend_step t key id w child fuel (leads (Some child) e),
         )
         record {
           world = r.world;
@@ -122,7 +121,7 @@ module _ (blocks : ℕ) (t : Tariff) (key : ℕ) (table : Table) (count : ℕ) w
   used-first zero id (both l ls) = l
   used-first (suc fuel) id (both l ls) = l
 
-  used-next : (fuel id child : ℕ) → child_for key (table id) ≡ some child → Used (path (suc fuel) table key id) → Used (path fuel table key child)
+  used-next : (fuel id child : ℕ) → child_for key (table id) ≡ Some child → Used (path (suc fuel) table key id) → Used (path fuel table key child)
   used-next fuel id child e u = tail (rw (path_step table key fuel id child e) at u)
     where
       tail : {n : ℕ} {ns : List ℕ} → Used (n ∷ ns) → Used ns
@@ -141,12 +140,12 @@ module _ (blocks : ℕ) (t : Tariff) (key : ℕ) (table : Table) (count : ℕ) w
       (λ child e. walks fuel child (served t (read id) w) (serve t (read id) s) (after a id there left) (used-next fuel id child e u) (omega arith))
     where
       go : (next : Option ℕ) → child_for key (table id) ≡ next →
-          ((child : ℕ) → child_for key (table id) ≡ some child →
+          ((child : ℕ) → child_for key (table id) ≡ Some child →
           Walked blocks t (served t (read id) w) (serve t (read id) s) table count (path fuel table key child) (leaf_for fuel table key child)
           (descend fuel t key child (served t (read id) w))) →
           Walked blocks t w s table count (path (suc fuel) table key id) (leaf_for (suc fuel) table key id) (descend (suc fuel) t key id w)
-      go none e rest = walk_ends a id (used-first (suc fuel) id u) (omega arith) (suc fuel) e
-      go (some child) e rest = walk_on a id (used-first (suc fuel) id u) (omega arith) fuel child e (rest child e)
+      go None e rest = walk_ends a id (used-first (suc fuel) id u) (omega arith) (suc fuel) e
+      go (Some child) e rest = walk_on a id (used-first (suc fuel) id u) (omega arith) fuel child e (rest child e)
 
 -- FROM THE ROOT ON, in a book that spells a map: the nodes of the model's path are read, and the model's leaf is in hand.
 pub descent_walked : {blocks : ℕ} {w : World} {s : State} → Runs blocks w s → (ps : List Pair) → Holds (node_limit blocks) (book_of s) ps →

@@ -1,10 +1,9 @@
 -- GET, DELETE, SCAN AND CEILING by the code agree with the model's: what is left, the charge, the answer. Assumes nothing.
 use Rattle.std.proofs.Math.Path.{◌≡◌, refl, sym, ap, ap₂}
 use Rattle.std.proofs.Common.{◌∙◌, arith}
-use Rattle.std.specs.Prelude.{Bool, ltb}
+use Rattle.std.specs.Prelude.{Bool, ltb, Option, None, Some}
 use Rattle.std.proofs.Math.Bool.{true, false}
 use mathlib.Core.List.{List, [], ◌++◌, map, map-append}
-use Rattle.std.proofs.Math.Option.{Option, none, some}
 use Prim.Native.Nat.{ℕ, ◌+◌, ◌<◌}
 use Rattle.layout.specs.Layout.{node_limit, last_key, bound32}
 use Rattle.pairs.specs.Pairs.{Pair, lookup, first}
@@ -97,13 +96,13 @@ module _ {blocks : ℕ} {w : World} {s : State} (k : Runs blocks w s) (ps : List
 
     deletion-served : (o : Option ℕ) →
         deletion t o (descent t key w).leaf (descent t key w).node key after ≡ served_all t (deletion_for o (descent t key w).leaf key) after
-    deletion-served none = refl
-    deletion-served (some old) =
+    deletion-served None = refl
+    deletion-served (Some old) =
         serve_holding_lem down.runs (descent t key w).leaf (descent t key w).node held t (Store.edit (remove key))
 
     deletion-charged : (o : Option ℕ) → deletion_charge t o (descent t key w).leaf key after ≡ charged_all t (deletion_for o (descent t key w).leaf key) after
-    deletion-charged none = refl
-    deletion-charged (some old) = omega arith
+    deletion-charged None = refl
+    deletion-charged (Some old) = omega arith
 
     abbrev deletions : List NodeRequest
     deletions = deletion_for (get_answer count table key) (leaf key) key

@@ -1,10 +1,9 @@
 -- THE COMMAND PUT THAT THE CODE CARRIES OUT agrees with the model's: pages, rows and state afterwards, the charge, and the answer. Assumes nothing.
-use Rattle.std.specs.Prelude.{◌≡◌, Bool, false, ℕ, ◌+◌, ◌*◌, ◌≤◌, ◌<◌, length}
+use Rattle.std.specs.Prelude.{◌≡◌, Bool, false, ℕ, ◌+◌, ◌*◌, ◌≤◌, ◌<◌, length, Option, None, Result, Ok, Err}
 use Rattle.std.proofs.Math.Path.{refl, sym, ap, ap₂}
 use Rattle.std.proofs.Common.{◌∙◌, subst}
 use Rattle.std.proofs.Math.Bool.{true}
 use mathlib.Core.List.{List, [], ◌∷◌, ◌++◌, map, append_assoc}
-use Rattle.std.proofs.Math.Option.{Option, none}
 use native.Mathlib.Omega.{arith}
 use Rattle.std.proofs.Math.Dec.{ltb}
 use Rattle.laws.specs.Every.{none}
@@ -47,9 +46,6 @@ use Rattle.run_path.specs.Path.{table_in, steps_in}
 use Rattle.run_path.specs.Reads.{read_all, read_charges}
 use Rattle.run_serve.specs.Serve.{serve_holding, charge}
 use Rattle.store.specs.Serve as Store
-use Rattle.node.specs.declared.fit.Fitting.{Fitting}
-use Rattle.node.specs.declared.fit.Fitting.TheVariants.{Room, Full}
-use Rattle.run_split.specs.declared.Pending.TheVariants.{Nothing}
 use Rattle.node.specs.Fit.{by_fit, fit_of, full-above}
 use Rattle.run_split.specs.Absorbing.{Absorbing, absorbing}
 use Rattle.run_split.specs.SplitUpwards.{split_upwards}
@@ -114,7 +110,7 @@ module _ (n : Session) {B : ℕ} (s : State) (w : World) (a : Runs B w s) (pairs
   leaf-is = leaf_for_enough most_nodes count table sound-here key (steps_in w) (omega (arith, nodes_are a))
 
   -- The put on this table, its path and its leaf, by whether the pair fits.
-  put-by : (f : Fitting) → fit_of key (pairs_of (table leaf)) ≡ f →
+  put-by : (f : Result (Unit {0}) ℕ) → fit_of key (pairs_of (table leaf)) ≡ f →
       put t key value w ≡
       by_fit f (answering (value_or Replaced (get_answer count table key)) (read_and_edit t on_path leaf (table leaf) key value w))
       (put_splitting t on_path (ids_needed table on_path) key value w)
@@ -128,7 +124,7 @@ module _ (n : Session) {B : ℕ} (s : State) (w : World) (a : Runs B w s) (pairs
       (put_splitting t ids (ids_needed table ids) key value w))
       path-is leaf-is ∙
       ap
-      (λ (z : Fitting).
+      (λ (z : Result (Unit {0}) ℕ).
       by_fit z (answering (value_or Replaced (lookup key (pairs_of (table leaf)))) (read_and_edit t on_path leaf (table leaf) key value w))
       (put_splitting t on_path (ids_needed table on_path) key value w))
       e
@@ -163,7 +159,7 @@ module _ (n : Session) {B : ℕ} (s : State) (w : World) (a : Runs B w s) (pairs
   requests_are e = put-accepted table count pairs spells key value small limit within e
 
   -- ONE EDIT
-  module _ (room : fit_of key (pairs_of (table leaf)) ≡ Room) where
+  module _ (room : fit_of key (pairs_of (table leaf)) ≡ Ok tt) where
     single : (work_list ≡ edit leaf (Change.put key value) ∷ []) × (count_put table count pairs spells key value small ≡ count)
     single =
         finish_single table key (Change.put key value) count count
@@ -206,12 +202,12 @@ module _ (n : Session) {B : ℕ} (s : State) (w : World) (a : Runs B w s) (pairs
     put-edits : PutAgrees B n key value s w rs
     put-edits =
         agreed (value_or Replaced (get_answer count table key))
-        (put-by Room room ∙ ap (answering (value_or Replaced (get_answer count table key))) edit-is)
+        (put-by (Ok tt) room ∙ ap (answering (value_or Replaced (get_answer count table key))) edit-is)
         (answer-accepted accepted) (suits_accepted accepted)
 
   -- A NEW KEY FOR A FULL LEAF
-  module _ (at : ℕ) (full : fit_of key (pairs_of (table leaf)) ≡ Full at) where
-    new_key : get_answer count table key ≡ none
+  module _ (at : ℕ) (full : fit_of key (pairs_of (table leaf)) ≡ Err at) where
+    new_key : get_answer count table key ≡ None
     unfolding get_answer
     new_key =
         lookup_absent key found.bottom found.top (pairs_of (table leaf)) (rw found.content found.within)
@@ -225,7 +221,7 @@ module _ (n : Session) {B : ℕ} (s : State) (w : World) (a : Runs B w s) (pairs
         put t key value w ≡ choose b (refused w) (answering Absent (read_and_split t on_path key value w))
     unfolding put_splitting
     new_by b e =
-        put-by (Full at) full ∙
+        put-by (Err at) full ∙
         ap (λ (z : Bool). choose z (refused w) (answering Absent (read_and_split t on_path key value w)))
         (ap₂ (λ (m n : ℕ). ltb (node_limit m) (n + ids_needed table on_path)) (blocks_are a) (nodes_are a) ∙ e)
 
@@ -288,7 +284,7 @@ module _ (n : Session) {B : ℕ} (s : State) (w : World) (a : Runs B w s) (pairs
           }
 
       split_upwards-done : split_upwards t key value on_path (served_all t reads w) ≡
-          absorbing (served_all t work_list (served_all t reads w)) (charged_all t work_list (served_all t reads w)) Nothing
+          absorbing (served_all t work_list (served_all t reads w)) (charged_all t work_list (served_all t reads w)) None
       split_upwards-done =
           let head = path-head count table key 0 in
           ap (λ (ids : List ℕ). split_upwards t key value ids (served_all t reads w)) head.1 ∙
@@ -301,7 +297,7 @@ module _ (n : Session) {B : ℕ} (s : State) (w : World) (a : Runs B w s) (pairs
       split-is =
           let list = requests_are accepted_new in
           let whole : split_upwards t key value on_path (read_all t on_path w) ≡
-          absorbing (served_all t work_list (served_all t reads w)) (charged_all t work_list (served_all t reads w)) Nothing =
+          absorbing (served_all t work_list (served_all t reads w)) (charged_all t work_list (served_all t reads w)) None =
           ap (split_upwards t key value on_path) read_here ∙ split_upwards-done in
           let now : (split_upwards t key value on_path (read_all t on_path w)).now ≡ served_all t rs w =
           ap (λ (c : Absorbing). c.now) whole ∙ sym (served_all-append t reads work_list w) ∙ ap (λ (z : List NodeRequest). served_all t z w) (sym list) in
@@ -324,10 +320,10 @@ module _ (n : Session) {B : ℕ} (s : State) (w : World) (a : Runs B w s) (pairs
   pub put_agrees : PutAgrees B n key value s w rs
   put_agrees = go (fit_of key (pairs_of (table leaf))) refl
     where
-      new : (at : ℕ) → fit_of key (pairs_of (table leaf)) ≡ Full at → (b : Bool) → ltb limit (count + ids_needed table on_path) ≡ b → PutAgrees B n key value s w rs
+      new : (at : ℕ) → fit_of key (pairs_of (table leaf)) ≡ Err at → (b : Bool) → ltb limit (count + ids_needed table on_path) ≡ b → PutAgrees B n key value s w rs
       new at f true e = put-refuses at f e
       new at f false e = put_splits at f e
 
-      go : (f : Fitting) → fit_of key (pairs_of (table leaf)) ≡ f → PutAgrees B n key value s w rs
-      go Room f = put-edits f
-      go (Full at) f = new at f (ltb limit (count + ids_needed table on_path)) refl
+      go : (f : Result (Unit {0}) ℕ) → fit_of key (pairs_of (table leaf)) ≡ f → PutAgrees B n key value s w rs
+      go (Ok tt) f = put-edits f
+      go (Err at) f = new at f (ltb limit (count + ids_needed table on_path)) refl

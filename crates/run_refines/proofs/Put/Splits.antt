@@ -1,5 +1,5 @@
 -- THE SPLITS that the code makes are the tree's requests: a rewrite and a create, or two creates and the rewrite of the root. Assumes nothing.
-use Rattle.std.specs.Prelude.{◌≡◌}
+use Rattle.std.specs.Prelude.{◌≡◌, None, Some}
 use Rattle.std.proofs.Math.Path.{refl, sym, ap, ap₂}
 use Rattle.std.proofs.Common.{◌∙◌, subst, arith, lt-ltb}
 use mathlib.Core.List.{List, [], ◌∷◌, ◌++◌, append_assoc}
@@ -16,7 +16,7 @@ use Rattle.tree.specs.Fit.{Fits}
 use Rattle.store.specs.Serve as Store
 use Rattle.flash_allocate.specs.World.{World}
 use Rattle.run_serve.specs.Serve.{serve, charge}
-use Rattle.run_split.specs.declared.Pending.TheVariants.{Nothing, Halves}
+use Rattle.run_split.specs.declared.Pending.TheVariants.{Halves}
 use Rattle.run_split.specs.Absorbing.{absorbing, absorbing-is}
 use Rattle.run_split.specs.Split.{grow, split_below, split_root}
 use Rattle.run_refines.specs.Commands.Lists.{served_all, charged_all}
@@ -68,7 +68,7 @@ module _ {B : ℕ} {t : Tariff} {table : Table} {count : ℕ} {w : World} {all :
 
     -- A NODE BELOW THE ROOT
     pub below-is : (id : ℕ) → (rs ++ below id) ++ more ≡ all →
-        split_below t id whole here ≡ absorbing (served_all t (rs ++ below id) w) (charged_all t (below id) here) (Halves (middle_key whole) id n)
+        split_below t id whole here ≡ absorbing (served_all t (rs ++ below id) w) (charged_all t (below id) here) (Some (Halves (middle_key whole) id n))
     unfolding split_below
     below-is id e =
         let lower = rewrite id (lower_half whole n) in
@@ -83,10 +83,10 @@ module _ {B : ℕ} {t : Tariff} {table : Table} {count : ℕ} {w : World} {all :
         grown ∙
         ap (λ (z : List NodeRequest). served_all t z w) (append_assoc rs (lower ∷ []) (create n (upper_half whole) ∷ [])))
         (ap (λ (j : ℕ). charge t id (Store.rewrite (lower_half whole j)) here) nodes ∙ omega arith)
-        (ap (λ (j : ℕ). Halves (middle_key whole) id j) nodes)
+        (ap (λ (j : ℕ). Some (Halves (middle_key whole) id j)) nodes)
 
     -- THE ROOT
-    pub root_is : (rs ++ rooting) ++ more ≡ all → split_root t whole here ≡ absorbing (served_all t (rs ++ rooting) w) (charged_all t rooting here) Nothing
+    pub root_is : (rs ++ rooting) ++ more ≡ all → split_root t whole here ≡ absorbing (served_all t (rs ++ rooting) w) (charged_all t rooting here) None
     unfolding split_root
     root_is e =
         let lower = create n (lower_half whole (suc n)) in

@@ -1,5 +1,5 @@
 -- THE WORK THAT GOES LEAF UPWARDS, as the code does it, is the tree's: the same requests, in the same order. Assumes nothing.
-use Rattle.std.specs.Prelude.{◌≡◌, Bool, ℕ, suc, ◌≤◌, ◌<◌, length}
+use Rattle.std.specs.Prelude.{◌≡◌, Bool, ℕ, suc, ◌≤◌, ◌<◌, length, Option, None, Some}
 use Rattle.std.proofs.Math.Path.{refl, sym, ap}
 use Rattle.std.proofs.Common.{◌∙◌, arith, leb-true, leb-false}
 use Rattle.std.proofs.Math.Bool.{true, false}
@@ -19,7 +19,7 @@ use Rattle.tree.specs.Put.{parent_edits, fits_node, Work, finished, pending, set
 use Rattle.tree_laws.specs.Requests.{apply_all-append}
 use Rattle.flash_allocate.specs.World.{World}
 use Rattle.run_split.specs.declared.Pending.{Pending}
-use Rattle.run_split.specs.declared.Pending.TheVariants.{Nothing, Pair, Halves}
+use Rattle.run_split.specs.declared.Pending.TheVariants.{Pair, Halves}
 use Rattle.run_split.specs.Absorbing.{Absorbing, absorbing, absorbing-is}
 use Rattle.run_split.specs.Split.{split, split_below, split_root}
 use Rattle.run_split.specs.Absorb.{node_at, absorb}
@@ -39,7 +39,7 @@ counts_up (create i x ∷ rs) count = omega (arith, counts_up rs (suc count))
 
 -- Nothing waits: nothing is done.
 upward-nothing : (t : Tariff) (k : ℕ) (root : Bool) (id : ℕ) (now : World) (paid : ℕ) →
-    upward t k root id (absorbing now paid Nothing) ≡ absorbing now paid Nothing
+    upward t k root id (absorbing now paid None) ≡ absorbing now paid None
 unfolding upward
 upward-nothing t k root id now paid = absorbing-is refl (omega arith) refl
 
@@ -54,14 +54,14 @@ split_root_lem t id whole w = refl
 module _ {B : ℕ} {t : Tariff} {table : Table} {count : ℕ} {w : World} {all : List NodeRequest} (c : Course B t table count w all) (k value : ℕ) where
   -- Where the tree's work has come to a node with edits to absorb, the code has served the same requests, and the same waits.
   record Matches (id : ℕ) (ids : List ℕ) (rs : List NodeRequest) (n : ℕ) (edits : List Change) (done : Absorbing) : Type 0 where
-    waiting : Pending
+    waiting : Option Pending
     is : done ≡ absorbing (served_all t rs w) (charged_all t rs w) waiting
     waits : Waits k (table id) waiting edits
     next : n ≡ count_after_all rs count
     kept : (i : ℕ) → i < count → Others i ids → apply_all rs table i ≡ table i
 
   abbrev Matched : ℕ → List ℕ → Work → Absorbing → Type 0
-  Matched id ids (finished rs n) done = done ≡ absorbing (served_all t rs w) (charged_all t rs w) Nothing
+  Matched id ids (finished rs n) done = done ≡ absorbing (served_all t rs w) (charged_all t rs w) None
   Matched id ids (pending rs n edits) done = Matches id ids rs n edits done
 
   -- The requests so far are the first of all.
@@ -113,7 +113,7 @@ module _ {B : ℕ} {t : Tariff} {table : Table} {count : ℕ} {w : World} {all :
     up_is made f = ap (upward t k root id) m.is ∙ ap (after_it (charged_all t rs w)) f
 
     up_fits : fits_node whole ≡ true → upward t k root id done ≡ absorbing (served_all t (rs ++ map (edit id) edits) w)
-        (charged_all t (rs ++ map (edit id) edits) w) Nothing
+        (charged_all t (rs ++ map (edit id) edits) w) None
     up_fits f =
         up_is _ (turn.fits (leb-true (length (pairs_of whole)) most_keys f)) ∙
         absorbing-is (sym (served_all-append t rs (map (edit id) edits) w)) (sym (charged_all-append t rs (map (edit id) edits) w)) refl
@@ -138,7 +138,7 @@ module _ {B : ℕ} {t : Tariff} {table : Table} {count : ℕ} {w : World} {all :
       split_below_lem t child whole (served_all t rs w) ∙
       below-is c rs after.0 n m.next whole child after.1 in
       record {
-        waiting = Halves (middle_key whole) child n;
+        waiting = Some (Halves (middle_key whole) child n);
         is = up_is false child ids rs n edits done m used others more e _ made ∙ absorbing-is refl (sym (charged_all-append t rs parts w)) refl;
         waits = (refl, branch);
         next = ap suc m.next ∙ sym (count_after_all-append rs parts count);
@@ -172,13 +172,13 @@ module _ {B : ℕ} {t : Tariff} {table : Table} {count : ℕ} {w : World} {all :
 
   -- ALL NODES BELOW THE ROOT
   matched : (id : ℕ) (ids : List ℕ) → Paths table (id ∷ ids) → Every (λ (i : ℕ). i < count) ids → Ahead (work table k (put k value) count (id ∷ ids)) →
-      Matched id ids (work table k (put k value) count (id ∷ ids)) (split_upwards_below t k ids (absorbing w 0 (Pair k value)))
+      Matched id ids (work table k (put k value) count (id ∷ ids)) (split_upwards_below t k ids (absorbing w 0 (Some (Pair k value))))
   unfolding work split_upwards_below
-  matched id [] on_path used a = record { waiting = Pair k value; is = refl; waits = refl; next = refl; kept = λ i l o. refl }
+  matched id [] on_path used a = record { waiting = Some (Pair k value); is = refl; waits = refl; next = refl; kept = λ i l o. refl }
   matched id (child ∷ ids) on_path (both l used) a =
       let x = work table k (put k value) count (child ∷ ids) in
       let b = ahead_before id child x a in
-      matched_step id child ids x (split_upwards_below t k ids (absorbing w 0 (Pair k value))) l (path-below ids on_path.2) on_path.0 a b
+      matched_step id child ids x (split_upwards_below t k ids (absorbing w 0 (Some (Pair k value)))) l (path-below ids on_path.2) on_path.0 a b
       (matched child ids on_path.2 used b)
     where
       path-below : (ids : List ℕ) → Paths table (child ∷ ids) → Others child ids
@@ -187,19 +187,19 @@ module _ {B : ℕ} {t : Tariff} {table : Table} {count : ℕ} {w : World} {all :
 
   -- THE ROOT
   finish_matched : (ids : List ℕ) (x : Work) (done : Absorbing) → 0 < count → Others 0 ids → finish table x ≡ all → Matched 0 ids x done →
-      upward t k true 0 done ≡ absorbing (served_all t all w) (charged_all t all w) Nothing
+      upward t k true 0 done ≡ absorbing (served_all t all w) (charged_all t all w) None
   unfolding finish
   finish_matched ids (finished rs n) done used others e m =
       ap (upward t k true 0) m ∙
       upward-nothing t k true 0 (served_all t rs w) (charged_all t rs w) ∙
-      ap (λ (z : List NodeRequest). absorbing (served_all t z w) (charged_all t z w) Nothing) e
+      ap (λ (z : List NodeRequest). absorbing (served_all t z w) (charged_all t z w) None) e
   finish_matched ids (pending rs n edits) done used others e m = go (fits_node (change_all edits (table 0))) refl
     where
-      go : (b : Bool) → fits_node (change_all edits (table 0)) ≡ b → upward t k true 0 done ≡ absorbing (served_all t all w) (charged_all t all w) Nothing
+      go : (b : Bool) → fits_node (change_all edits (table 0)) ≡ b → upward t k true 0 done ≡ absorbing (served_all t all w) (charged_all t all w) None
       go true f =
           let is : rs ++ map (edit 0) edits ≡ all = rw (f, finish) at e in
           up_fits true 0 ids rs n edits done m used others (map (edit 0) edits) is f ∙
-          ap (λ (z : List NodeRequest). absorbing (served_all t z w) (charged_all t z w) Nothing) is
+          ap (λ (z : List NodeRequest). absorbing (served_all t z w) (charged_all t z w) None) is
       go false f =
           let top = change_all edits (table 0) in
           let parts =
@@ -210,16 +210,16 @@ module _ {B : ℕ} {t : Tariff} {table : Table} {count : ℕ} {w : World} {all :
           split_root_lem t 0 top (served_all t rs w) ∙
           root_is c rs [] n m.next top (append-nil (rs ++ parts) ∙ is)) ∙
           absorbing-is refl (sym (charged_all-append t rs parts w)) refl ∙
-          ap (λ (z : List NodeRequest). absorbing (served_all t z w) (charged_all t z w) Nothing) is
+          ap (λ (z : List NodeRequest). absorbing (served_all t z w) (charged_all t z w) None) is
 
   -- THE WHOLE WAY
   pub split_upwards-is : (ids : List ℕ) → Paths table (0 ∷ ids) → Every (λ (i : ℕ). i < count) (0 ∷ ids) → finish table
       (work table k (put k value) count (0 ∷ ids)) ≡ all →
-      split_upwards t k value (0 ∷ ids) w ≡ absorbing (served_all t all w) (charged_all t all w) Nothing
+      split_upwards t k value (0 ∷ ids) w ≡ absorbing (served_all t all w) (charged_all t all w) None
   unfolding split_upwards
   split_upwards-is ids on_path (both l used) e =
       let x = work table k (put k value) count (0 ∷ ids) in
-      finish_matched ids x (split_upwards_below t k ids (absorbing w 0 (Pair k value))) l (others ids on_path) e (matched 0 ids on_path used (finish-ahead x e))
+      finish_matched ids x (split_upwards_below t k ids (absorbing w 0 (Some (Pair k value)))) l (others ids on_path) e (matched 0 ids on_path used (finish-ahead x e))
     where
       others : (ids : List ℕ) → Paths table (0 ∷ ids) → Others 0 ids
       others [] y = none

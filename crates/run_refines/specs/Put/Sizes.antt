@@ -1,5 +1,5 @@
 -- The code's question whether a pair fits is the tree's question whether at most 24 keys come of it. Assumes nothing.
-use Rattle.std.specs.Prelude.{◌≡◌, ◌⊎◌, List, ℕ, ◌≤◌, ◌<◌}
+use Rattle.std.specs.Prelude.{◌≡◌, ◌⊎◌, List, ℕ, ◌≤◌, ◌<◌, Ok, Err}
 use Rattle.std.proofs.Math.Path.{refl, ap, subst}
 use Rattle.std.proofs.Common.{sym, ◌∙◌, arith, lt-ltb, le-ltb, length-set}
 use Rattle.std.proofs.Math.Logic.{inl, inr}
@@ -19,7 +19,6 @@ use Rattle.node.specs.Search.{place, key_at, Present, Absent, present_or, insert
 use Rattle.node.specs.Found.{found-present, found-absent, above-absent}
 use Rattle.node.specs.Repoint.{repoint, place-key_at}
 use Rattle.node.specs.BothEdits.{repoint-put}
-use Rattle.node.specs.declared.fit.Fitting.TheVariants.{Room, Full}
 use Rattle.node.specs.Fit.{fit_of, fit_at, fit_full, full-above, room-full}
 
 -- A pair that fits, and one that does not.
@@ -27,7 +26,7 @@ module _ (key value : ℕ) (ps : List Pair) where
   length-present : Present key ps → length (insert key value ps) ≡ length ps
   length-present p = ap length (insert-present key value ps p) ∙ length-set ps (place key ps) (key, value)
 
-  pub full_size : (at : ℕ) → fit_of key ps ≡ Full at → most_keys < length (insert key value ps)
+  pub full_size : (at : ℕ) → fit_of key ps ≡ Err at → most_keys < length (insert key value ps)
   full_size at e =
       let f = full-above key ps at e in
       omega (
@@ -37,7 +36,7 @@ module _ (key value : ℕ) (ps : List Pair) where
         length-insert_at (place key ps) (key, value) ps,
       )
 
-  pub room-size : length ps ≤ most_keys → fit_of key ps ≡ Room → length (insert key value ps) ≤ most_keys
+  pub room-size : length ps ≤ most_keys → fit_of key ps ≡ Ok tt → length (insert key value ps) ≤ most_keys
   room-size l e = go (present_or key ps)
     where
       below : Absent key ps → (most_keys ≤ length ps) ⊎ (length ps < most_keys) → length (insert key value ps) ≤ most_keys
@@ -56,7 +55,7 @@ module _ (key value : ℕ) (ps : List Pair) (low high : ℕ) (w : Within low hig
       go (inl p) = p
       go (inr a) = absurd (none_some (sym (lookup_absent key low high (insert key value ps) w a) ∙ lookup-insert key value ps))
 
-  put-room : fit_of key (insert key value ps) ≡ Room
+  put-room : fit_of key (insert key value ps) ≡ Ok tt
   put-room = fit_at key (insert key value ps) (place key (insert key value ps)) (found-present key (insert key value ps) put-present)
 
 -- The pairs after a put.
@@ -97,12 +96,12 @@ module _ (at middle left right : ℕ) (ps : List Pair) (last : ℕ) (w : Within 
     renamed-key = rw (lt-ltb at (length ps) inside, repoint) refl
 
     -- the middle key is the old one: no split
-    same_key : old ≡ middle → (fit_of middle (pairs_of renamed) ≡ Room) × (length (pairs_of put_first) ≤ most_keys)
+    same_key : old ≡ middle → (fit_of middle (pairs_of renamed) ≡ Ok tt) × (length (pairs_of put_first) ≤ most_keys)
     unfolding repoint
     same_key e =
         let both : length (insert old right (insert old left ps)) ≡ length ps =
         length-present old right (insert old left ps) (put-present old left ps 0 bound32 (put_within left)) ∙ old-size left in (
-          ap (fit_of middle) renamed-key ∙ subst (λ (z : ℕ). fit_of z (insert old right ps) ≡ Room) e (put-room old right ps 0 bound32 (put_within right)),
+          ap (fit_of middle) renamed-key ∙ subst (λ (z : ℕ). fit_of z (insert old right ps) ≡ Ok tt) e (put-room old right ps 0 bound32 (put_within right)),
           rw (lt-ltb at (length ps) inside, repoint) (omega (arith, ap (λ (z : ℕ). length (insert old right (insert z left ps))) e)),
         )
 
@@ -113,16 +112,16 @@ module _ (at middle left right : ℕ) (ps : List Pair) (last : ℕ) (w : Within 
 
   -- one and the same node, or no split
   both_ways : (length ps ≤ at) ⊎ (at < length ps) → (key_at ps at ≡ middle) ⊎ (key_at ps at ≡ middle → ⊥) →
-      (put_last ≡ put_first) ⊎ ((fit_of middle (pairs_of renamed) ≡ Room) × (length (pairs_of put_first) ≤ most_keys))
+      (put_last ≡ put_first) ⊎ ((fit_of middle (pairs_of renamed) ≡ Ok tt) × (length (pairs_of put_first) ≤ most_keys))
   unfolding repoint
   both_ways (inl l) e = inl (rw (le-ltb at (length ps) l, repoint) refl)
   both_ways (inr l) (inl e) = inr (same_key l e)
   both_ways (inr l) (inr d) = inl (sym (repoint-put at right middle left branch d))
 
-  pub halves_room : fit_of middle (pairs_of renamed) ≡ Room → length (pairs_of put_first) ≤ most_keys
+  pub halves_room : fit_of middle (pairs_of renamed) ≡ Ok tt → length (pairs_of put_first) ≤ most_keys
   halves_room r = go (both_ways (le_or (length ps) at) (eq_or (key_at ps at) middle))
     where
-      go : (put_last ≡ put_first) ⊎ ((fit_of middle (pairs_of renamed) ≡ Room) × (length (pairs_of put_first) ≤ most_keys)) → length (pairs_of put_first) ≤ most_keys
+      go : (put_last ≡ put_first) ⊎ ((fit_of middle (pairs_of renamed) ≡ Ok tt) × (length (pairs_of put_first) ≤ most_keys)) → length (pairs_of put_first) ≤ most_keys
       go (inl e) =
           omega (
             arith,
@@ -132,10 +131,10 @@ module _ (at middle left right : ℕ) (ps : List Pair) (last : ℕ) (w : Within 
           )
       go (inr p) = p.1
 
-  pub halves_full : (place : ℕ) → fit_of middle (pairs_of renamed) ≡ Full place → (put_last ≡ put_first) × (most_keys < length (pairs_of put_first))
+  pub halves_full : (place : ℕ) → fit_of middle (pairs_of renamed) ≡ Err place → (put_last ≡ put_first) × (most_keys < length (pairs_of put_first))
   halves_full i f = go (both_ways (le_or (length ps) at) (eq_or (key_at ps at) middle))
     where
-      go : (put_last ≡ put_first) ⊎ ((fit_of middle (pairs_of renamed) ≡ Room) × (length (pairs_of put_first) ≤ most_keys)) →
+      go : (put_last ≡ put_first) ⊎ ((fit_of middle (pairs_of renamed) ≡ Ok tt) × (length (pairs_of put_first) ≤ most_keys)) →
           (put_last ≡ put_first) × (most_keys < length (pairs_of put_first))
       go (inl e) = (
         e,

@@ -2,4 +2,4 @@
 use Rattle.wall_book.proofs.wall_book_prepare.Goals as goal
 
 pub returns : goal.returns
-returns c = rw c.tariff_of-tariff.ensures at c.prepare.ensures
+returns c = rw c.number_of.ensures (rw c.tariff_of-tariff.ensures at c.prepare.ensures)

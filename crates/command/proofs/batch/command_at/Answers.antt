@@ -1,59 +1,35 @@
 -- `command::batch::command_at` meets its contract: the tag there picks the field, and its payload the command. Assumes nothing.
-use mathlib.Core.Path.{◌≡◌, sym, ◌∙◌}
-use Prim.Native.Nat.{ℕ}
-use native.Mathlib.Omega.{arith}
-use mathlib.Core.List.{List}
-use lib.ListN.{get_or}
+use Rattle.std.proofs.Common.{◌≡◌, refl, ℕ, ◌-◌, Option, Ok, List, get_or, sym, ap, ◌∙◌, arith}
+use Rattle.std.proofs.lemmas.Grind.{common_steps}
 use Rattle.laws.specs.Lay.{part}
-use Rattle.wire.specs.Field.{field_at}
-use Rattle.wire.specs.declared.field.Field.TheVariants.{Payload, Missing, Foreign, Overlong}
-use Rattle.command.specs.CommandLaws.{Bounds, field_bounds, payload_may, command_at_past, command_at-is}
+use Rattle.std.specs.Prelude.{Ok}
+use Rattle.wire.specs.Field.{from_to, field_at}
+use Rattle.command.specs.declared.Command.{Command}
+use Rattle.command.specs.Command.{command_of, command_at, field_step, step_as}
+use Rattle.command.specs.CommandLaws.{payload_may, command_at_past, command_at-is}
 use Rattle.command.proofs.batch.command_at.Goals as goal
-use Rattle.command.proofs.batch.command_at.Goals.{In-Payload}
 
--- the batch, the place and the tag where a field was found
-abbrev bytes : In-Payload → List ℕ
-bytes c = c.args.s.now
+-- The step of a field that was found, by what its payload says.
+found :
+    (s : List ℕ) (at tag start end : ℕ) (o : Option Command) → tag ≡ get_or s at 0 → Ok (from_to start end) ≡ field_at s at tag →
+    command_of tag (part s start (end - start)) ≡ o → step_as end o ≡ command_at s at
+found s at tag start end o t f g =
+    ap (step_as end) (sym g) ∙ ap (field_step s tag) f ∙ ap (λ (n : ℕ). field_step s n (field_at s at n)) t ∙ command_at-is s at _ refl
 
-abbrev here : In-Payload → ℕ
-here c = c.args.at
-
-abbrev tag : In-Payload → ℕ
-tag c = get_or (bytes c) (here c) 0
-
-found-is : (c : In-Payload) →
-    field_at (bytes c) (here c) (tag c) ≡ Payload c.in-Payload.start c.in-Payload.end
-found-is c = sym c.field_at-found.ensures.is ∙ c.in-Payload.is
-
-bounds : (c : In-Payload) →
-    Bounds (bytes c) (here c) (tag c) c.in-Payload.start c.in-Payload.end
-bounds c = field_bounds (bytes c) (here c) (tag c) _ _ (found-is c)
-
-pub returns-then-s-at : goal.returns-then-s-at
-returns-then-s-at c = command_at_past _ _ c.if-s-at.true
-
-pub slice_bounds-command_of-count : goal.slice_bounds-command_of-count
-slice_bounds-command_of-count c = omega (arith, (bounds (goal.at.slice_bounds-command_of-count c).In-Payload).first, (bounds (goal.at.slice_bounds-command_of-count c).In-Payload).last)
-
-pub slice_bounds-command_of-start : goal.slice_bounds-command_of-start
-slice_bounds-command_of-start c = omega (arith, (bounds (goal.at.slice_bounds-command_of-start c).In-Payload).first, (bounds (goal.at.slice_bounds-command_of-start c).In-Payload).last)
-
-pub slice_bounds-command_of-end : goal.slice_bounds-command_of-end
-slice_bounds-command_of-end c = omega (arith, (bounds (goal.at.slice_bounds-command_of-end c).In-Payload).last, (bounds (goal.at.slice_bounds-command_of-end c).In-Payload).within)
+pub returns-in_err-tag : goal.returns-in_err-tag
+returns-in_err-tag c = c.from_residual.ensures ∙ command_at_past _ _ (grind (arith, common_steps, c.in_err-tag.ensures.lookup))
 
 pub command_of-requires : goal.command_of-requires
 unfolding part
-command_of-requires c = payload_may _ _ _ _ _ (found-is (goal.at.command_of-requires c).In-Payload)
+command_of-requires c = payload_may c.args.s.now c.args.at _ _ _ (sym c.field_at.ensures.is ∙ c.in-Ok.is)
 
-pub returns-in-Payload : goal.returns-in-Payload
+pub returns-in_err-command_of : goal.returns-in_err-command_of
 unfolding part
-returns-in-Payload c = c.command_of.ensures ∙ command_at-is _ _ (Payload _ _) (sym (found-is (goal.at.returns-in-Payload c).In-Payload))
+returns-in_err-command_of c =
+    c.from_residual-in_err-command_of.ensures ∙
+    found c.args.s.now c.args.at _ _ _ _ (grind (arith, common_steps, c.in_ok-tag.ensures.lookup)) (sym c.in-Ok.is ∙ c.field_at.ensures.is) (sym c.command_of.ensures ∙ c.in_err-command_of.was)
 
-pub returns-in-Missing : goal.returns-in-Missing
-returns-in-Missing c = command_at-is _ _ Missing (sym c.in-Missing.is ∙ c.field_at-found.ensures.is)
-
-pub returns-in-Foreign : goal.returns-in-Foreign
-returns-in-Foreign c = command_at-is _ _ Foreign (sym c.in-Foreign.is ∙ c.field_at-found.ensures.is)
-
-pub returns-in-Overlong : goal.returns-in-Overlong
-returns-in-Overlong c = command_at-is _ _ Overlong (sym c.in-Overlong.is ∙ c.field_at-found.ensures.is)
+pub returns : goal.returns
+unfolding part
+returns c =
+    found c.args.s.now c.args.at _ _ _ _ (grind (arith, common_steps, c.in_ok-tag.ensures.lookup)) (sym c.in-Ok.is ∙ c.field_at.ensures.is) (sym c.command_of.ensures ∙ c.in_ok-command_of.was)

@@ -7,11 +7,11 @@ use Rattle.flash_allocate.specs.Compact.{copying, copy_page}
 use Rattle.flash_allocate.proofs.Laws.{copy_dead, copy_live_lem}
 use Rattle.flash_allocate.proofs.compact.copy_live.Goals as goal
 
-pub returns-else-is_live : goal.returns-else-is_live
-returns-else-is_live c =
+pub returns-then-not-is_live : goal.returns-then-not-is_live
+returns-then-not-is_live c =
     let a = c.args in (
       copy_dead (marks_in a.live.now) a.base a.first a.k (copying (pages_of a.pool.now) a.places.now a.fill)
-          (sym c.is_live.ensures ∙ c.if-is_live.false),
+          (sym c.is_live.ensures ∙ c.if-not-is_live.true),
       omega arith,
     )
 
@@ -21,6 +21,6 @@ returns c =
     let a = c.args in (
       rw c.copy_page.ensures
           (copy_live_lem (marks_in a.live.now) a.base a.first a.k (copying (pages_of a.pool.now) a.places.now a.fill)
-          (sym c.is_live.ensures ∙ c.if-is_live.true)),
+          (sym c.is_live.ensures ∙ c.if-not-is_live.false)),
       omega arith,
     )

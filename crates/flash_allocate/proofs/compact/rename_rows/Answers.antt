@@ -8,24 +8,17 @@ use Rattle.flash_allocate.proofs.compact.rename_rows.Goals as goal
 
 pub loop-n-init : goal.loop-n-init
 loop-n-init c = let a = c.args in
-    (omega arith, steps-begin (rename_row a.base a.places.now) a.used (rows_of a.table.now))
+    steps-begin (rename_row a.base a.places.now) a.used (rows_of a.table.now)
 
 pub loop-n-preserved : goal.loop-n-preserved
 unfolding rename_row
 loop-n-preserved c = let l = c.loop-n in
-    let a = c.args in (
-      omega arith,
-      rw (
-        c.write_row.ensures,
-        c.moved.ensures,
-        c.read_row-r.ensures,
-      )
-          (steps_more (rename_row a.base a.places.now) a.used l.n (rows_of l.table) (omega arith) ∙
-          l.invariant.1),
-    )
+    let a = c.args in
+    rw (c.write.ensures, c.moved.ensures, c.read-r.ensures)
+    (steps_more (rename_row a.base a.places.now) a.used l.n (rows_of l.table) (omega arith) ∙ l.invariant)
 
 pub returns : goal.returns
 unfolding rename_rows
 returns c = let l = c.loop-n in
     let a = c.args in
-    sym (steps-done (rename_row a.base a.places.now) a.used l.n (rows_of l.table) (omega arith)) ∙ l.invariant.1
+    sym (steps-done (rename_row a.base a.places.now) a.used l.n (rows_of l.table) (omega arith)) ∙ l.invariant

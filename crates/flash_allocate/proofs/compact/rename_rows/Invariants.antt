@@ -1,14 +1,9 @@
 use mathlib.Core.Path.{◌≡◌}
-use Prim.Native.Nat.{◌-◌, ◌≤◌}
-use lib.ListN.{length}
+use Prim.Native.Nat.{◌-◌}
 use Rattle.laws.specs.Loops.{steps}
 use Rattle.flash_rows.specs.Row.{rows_of}
 use Rattle.flash_allocate.specs.Compact.{rename_row}
 use Rattle.flash_allocate.proofs.compact.rename_rows.Given as goal
 
 abbrev pub invariant-loop-n : goal.invariant-loop-n
-invariant-loop-n l = ((l.n ≤ l.used) × (length l.table ≡ length l.initial.table)) ×
-    (steps (rename_row l.base l.places) (l.used - l.n) l.n (rows_of l.table) ≡ steps (rename_row l.base l.places) l.used 0 (rows_of l.initial.table))
-
-abbrev pub decreases-loop-n : goal.decreases-loop-n
-decreases-loop-n l = l.used - l.n
+invariant-loop-n l = steps (rename_row l.base l.places) (l.used - l.n) l.n (rows_of l.table) ≡ steps (rename_row l.base l.places) l.used 0 (rows_of l.initial.table)

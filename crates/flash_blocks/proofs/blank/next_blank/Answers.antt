@@ -19,8 +19,8 @@ returns-then-lowest-blocks c =
       c.if-lowest-blocks.true,
     )
 
-pub returns : goal.returns
-returns c = let a = c.args in
+pub returns-else-lowest-blocks : goal.returns-else-lowest-blocks
+returns-else-lowest-blocks c = let a = c.args in
     let x = c.blank_from-above in
     let y = c.blank_from-lowest in (
       next-none a.blocks a.current (pages_of a.pool.now) x.result x.ensures.0 y.result

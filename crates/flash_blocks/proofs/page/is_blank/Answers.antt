@@ -5,4 +5,4 @@ use Rattle.flash_blocks.proofs.page.is_blank.Goals as goal
 
 pub returns : goal.returns
 unfolding is_blank
-returns c = ap is_blank c.page_part-bytes.ensures.0
+returns c = ap is_blank c.page_part.ensures.0

@@ -25,8 +25,8 @@ returns-then-id-nodes c =
     (v.ensures.is ∙ ap (λ (b : List ℕ). number_at 4 b (15 * a.k + 2)) buffer)
     c.if-id-nodes.true l.ensures x.ensures refl)
 
-pub returns : goal.returns
-returns c =
+pub returns-else-id-nodes : goal.returns-else-id-nodes
+returns-else-id-nodes c =
     let a = c.args in
     ap (λ (r : List Row). with_rows r (table_from a.table.now))
     (claim_out (buffer_of a.table.now) a.nodes a.page a.k (rows_in a.table.now) c.read16-id.result

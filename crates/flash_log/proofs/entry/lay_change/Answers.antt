@@ -19,6 +19,6 @@ returns c =
     let bytes = entry_bytes (entry_of a.id a.version (change_of a.change)) in
     ap table_from (c.lay_entry.ensures ∙
     ap (lay a.table.now (15 * a.n))
-    (record_entry a.id a.version (change_of a.change) c.change_number-kind.result c.change_key-key.result c.change_pointer-pointer.result
-    c.change_number-kind.ensures c.change_key-key.ensures c.change_pointer-pointer.ensures)) ∙
+    (record_entry a.id a.version (change_of a.change) c.numbers-kind.result.0 c.numbers-kind.result.1 c.numbers-kind.result.2
+    (ap (λ p. p.0) c.numbers-kind.ensures) (ap (λ p. p.1) c.numbers-kind.ensures) (ap (λ p. p.2) c.numbers-kind.ensures))) ∙
     laid_buffer a.table.now long (15 * a.n) bytes (omega (arith, length-entry_bytes (entry_of a.id a.version (change_of a.change))))

@@ -1,6 +1,5 @@
 -- `keyless_branch` meets its contract: the first none of any keys are no keys. Assumes nothing.
-use mathlib.Core.Path.{refl}
-use native.Mathlib.Omega.{arith}
+use Rattle.std.proofs.Common.{refl, arith}
 use Rattle.pairs.specs.Pairs.{Within}
 use Rattle.node.specs.Value.{pairs_in}
 use Rattle.flash_read.proofs.by_id.keyless_branch.Goals as goal

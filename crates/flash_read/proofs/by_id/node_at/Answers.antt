@@ -7,10 +7,10 @@ use Rattle.flash_read.proofs.by_id.node_at.Goals as goal
 pub returns-then-n-state : goal.returns-then-n-state
 returns-then-n-state c =
     let a = c.args in
-    rw (table_of_in (pages_of a.pool.now) (table_from a.table.now) a.state a.n c.if-n-state.true, ← c.content-d.ensures.is)
+    rw (table_of_in (pages_of a.pool.now) (table_from a.table.now) a.state a.n c.if-n-state.true, ← c.content.ensures.is)
     c.node_in.ensures
 
-pub returns : goal.returns
-returns c =
+pub returns-else-n-state : goal.returns-else-n-state
+returns-else-n-state c =
     let a = c.args in
     rw (table_of_out (pages_of a.pool.now) (table_from a.table.now) a.state a.n c.if-n-state.false) c.empty_node.ensures

@@ -4,4 +4,4 @@ use Rattle.flash_read.proofs.content.content.Goals as goal
 
 pub returns : goal.returns
 unfolding content
-returns c = rw (← c.row_at-row.ensures, ← c.buffer_part.ensures.0) c.content_by.ensures
+returns c = rw (← c.row_at.ensures, ← c.buffer_part.ensures.0) c.content_by.ensures

@@ -1,7 +1,5 @@
 -- `content::log_outline` meets its contract: from nothing, the pages, then the buffer, and what they made moved to the front. Assumes nothing.
-use mathlib.Core.Path.{◌≡◌}
-use mathlib.Core.List.{List, []}
-use Prim.Native.Nat.{ℕ}
+use Rattle.std.proofs.Common.{◌≡◌, List, [], ℕ}
 use Rattle.node.specs.Replay.{unlinked}
 use Rattle.node_replay.specs.declared.outline.Outline.{Outline}
 use Rattle.node_replay.specs.Front.{Arrays}

@@ -1,31 +1,14 @@
 -- `node_page::read_pairs` meets its contract. The invariant: the pairs in the arrays, then those left, are the payload's, and those left, tested
 -- from the least key that may come, give the whole test. Assumes nothing.
-use Rattle.std.proofs.Common.{rules}
-use mathlib.Core.Path.{◌≡◌, sym, ap, ◌∙◌}
-use mathlib.Core.List.{List}
-use Prim.Native.Nat.{ℕ, ◌+◌, ◌-◌, ◌*◌}
-use native.Mathlib.Omega.{arith}
-use lib.ListN.{length-set}
+use Rattle.std.proofs.Common.{rules, ◌≡◌, sym, ap, ◌∙◌, List, ℕ, ◌+◌, ◌-◌, ◌*◌, arith, length-set}
 use Rattle.layout.specs.Layout.{bound32}
 use Rattle.pairs.specs.Pairs.{Pair}
 use Rattle.node.specs.Ascends.{ascends}
 use Rattle.node.specs.Node.{node}
 use Rattle.node.specs.Value.{pairs_in}
 use Rattle.page.specs.Decode as decode
-use Rattle.flash_read.proofs.Laws.{redone_none, pairs-begin, pairs_more, pairs-done, rising_low, rising_more, rising_done, node_loose, node_read}
+use Rattle.flash_read.proofs.Laws.{redone_none, pairs_more, pairs-done, rising_low, rising_more, rising_done, node_loose, node_read}
 use Rattle.flash_read.proofs.node_page.read_pairs.Goals as goal
-
-pub loop-i-init : goal.loop-i-init
-loop-i-init c =
-    let a = c.args in
-    let begin = pairs-begin a.p.now a.n in
-    (omega arith, (c.requires.2.0, (c.requires.2.1, (begin, ap (ascends 0 bound32) begin))))
-
-pub wide-here-requires : goal.wide-here-requires
-wide-here-requires c = tt
-
-pub no_node-requires : goal.no_node-requires
-no_node-requires c = tt
 
 pub returns-then-here-least : goal.returns-then-here-least
 returns-then-here-least c =
@@ -36,22 +19,22 @@ returns-then-here-least c =
     (node_loose a.shape (decode.pairs_from a.n a.p.now 7) a.link
     (sym l.invariant.1.1.1.1 ∙
     rising_low a.p.now a.n l.i l.least key.result c.loop-i-test.true key.ensures.is
-    (omega (arith, c.if-here-least.true, c.wide-here.ensures))))
+    (omega (arith, c.if-here-least.true, c.from-here.ensures))))
 
 pub loop-i-preserved : goal.loop-i-preserved
 loop-i-preserved c =
     let l = c.loop-i in
     let a = c.args in
     let inside = c.loop-i-test.true in
-    let here : c.wide-here.result ≡ c.read32-key.result = c.wide-here.ensures in (
+    let here : c.from-here.result ≡ c.read32-key.result = c.from-here.ensures in (
       omega arith,
       (
         length-set l.keys l.i c.read32-key.result ∙ l.invariant.1.0,
         (
-          length-set l.pointers l.i c.read32-pointer.result ∙ l.invariant.1.1.0,
+          length-set l.pointers l.i c.read32.result ∙ l.invariant.1.1.0,
           (
             pairs_more a.p.now a.n l.keys l.pointers l.i inside (omega arith) l.invariant.1.0 l.invariant.1.1.0
-                c.read32-key.result c.read32-pointer.result c.read32-key.ensures.is c.read32-pointer.ensures.is ∙ l.invariant.1.1.1.0,
+                c.read32-key.result c.read32.result c.read32-key.ensures.is c.read32.ensures.is ∙ l.invariant.1.1.1.0,
             ap (λ (k : ℕ). ascends (k + 1) bound32 (decode.pairs_from (a.n - (l.i + 1)) a.p.now (7 + 8 * (l.i + 1)))) here ∙
                 rising_more a.p.now a.n l.i l.least c.read32-key.result inside c.read32-key.ensures.is
                 (omega (arith, c.if-here-least.false, here)) (search rules) ∙ l.invariant.1.1.1.1,

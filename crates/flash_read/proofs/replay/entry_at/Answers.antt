@@ -3,16 +3,10 @@ use Rattle.flash_read.specs.Replay.{entry_in}
 use Rattle.flash_read.proofs.Laws.{entry_plain}
 use Rattle.flash_read.proofs.replay.entry_at.Goals as goal
 
-pub framed_at-requires : goal.framed_at-requires
-framed_at-requires c = rw c.if-framed.true at c.requires
-
 pub returns-then-framed : goal.returns-then-framed
 unfolding entry_in
 returns-then-framed c = rw c.if-framed.true c.framed_at.ensures
 
-pub slice_bounds-result-end : goal.slice_bounds-result-end
-slice_bounds-result-end c = rw c.if-framed.false at c.requires
-
-pub returns : goal.returns
-returns c =
+pub returns-else-framed : goal.returns-else-framed
+returns-else-framed c =
     rw c.if-framed.false (entry_plain _ _ (rw c.if-framed.false at c.requires))

@@ -1,6 +1,5 @@
 -- `replay::redo_entries` meets its contract: the run over a buffer that has all its entries. Assumes nothing.
-use mathlib.Core.Path.{refl, ◌∙◌}
-use native.Mathlib.Omega.{arith}
+use Rattle.std.proofs.Common.{refl, ◌∙◌, arith}
 use Rattle.node_replay.specs.Outline.{draft_in}
 use Rattle.flash_read.specs.Replay.{redo_buffer, from_buffer, reach_buffer}
 use Rattle.flash_read.proofs.replay.redo_entries.Goals as goal

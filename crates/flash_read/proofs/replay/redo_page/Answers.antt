@@ -1,6 +1,5 @@
 -- `replay::redo_page` meets its contract: the run over the fields of a page. Assumes nothing.
-use mathlib.Core.Path.{◌∙◌}
-use native.Mathlib.Omega.{arith}
+use Rattle.std.proofs.Common.{◌∙◌, arith}
 use Rattle.node_replay.specs.Outline.{draft_in}
 use Rattle.flash_read.specs.Replay.{from_page, reach_page}
 use Rattle.flash_read.proofs.replay.redo_page.Goals as goal

@@ -1,4 +1,4 @@
--- `table::put_row` meets its contract: the row set in the rows, which come back to their place. Assumes nothing.
+-- The row set in the rows, which come back to their place. Assumes nothing.
 use mathlib.Core.Path.{ap, ◌∙◌}
 use mathlib.Core.List.{List}
 use native.Mathlib.Omega.{arith}
@@ -11,6 +11,6 @@ use Rattle.flash_rows.proofs.table.put_row.Goals as goal
 pub returns : goal.returns
 returns c =
     let a = c.args in
-    lent_rows a.table.now (omega arith) c.write_row.new.table c.write_row.auto.table ∙
+    lent_rows a.table.now (omega arith) c.write.new.table c.write.auto.table ∙
     ap (λ (rows : List Row). with_rows rows (table_from a.table.now))
-    (c.write_row.ensures ∙ ap (λ (rows : List Row). set rows a.n a.r) (rows-part a.table.now (omega arith)))
+    (c.write.ensures ∙ ap (λ (rows : List Row). set rows a.n a.r) (rows-part a.table.now (omega arith)))

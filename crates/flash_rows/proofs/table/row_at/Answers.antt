@@ -1,4 +1,4 @@
--- `table::row_at` meets its contract: a row of the part that holds the rows. Assumes nothing.
+-- A row of the part that holds the rows. Assumes nothing.
 use mathlib.Core.Path.{ap, ◌∙◌}
 use mathlib.Core.List.{List}
 use native.Mathlib.Omega.{arith}
@@ -11,4 +11,4 @@ use Rattle.flash_rows.proofs.table.row_at.Goals as goal
 pub returns : goal.returns
 returns c =
     let a = c.args in
-    c.read_row.ensures ∙ ap (λ (rows : List Row). get_or rows a.n no_row) (rows-part a.table.now (omega arith))
+    c.read.ensures ∙ ap (λ (rows : List Row). get_or rows a.n no_row) (rows-part a.table.now (omega arith))

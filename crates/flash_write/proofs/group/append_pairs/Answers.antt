@@ -1,32 +1,25 @@
 -- `group::append_pairs` meets its contract. The invariant: the entries of the pairs left give those of all pairs. Assumes nothing.
-use mathlib.Core.Path.{sym, ap, ◌∙◌}
-use mathlib.Core.List.{List}
-use native.Mathlib.Omega.{arith}
-use Rattle.pairs.specs.Pairs.{Pair}
-use Rattle.node.specs.Change.{puts}
+use Rattle.std.proofs.Common.{◌∙◌, inl, inr, rules}
+use Rattle.node.specs.Value.{pairs_in}
 use Rattle.flash_rows.specs.Worktable.{table_from}
-use Rattle.flash_log.specs.Entry.{logged, append_all}
-use Rattle.flash_write.proofs.Laws.{pairs_first, entries-begin, entries_more, entries-done}
+use Rattle.flash_log.specs.Entry.{logged}
+use Rattle.flash_write.proofs.Laws.{entries_more, entries-done}
 use Rattle.flash_write.proofs.group.append_pairs.Goals as goal
 
-pub loop-i-init : goal.loop-i-init
-loop-i-init c = let a = c.args in
-    (omega arith, entries-begin a.id a.version a.v.keys a.v.pointers a.v.count (logged (table_from a.table.now) a.state))
+pub loop-key-init : goal.loop-key-init
+unfolding pairs_in
+loop-key-init c = search rules
 
-pub loop-i-preserved : goal.loop-i-preserved
-loop-i-preserved c =
+pub loop-key-preserved : goal.loop-key-preserved
+loop-key-preserved c =
     let a = c.args in
-    let l = c.loop-i in (
-      omega arith,
-      rw c.append-s.ensures
-          (entries_more a.id a.version a.v.keys a.v.pointers a.v.count l.i (logged (table_from l.table) l.s)
-          c.loop-i-test.true ∙ l.invariant.1),
-    )
+    let l = c.loop-key in
+    let h = c.in-Some.ensures.steps in
+    rw c.append-s.ensures (entries_more a.id a.version (logged (table_from l.table) l.s) _ _ _ _ _ _ h.0 h.1 ∙ l.invariant)
 
 pub returns : goal.returns
 returns c =
     let a = c.args in
-    let l = c.loop-i in
-    sym (entries-done a.id a.version a.v.keys a.v.pointers a.v.count l.i (logged (table_from l.table) l.s) c.loop-i-test.false) ∙
-    l.invariant.1 ∙
-    ap (λ (ps : List Pair). append_all a.id a.version (puts ps) (logged (table_from a.table.now) a.state)) (pairs_first a.v c.requires.1)
+    let l = c.loop-key in
+    entries-done a.id a.version (logged (table_from l.table) l.s) _ _
+    (elim c.in-None.ensures.steps [ inl h ↦ inl h.1.0 | inr h ↦ inr h.1.0 ]) ∙ l.invariant

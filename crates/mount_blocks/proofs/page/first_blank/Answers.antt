@@ -1,36 +1,17 @@
--- `page::first_blank` meets its contract. The invariant: the first from here on is the first of all. Assumes nothing.
-use mathlib.Core.Path.{refl, sym, ◌∙◌}
-use mathlib.Core.Bool.{true, false}
-use native.Mathlib.Omega.{arith}
-use Rattle.laws.specs.Loops.{first_more, first_found, first_done}
+-- `page::first_blank` meets its contract: what the search finds. Assumes nothing.
+use Rattle.std.proofs.Common.{◌-◌, rules, tests, refl, arith}
+use Rattle.std.proofs.lemmas.Iterator.{YieldsList-from_range}
+use Rattle.std.proofs.lemmas.Iterator.Search.{find_from_yields_List}
+use Rattle.laws.specs.Ranges.{first_found, first_from_low, first_from_high}
 use Rattle.flash_blocks.specs.Pages.{pages_of}
 use Rattle.mount_blocks.specs.Rules.{blank_at}
-use Rattle.mount_blocks.proofs.Laws.{blank-at}
 use Rattle.mount_blocks.proofs.page.first_blank.Goals as goal
 
-pub loop-page-init : goal.loop-page-init
-loop-page-init c = (omega arith, refl)
-
-pub returns-then-is_blank : goal.returns-then-is_blank
-returns-then-is_blank c = let a = c.args in
-    let l = c.loop-page in
-    let ps = pages_of a.pool.now in (
-      first_found (blank_at ps) a.to l.page c.loop-page-test.true
-          (blank-at ps l.page true (sym c.is_blank.ensures ∙ c.if-is_blank.true)) ∙ l.invariant.1,
-      omega arith,
-      omega arith,
-    )
-
-pub loop-page-preserved : goal.loop-page-preserved
-loop-page-preserved c = let a = c.args in
-    let l = c.loop-page in
-    let ps = pages_of a.pool.now in (
-      omega arith,
-      first_more (blank_at ps) a.to l.page c.loop-page-test.true
-          (blank-at ps l.page false (sym c.is_blank.ensures ∙ c.if-is_blank.false)) ∙ l.invariant.1,
-    )
-
 pub returns : goal.returns
-returns c = let a = c.args in
-    let l = c.loop-page in
-    (first_done (blank_at (pages_of a.pool.now)) a.to l.page c.loop-page-test.false ∙ l.invariant.1, omega arith, omega arith)
+unfolding blank_at
+returns c =
+    let a = c.args in
+    let f = blank_at (pages_of a.pool.now) in
+    let found = find_from_yields_List f _ _ c.find.result c.find.ensures.ran (YieldsList-from_range _ _ _ refl refl) in
+    rw (c.unwrap_or.ensures, first_found f a.from a.to _ c.find.result (omega arith) (found (λ x b q k. search (rules, tests))))
+    (refl, first_from_low f _ _, omega (arith, first_from_high f (a.to - a.from) a.from))

@@ -25,17 +25,14 @@ returns-then-t-nodes c =
     c.if-e-lt1.false t.result t.ensures.is c.if-t-ne0.false
     c.if-t-nodes.true
 
-pub returns-then-covers : goal.returns-then-covers
-returns-then-covers c =
+pub returns-then-not-covers : goal.returns-then-not-covers
+returns-then-not-covers c =
     let a = c.args in
     let e = c.extent_of-e in
     let t = c.sum_pages-t in
     let v = c.covers in
-    found-complete (pages_of a.pool.now) a.blocks a.scratch.now e.result e.ensures.is
-    c.if-e-lt1.false t.result t.ensures.is
-    c.if-t-ne0.false
-    c.if-t-nodes.false v.new.marks v.result v.ensures c.if-covers.true
-    c.tariff_at-tariff.result c.tariff_at-tariff.ensures
+    found_uncovered (pages_of a.pool.now) a.blocks a.scratch.now e.result e.ensures.is c.if-e-lt1.false t.result t.ensures.is
+    c.if-t-ne0.false c.if-t-nodes.false v.new.marks v.result v.ensures c.if-not-covers.true
 
 pub returns : goal.returns
 returns c =
@@ -43,7 +40,6 @@ returns c =
     let e = c.extent_of-e in
     let t = c.sum_pages-t in
     let v = c.covers in
-    found_uncovered (pages_of a.pool.now) a.blocks a.scratch.now e.result e.ensures.is
-    c.if-e-lt1.false t.result t.ensures.is
-    c.if-t-ne0.false c.if-t-nodes.false
-    v.new.marks v.result v.ensures c.if-covers.false
+    found-complete (pages_of a.pool.now) a.blocks a.scratch.now e.result e.ensures.is c.if-e-lt1.false t.result t.ensures.is
+    c.if-t-ne0.false c.if-t-nodes.false v.new.marks v.result v.ensures c.if-not-covers.false
+    c.tariff_at.result c.tariff_at.ensures

@@ -20,7 +20,7 @@ scores_of-s-requires c = tt
 pub loop-i-init : goal.loop-i-init
 unfolding mark_scores
 loop-i-init c = let a = c.args in
-    (omega arith, steps-begin (λ k. marked a.start (score_at a.page.now k).id) c.scores_of-s.result.count a.marks.now)
+    (steps-begin (λ k. marked a.start (score_at a.page.now k).id) c.scores_of-s.result.count a.marks.now)
 
 pub score_at-v-requires : goal.score_at-v-requires
 score_at-v-requires c = let s = c.scores_of-s.ensures in
@@ -37,16 +37,13 @@ loop-i-preserved c = let l = c.loop-i in
     s.ensures l.i c.score_at-v.result
     c.score_at-v.ensures in
     let e : c.mark.new.marks ≡ marked a.start (score_at a.page.now l.i).id l.marks = c.mark.ensures ∙
-    ap (λ (x : ScoreValue). marked a.start x.id l.marks) v in (
-      omega arith,
-      rw e (steps_more (λ k. marked a.start (score_at a.page.now k).id) s.result.count l.i l.marks (omega arith) ∙
-          l.invariant.1),
-    )
+    ap (λ (x : ScoreValue). marked a.start x.id l.marks) v in (rw e (steps_more (λ k. marked a.start (score_at a.page.now k).id) s.result.count l.i l.marks (omega arith) ∙
+    l.invariant))
 
 pub returns : goal.returns
 returns c = let l = c.loop-i in
     let a = c.args in
     let s = c.scores_of-s in
-    sym (steps-done (λ k. marked a.start (score_at a.page.now k).id) s.result.count l.i l.marks (omega arith)) ∙ l.invariant.1 ∙
+    sym (steps-done (λ k. marked a.start (score_at a.page.now k).id) s.result.count l.i l.marks (omega arith)) ∙ l.invariant ∙
     page_marked a.since a.start a.page.now a.marks.now c.sequence.result
     c.sequence.ensures c.if-sequence-since.false s.result.count s.ensures.count

@@ -11,7 +11,7 @@ use Rattle.mount_checkpoint.proofs.marks.mark_pages.Goals as goal
 pub loop-page-init : goal.loop-page-init
 unfolding mark_pages
 loop-page-init c = let a = c.args in
-    (omega arith, steps-begin (λ i. mark_page a.since a.start (page_at (pages_of a.pool.now) i)) a.pages a.marks.now)
+    (steps-begin (λ i. mark_page a.since a.start (page_at (pages_of a.pool.now) i)) a.pages a.marks.now)
 
 pub mark_page-requires : goal.mark_page-requires
 mark_page-requires c = tt
@@ -23,9 +23,9 @@ loop-page-preserved c = let l = c.loop-page in
     let e : c.mark_page.new.marks ≡ mark_page a.since a.start (page_at ps l.page)
     l.marks = c.mark_page.ensures ∙ ap (λ (b : List ℕ). mark_page a.since a.start b l.marks)
     c.page_part.ensures.0 in
-    (omega arith, rw e (steps_more (λ i. mark_page a.since a.start (page_at ps i)) a.pages l.page l.marks (omega arith) ∙ l.invariant.1))
+    (rw e (steps_more (λ i. mark_page a.since a.start (page_at ps i)) a.pages l.page l.marks (omega arith) ∙ l.invariant))
 
 pub returns : goal.returns
 returns c = let l = c.loop-page in
     let a = c.args in
-    sym (steps-done (λ i. mark_page a.since a.start (page_at (pages_of a.pool.now) i)) a.pages l.page l.marks (omega arith)) ∙ l.invariant.1
+    sym (steps-done (λ i. mark_page a.since a.start (page_at (pages_of a.pool.now) i)) a.pages l.page l.marks (omega arith)) ∙ l.invariant

@@ -22,11 +22,8 @@ scores_of-s-requires c = tt
 
 pub loop-i-init : goal.loop-i-init
 unfolding take_scores
-loop-i-init c = let a = c.args in (
-  omega arith,
-  steps-begin (λ k. score_taken a.nodes (score_at a.page.now k).id (score_at a.page.now k).score)
-      c.scores_of-s.result.count (rows_of a.table.now),
-)
+loop-i-init c = let a = c.args in (steps-begin (λ k. score_taken a.nodes (score_at a.page.now k).id (score_at a.page.now k).score)
+    c.scores_of-s.result.count (rows_of a.table.now))
 
 pub score_at-v-requires : goal.score_at-v-requires
 score_at-v-requires c = let s = c.scores_of-s.ensures in
@@ -41,17 +38,14 @@ loop-i-preserved c = let l = c.loop-i in
     c.score_at-v.result c.score_at-v.ensures in
     let e : rows_of c.take_score.new.table ≡ score_taken a.nodes (score_at b l.i).id (score_at b l.i).score
     (rows_of l.table) = c.take_score.ensures ∙
-    ap (λ (x : ScoreValue). score_taken a.nodes x.id x.score (rows_of l.table)) v in (
-      omega arith,
-      rw e (steps_more (λ k. score_taken a.nodes (score_at b k).id (score_at b k).score) s.result.count l.i (rows_of l.table)
-          (omega arith) ∙ l.invariant.1),
-    )
+    ap (λ (x : ScoreValue). score_taken a.nodes x.id x.score (rows_of l.table)) v in (rw e (steps_more (λ k. score_taken a.nodes (score_at b k).id (score_at b k).score) s.result.count l.i (rows_of l.table)
+    (omega arith) ∙ l.invariant))
 
 pub returns : goal.returns
 returns c = let l = c.loop-i in
     let a = c.args in
     let s = c.scores_of-s in
     sym (steps-done (λ k. score_taken a.nodes (score_at a.page.now k).id (score_at a.page.now k).score) s.result.count l.i
-    (rows_of l.table) (omega arith)) ∙ l.invariant.1 ∙
+    (rows_of l.table) (omega arith)) ∙ l.invariant ∙
     page_taken a.since a.nodes a.page.now (rows_of a.table.now) c.sequence.result
     c.sequence.ensures c.if-sequence-since.false s.result.count s.ensures.count

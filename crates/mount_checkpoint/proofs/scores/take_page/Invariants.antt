@@ -1,6 +1,5 @@
 use mathlib.Core.Path.{◌≡◌}
-use Prim.Native.Nat.{◌-◌, ◌≤◌}
-use lib.ListN.{length}
+use Prim.Native.Nat.{◌-◌}
 use Rattle.laws.specs.Loops.{steps}
 use Rattle.flash_rows.specs.Row.{rows_of}
 use Rattle.mount_checkpoint.specs.Marks.{score_at}
@@ -8,9 +7,5 @@ use Rattle.mount_checkpoint.specs.Scores.{score_taken, take_scores}
 use Rattle.mount_checkpoint.proofs.scores.take_page.Given as goal
 
 abbrev pub invariant-loop-i : goal.invariant-loop-i
-invariant-loop-i l = ((l.i ≤ l.n) × (length l.table ≡ length l.initial.table)) ×
-    (steps (λ k. score_taken l.nodes (score_at l.page k).id
-    (score_at l.page k).score) (l.n - l.i) l.i (rows_of l.table) ≡ take_scores l.nodes l.page l.n (rows_of l.initial.table))
-
-abbrev pub decreases-loop-i : goal.decreases-loop-i
-decreases-loop-i l = l.n - l.i
+invariant-loop-i l = (steps (λ k. score_taken l.nodes (score_at l.page k).id
+    (score_at l.page k).score) (l.s.count - l.i) l.i (rows_of l.table) ≡ take_scores l.nodes l.page l.s.count (rows_of l.initial.table))

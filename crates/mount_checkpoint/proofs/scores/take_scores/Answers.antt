@@ -12,7 +12,7 @@ use Rattle.mount_checkpoint.proofs.scores.take_scores.Goals as goal
 pub loop-page-init : goal.loop-page-init
 unfolding take_pages
 loop-page-init c = let a = c.args in
-    (omega arith, steps-begin (λ i. take_page a.since a.nodes (page_at (pages_of a.pool.now) i)) (32 * a.blocks) (rows_of a.table.now))
+    (steps-begin (λ i. take_page a.since a.nodes (page_at (pages_of a.pool.now) i)) (32 * a.blocks) (rows_of a.table.now))
 
 pub loop-page-preserved : goal.loop-page-preserved
 loop-page-preserved c = let l = c.loop-page in
@@ -20,14 +20,11 @@ loop-page-preserved c = let l = c.loop-page in
     let ps = pages_of a.pool.now in
     let e : rows_of c.take_page.new.table ≡ take_page a.since a.nodes (page_at ps l.page)
     (rows_of l.table) = c.take_page.ensures ∙ ap (λ (b : List ℕ). take_page a.since a.nodes b (rows_of l.table))
-    c.page_part.ensures.0 in (
-      omega arith,
-      rw e (steps_more (λ i. take_page a.since a.nodes (page_at ps i)) (32 * a.blocks) l.page (rows_of l.table) (omega arith) ∙
-          l.invariant.1),
-    )
+    c.page_part.ensures.0 in (rw e (steps_more (λ i. take_page a.since a.nodes (page_at ps i)) (32 * a.blocks) l.page (rows_of l.table) (omega arith) ∙
+    l.invariant))
 
 pub returns : goal.returns
 returns c = let l = c.loop-page in
     let a = c.args in
     sym (steps-done (λ i. take_page a.since a.nodes (page_at (pages_of a.pool.now) i)) (32 * a.blocks) l.page (rows_of l.table)
-    (omega arith)) ∙ l.invariant.1
+    (omega arith)) ∙ l.invariant

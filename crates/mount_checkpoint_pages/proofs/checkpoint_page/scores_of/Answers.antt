@@ -8,11 +8,11 @@ use Rattle.mount_checkpoint_pages.proofs.checkpoint_page.scores_of.Goals as goal
 
 pub returns-then-tariff-ne-TARIFF_BYTES : goal.returns-then-tariff-ne-TARIFF_BYTES
 returns-then-tariff-ne-TARIFF_BYTES c = let b = c.args.page.now in
-    scores_plain b c.count_scores-n.result
+    scores_plain b c.count_scores.result
     (payload-empty b 7 0x13 32 only_13 (λ z. c.if-tariff-ne-TARIFF_BYTES.true (ap length c.payload-tariff.ensures ∙ z)))
-    c.count_scores-n.ensures.0 c.count_scores-n.ensures.1
+    c.count_scores.ensures.0 c.count_scores.ensures.1
 
 pub returns : goal.returns
 returns c = let b = c.args.page.now in
-    scores-first b c.count_scores-n-2.result (ap length (sym c.payload-tariff.ensures) ∙ c.if-tariff-ne-TARIFF_BYTES.false)
-    c.count_scores-n-2.ensures.0 c.count_scores-n-2.ensures.1
+    scores-first b c.count_scores-2.result (ap length (sym c.payload-tariff.ensures) ∙ c.if-tariff-ne-TARIFF_BYTES.false)
+    c.count_scores-2.ensures.0 c.count_scores-2.ensures.1

@@ -1,30 +1,24 @@
 -- `extent::extended` meets its contract: a page with the tariff and a greater number is the first of a newer set. Assumes nothing.
-use mathlib.Core.Path.{sym, ap, ◌∙◌}
-use lib.ListN.{length}
+use Rattle.std.proofs.Common.{sym, ap, ◌∙◌, length}
 use Rattle.page.specs.Tags.{only_13}
 use Rattle.page_read.specs.Payload.{payload-empty}
 use Rattle.mount_checkpoint_pages.proofs.Laws.{extended-later, extended_older, extended_none}
 use Rattle.mount_checkpoint_pages.proofs.extent.extended.Goals as goal
+use Rattle.mount_checkpoint_pages.proofs.extent.extended.Goals.{else-later-via-then-later+else-payload-eq-TARIFF_BYTES, else-later-via-else-later}
 
-pub returns-then-e-number : goal.returns-then-e-number
-returns-then-e-number c =
-    let a = c.args in
-    extended-later a.page a.bytes.now a.e c.sequence-number.result
-    c.greater-newest.result c.sequence-number.ensures
-    c.greater-newest.ensures
-    (ap length (sym c.payload-tariff.ensures) ∙ c.if-tariff-eq-TARIFF_BYTES.true) c.if-e-number.true
+pub returns-then-payload-eq-TARIFF_BYTES : goal.returns-then-payload-eq-TARIFF_BYTES
+returns-then-payload-eq-TARIFF_BYTES c =
+    extended-later c.args.page c.args.bytes.now c.args.e c.sequence-number.result c.max-newest.result c.sequence-number.ensures
+    c.max-newest.ensures (ap length (sym c.payload.ensures) ∙ c.if-payload-eq-TARIFF_BYTES.true) c.if-later.true
 
-pub returns-else-e-number : goal.returns-else-e-number
-returns-else-e-number c =
+pub returns : goal.returns
+returns c =
     let a = c.args in
-    extended_older a.page a.bytes.now a.e c.sequence-number.result
-    c.greater-newest.result c.sequence-number.ensures
-    c.greater-newest.ensures
-    (ap length (sym c.payload-tariff.ensures) ∙ c.if-tariff-eq-TARIFF_BYTES.true) c.if-e-number.false
-
-pub returns-else-tariff-eq-TARIFF_BYTES : goal.returns-else-tariff-eq-TARIFF_BYTES
-returns-else-tariff-eq-TARIFF_BYTES c =
-    let a = c.args in
-    extended_none a.page a.bytes.now a.e c.sequence-number.result c.greater-newest.result
-    c.sequence-number.ensures c.greater-newest.ensures
-    (payload-empty a.bytes.now 7 0x13 32 only_13 (λ z. c.if-tariff-eq-TARIFF_BYTES.false (ap length c.payload-tariff.ensures ∙ z)))
+    elim c.else-later.branch [
+      | else-later-via-then-later+else-payload-eq-TARIFF_BYTES w ↦
+          extended_none a.page a.bytes.now a.e c.sequence-number.result c.max-newest.result c.sequence-number.ensures c.max-newest.ensures
+          (payload-empty a.bytes.now 7 0x13 32 only_13 (λ z. w.if-payload-eq-TARIFF_BYTES.false (ap length w.payload.ensures ∙ z)))
+      | else-later-via-else-later w ↦
+          extended_older a.page a.bytes.now a.e c.sequence-number.result c.max-newest.result c.sequence-number.ensures c.max-newest.ensures
+          w.if-later.false
+    ]

@@ -12,7 +12,7 @@ use Rattle.mount_checkpoint_pages.proofs.extent.extent_of.Goals as goal
 pub loop-page-init : goal.loop-page-init
 unfolding extent_of no_extent
 loop-page-init c = let a = c.args in
-    (omega arith, steps-begin (λ i. extended i (page_at (pages_of a.pool.now) i)) a.pages no_extent)
+    (c.requires.0, steps-begin (λ i. extended i (page_at (pages_of a.pool.now) i)) a.pages no_extent)
 
 pub extended-e-requires : goal.extended-e-requires
 extended-e-requires c = tt
@@ -24,7 +24,7 @@ loop-page-preserved c = let l = c.loop-page in
     let e : c.extended-e.result ≡ extended l.page (page_at ps l.page) l.e =
     c.extended-e.ensures ∙ ap (λ (b : List ℕ). extended l.page b l.e)
     c.page_part.ensures.0 in (
-      (omega arith, rw e (extended-place l.page a.pages (page_at ps l.page) l.e (omega arith) l.invariant.0.1)),
+      (rw e (extended-place l.page a.pages (page_at ps l.page) l.e (omega arith) l.invariant.0)),
       rw e (steps_more (λ i. extended i (page_at ps i)) a.pages l.page l.e (omega arith) ∙ l.invariant.1),
     )
 
@@ -34,5 +34,5 @@ returns c = let l = c.loop-page in
     record {
       is = sym (steps-done (λ i. extended i (page_at (pages_of a.pool.now) i)) a.pages l.page l.e (omega arith)) ∙
           l.invariant.1;
-      inside = l.invariant.0.1;
+      inside = l.invariant.0;
     }

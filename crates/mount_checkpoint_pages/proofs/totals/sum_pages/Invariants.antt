@@ -1,13 +1,10 @@
 use mathlib.Core.Path.{◌≡◌}
-use Prim.Native.Nat.{◌-◌, ◌≤◌}
+use Prim.Native.Nat.{◌-◌}
 use Rattle.laws.specs.Loops.{steps}
 use Rattle.flash_blocks.specs.Pages.{pages_of, page_at}
 use Rattle.mount_checkpoint_pages.specs.Totals.{add_page, totals_of, Few}
 use Rattle.mount_checkpoint_pages.proofs.totals.sum_pages.Given as goal
 
 abbrev pub invariant-loop-page : goal.invariant-loop-page
-invariant-loop-page l = ((l.page ≤ l.pages) × (Few l.page l.t)) × (steps (λ i. add_page l.since l.newest (page_at (pages_of l.pool) i))
+invariant-loop-page l = (Few l.page l.t) × (steps (λ i. add_page l.since l.newest (page_at (pages_of l.pool) i))
     (l.pages - l.page) l.page l.t ≡ totals_of (pages_of l.pool) l.pages l.since l.newest)
-
-abbrev pub decreases-loop-page : goal.decreases-loop-page
-decreases-loop-page l = l.pages - l.page

@@ -1,48 +1,44 @@
 -- `versions::is_new_version` meets its contract. The invariant: the entries left are apart exactly where all of the page are. Assumes nothing.
-use mathlib.Core.Path.{refl, sym, ap, ◌∙◌}
-use native.Mathlib.Omega.{arith}
+use Rattle.std.proofs.Common.{◌≡◌, ◌+◌, ◌-◌, ◌*◌, refl, sym, ap, ◌∙◌, arith}
 use Rattle.mount_sequences.specs.Row.{row}
 use Rattle.mount_sequences.specs.Find.{has}
 use Rattle.mount_pages.specs.Versions.{apart_on, apart_more, apart_hit, apart_stop, apart_done}
 use Rattle.mount_pages.proofs.versions.is_new_version.Goals as goal
 
-pub loop-left-init : goal.loop-left-init
-loop-left-init c = (refl, refl)
+pub loop-i-init : goal.loop-i-init
+loop-i-init c = refl
 
-pub returns-then-read8-ne18 : goal.returns-then-read8-ne18
+pub returns-then-page-at-ne-ENTRY : goal.returns-then-page-at-ne-ENTRY
 unfolding apart_on
-returns-then-read8-ne18 c =
+returns-then-page-at-ne-ENTRY c =
     let a = c.args in
-    let l = c.loop-left in
-    apart_stop (has (row a.n 0 a.table.now)) a.page.now l.at l.left c.loop-left-test.true
-    (λ e. c.if-read8-ne18.true (c.read8.ensures.0 ∙ e)) ∙ l.invariant.1
-
-pub has_marked-requires : goal.has_marked-requires
-has_marked-requires c =
-    (c.requires.1, c.requires.2)
+    let i = c.loop-i.i in
+    apart_stop (has (row a.n 0 a.table.now)) a.page.now (7 + 18 * i) (27 - i) (omega arith) c.if-page-at-ne-ENTRY.true
+    ∙ c.loop-i.invariant
 
 pub returns-then-has_marked : goal.returns-then-has_marked
 unfolding apart_on
 returns-then-has_marked c =
     let a = c.args in
-    let l = c.loop-left in
+    let i = c.loop-i.i in
     let h = has (row a.n 0 a.table.now) in
-    apart_hit h a.page.now l.at l.left c.loop-left-test.true (sym c.read8.ensures.0 ∙ c.if-read8-ne18.false)
-    (ap h (sym c.read32.ensures.is) ∙ sym c.has_marked.ensures ∙ c.if-has_marked.true) ∙ l.invariant.1
+    apart_hit h a.page.now (7 + 18 * i) (27 - i) (omega arith) c.if-page-at-ne-ENTRY.false
+    (ap h (sym c.read32.ensures.is) ∙ sym c.has_marked.ensures ∙ c.if-has_marked.true) ∙ c.loop-i.invariant
 
-pub loop-left-preserved : goal.loop-left-preserved
-loop-left-preserved c = let a = c.args in
-    let l = c.loop-left in
-    let h = has (row a.n 0 a.table.now) in (
-      omega arith,
-      apart_more h a.page.now l.at l.left c.loop-left-test.true
-          (sym c.read8.ensures.0 ∙ c.if-read8-ne18.false)
-          (ap h (sym c.read32.ensures.is) ∙ sym c.has_marked.ensures ∙ c.if-has_marked.false) ∙
-          l.invariant.1,
-    )
+pub loop-i-preserved : goal.loop-i-preserved
+loop-i-preserved c =
+    let a = c.args in
+    let i = c.loop-i.i in
+    let h = has (row a.n 0 a.table.now) in
+    let fewer : 27 - (i + 1) ≡ 27 - i - 1 = omega arith in
+    let next : 7 + 18 * (i + 1) ≡ 7 + 18 * i + 18 = omega arith in
+    rw (fewer, next)
+    (apart_more h a.page.now (7 + 18 * i) (27 - i) (omega arith) c.if-page-at-ne-ENTRY.false
+    (ap h (sym c.read32.ensures.is) ∙ sym c.has_marked.ensures ∙ c.if-has_marked.false) ∙ c.loop-i.invariant)
 
 pub returns : goal.returns
 unfolding apart_on
-returns c = let a = c.args in
-    let l = c.loop-left in
-    apart_done (has (row a.n 0 a.table.now)) a.page.now l.at l.left c.loop-left-test.false ∙ l.invariant.1
+returns c =
+    let a = c.args in
+    let i = c.loop-i.i in
+    apart_done (has (row a.n 0 a.table.now)) a.page.now (7 + 18 * i) (27 - i) (omega arith) ∙ c.loop-i.invariant

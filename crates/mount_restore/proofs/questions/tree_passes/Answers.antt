@@ -17,8 +17,9 @@ pub returns-else-restore_rows : goal.returns-else-restore_rows
 returns-else-restore_rows c =
     let a = c.args in
     let r = c.restore_rows in
-    too_scattered a.tariff a.state a.since (pages_of a.pool.now) (table_from r.new.table)
-    (omega (arith, c.if-node_limit-state.false, c.node_limit.ensures.0)) r.result r.ensures c.if-restore_rows.false
+    rw c.if-restore_rows.false
+    (too_scattered a.tariff a.state a.since (pages_of a.pool.now) (table_from r.new.table)
+    (omega (arith, c.if-node_limit-state.false, c.node_limit.ensures.0)) r.result r.ensures c.if-restore_rows.false)
 
 pub rows_pass-requires : goal.rows_pass-requires
 rows_pass-requires c =
@@ -34,8 +35,8 @@ rows_pass-requires c =
           (restored_blank a.state.blocks a.state.nodes a.since (pages_of a.pool.now)),
     )
 
-pub returns : goal.returns
-returns c =
+pub returns-then-restore_rows : goal.returns-then-restore_rows
+returns-then-restore_rows c =
     let a = c.args in
     let r = c.restore_rows in
     let w = c.rows_pass in

@@ -10,19 +10,18 @@ use Rattle.mount_rows.proofs.fill.see_pages.Goals as goal
 
 pub loop-page-init : goal.loop-page-init
 loop-page-init c = let a = c.args in
-    (omega arith, steps-begin (seen_page a.nodes (pages_of a.pool.now)) (32 * a.blocks) (rows_of a.table.now))
+    (steps-begin (seen_page a.nodes (pages_of a.pool.now)) (32 * a.blocks) (rows_of a.table.now))
 
 pub loop-page-preserved : goal.loop-page-preserved
 loop-page-preserved c = let a = c.args in
     let l = c.loop-page in (
-      omega arith,
-      rw c.see_page.ensures
-          (steps_more (seen_page a.nodes (pages_of a.pool.now)) (32 * a.blocks) l.page (rows_of l.table)
-          (omega arith) ∙ l.invariant.1),
+    rw c.see_page.ensures
+    (steps_more (seen_page a.nodes (pages_of a.pool.now)) (32 * a.blocks) l.page (rows_of l.table)
+    (omega arith) ∙ l.invariant)
     )
 
 pub returns : goal.returns
 unfolding filled
 returns c = let a = c.args in
     let l = c.loop-page in
-    sym (steps-done (seen_page a.nodes (pages_of a.pool.now)) (32 * a.blocks) l.page (rows_of l.table) (omega arith)) ∙ l.invariant.1
+    sym (steps-done (seen_page a.nodes (pages_of a.pool.now)) (32 * a.blocks) l.page (rows_of l.table) (omega arith)) ∙ l.invariant

@@ -8,6 +8,6 @@ returns-then-id-nodes c =
     let a = c.args in
     at_in a.nodes a.id a.version a.mode a.page (rows_of a.table.now) (rows_of c.see_row.new.table) c.if-id-nodes.true c.see_row.ensures
 
-pub returns : goal.returns
-returns c = let a = c.args in
+pub returns-else-id-nodes : goal.returns-else-id-nodes
+returns-else-id-nodes c = let a = c.args in
     at_out a.nodes a.id a.version a.mode a.page (rows_of a.table.now) c.if-id-nodes.false

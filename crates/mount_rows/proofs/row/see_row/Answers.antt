@@ -26,8 +26,8 @@ returns-then-lacks c =
     l.result l.ensures c.if-row-version.false c.one_more.result c.lacks.result c.lacks.ensures
     c.if-lacks.true c.one_more.ensures c.write_row-then-lacks.ensures
 
-pub returns : goal.returns
-returns c =
+pub returns-else-lacks : goal.returns-else-lacks
+returns-else-lacks c =
     let a = c.args in
     let l = c.read_row-row in
     seen_same (rows_of a.table.now) (rows_of a.table.now) a.id a.version a.mode a.page l.result

@@ -9,4 +9,4 @@ use Rattle.mount_tree.proofs.area.due_at.Goals as goal
 
 pub returns : goal.returns
 returns c = let a = c.args in
-    c.read_due.ensures ∙ ap (λ (ds : List Due). get_or ds a.slot no_due) (dues_between a.kept a.nodes a.table.now)
+    c.read.ensures ∙ ap (λ (ds : List Due). get_or ds a.slot no_due) (dues_between a.kept a.nodes a.table.now)

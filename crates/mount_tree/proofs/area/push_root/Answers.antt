@@ -12,9 +12,9 @@ use Rattle.mount_tree.proofs.area.push_root.Goals as goal
 pub returns : goal.returns
 returns c =
     let a = c.args in
-    let p = c.write_due in
-    push_leaves a.kept a.nodes a.table.now c.requires.0 (a.nodes - 1) a.nodes (root_due a.depth ∷ []) p.new.stack
-    (omega (arith, p.auto.stack))
-    (root-last a.nodes a.depth _ (dues_of p.new.stack) c.requires.1
+    let p = c.write in
+    push_leaves a.kept a.nodes a.table.now c.requires.0 (a.nodes - 1) a.nodes (root_due a.depth ∷ []) p.new.table
+    (omega (arith, p.auto.table))
+    (root-last a.nodes a.depth _ (dues_of p.new.table) c.requires.1
     (ap length (dues_between a.kept a.nodes a.table.now) ∙ length-dues_in a.kept a.nodes a.table.now c.requires.0)
     p.ensures)

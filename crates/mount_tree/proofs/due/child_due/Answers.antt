@@ -11,7 +11,7 @@ pub returns-then-at-v : goal.returns-then-at-v
 returns-then-at-v c =
     let a = c.args in
     let size = length-pairs_in a.v c.requires.0 in
-    ap₂ {C = Due} (λ (i h : ℕ). record { id = i; depth = a.depth; high = h }) c.pointer-id.ensures c.key-above.ensures ∙
+    ap₂ {C = Due} (λ (i h : ℕ). record { id = i; depth = a.depth; high = h }) c.pointer-id.ensures (c.from-high.ensures ∙ c.key.ensures) ∙
     sym (get-child a.depth (pairs_in a.v) a.v.link a.high a.at (omega (arith, c.if-at-v.true)))
 
 pub returns : goal.returns

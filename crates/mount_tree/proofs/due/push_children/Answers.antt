@@ -29,8 +29,8 @@ pub child_due-requires : goal.child_due-requires
 child_due-requires c =
     (c.requires.0, omega arith)
 
-pub write_due-requires : goal.write_due-requires
-write_due-requires c =
+pub write-requires : goal.write-requires
+write-requires c =
     omega (arith, c.requires.1, c.loop-left.invariant.0.0, c.loop-left.invariant.0.1)
 
 pub loop-left-preserved : goal.loop-left-preserved
@@ -43,8 +43,8 @@ loop-left-preserved c =
     let slots = length_dues turn.stack in (
       (omega arith, omega arith),
       push_more xs (drop (a.base + a.v.count + 1) (dues_of a.stack.now)) a.base (turn.left - 1)
-          (dues_of turn.stack) (dues_of c.write_due.new.stack) c.child_due.result turn.left (omega (arith, c.loop-left-test.true))
-          (omega arith) (omega (arith, c.requires.1)) c.child_due.ensures c.write_due.ensures turn.invariant.1,
+          (dues_of turn.stack) (dues_of c.write.new.table) c.child_due.result turn.left (omega (arith, c.loop-left-test.true))
+          (omega arith) (omega (arith, c.requires.1)) c.child_due.ensures c.write.ensures turn.invariant.1,
     )
 
 pub returns : goal.returns

@@ -1,6 +1,4 @@
-use mathlib.Core.Path.{◌≡◌}
-use Prim.Native.Nat.{◌-◌, ◌≤◌}
-use lib.ListN.{take}
+use Rattle.std.proofs.Common.{◌≡◌, take}
 use Rattle.flash_blocks.specs.Pages.{pages_of}
 use Rattle.flash_rows.specs.Worktable.{table_from}
 use Rattle.tree.specs.Sound.{leftmost}
@@ -10,9 +8,5 @@ use Rattle.mount_tree.proofs.first_leaf.first_leaf.Given as goal
 
 abbrev pub invariant-loop-depth : goal.invariant-loop-depth
 invariant-loop-depth l =
-    (l.depth ≤ l.state.nodes) ×
-    (search_from l.state.nodes (table_of (pages_of l.pool) (table_from (take l.kept l.table)) l.state) l.depth l.leaf ≡
-    leftmost l.state.nodes (table_of (pages_of l.pool) (table_from (take l.kept l.table)) l.state) 0 0)
-
-abbrev pub decreases-loop-depth : goal.decreases-loop-depth
-decreases-loop-depth l = l.state.nodes - l.depth
+    search_from l.state.nodes (table_of (pages_of l.pool) (table_from (take l.kept l.table)) l.state) l.depth l.leaf
+    ≡ leftmost l.state.nodes (table_of (pages_of l.pool) (table_from (take l.kept l.table)) l.state) 0 0

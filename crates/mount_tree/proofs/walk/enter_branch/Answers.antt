@@ -9,7 +9,7 @@ returns-then-w-v c =
     λ tree is.
     let a = c.args in
     step_crowded tree a.kept a.nodes a.table.now a.w a.v a.due is c.requires.0 (a.due.depth - 1)
-    (omega (arith, c.requires.1)) c.if-w-v.true c.failed.result c.failed.ensures
+    (omega (arith, c.requires.1)) c.if-w-v.true
 
 pub mark-requires : goal.mark-requires
 mark-requires c =

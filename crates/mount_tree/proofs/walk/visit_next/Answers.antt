@@ -8,15 +8,14 @@ use Rattle.flash_read.specs.NodeTable.{table_of}
 use Rattle.mount_tree.specs.Visit.{step_failed}
 use Rattle.mount_tree.proofs.walk.visit_next.Goals as goal
 
-pub returns-else-passes : goal.returns-else-passes
-returns-else-passes c =
+pub returns-then-not-passes : goal.returns-then-not-passes
+returns-then-not-passes c =
     let a = c.args in
     let p = c.requires in
     let v = c.node_of-v in
     let d = c.due_at-due in
     step_failed (table_of (pages_of a.pool.now) (table_from (take a.kept a.table.now)) a.state) a.kept a.state.nodes a.table.now
-    a.w v.result d.result v.ensures.is p.0.room p.2 d.ensures (sym c.passes.ensures ∙ c.if-passes.false)
-    c.failed.result c.failed.ensures
+    a.w v.result d.result v.ensures.is p.0.room p.2 d.ensures (sym c.passes.ensures ∙ c.if-not-passes.true)
 
 pub pass_leaf-requires : goal.pass_leaf-requires
 pass_leaf-requires c =
@@ -27,7 +26,7 @@ pass_leaf-requires c =
         inside = p.2;
         is = c.due_at-due.ensures;
         sized = c.node_of-v.ensures.held.sized;
-        pass = sym c.passes.ensures ∙ c.if-passes.true;
+        pass = sym c.passes.ensures ∙ c.if-not-passes.false;
       },
       c.if-due-eq0.true,
     )
@@ -46,7 +45,7 @@ enter_branch-requires c =
         inside = p.2;
         is = c.due_at-due.ensures;
         sized = c.node_of-v.ensures.held.sized;
-        pass = sym c.passes.ensures ∙ c.if-passes.true;
+        pass = sym c.passes.ensures ∙ c.if-not-passes.false;
       },
       omega (arith, c.if-due-eq0.false),
     )

@@ -4,6 +4,7 @@ use mathlib.Core.List.{List}
 use Prim.Native.Nat.{ℕ}
 use native.Mathlib.Omega.{arith}
 use lib.ListN.{take}
+use Rattle.std.proofs.Common.{ne_eqb}
 use Rattle.flash_blocks.specs.Pages.{pages_of}
 use Rattle.flash_rows.specs.Worktable.{table_from}
 use Rattle.flash_read.specs.NodeTable.{table_of}
@@ -14,8 +15,8 @@ use Rattle.mount_tree.proofs.walk.walk.Goals as goal
 pub loop-w-init : goal.loop-w-init
 loop-w-init c = (refl, refl, c.requires.1, refl)
 
-pub visit_next-w-requires : goal.visit_next-w-requires
-visit_next-w-requires c =
+pub visit_next-requires : goal.visit_next-requires
+visit_next-requires c =
     let a = c.args in
     let turn = c.loop-w in (
       checkable_same a.state a.kept a.table.now turn.table turn.invariant.0 turn.invariant.1 c.requires.0,
@@ -26,39 +27,39 @@ visit_next-w-requires c =
 pub loop-w-smaller : goal.loop-w-smaller
 loop-w-smaller c =
     let turn = c.loop-w in
-    let step = c.visit_next-w.ensures in
-    omega (arith, step.more c.if-w.true, turn.invariant.2.free, c.loop-w-test.true)
+    omega (arith, c.in-Some.ensures.more, turn.invariant.2.free, c.loop-w-test.true)
 
 pub loop-w-preserved : goal.loop-w-preserved
 loop-w-preserved c =
     let a = c.args in
     let turn = c.loop-w in
-    let v = c.visit_next-w in
+    let v = c.visit_next in
+    let step = c.in-Some.ensures in
     let tree = table_of (pages_of a.pool.now) (table_from (take a.kept a.table.now)) a.state in
     let all = comes_to tree a.kept a.state.nodes a.table.now a.start in (
       omega (arith, v.auto, turn.invariant.0),
-      v.ensures.same ∙ turn.invariant.1,
-      v.ensures.standing c.if-w.true,
+      step.same ∙ turn.invariant.1,
+      step.standing,
       turn_passed (λ (k : List ℕ). table_of (pages_of a.pool.now) (table_from k) a.state) a.kept a.state.nodes a.table.now turn.table
-          v.new.table turn.w v.result turn.invariant.1 v.ensures all turn.invariant.3 c.if-w.true,
+          v.new.table turn.w turn.invariant.1 all turn.invariant.3 c.in-Some.next step,
     )
 
-pub returns-else-w : goal.returns-else-w
-returns-else-w c =
+pub returns-in-None : goal.returns-in-None
+returns-in-None c =
     let a = c.args in
     let turn = c.loop-w in
-    let v = c.visit_next-w in
+    let step = c.in-None.ensures in
     let tree = table_of (pages_of a.pool.now) (table_from (take a.kept a.table.now)) a.state in
     let all = comes_to tree a.kept a.state.nodes a.table.now a.start in
     record {
-      same = v.ensures.same ∙ turn.invariant.1;
+      same = step.same ∙ turn.invariant.1;
       is =
           turn-failed (λ (k : List ℕ). table_of (pages_of a.pool.now) (table_from k) a.state) a.kept a.state.nodes a.table.now turn.table
-          v.new.table turn.w v.result turn.invariant.1 v.ensures all turn.invariant.3 c.if-w.false;
+          c.visit_next.new.table turn.w turn.invariant.1 all turn.invariant.3 step;
     }
 
-pub returns-then-w-2 : goal.returns-then-w-2
-returns-then-w-2 c =
+pub returns-then-w : goal.returns-then-w
+returns-then-w c =
     let a = c.args in
     let turn = c.loop-w in
     let tree = table_of (pages_of a.pool.now) (table_from (take a.kept a.table.now)) a.state in
@@ -67,11 +68,11 @@ returns-then-w-2 c =
       same = turn.invariant.1;
       is =
           ended-linked tree a.kept a.state.nodes turn.table turn.w kept.room turn.invariant.2 c.loop-w-test.false
-          (comes_to tree a.kept a.state.nodes a.table.now a.start) turn.invariant.3 c.if-w-2.true;
+          (comes_to tree a.kept a.state.nodes a.table.now a.start) turn.invariant.3 c.if-w.true;
     }
 
-pub returns : goal.returns
-returns c =
+pub returns-else-w : goal.returns-else-w
+returns-else-w c =
     let a = c.args in
     let turn = c.loop-w in
     let tree = table_of (pages_of a.pool.now) (table_from (take a.kept a.table.now)) a.state in
@@ -79,6 +80,7 @@ returns c =
     record {
       same = turn.invariant.1;
       is =
+          ne_eqb _ _ c.if-w.false ∙
           ended_unlinked tree a.kept a.state.nodes turn.table turn.w kept.room turn.invariant.2 c.loop-w-test.false
-          (comes_to tree a.kept a.state.nodes a.table.now a.start) turn.invariant.3 c.if-w-2.false;
+          (comes_to tree a.kept a.state.nodes a.table.now a.start) turn.invariant.3 c.if-w.false;
     }

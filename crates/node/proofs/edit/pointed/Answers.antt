@@ -7,6 +7,6 @@ returns-then-at-v c =
     becomes_repointed c.args.v c.repointed.result c.requires c.args.at c.args.pointer
     c.if-at-v.true c.repointed.ensures
 
-pub returns : goal.returns
-returns c =
+pub returns-else-at-v : goal.returns-else-at-v
+returns-else-at-v c =
     becomes_last c.args.v c.relinked.result c.requires c.args.at c.args.pointer c.if-at-v.false c.relinked.ensures

@@ -1,13 +1,7 @@
-use mathlib.Core.Path.{◌≡◌}
-use Prim.Native.Nat.{◌-◌, ◌≤◌}
-use lib.ListN.{drop}
+use Rattle.std.proofs.Common.{◌≡◌, drop}
 use Rattle.node.specs.Ascends.{ascends}
 use Rattle.node.specs.Value.{pairs_in}
 use Rattle.node.proofs.search.ascends.Given as goal
 
-abbrev pub invariant-loop-i : goal.invariant-loop-i
-invariant-loop-i l =
-    (l.i ≤ l.v.count) × (ascends l.least l.high (drop l.i (pairs_in l.v)) ≡ ascends l.low l.high (pairs_in l.v))
-
-abbrev pub decreases-loop-i : goal.decreases-loop-i
-decreases-loop-i l = l.v.count - l.i
+abbrev pub invariant-loop-key : goal.invariant-loop-key
+invariant-loop-key l = ascends l.least l.high (drop l.key-index (pairs_in l.fn.v)) ≡ ascends l.fn.low l.high (pairs_in l.fn.v)

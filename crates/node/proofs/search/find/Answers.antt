@@ -1,6 +1,6 @@
--- `node::search::find` meets its contract: what is found in the keys is found in the node. Assumes nothing.
-use mathlib.Core.Path.{refl, sym}
+-- `node::search::find` meets its contract: what std's search finds in the keys is found in the node. Assumes nothing.
+use Rattle.node.proofs.Searched.{found-searched}
 use Rattle.node.proofs.search.find.Goals as goal
 
 pub returns : goal.returns
-returns c = sym (c.find_by_halves.ensures.is c.args.v c.requires refl refl)
+returns c = found-searched c.args.v c.requires c.args.key c.binary_search.result c.binary_search.ensures.position

@@ -1,5 +1,4 @@
-use Prim.Native.Nat.{◌-◌, ◌≤◌, ◌<◌}
-use lib.ListN.{get_or}
+use Rattle.std.proofs.Common.{◌-◌, ◌≤◌, ◌<◌, get_or}
 use Rattle.node.proofs.search.find_in_replay.Given as goal
 
 abbrev pub invariant-loop-low : goal.invariant-loop-low

@@ -1,5 +1,5 @@
 -- `node::search::key` meets its contract: the key of a pair is the array's. Assumes nothing.
-use mathlib.Core.Path.{sym}
+use Rattle.std.proofs.Common.{sym}
 use Rattle.node.specs.Value.{key_at-pairs_in}
 use Rattle.node.proofs.search.key.Goals as goal
 

@@ -1,4 +1,4 @@
--- `page_read::field::change_ok` meets its contract: of each of the four kinds it asks that the unused number is 0. Assumes nothing.
+-- Of each of the four kinds it asks that the unused number is 0. Assumes nothing.
 use mathlib.Core.Path.{◌≡◌, refl}
 use mathlib.Core.Bool.{false}
 use Prim.Native.Nat.{ℕ, zero, suc, ◌≤◌, ◌<◌}
@@ -8,6 +8,7 @@ use borrow.Author.Tests.{ne_eqb}
 use Rattle.laws.specs.Tests.{choose}
 use Rattle.page.specs.Decode.{change_ok}
 use Rattle.page_read.proofs.field.change_ok.Goals as goal
+use Rattle.page_read.proofs.field.change_ok.Goals.{then-kind-lt1-via-then-kind-lt1, then-kind-lt1-via-else-kind-lt1+then-kind-gt4}
 
 no_kind : (kind key pointer : ℕ) → kind < 1 → false ≡ change_ok kind key pointer
 unfolding change_ok
@@ -35,13 +36,11 @@ unused_zero (suc (suc (suc (suc zero)))) key pointer g h = refl
 unused_zero (suc (suc (suc (suc (suc kind))))) key pointer g h = absurd (omega arith)
 
 pub returns-then-kind-lt1 : goal.returns-then-kind-lt1
-returns-then-kind-lt1 c = no_kind _ _ _ c.if-kind-lt1.true
-
-pub returns-then-kind-gt4 : goal.returns-then-kind-gt4
-returns-then-kind-gt4 c = no_kind_above _ _ _ c.if-kind-gt4.true
-
-pub unused-requires : goal.unused-requires
-unused-requires c = tt
+returns-then-kind-lt1 c =
+    elim c.then-kind-lt1.branch [
+      | then-kind-lt1-via-then-kind-lt1 w ↦ no_kind _ _ _ w.if-kind-lt1.true
+      | then-kind-lt1-via-else-kind-lt1+then-kind-gt4 w ↦ no_kind_above _ _ _ w.if-kind-gt4.true
+    ]
 
 pub returns : goal.returns
 returns c = let x = c.args in

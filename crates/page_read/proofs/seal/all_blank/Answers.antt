@@ -16,15 +16,15 @@ returns-then-s-lt16 c = c.few_blank.ensures
 pub loop-i-init : goal.loop-i-init
 loop-i-init c = (omega arith, refl)
 
-pub returns-else-sixteen_blank : goal.returns-else-sixteen_blank
-returns-else-sixteen_blank c =
+pub returns-then-not-sixteen_blank : goal.returns-then-not-sixteen_blank
+returns-then-not-sixteen_blank c =
     let s = c.args.s.now in
-    part_stop s c.loop-i.i 16 (sym c.if-sixteen_blank.false ∙ c.sixteen_blank.ensures) ∙ c.loop-i.invariant.1
+    part_stop s c.loop-i.i 16 (sym c.if-not-sixteen_blank.true ∙ c.sixteen_blank.ensures) ∙ c.loop-i.invariant.1
 
 pub loop-i-preserved : goal.loop-i-preserved
 loop-i-preserved c =
     let s = c.args.s.now in
-    (omega arith, part-next s c.loop-i.i 16 (sym c.if-sixteen_blank.true ∙ c.sixteen_blank.ensures) ∙ c.loop-i.invariant.1)
+    (omega arith, part-next s c.loop-i.i 16 (sym c.if-not-sixteen_blank.false ∙ c.sixteen_blank.ensures) ∙ c.loop-i.invariant.1)
 
 pub returns : goal.returns
 returns c =

@@ -5,8 +5,8 @@ use Rattle.page_read.proofs.value.costs_at.Goals as goal
 pub returns : goal.returns
 unfolding costs_at
 returns c = rw (
-  c.read32-read.ensures.is,
-  c.read32-edit.ensures.is,
-  c.read32-rewrite.ensures.is,
-  c.read32-enters.ensures.is,
+  c.read32.ensures.is,
+  c.read32-2.ensures.is,
+  c.read32-3.ensures.is,
+  c.read32-4.ensures.is,
 )

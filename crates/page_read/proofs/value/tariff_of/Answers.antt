@@ -3,4 +3,4 @@ use Rattle.page_read.specs.Value.{costs_at-tariff}
 use Rattle.page_read.proofs.value.tariff_of.Goals as goal
 
 pub returns : goal.returns
-returns c = rw (c.costs_at-log.ensures, c.costs_at-disk.ensures) (costs_at-tariff c.args.p.now)
+returns c = rw (c.costs_at.ensures, c.costs_at-2.ensures) (costs_at-tariff c.args.p.now)

@@ -24,16 +24,16 @@ returns-then-bytes-lt7 c = let b = c.args.page.now in
     node_none c.args.sequence (payload_at b 7 0x11) b
     (found_false (payload_at b 7 0x11) (node_short b 7 (omega (arith, ap length c.payload-p.ensures))))
 
-pub returns-else-is_shape : goal.returns-else-is_shape
-returns-else-is_shape c =
+pub returns-then-not-is_shape : goal.returns-then-not-is_shape
+returns-then-not-is_shape c =
     let b = c.args.page.now in
     let q = c.payload-p.ensures in
     let l : 1 ≤ length (payload_at b 7 0x11) = omega (arith, ap length q) in
     node_other c.args.sequence (payload_at b 7 0x11) b (found_true (payload_at b 7 0x11) l)
-    (ap is_a_shape (sym q) ∙ sym c.is_shape.ensures ∙ c.if-is_shape.false)
+    (ap is_a_shape (sym q) ∙ sym c.is_shape.ensures ∙ c.if-not-is_shape.true)
 
-pub returns-then-is_sealed : goal.returns-then-is_sealed
-returns-then-is_sealed c =
+pub returns : goal.returns
+returns c =
     let b = c.args.page.now in
     let s = c.args.sequence in
     let q = c.payload-p.ensures in
@@ -42,15 +42,15 @@ returns-then-is_sealed c =
     let e : 7 + taken p ≡ 10 + length c.payload-p.result.now = omega (arith, taken-found p l, ap length q) in
     rw (c.read16.ensures.is, c.shape_of.ensures)
     (ap (λ (x : List ℕ). NodePage s (number_at 2 x 0) (shape_of_number (get_or x 2 0)) (pairs_in x)) q ∙
-    node_sealed s p b (found_true p l) (ap is_a_shape (sym q) ∙ sym c.is_shape.ensures ∙ c.if-is_shape.true)
-    (ap (sealed_at b) e ∙ sym c.is_sealed.ensures ∙ c.if-is_sealed.true))
+    node_sealed s p b (found_true p l) (ap is_a_shape (sym q) ∙ sym c.is_shape.ensures ∙ c.if-not-is_shape.false)
+    (ap (sealed_at b) e ∙ sym c.is_sealed.ensures ∙ c.if-not-is_sealed.false))
 
-pub returns : goal.returns
-returns c =
+pub returns-then-not-is_sealed : goal.returns-then-not-is_sealed
+returns-then-not-is_sealed c =
     let b = c.args.page.now in
     let q = c.payload-p.ensures in
     let p = payload_at b 7 0x11 in
     let l : 1 ≤ length p = omega (arith, ap length q) in
     let e : 7 + taken p ≡ 10 + length c.payload-p.result.now = omega (arith, taken-found p l, ap length q) in
-    node_unsealed c.args.sequence p b (found_true p l) (ap is_a_shape (sym q) ∙ sym c.is_shape.ensures ∙ c.if-is_shape.true)
-    (ap (sealed_at b) e ∙ sym c.is_sealed.ensures ∙ c.if-is_sealed.false)
+    node_unsealed c.args.sequence p b (found_true p l) (ap is_a_shape (sym q) ∙ sym c.is_shape.ensures ∙ c.if-not-is_shape.false)
+    (ap (sealed_at b) e ∙ sym c.is_sealed.ensures ∙ c.if-not-is_sealed.true)

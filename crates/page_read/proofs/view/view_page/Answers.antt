@@ -20,32 +20,32 @@ returns-then-s-lt1 c =
     sym (ap view (decode-other b (sym c.all_blank.ensures ∙ c.if-all_blank.false) ∙
     written-zero _ b (omega (arith, c.sequence-s.ensures))))
 
-pub returns-then-tag-eq18 : goal.returns-then-tag-eq18
+pub returns-in-18 : goal.returns-in-18
 unfolding view_of
-returns-then-tag-eq18 c = let b = c.args.page.now in
+returns-in-18 c = let b = c.args.page.now in
     let s = c.sequence-s.result in
     c.view_log.ensures ∙
     sym (ap view (decode-other b (sym c.all_blank.ensures ∙
     c.if-all_blank.false) ∙
     ap (λ (x : ℕ). decode_written x b) (sym c.sequence-s.ensures) ∙
-    written_from s b (omega arith) ∙ content_log s b (get_or b 7 0) c.if-tag-eq18.true))
+    written_from s b (omega arith) ∙ content_log s b (get_or b 7 0) (omega arith)))
 
-pub returns-then-tag-eq17 : goal.returns-then-tag-eq17
+pub returns-in-17 : goal.returns-in-17
 unfolding view_of
-returns-then-tag-eq17 c = let b = c.args.page.now in
+returns-in-17 c = let b = c.args.page.now in
     let s = c.sequence-s.result in
     c.view_node.ensures ∙
     sym (ap view (decode-other b (sym c.all_blank.ensures
     ∙ c.if-all_blank.false) ∙
     ap (λ (x : ℕ). decode_written x b) (sym c.sequence-s.ensures) ∙
-    written_from s b (omega arith) ∙ content_node s b (get_or b 7 0) c.if-tag-eq17.true))
+    written_from s b (omega arith) ∙ content_node s b (get_or b 7 0) (omega arith)))
 
-pub returns : goal.returns
+pub returns-in_default : goal.returns-in_default
 unfolding view_of
-returns c = let b = c.args.page.now in
+returns-in_default c = let b = c.args.page.now in
     let s = c.sequence-s.result in
     c.view_checkpoint.ensures ∙
     sym (ap view (decode-other b (sym c.all_blank.ensures
     ∙ c.if-all_blank.false) ∙
     ap (λ (x : ℕ). decode_written x b) (sym c.sequence-s.ensures) ∙
-    written_from s b (omega arith) ∙ content-checkpoint s b (get_or b 7 0) c.if-tag-eq18.false c.if-tag-eq17.false))
+    written_from s b (omega arith) ∙ content-checkpoint s b (get_or b 7 0) (omega arith) (omega arith)))

@@ -14,6 +14,6 @@ returns c =
       c.lay_head.ensures,
     )
     (node_head-laid a.p.now a.at a.id
-    c.shape_number-number.result
+    c.shape_number.result
     a.shape a.link a.n (omega arith)
-    c.shape_number-number.ensures)
+    c.shape_number.ensures)

@@ -1,18 +1,22 @@
-use mathlib.Core.Path.{◌≡◌}
-use Prim.Native.Nat.{◌-◌}
-use lib.ListN.{length}
+-- The commands run so far, and those left, are the whole.
+use Rattle.std.proofs.Common.{◌≡◌, ◌-◌, length}
 use Rattle.layout.specs.Layout.{node_limit, most_blocks}
 use Rattle.flash_rows.specs.Worktable.{table_from}
 use Rattle.flash_blocks.specs.Pages.{pages_of}
-use Rattle.flash_allocate.specs.World.{world}
+use Rattle.flash_allocate.specs.Flash.{world_of, Same}
 use Rattle.run.specs.Running.{Running}
+use Rattle.run.specs.Session.{ran_in}
 use Rattle.run.proofs.run.run_commands.Given as goal
 
-abbrev pub invariant-loop-at : goal.invariant-loop-at
-invariant-loop-at l =
-    (length l.pool ≡ length l.initial.pool) × (length l.table ≡ length l.initial.table) × (length l.answers ≡ length l.initial.answers) × (length l.ids ≡ node_limit most_blocks) ×
-    Running (length l.pool) (length l.table) l.initial.here.session.tariff l.batch l.initial.answers l.at
-    (world (pages_of l.initial.pool) (table_from l.initial.table) l.initial.here.state) (pages_of l.pool) (table_from l.table) l.answers l.initial.charges l.charges l.here
+abbrev pub invariant-loop-command : goal.invariant-loop-command
+invariant-loop-command l = record {
+  ids : length l.ids ≡ node_limit most_blocks;
+  buffers : Same l.initial.flash l.flash;
+  running :
+      Running (length l.flash.pool.now) (length l.flash.table.now) l.initial.here.session.tariff l.batch l.initial.answers l.at
+      (world_of l.initial.flash) (pages_of l.flash.pool.now) (table_from l.flash.table.now) l.answers l.initial.charges l.charges
+      (ran_in l.flash.state l.here);
+}
 
-abbrev pub decreases-loop-at : goal.decreases-loop-at
-decreases-loop-at l = length l.batch - l.at
+abbrev pub decreases-loop-command : goal.decreases-loop-command
+decreases-loop-command l = length l.batch - l.at

@@ -1,21 +1,14 @@
 -- `run::run_step` meets its contract: a stretch of one command. Assumes nothing.
-use Rattle.flash_allocate.specs.World.{world_in}
+use Rattle.flash_allocate.specs.Flash.{world_of}
 use Rattle.run.specs.Stretch.{one-fits, on_one}
 use Rattle.run.proofs.run.run_step.Goals as goal
 
 pub add-requires : goal.add-requires
 add-requires c =
-    let a = c.args in
-    let w = world_in a.pool.now a.table.now a.here.state in
-    let ready = c.requires.0 in
-    (ready.sixteen, ready.current, one-fits {w = w} ready c.requires.1 c.run_command-done.ensures.0)
+    let ready = c.requires.starts in
+    (ready.sixteen, ready.current, one-fits {w = world_of c.args.flash.now} ready c.requires.range c.run_command-done.ensures.served)
 
-pub returns : goal.returns
-returns c =
-    let a = c.args in
-    let w = world_in a.pool.now a.table.now a.here.state in
-    let run = c.run_command-done in (
-      on_one {w = w} c.requires.0 c.requires.1 run.ensures.0 c.add.new.charges c.add.ensures c.session_after-next.result
-          c.session_after-next.ensures,
-      run.ensures.1,
-    )
+pub returns-clause-served : goal.returns-clause-served
+returns-clause-served c =
+    on_one {w = world_of c.args.flash.now} c.requires.starts c.requires.range c.run_command-done.ensures.served _ c.add.ensures _
+    c.session_after.ensures

@@ -1,35 +1,23 @@
 -- `delete::delete` meets its contract: the walk down, then the leaf in hand edited where the key is there. Assumes nothing.
-use Rattle.flash_rows.specs.Worktable.{table_from}
-use Rattle.flash_blocks.specs.Pages.{pages_of}
-use Rattle.flash_allocate.specs.World.{world}
-use mathlib.Core.Path.{ap, ◌∙◌}
-use native.Mathlib.Omega.{arith}
-use Rattle.run_lookup.specs.Value.{value_of}
+use mathlib.Core.Path.{◌∙◌}
+use Rattle.flash_allocate.specs.Flash.{world_of}
 use Rattle.run_lookup.specs.Finding.{value_in_lem}
 use Rattle.run_lookup.specs.Deletion.{deleted-none, deleted-one}
 use Rattle.run_lookup.proofs.delete.delete.Goals as goal
 
-pub overflow_add-charged : goal.overflow_add-charged
-overflow_add-charged c = omega (arith, c.descend-down.ensures.charged.most, c.serve_edit_holding-edit.ensures.most)
+pub returns-in-Some-clause-served : goal.returns-in-Some-clause-served
+returns-in-Some-clause-served c =
+    let a = c.args in
+    let w = world_of a.flash.now in
+    let down = c.descend-down.ensures.served in
+    let value = c.value_at in
+    deleted-one a.tariff a.key w down _ (value_in_lem a.tariff w down value.result value.ensures ∙ c.in-Some.is)
+    c.serve_edit_holding-edit.ensures.served
 
-pub shape_of-pool-in-There : goal.shape_of-pool-in-There
-shape_of-pool-in-There c = omega (arith, c.serve_edit_holding-edit.auto.pool, c.descend-down.auto.pool)
-
-pub shape_of-table-in-There : goal.shape_of-table-in-There
-shape_of-table-in-There c = omega (arith, c.serve_edit_holding-edit.auto.table, c.descend-down.auto.table)
-
-pub returns-in-There : goal.returns-in-There
-returns-in-There c = let a = c.args in
-    let w = world (pages_of a.pool.now) (table_from a.table.now) a.state in
-    let down = c.descend-down.ensures in
-    let value = c.value_at-value in
-    deleted-one a.tariff a.key w down _
-    (value_in_lem a.tariff w down (value_of value.result) value.ensures ∙ ap value_of c.in-There.is) c.serve_edit_holding-edit.ensures
-
-pub returns-in-Missing : goal.returns-in-Missing
-returns-in-Missing c = let a = c.args in
-    let w = world (pages_of a.pool.now) (table_from a.table.now) a.state in
-    let down = c.descend-down.ensures in
-    let value = c.value_at-value in
-    deleted-none a.tariff a.key w down
-    (value_in_lem a.tariff w down (value_of value.result) value.ensures ∙ ap value_of c.in-Missing.is)
+pub returns-in-None-clause-served : goal.returns-in-None-clause-served
+returns-in-None-clause-served c =
+    let a = c.args in
+    let w = world_of a.flash.now in
+    let down = c.descend-down.ensures.served in
+    let value = c.value_at in
+    deleted-none a.tariff a.key w down (value_in_lem a.tariff w down value.result value.ensures ∙ c.in-None.is)

@@ -1,12 +1,7 @@
 use mathlib.Core.Path.{◌≡◌}
-use Prim.Native.Nat.{◌-◌, ◌≤◌}
 use lib.ListN.{length}
 use Rattle.run_scan.specs.Laid.{pairs_laid}
 use Rattle.run_scan.proofs.answer.lay_scan.Given as goal
 
 abbrev pub invariant-loop-i : goal.invariant-loop-i
-invariant-loop-i l = (l.i ≤ l.pairs.count) × (length l.buffer ≡ length l.initial.buffer) ×
-    (l.buffer ≡ pairs_laid l.initial.buffer l.at l.pairs l.i)
-
-abbrev pub decreases-loop-i : goal.decreases-loop-i
-decreases-loop-i l = l.pairs.count - l.i
+invariant-loop-i l = (length l.buffer ≡ length l.initial.buffer) × (l.buffer ≡ pairs_laid l.initial.buffer l.at l.pairs l.i)

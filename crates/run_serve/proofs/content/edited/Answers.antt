@@ -7,4 +7,4 @@ use Rattle.run_serve.proofs.content.edited.Goals as goal
 
 pub returns : goal.returns
 unfolding edited_of
-returns c = becomes_is c.node_in.ensures (ap node_in c.redo-d.ensures.is)
+returns c = becomes_is c.node_in.ensures (ap node_in c.redo.ensures.is)

@@ -6,6 +6,5 @@ pub returns-then-at-v : goal.returns-then-at-v
 returns-then-at-v c =
     rename_key c.args.v c.requires.sized c.args.at c.args.to c.key.result c.if-at-v.true c.key.ensures
 
-pub returns : goal.returns
-returns c =
-    rename_link c.args.v c.requires.sized c.args.at c.args.to c.if-at-v.false
+pub returns-else-at-v : goal.returns-else-at-v
+returns-else-at-v c = rename_link c.args.v c.requires.sized c.args.at c.args.to c.if-at-v.false

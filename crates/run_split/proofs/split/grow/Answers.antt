@@ -1,22 +1,21 @@
 -- `split::grow` meets its contract: a create below the limit, else nothing. Assumes nothing.
 use native.Mathlib.Omega.{arith}
-use Rattle.flash_rows.specs.Worktable.{table_from}
-use Rattle.flash_blocks.specs.Pages.{pages_of}
 use Rattle.node.specs.Value.{node_of}
-use Rattle.flash_allocate.specs.World.{world}
+use Rattle.flash_allocate.specs.Flash.{world_of, after_none, after_one}
 use Rattle.run_split.proofs.Laws.{grow-made, grow-none}
 use Rattle.run_split.proofs.split.grow.Goals as goal
 
-pub returns-then-state-node_limit : goal.returns-then-state-node_limit
-returns-then-state-node_limit c =
+pub returns-then-flash-node_limit : goal.returns-then-flash-node_limit
+returns-then-flash-node_limit c =
     let a = c.args in
     let y = c.create in
-    grow-made (node_of a.v) (world (pages_of a.pool.now) (table_from a.table.now) a.state) c.requires.0
-    (world (pages_of y.new.pool) (table_from y.new.table) y.result)
-    (omega (arith, c.if-state-node_limit.true, c.node_limit.ensures.0)) y.ensures
+    after_one y.ensures
+    (grow-made (node_of a.v) (world_of a.flash.now) c.requires.grows (world_of y.new.flash)
+    (omega (arith, c.if-flash-node_limit.true, c.node_limit.ensures.0)) y.ensures.left)
 
-pub returns : goal.returns
-returns c =
+pub returns-else-flash-node_limit : goal.returns-else-flash-node_limit
+returns-else-flash-node_limit c =
     let a = c.args in
-    grow-none (node_of a.v) (world (pages_of a.pool.now) (table_from a.table.now) a.state) c.requires.0
-    (omega (arith, c.if-state-node_limit.false, c.node_limit.ensures.0))
+    after_none
+    (grow-none (node_of a.v) (world_of a.flash.now) c.requires.grows
+    (omega (arith, c.if-flash-node_limit.false, c.node_limit.ensures.0)))

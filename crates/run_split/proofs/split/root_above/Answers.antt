@@ -3,7 +3,7 @@ use Rattle.run_split.proofs.Laws.{one_pair, put-room}
 use Rattle.run_split.proofs.split.root_above.Goals as goal
 
 pub put-requires : goal.put-requires
-put-requires c = (c.empty_node-v.ensures.held, put-room _ _ _ _ c.empty_node-v.ensures.is)
+put-requires c = (c.empty_node.ensures.held, put-room _ _ _ _ c.empty_node.ensures.is)
 
 pub returns : goal.returns
-returns c = one_pair _ _ _ _ _ c.empty_node-v.ensures.is c.put.ensures
+returns c = one_pair _ _ _ _ _ c.empty_node.ensures.is c.put.ensures

@@ -1,16 +1,12 @@
-use mathlib.Core.Path.{◌≡◌}
-use lib.ListN.{length}
+use Rattle.std.proofs.Common.{length}
 use Rattle.flash_rows.specs.Worktable.{table_from}
 use Rattle.flash_blocks.specs.Pages.{pages_of}
-use Rattle.flash_allocate.specs.World.{world}
-use Rattle.run_split.specs.SplittingUpwards.{SplittingUpwards}
+use Rattle.flash_allocate.specs.Flash.{world_of, Same}
+use Rattle.run_split.proofs.Upwards.{Upwards}
 use Rattle.run_split.proofs.split_upwards.split_upwards.Given as goal
 
-abbrev pub invariant-loop-i : goal.invariant-loop-i
-invariant-loop-i l =
-    (length l.pool ≡ length l.initial.pool) × (length l.table ≡ length l.initial.table) ×
-    SplittingUpwards (length l.pool) (length l.table) l.tariff l.key l.value l.ids l.i
-    (world (pages_of l.initial.pool) (table_from l.initial.table) l.initial.s) (world (pages_of l.pool) (table_from l.table) l.s) l.charge l.pending
-
-abbrev pub decreases-loop-i : goal.decreases-loop-i
-decreases-loop-i l = l.i
+abbrev pub invariant-loop-id : goal.invariant-loop-id
+invariant-loop-id l =
+    Same l.fn.flash l.flash ×
+    Upwards (length l.flash.pool.now) (length l.flash.table.now) l.tariff l.key l.fn.value l.fn.ids l.id-iterator.iter.rest.now
+    (world_of l.fn.flash) (pages_of l.flash.pool.now) (table_from l.flash.table.now) (record { state = l.flash.state; charge = l.charge }) l.pending

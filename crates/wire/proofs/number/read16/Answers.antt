@@ -1,8 +1,7 @@
--- `wire::number::read16` meets its contract. The number at a place is its bytes times their weights. Assumes nothing.
-use native.Mathlib.Omega.{arith}
+-- The number at a place is its bytes times their weights. Assumes nothing.
+use Rattle.std.proofs.Common.{arith}
 use Rattle.laws.specs.BigEndian.{number_at_2}
 use Rattle.wire.proofs.number.read16.Goals as goal
 
 pub returns : goal.returns
-returns c = let a = c.args in
-    record { is = omega (arith, number_at_2 a.s.now a.at c.requires); small = omega arith }
+returns c = record { is = omega (arith, number_at_2 c.args.s.now c.args.at c.requires); small = omega arith }

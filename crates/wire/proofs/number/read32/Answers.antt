@@ -1,8 +1,7 @@
--- `wire::number::read32` meets its contract. The number at a place is its bytes times their weights. Assumes nothing.
-use native.Mathlib.Omega.{arith}
+-- The number at a place is its bytes times their weights. Assumes nothing.
+use Rattle.std.proofs.Common.{arith}
 use Rattle.laws.specs.BigEndian.{number_at_4}
 use Rattle.wire.proofs.number.read32.Goals as goal
 
 pub returns : goal.returns
-returns c = let a = c.args in
-    record { is = omega (arith, number_at_4 a.s.now a.at c.requires); small = omega arith }
+returns c = record { is = omega (arith, number_at_4 c.args.s.now c.args.at c.requires); small = omega arith }

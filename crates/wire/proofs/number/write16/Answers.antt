@@ -1,13 +1,9 @@
--- `wire::number::write16` meets its contract. A run of stores is the bytes laid there. Assumes nothing.
-use native.Mathlib.Omega.{arith}
-use native.Mathlib.Numerals.{add-one}
-use lib.ListN.{length-set}
-use Rattle.laws.specs.Lay.{lay_sets}
+-- The lent part comes back with the number's bytes. Assumes nothing.
+use Rattle.std.proofs.Common.{◌∙◌}
 use Rattle.laws.specs.BigEndian.{big_endian}
+use Rattle.wire.proofs.Copying.{copy_lent, be_bytes_2}
 use Rattle.wire.proofs.number.write16.Goals as goal
 
-pub bounds-s-at-2 : goal.bounds-s-at-2
-bounds-s-at-2 c = simp length-set (omega arith)
-
 pub returns : goal.returns
-returns c = simp add-one (lay_sets (big_endian 2 c.args.v) c.args.s.now c.args.at c.requires.0)
+returns c = let a = c.args in
+    copy_lent a.s.now (big_endian 2 a.v) _ a.at (c.copy_from_slice.ensures.after ∙ c.to_be_bytes.ensures ∙ be_bytes_2 a.v)

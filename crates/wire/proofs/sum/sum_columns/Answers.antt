@@ -5,7 +5,7 @@ use Rattle.wire.proofs.Running.{total-next, total_end, running-first, running_en
 use Rattle.wire.proofs.sum.sum_columns.Goals as goal
 
 pub loop-j-init : goal.loop-j-init
-loop-j-init c = ((omega arith, most_16 c.args.low.now c.requires.1.lows), (omega arith, (omega arith, omega arith)))
+loop-j-init c = (most_16 c.args.low.now c.requires.1.lows, (omega arith, (omega arith, omega arith)))
 
 pub overflow_add-a : goal.overflow_add-a
 overflow_add-a c = let l = c.loop-j in
@@ -28,7 +28,7 @@ overflow_add-c c = let l = c.loop-j in
 pub loop-j-preserved : goal.loop-j-preserved
 loop-j-preserved c = let l = c.loop-j in
     let low = c.args.low.now in (
-      omega arith,
+      l.invariant.0,
       (
         omega (arith, total-next low l.j (omega arith)),
         (omega (arith, running-first low l.j c.requires.1.lows (omega arith)), omega (arith, total-next c.args.high.now l.j (omega arith))),

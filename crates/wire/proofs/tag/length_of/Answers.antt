@@ -1,5 +1,5 @@
 -- `wire::tag::length_of` meets its contract: its table is the documents' rows. Assumes nothing.
-use mathlib.Core.Path.{refl}
+use Rattle.std.proofs.Common.{refl}
 use Rattle.wire.specs.Tag.{rows}
 use Rattle.wire.proofs.tag.length_of.Goals as goal
 
