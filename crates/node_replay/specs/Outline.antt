@@ -1,7 +1,7 @@
 -- A draft taken apart: its keys, its pointers, and its outline, which is the rest; and what the replay of each change makes of the three, where keys
 -- and pointers stand at the front, and where they stand from a place on. Assumes nothing.
-use Rattle.std.specs.Prelude.{◌≡◌, ℕ, ◌+◌, ◌-◌, ◌≤◌, ◌<◌, length, get_or, take, set, Option, None, Some, Ok, Err, true, false, List, []}
-use Rattle.std.proofs.Common.{refl, ap₂, ap, ◌∙◌, arith, length-set}
+use Rattle.std.specs.Prelude.{◌≡◌, ℕ, ◌+◌, ◌-◌, ◌≤◌, ◌<◌, ltb, length, get_or, take, set, Bool, Option, None, Some, Ok, Err, true, false, List, []}
+use Rattle.std.proofs.Common.{refl, ap₂, ap, ◌∙◌, arith, lt-ltb, le-ltb, length-set}
 use Rattle.layout.specs.Layout.{most_keys, bound32}
 use Rattle.pairs.specs.Pairs.{Pair, Within}
 use Rattle.node.specs.declared.Shape.{Shape}
@@ -46,12 +46,16 @@ linked_at o shape to = record { state = Made; shape = shape; first = o.first; co
 abbrev pub broken_at : Outline → Outline
 broken_at o = record { state = Broken; shape = o.shape; first = o.first; count = o.count; link = o.link }
 
--- With the keys at the front, and with so many of them there: more than fit, of which there is no number, break it.
+-- With the keys at the front, and with so many of them there: more than fit, or so many that there is no number, break it.
 abbrev pub settled_at : Outline → Outline
 settled_at o = record { state = o.state; shape = o.shape; first = 0; count = o.count; link = o.link }
 
-abbrev pub counted_to : Outline → Option ℕ → Outline
-counted_to o (Some n) = counted_at (settled_at o) n
+abbrev counted_by : Bool → Outline → ℕ → Outline
+counted_by true o n = broken_at (settled_at o)
+counted_by false o n = counted_at (settled_at o) n
+
+unfoldable pub counted_to : Outline → Option ℕ → Outline
+counted_to o (Some n) = counted_by (ltb most_keys n) o n
 counted_to o None = broken_at (settled_at o)
 
 -- Without the first key.
@@ -82,8 +86,36 @@ pub record Links (o : Outline) (shape : Shape) (to : ℕ) (r : Outline) : Type 0
   pub first : r.first ≡ o.first
   pub count : r.count ≡ o.count
 
+-- The outline of so many keys, where they fit and where not.
+module _ (o : Outline) (n : ℕ) where
+  counted_fits : n ≤ most_keys → counted_to o (Some n) ≡ counted_at (settled_at o) n
+  unfolding counted_to
+  counted_fits h = rw (le-ltb most_keys n h) refl
+
+  counted_over : most_keys < n → counted_to o (Some n) ≡ broken_at (settled_at o)
+  unfolding counted_to
+  counted_over h = rw (lt-ltb most_keys n h) refl
+
+  pub redone_fits : n ≤ most_keys → (ks ps : List ℕ) (d : Draft) →
+      Redone (draft_from (counted_at o n) ks ps) d → Redone (draft_from (counted_to o (Some n)) ks ps) d
+  redone_fits h ks ps d x = rw (counted_fits h) x
+
+  pub redone_over : most_keys < n → (ks ps : List ℕ) (d : Draft) →
+      Redone (draft_from (broken_at o) ks ps) d → Redone (draft_from (counted_to o (Some n)) ks ps) d
+  redone_over h ks ps d x = rw (counted_over h) x
+
+pub redone_uncounted : (o : Outline) (ks ps : List ℕ) (d : Draft) →
+    Redone (draft_from (broken_at o) ks ps) d → Redone (draft_from (counted_to o None) ks ps) d
+unfolding counted_to
+redone_uncounted o ks ps d x = x
+
 counted_first : (o : Outline) (n : Option ℕ) → (counted_to o n).first ≡ 0
-counted_first o (Some n) = refl
+unfolding counted_to
+counted_first o (Some n) = go (ltb most_keys n)
+  where
+    go : (b : Bool) → (counted_by b o n).first ≡ 0
+    go true = refl
+    go false = refl
 counted_first o None = refl
 
 -- A put, by what the search found.

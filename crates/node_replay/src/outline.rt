@@ -45,16 +45,17 @@ pub fn outline_of(d: DraftValue) -> Outline
 
 // The outline of a draft whose keys stand at the front, with so many of them; it is broken where there would be more
 // than fit.
+#[tactic(auto, unfolding(crate::specs::Outline::counted_to))]
 pub fn counted(outline: Outline, n: Option<usize>) -> Outline
     ensures { result ≡ counted_to outline n }
 {
     match n {
-        Some(count) => Outline {
+        Some(count) if count <= MOST_KEYS => Outline {
             first: 0,
             count,
             ..outline
         },
-        None => Outline {
+        _ => Outline {
             state: DraftState::Broken,
             first: 0,
             ..outline

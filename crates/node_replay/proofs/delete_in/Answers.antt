@@ -1,9 +1,9 @@
 -- `node_replay::delete_in` meets its contract: the search says whether the key is there, and the pair at its place goes. Assumes nothing.
-use Rattle.std.proofs.Common.{◌≡◌, refl, ◌∙◌, arith}
+use Rattle.std.proofs.Common.{◌≡◌, refl, ◌∙◌, ◌-◌, arith}
 use Rattle.node.specs.Found.{found}
 use Rattle.node.specs.Value.{pairs_in}
 use Rattle.node.specs.Edits.{at-inside}
-use Rattle.node_replay.specs.Outline.{node_from, redone_removed, redone_kept}
+use Rattle.node_replay.specs.Outline.{node_from, redone_removed, redone_kept, redone_fits}
 use Rattle.node_replay.proofs.delete_in.Goals as goal
 use Rattle.node_replay.proofs.delete_in.Goals.{After-find_in_replay}
 
@@ -38,9 +38,11 @@ returns-in-Ok c =
     let e = answer (goal.at.returns-in-Ok c).After-find_in_replay ∙ c.in-Ok.is in
     let keys = c.remove in
     let pointers = c.remove-in-Ok in
-    redone_removed a.outline a.keys.now a.pointers.now c.requires a.key _ e keys.new.a pointers.new.a keys.ensures pointers.ensures
+    redone_fits a.outline (a.outline.count - 1) (omega (arith, c.requires.sized.size)) _ _ _
+    (redone_removed a.outline a.keys.now a.pointers.now c.requires a.key _ e keys.new.a pointers.new.a keys.ensures pointers.ensures)
 
 pub returns-in-Err : goal.returns-in-Err
 returns-in-Err c =
     let a = c.args in
-    redone_kept a.outline a.keys.now a.pointers.now c.requires a.key _ (answer (goal.at.returns-in-Err c).After-find_in_replay ∙ c.in-Err.is)
+    redone_fits a.outline a.outline.count c.requires.sized.size _ _ _
+    (redone_kept a.outline a.keys.now a.pointers.now c.requires a.key _ (answer (goal.at.returns-in-Err c).After-find_in_replay ∙ c.in-Err.is))

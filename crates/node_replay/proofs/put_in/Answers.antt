@@ -1,9 +1,9 @@
 -- `node_replay::put_in` meets its contract: the search says whether the key is there; a 25th key breaks the draft. Assumes nothing.
-use Rattle.std.proofs.Common.{rules, ◌≡◌, refl, ◌∙◌, arith}
+use Rattle.std.proofs.Common.{rules, ◌≡◌, refl, ◌∙◌, ◌+◌, arith}
 use Rattle.node.specs.Found.{found}
 use Rattle.node.specs.Value.{pairs_in}
 use Rattle.node.specs.Edits.{at-inside, above-inside}
-use Rattle.node_replay.specs.Outline.{node_from, redone_replaced, redone_added, redone_overfull}
+use Rattle.node_replay.specs.Outline.{node_from, redone_replaced, redone_added, redone_overfull, redone_fits, redone_uncounted}
 use Rattle.node_replay.proofs.put_in.Goals as goal
 use Rattle.node_replay.proofs.put_in.Goals.{After-find_behind}
 
@@ -30,7 +30,8 @@ pub returns-in-Ok : goal.returns-in-Ok
 returns-in-Ok c =
     let a = c.args in
     let e = answer (goal.at.returns-in-Ok c).After-find_behind ∙ c.in-Ok.is in
-    redone_replaced a.outline a.keys.now a.pointers.now c.requires a.key _ a.pointer (search rules) e
+    redone_fits a.outline a.outline.count c.requires.sized.size _ _ _
+    (redone_replaced a.outline a.keys.now a.pointers.now c.requires a.key _ a.pointer (search rules) e)
 
 pub insert-requires : goal.insert-requires
 insert-requires c =
@@ -53,11 +54,13 @@ returns-in-Err c =
     let e = answer (goal.at.returns-in-Err c).After-find_behind ∙ c.in-Err.is in
     let keys = c.insert in
     let pointers = c.insert-in-Err in
-    redone_added a.outline a.keys.now a.pointers.now c.requires a.key _ a.pointer e (search rules)
-    c.if-count-lt-MOST_KEYS.true keys.new.a pointers.new.a keys.ensures pointers.ensures
+    redone_fits a.outline (a.outline.count + 1) (omega (arith, c.if-count-lt-MOST_KEYS.true)) _ _ _
+    (redone_added a.outline a.keys.now a.pointers.now c.requires a.key _ a.pointer e (search rules)
+    c.if-count-lt-MOST_KEYS.true keys.new.a pointers.new.a keys.ensures pointers.ensures)
 
 pub returns-in-Err-2 : goal.returns-in-Err-2
 returns-in-Err-2 c =
     let a = c.args in
     let e = answer (goal.at.returns-in-Err-2 c).After-find_behind ∙ c.in-Err.is in
-    redone_overfull a.outline a.keys.now a.pointers.now c.requires a.key _ a.pointer e c.if-count-lt-MOST_KEYS.false
+    redone_uncounted a.outline _ _ _
+    (redone_overfull a.outline a.keys.now a.pointers.now c.requires a.key _ a.pointer e c.if-count-lt-MOST_KEYS.false)
