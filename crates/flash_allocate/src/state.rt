@@ -3,6 +3,8 @@ ghost use Rattle.std.specs.Prelude.{◌≡◌, ◌<◌};
 ghost use Rattle.layout.specs.Layout.{pages_in_block};
 ghost use Rattle.flash_allocate.specs.State.{in_block, next_sequence, with_sequence, with_nodes, with_entries, without_entries, advanced, page_counted};
 
+use layout::MOST_SEQUENCE;
+
 // What a batch knows beside the work table: the current block and its fill, the number of nodes and of checkpoint pages being written,
 // the last sequence number, and how many entries the log buffer has.
 #[derive(Clone, Copy, Debug, PartialEq, Eq)]
@@ -35,7 +37,7 @@ impl State {
 pub fn next_sequence(last: u32) -> u32
     ensures { result ≡ next_sequence last }
 {
-    last.saturating_add(1)
+    if last < MOST_SEQUENCE { last + 1 } else { last }
 }
 
 // The state once a page of this sequence number is written.

@@ -79,6 +79,8 @@ pub const LENGTH_BYTES: usize = 4;
 
 pub const LAST_SEQUENCE: u32 = 4000000000;
 
+pub const MOST_SEQUENCE: u32 = 4294967295;
+
 // How many nodes a pool of so many blocks may have.
 pub fn node_limit(blocks: usize) -> usize
     requires { (fewest_blocks ≤ blocks) × (blocks ≤ most_blocks) }
