@@ -34,6 +34,14 @@ pub fn read_page(pool: &[u8], page: usize) -> [u8; PAGE_BYTES]
     bytes
 }
 
+// Fills the part of the pool that the page writer is lent.
+fn fill_page(part: &mut [u8], image: &[u8; PAGE_BYTES])
+    requires { length part.old ≡ page_bytes }
+    ensures { part.new ≡ image.now }
+{
+    part.copy_from_slice(image);
+}
+
 // Writes an image as a page of the pool.
 pub fn put_page(pool: &mut [u8], page: usize, image: &[u8; PAGE_BYTES])
     requires { page_bytes * page + page_bytes ≤ length pool.old }
@@ -41,7 +49,7 @@ pub fn put_page(pool: &mut [u8], page: usize, image: &[u8; PAGE_BYTES])
         × (pool.new ≡ lay pool.old (page_bytes * page) image.now) }
 {
     let from = PAGE_BYTES * page;
-    pool[from..from + PAGE_BYTES].copy_from_slice(image);
+    fill_page(&mut pool[from..from + PAGE_BYTES], image);
 }
 
 // A page copied to another place.
