@@ -80,6 +80,8 @@ impl Record for Row {
 
     ghost decoded = { def.decode };
 
+    ghost encoded = { def.encode };
+
     ghost table = { rows_of };
 
     ghost nothing = { no_row };

@@ -28,6 +28,8 @@ impl Record for Due {
 
     ghost decoded = { def.decode };
 
+    ghost encoded = { def.encode };
+
     ghost table = { dues_of };
 
     ghost nothing = { no_due };

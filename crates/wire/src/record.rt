@@ -8,8 +8,10 @@ pub trait Record {
 
     const BYTES: usize;
 
-    // The record that bytes spell, the records of a table, and what is read behind the last of them.
+    // The record that bytes spell, the bytes of a record, the records of a table, and what is read behind the last of them.
     ghost decoded: { List ℕ → Self };
+
+    ghost encoded: { Self → List ℕ };
 
     ghost table: { List ℕ → List Self };
 
@@ -19,10 +21,11 @@ pub trait Record {
         requires { length part.now ≡ BYTES }
         ensures { result ≡ decoded part.now };
 
-    // Lays the bytes of the record over a part of its size.
+    // Lays the bytes of the record over a part of its size; they read back as the record.
     fn encode(self, part: &mut [u8])
         requires { length part.old ≡ BYTES }
-        ensures { decoded part.new ≡ self };
+        ensures bytes { part.new ≡ encoded self }
+        ensures back { decoded part.new ≡ self };
 
     ghost some_bytes: { 1 ≤ BYTES };
 
