@@ -90,7 +90,7 @@ fn put_splitting(flash: &mut Flash, tariff: Tariff, ids: &[u32], key: u32, value
         (def.put_splitting tariff ids.now (ids_needed (table_in (world_of flash.old)) ids.now) key value
         (world_of flash.old)) }
 {
-    let needed = ids_needed(flash, ids);
+    let needed = ids_needed(flash.pool(), flash.table(), flash.state, ids);
     if node_limit(flash.state.blocks) < flash.state.nodes + needed {
         return Answered {
             charge: 0,
@@ -118,7 +118,7 @@ pub fn put(
     ensures served { AnsweredIn DoneAs flash.new result flash.old.state (def.put tariff key value (world_of flash.old)) }
     ensures room { length ids.new ≡ node_limit most_blocks }
 {
-    let Path { length, leaf } = path_to(flash, ids, key);
+    let Path { length, leaf } = path_to(flash.pool(), flash.table(), ids, flash.state, key);
     match fit(leaf, key) {
         Ok(()) => Answered {
             charge: read_and_edit(flash, tariff, &ids[..length], leaf, key, value),

@@ -58,7 +58,7 @@ pub fn serve_edit(flash: &mut Flash, tariff: Tariff, id: usize, change: ChangeVa
     if id >= flash.state.nodes {
         return 0;
     }
-    let old = content_of(flash, id);
+    let old = content_of(flash.pool(), flash.table(), flash.state, id);
     serve_edit_holding(flash, tariff, id, old, change)
 }
 

@@ -51,7 +51,7 @@ fn switch(flash: &mut Flash, id: usize, from: Mode, to: Mode, held: Option<&Node
     }
     let old = match held {
         Some(v) => *v,
-        None => content_of(flash, id),
+        None => content_of(flash.pool(), flash.table(), flash.state, id),
     };
     write_whole(flash, id, to, old);
 }

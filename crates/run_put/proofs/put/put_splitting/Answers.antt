@@ -11,8 +11,8 @@ returns-then-node_limit-flash-clause-served c =
     let a = c.args in
     let x = c.ids_needed-needed in
     let w = world_of a.flash.now in
-    new_refused a.tariff a.ids.now x.result (ids_needed (table_in w) a.ids.now) a.key a.value w x.ensures.exact
-    (omega (arith, c.if-node_limit-flash.true, c.node_limit.ensures.0)) c.requires.grows
+    new_refused a.tariff a.ids.now x.result (ids_needed (table_in w) a.ids.now) a.key a.value w
+    (rw (c.pool.ensures, c.table.ensures) at x.ensures.exact) (omega (arith, c.if-node_limit-flash.true, c.node_limit.ensures.0)) c.requires.grows
 
 pub returns-clause-served : goal.returns-clause-served
 returns-clause-served c =
@@ -21,5 +21,6 @@ returns-clause-served c =
     let y = c.read_and_split in
     let w = world_of a.flash.now in
     let w₁ = world_of y.new.flash in
-    new_split a.tariff a.ids.now x.result (ids_needed (table_in w) a.ids.now) a.key a.value w x.ensures.exact
-    w₁.pages w₁.table _ (omega (arith, c.if-node_limit-flash.false, c.node_limit.ensures.0)) y.ensures.served
+    new_split a.tariff a.ids.now x.result (ids_needed (table_in w) a.ids.now) a.key a.value w
+    (rw (c.pool.ensures, c.table.ensures) at x.ensures.exact) w₁.pages w₁.table _
+    (omega (arith, c.if-node_limit-flash.false, c.node_limit.ensures.0)) y.ensures.served

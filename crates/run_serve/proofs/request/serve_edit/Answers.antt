@@ -20,5 +20,5 @@ pub returns-clause-served : goal.returns-clause-served
 returns-clause-served c =
     let a = c.args in
     let v = c.content_of-old in
-    served-read a.tariff a.id (node_of v.result) (edit (change_of a.change)) (world_of a.flash.now) v.ensures.is
-    c.serve_edit_holding.ensures.served
+    served-read a.tariff a.id (node_of v.result) (edit (change_of a.change)) (world_of a.flash.now)
+    (rw (c.pool.ensures, c.table.ensures) at v.ensures.is) c.serve_edit_holding.ensures.served

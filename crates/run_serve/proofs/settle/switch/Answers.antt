@@ -26,7 +26,8 @@ returns c =
     let old : node_of c.match-held.old ≡ in_hand a.held read = elim c.match-held.branch [
       | in-Some u ↦ ap node_of u.old-is ∙ sym (ap (λ (h : Option (Bor NodeValue)). in_hand h read) u.in-Some.is)
       | in-None u ↦
-          ap node_of u.old-is ∙ u.content_of-old.ensures.is ∙ sym (ap (λ (h : Option (Bor NodeValue)). in_hand h read) u.in-None.is)
+          ap node_of u.old-is ∙ (rw (u.pool.ensures, u.table.ensures) at u.content_of-old.ensures.is) ∙
+          sym (ap (λ (h : Option (Bor NodeValue)). in_hand h read) u.in-None.is)
     ] in
     after_one g.ensures
     (switch-whole a.from a.to a.id (in_hand a.held read) w (node_of c.match-held.old) (world_of g.new.flash)
