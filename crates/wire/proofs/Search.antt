@@ -35,3 +35,10 @@ module _ (tag : ℕ) (entries : List ℕ) (i : ℕ) where
     pub find-next : (entry / 256 ≡ tag → ⊥) → find_from tag entries i ≡ find_from tag entries (i + 1)
     unfolding find find_from
     find-next e = seen ∙ rw (ne_eqb tag (entry / 256) (λ z. e (sym z))) refl
+
+    -- The same of an entry that was read where a front part of them stands.
+    pub find-read : (x : ℕ) → x ≡ entry → x / 256 ≡ tag → find_from tag entries i ≡ Some (spelt (x % 256))
+    find-read x same e = find-here (ap (λ (n : ℕ). n / 256) (sym same) ∙ e) ∙ ap (λ (n : ℕ). Some (spelt (n % 256))) (sym same)
+
+    pub find-past : (x : ℕ) → x ≡ entry → (x / 256 ≡ tag → ⊥) → find_from tag entries i ≡ find_from tag entries (i + 1)
+    find-past x same e = find-next (λ z. e (ap (λ (n : ℕ). n / 256) same ∙ z))
