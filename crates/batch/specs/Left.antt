@@ -18,9 +18,13 @@ pub record Outcome : Type 0 where
   pub number : ℕ
   pub length : ℕ
 
+-- Of a result whose errors have numbers, and of one whose errors are refusals by name.
+abbrev pub outcome_by : {R : Type 0} → (R → ℕ) → Result ℕ R → Outcome
+outcome_by numbered (Ok laid) = record { number = 0; length = laid }
+outcome_by numbered (Err refusal) = record { number = numbered refusal; length = 0 }
+
 abbrev pub outcome_of : Result ℕ Refusal → Outcome
-outcome_of (Ok laid) = record { number = 0; length = laid }
-outcome_of (Err refusal) = record { number = number refusal; length = 0 }
+outcome_of result = outcome_by number result
 
 abbrev pub refused_with : ℕ → Outcome
 refused_with number = record { number = number; length = 0 }

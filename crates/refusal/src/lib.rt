@@ -1,7 +1,7 @@
 // What a call is refused for: the first question that failed, with the number that the documents give it.
 #![tactic(auto)]
 
-ghost use Rattle.std.specs.Prelude.{◌≡◌};
+ghost use Rattle.std.specs.Prelude.{◌≡◌, ℕ};
 ghost use Rattle.refusal.specs.Number.{number, number_of};
 
 use std::error::Error;
@@ -63,6 +63,30 @@ impl fmt::Display for Refusal {
 }
 
 impl Error for Refusal {}
+
+// What a call may be refused with: a refusal by its name, or the number alone.
+pub trait Numbered {
+    ghost numbered: { Self → ℕ };
+
+    fn number(&self) -> u32
+        ensures { result ≡ numbered self.now };
+}
+
+impl Numbered for Refusal {
+    ghost numbered = { number };
+
+    fn number(&self) -> u32 {
+        u32::from(*self)
+    }
+}
+
+impl Numbered for u32 {
+    ghost numbered = { λ n. n };
+
+    fn number(&self) -> u32 {
+        *self
+    }
+}
 
 // What a call answers C: 0 where its work is done, else the number of the refusal.
 pub fn number_of<T>(done: &Result<T, Refusal>) -> u32

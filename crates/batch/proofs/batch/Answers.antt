@@ -18,8 +18,8 @@ passes c = call_passes _ _ _ c.in-Ok.ensures.number refl
 
 pub refuse-requires : goal.refuse-requires
 refuse-requires c =
-    (may_refuse _ (call_of c.args.table.now c.args.commands.now c.args.answers.now) _ c.in-Err.ensures.number
-    (λ z. omega (arith, z, number_some c.in-Err.refusal))).1
+    may_refuse _ (call_of c.args.table.now c.args.commands.now c.args.answers.now) _ c.in-Err.ensures.number
+    (λ z. omega (arith, z, number_some c.in-Err.refusal))
 
 pub returns-in-Err : goal.returns-in-Err
 returns-in-Err c =
