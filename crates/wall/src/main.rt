@@ -2,7 +2,8 @@
 // hexadecimal on a line, then `charge` and the sum of the panels' charges; or only `refused` and the number.
 #![tactic(auto)]
 
-ghost use Rattle.std.specs.Prelude.{◌≡◌, ◌<◌, ◌≤◌, ◌^◌, IfOk, length, sum};
+ghost use Rattle.std.specs.Prelude.{◌≡◌, ◌<◌, ◌≤◌, ◌^◌, IfOk, length};
+ghost use Rattle.laws.specs.Update.{sum};
 ghost use Rattle.layout.specs.Layout.{panels};
 
 use layout::{BLOCK_BYTES, FEWEST_BLOCKS, MOST_BATCH_BYTES, PANELS, TABLE_BYTES};

@@ -1,6 +1,5 @@
 -- `run` meets its contract: whatever the buffers hold, a batch's charges add up to less than 2^44. Assumes nothing.
-use Rattle.std.proofs.Common.{rules, arith, refl, ap, ℕ, ◌<◌, slice_index_or}
-use Rattle.std.proofs.lemmas.List.Recursion.{is_sum_by}
+use Rattle.std.proofs.Common.{rules, arith, ap, ℕ, ◌<◌, slice_index_or}
 use Rattle.laws.specs.BigEndian.{bytes-get_or}
 use Rattle.laws.specs.Update.{sum}
 use Rattle.model.specs.Call.{batch}
@@ -17,4 +16,4 @@ total-charge-requires g c =
     charges_fit a.pool.now (bytes-get_or a.pool.now pool_bytes)
     (batch (record { table = a.table.now; batch = a.commands.now; buffer = a.answers.now }))
     (bytes-get_or a.commands.now batch_bytes) in
-    (left.sixteen, omega (arith, ap sum left.paid, fits, is_sum_by sum (λ x. x) refl (λ x xs. refl) c.wall_book_batch-refused.new.charges))
+    (left.sixteen, omega (arith, ap sum left.paid, fits))
