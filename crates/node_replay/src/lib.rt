@@ -17,7 +17,8 @@ pub mod front;
 pub mod outline;
 
 // One put more into a draft whose keys stand at the front. The answer is how many they are then; none where a 25th
-// would be put in.
+// would be put in. In line, so that the loop over a node's entries calls nothing.
+#[inline(always)]
 fn put_in(
     keys: &mut [u32; MOST_KEYS],
     pointers: &mut [u32; MOST_KEYS],
