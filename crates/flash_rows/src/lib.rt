@@ -14,7 +14,7 @@ use account::Mode;
 use layout::{PAGES_IN_BLOCK, ROW_BYTES};
 use wire::bytes::lay_byte;
 use wire::number::{read16, read32, write16, write32};
-use wire::record::{self, Record};
+use wire::record::{self, Bytewise, Record};
 
 // A node's row: its version, score and mode, and the one to three pages that it lies on.
 #[derive(Clone, Copy, Debug, PartialEq, Eq)]
@@ -80,8 +80,6 @@ impl Record for Row {
 
     ghost decoded = { def.decode };
 
-    ghost encoded = { def.encode };
-
     ghost table = { rows_of };
 
     ghost nothing = { no_row };
@@ -99,7 +97,12 @@ impl Record for Row {
         }
     }
 
-    fn encode(self, part: &mut [u8]) {
+    // Its bytes are promised too, where the trait asks only that it reads back.
+    fn encode(self, part: &mut [u8])
+        requires { length part.old ≡ row_bytes }
+        ensures bytes { part.new ≡ def.encode self }
+        ensures back { def.decode part.new ≡ self }
+    {
         write32(part, 0, self.version);
         write32(part, 4, self.score);
         lay_byte(part, 8, mode_byte(self.mode));
@@ -114,6 +117,14 @@ impl Record for Row {
     ghost tabled = { rows_of-is };
 
     ghost behind = { no_row-is };
+}
+
+impl Bytewise for Row {
+    ghost encoded = { def.encode };
+
+    fn lay(self, part: &mut [u8]) {
+        self.encode(part);
+    }
 }
 
 // The row of a node, or of a checkpoint page being written.
@@ -234,3 +245,6 @@ impl Row {
         }
     }
 }
+
+#[cfg(test)]
+mod tests;

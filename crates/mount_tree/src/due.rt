@@ -10,7 +10,7 @@ use layout::DUE_BYTES;
 use node::NodeValue;
 use node::search::{key, pointer};
 use wire::number::{read32, write32};
-use wire::record::{Record, write};
+use wire::record::{Bytewise, Record, write};
 
 // A node due: its id, how deep the leaves stand below it, and the bound that its keys stay below.
 #[derive(Clone, Copy, Debug, PartialEq, Eq)]
@@ -28,8 +28,6 @@ impl Record for Due {
 
     ghost decoded = { def.decode };
 
-    ghost encoded = { def.encode };
-
     ghost table = { dues_of };
 
     ghost nothing = { no_due };
@@ -45,7 +43,12 @@ impl Record for Due {
         }
     }
 
-    fn encode(self, part: &mut [u8]) {
+    // Its bytes are promised too, where the trait asks only that it reads back.
+    fn encode(self, part: &mut [u8])
+        requires { length part.old ≡ due_bytes }
+        ensures bytes { part.new ≡ def.encode self }
+        ensures back { def.decode part.new ≡ self }
+    {
         write32(part, 0, self.id);
         write32(part, 4, self.depth);
         write32(part, 8, (self.high / 4294967296) as u32);
@@ -57,6 +60,14 @@ impl Record for Due {
     ghost tabled = { dues_of-is };
 
     ghost behind = { no_due-is };
+}
+
+impl Bytewise for Due {
+    ghost encoded = { def.encode };
+
+    fn lay(self, part: &mut [u8]) {
+        self.encode(part);
+    }
 }
 
 // The child at a place of a branch: below the key beside it; the last one below the branch's own bound.
@@ -84,3 +95,6 @@ pub fn push_children(stack: &mut [u8], base: usize, v: NodeValue, depth: u32, hi
         write(stack, base + left, child_due(v, left, depth, high));
     }
 }
+
+#[cfg(test)]
+mod tests;

@@ -8,10 +8,8 @@ pub trait Record {
 
     const BYTES: usize;
 
-    // The record that bytes spell, the bytes of a record, the records of a table, and what is read behind the last of them.
+    // The record that bytes spell, the records of a table, and what is read behind the last of them.
     ghost decoded: { List ℕ → Self };
-
-    ghost encoded: { Self → List ℕ };
 
     ghost table: { List ℕ → List Self };
 
@@ -21,17 +19,27 @@ pub trait Record {
         requires { length part.now ≡ BYTES }
         ensures { result ≡ decoded part.now };
 
-    // Lays the bytes of the record over a part of its size; they read back as the record.
+    // Lays the record over a part of its size, which reads back as it.
     fn encode(self, part: &mut [u8])
         requires { length part.old ≡ BYTES }
-        ensures bytes { part.new ≡ encoded self }
-        ensures back { decoded part.new ≡ self };
+        ensures { decoded part.new ≡ self };
 
     ghost some_bytes: { 1 ≤ BYTES };
 
     ghost tabled: { (s : List ℕ) → table s ≡ map decoded (chunks BYTES s) };
 
     ghost behind: { nothing ≡ decoded [] };
+}
+
+// A record that tells each of its bytes, so that code that knows no more of the type may count on them.
+pub trait Bytewise: Record {
+    ghost encoded: { Self → List ℕ };
+
+    // Lays these bytes over a part of their size; they read back as the record.
+    fn lay(self, part: &mut [u8])
+        requires { length part.old ≡ Self.BYTES }
+        ensures bytes { part.new ≡ encoded self }
+        ensures back { Self.decoded part.new ≡ self };
 }
 
 // The record in a slot.
@@ -53,3 +61,6 @@ pub fn write<R: Record>(table: &mut [u8], slot: usize, row: R)
     let from = size * slot;
     row.encode(&mut table[from..from + size]);
 }
+
+#[cfg(test)]
+mod tests;
